@@ -1,0 +1,101 @@
+//! Numbers that name modules and symbols.
+
+ghost use Rattle.std.specs.Prelude.{◌≡◌};
+
+use std::fmt;
+use std::marker::Model;
+
+/// The number of a module: modules are numbered from 0 in the order in which they are stored.
+#[derive(Clone, Copy, Debug, PartialEq, Eq, Hash)]
+pub struct ModuleId(u32);
+
+impl Model for ModuleId {
+    ghost use Rattle.std.specs.Prelude.{ℕ};
+
+    ghost Value = { ℕ };
+
+    ghost view = { λ m. m.0 };
+
+    ghost inverse = { λ n. record { 0 = n } };
+}
+
+impl ModuleId {
+    /// The module of a number (own rule: it names a module only where one has that number).
+    pub fn from_number(number: u32) -> ModuleId
+        ensures { result ≡ number }
+    {
+        ModuleId(number)
+    }
+
+    /// The module's number.
+    pub fn number(self) -> u32
+        ensures { result ≡ self }
+    {
+        self.0
+    }
+}
+
+impl fmt::Display for ModuleId {
+    fn fmt<W: fmt::Write>(&self, f: &mut fmt::Formatter<W>) -> fmt::Result {
+        let number = self.0;
+        write!(f, "{number}")
+    }
+}
+
+/// The number of a symbol of its module: symbol 0 is the module, the others follow in the order
+/// in which they are made. The default is symbol 0.
+#[derive(Clone, Copy, Default, PartialEq, Eq, Hash)]
+pub struct SymbolId(u32);
+
+impl Model for SymbolId {
+    ghost use Rattle.std.specs.Prelude.{ℕ};
+
+    ghost Value = { ℕ };
+
+    ghost view = { λ s. s.0 };
+
+    ghost inverse = { λ n. record { 0 = n } };
+}
+
+impl SymbolId {
+    /// The symbol of a number (own rule: it names a symbol only where one has that number).
+    pub fn from_number(number: u32) -> SymbolId
+        ensures { result ≡ number }
+    {
+        SymbolId(number)
+    }
+
+    /// The symbol's number.
+    pub fn number(self) -> u32
+        ensures { result ≡ self }
+    {
+        self.0
+    }
+}
+
+impl fmt::Debug for SymbolId {
+    fn fmt<W: fmt::Write>(&self, f: &mut fmt::Formatter<W>) -> fmt::Result {
+        let number = self.0;
+        write!(f, "{number}")
+    }
+}
+
+/// A symbol among those of all modules.
+#[derive(Clone, Copy, Debug, PartialEq, Eq, Hash)]
+pub struct UniqueSymbolId {
+    pub module_id: ModuleId,
+    pub symbol_id: SymbolId,
+}
+
+impl UniqueSymbolId {
+    /// The symbol of a module.
+    pub fn new(module_id: ModuleId, symbol_id: SymbolId) -> UniqueSymbolId
+        ensures module { result.module_id ≡ module_id }
+        ensures symbol { result.symbol_id ≡ symbol_id }
+    {
+        UniqueSymbolId {
+            module_id,
+            symbol_id,
+        }
+    }
+}
