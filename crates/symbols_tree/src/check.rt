@@ -1,5 +1,8 @@
 //! Graphs of modules, and what a graph has to keep to be accepted.
 
+mod faults;
 mod raw;
+mod tree_check;
 
+pub use faults::{GraphFault, TreeFault};
 pub use raw::{RawGraph, RawModule, RawModuleKind, RawResolution};

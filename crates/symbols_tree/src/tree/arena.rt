@@ -3,6 +3,7 @@
 ghost use Rattle.std.specs.Prelude.{◌≡◌};
 
 use crate::tree::kinds::Kind;
+use std::fmt;
 use std::marker::Model;
 
 /// The number of a node: its place in the tree's list.
@@ -25,6 +26,13 @@ impl NodeId {
         ensures { result ≡ self }
     {
         self.0 as usize
+    }
+}
+
+impl fmt::Display for NodeId {
+    fn fmt<W: fmt::Write>(&self, f: &mut fmt::Formatter<W>) -> fmt::Result {
+        let number = self.0;
+        write!(f, "{number}")
     }
 }
 

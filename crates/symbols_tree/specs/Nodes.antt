@@ -1,0 +1,29 @@
+-- The nodes of a tree by their numbers, and the tree as a relation between numbers.
+use Rattle.std.specs.Prelude.{ℕ, suc, ◌<◌, List, [], Option, Contains, slice_get}
+use Rattle.std.specs.Option.{option_map, option_map_or}
+use Rattle.std.specs.List.{flat_map}
+use Rattle.symbols_tree.specs.declared.tree.arena.Node.{Node}
+use Rattle.symbols_tree.specs.declared.tree.kinds.Kind.{Kind}
+use Rattle.symbols_tree.specs.Fields.{fields}
+
+-- the kind of the node n; none past the end
+abbrev pub kind_at : List Node → ℕ → Option Kind
+kind_at nodes n = option_map (λ node. node.kind) (slice_get nodes n)
+
+-- the numbers of the children of a kind, field by field
+abbrev pub children_of : Kind → List ℕ
+children_of kind = flat_map (λ field. field.children) (fields kind)
+
+-- the children of the node n; none past the end
+unfoldable pub children : List Node → ℕ → List ℕ
+children nodes n = option_map_or children_of (kind_at nodes n) []
+
+-- m is a lower node that has n as a child
+pub record IsParent (nodes : List Node) (m n : ℕ) : Type 0 where
+  pub lower : m < n
+  pub child : Contains (children nodes m) n
+
+-- count nodes stand above n, each a parent of the next
+pub data HasAncestors (nodes : List Node) : ℕ → ℕ → Type 0 where
+  none : {n : ℕ} → HasAncestors nodes n 0
+  above : {m n count : ℕ} → IsParent nodes m n → HasAncestors nodes m count → HasAncestors nodes n (suc count)
