@@ -2,6 +2,8 @@ pub mod Names
 pub mod Categories
 pub mod Fields
 pub mod Nodes
+pub mod NodeRefs
+pub mod ChildFields
 pub mod Shapes
 pub mod TreeFaults
 pub mod WellFormed

@@ -10,7 +10,10 @@ pub(crate) fn begins(nodes: &[Node]) -> bool
     ensures { result ≡ begins_with_program nodes.now }
 {
     match nodes.first() {
-        Some(node) => matches!(&node.kind, crate::tree::Kind::Item(crate::tree::Item::Program { .. })),
+        Some(node) => matches!(
+            &node.kind,
+            crate::tree::Kind::Item(crate::tree::Item::Program { .. })
+        ),
         None => false,
     }
 }
