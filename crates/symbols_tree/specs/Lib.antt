@@ -3,6 +3,7 @@ pub mod Categories
 pub mod Fields
 pub mod Nodes
 pub mod NodeRefs
+pub mod Ids
 pub mod ChildFields
 pub mod Shapes
 pub mod TreeFaults

@@ -1,27 +1,36 @@
 -- Nodes with their trees.
-use Rattle.std.specs.Prelude.{◌≡◌, ℕ, ◌<◌, nat_lt, List, [], length, if◌then◌else◌, Option, Some, None, IfSome, slice_get}
-use Rattle.std.specs.Option.{option_map, option_map_or, option_and_then}
+use Rattle.std.specs.Prelude.{ℕ, nat_lt, List, [], length, if◌then◌else◌, Option, Some, None}
+use Rattle.std.specs.Option.{option_map_or, option_and_then}
 use Rattle.symbols_tree.specs.declared.tree.arena.Tree.{Tree}
 use Rattle.symbols_tree.specs.declared.tree.arena.SourceRange.{SourceRange}
 use Rattle.symbols_tree.specs.declared.tree.kinds.Kind.{Kind}
 use Rattle.symbols_tree.specs.declared.tree.node_ref.NodeRef.{NodeRef}
-use Rattle.symbols_tree.specs.Nodes.{kind_at, range_at, present}
+use Rattle.symbols_tree.specs.Nodes.{kind_at, range_at}
 
-abbrev pub kind_of : NodeRef → Option Kind
-kind_of node = kind_at node.tree.now.nodes.items node.id
+-- a node of a tree, by its number
+pub record TreeNode : Type 0 where
+  pub tree : Tree
+  pub number : ℕ
 
-abbrev pub range_of : NodeRef → Option SourceRange
-range_of node = range_at node.tree.now.nodes.items node.id
+-- what contracts see of a `NodeRef`
+abbrev pub node_view : NodeRef → TreeNode
+node_view node = record { tree = node.tree.now; number = node.id }
 
--- the node of this number in the tree: none where there is no number, or no such node
-pub record IsRefIn (tree : Tree) (number : Option ℕ) (found : Option NodeRef) : Type 0 where
-  pub number_is : option_map (λ node. node.id) found ≡ present tree.nodes.items number
-  pub same_tree : IfSome found (λ node. node.tree.now ≡ tree)
+abbrev pub kind_of : TreeNode → Option Kind
+kind_of node = kind_at node.tree.nodes.items node.number
 
--- the child of this field
-abbrev pub IsChildRef : NodeRef → (Kind → Option ℕ) → Option NodeRef → Type 0
-IsChildRef node field found = IsRefIn node.tree.now (option_and_then field (kind_of node)) found
+abbrev pub range_of : TreeNode → Option SourceRange
+range_of node = range_at node.tree.nodes.items node.number
+
+-- the node of a number, if there is a number and the tree has such a node
+abbrev pub node_in : Tree → Option ℕ → Option TreeNode
+node_in tree None = None
+node_in tree (Some n) = if nat_lt n (length tree.nodes.items) then Some (record { tree = tree; number = n }) else None
+
+-- the child of a field
+abbrev pub child_of : TreeNode → (Kind → Option ℕ) → Option TreeNode
+child_of node field = node_in node.tree (option_and_then field (kind_of node))
 
 -- the children of a field that is a list
-abbrev pub list_at : NodeRef → (Kind → List ℕ) → List ℕ
-list_at node field = option_map_or field (kind_of node) []
+abbrev pub list_of : TreeNode → (Kind → List ℕ) → List ℕ
+list_of node field = option_map_or field (kind_of node) []

@@ -1,5 +1,5 @@
 -- The nodes of a tree by their numbers, and the tree as a relation between numbers.
-use Rattle.std.specs.Prelude.{ℕ, suc, ◌<◌, nat_lt, if◌then◌else◌, List, [], length, Option, Some, None, Contains, slice_get}
+use Rattle.std.specs.Prelude.{ℕ, suc, ◌<◌, List, [], Option, Contains, slice_get}
 use Rattle.std.specs.Option.{option_map, option_map_or}
 use Rattle.std.specs.List.{flat_map}
 use Rattle.symbols_tree.specs.declared.tree.arena.Node.{Node}
@@ -14,11 +14,6 @@ kind_at nodes n = option_map (λ node. node.kind) (slice_get nodes n)
 -- where the node n stands in the text; none past the end
 abbrev pub range_at : List Node → ℕ → Option SourceRange
 range_at nodes n = option_map (λ node. node.range) (slice_get nodes n)
-
--- a number, if there is such a node
-abbrev pub present : List Node → Option ℕ → Option ℕ
-present nodes None = None
-present nodes (Some n) = if nat_lt n (length nodes) then Some n else None
 
 -- the numbers of the children of a kind, field by field
 abbrev pub children_of : Kind → List ℕ

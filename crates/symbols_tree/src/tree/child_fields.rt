@@ -1,7 +1,8 @@
 //! The children of a node by the names of their fields.
 
 ghost use Rattle.std.specs.Prelude.{◌≡◌};
-ghost use Rattle.symbols_tree.specs.NodeRefs.{IsRefIn, IsChildRef, list_at};
+ghost use Rattle.std.specs.Option.{option_map};
+ghost use Rattle.symbols_tree.specs.NodeRefs.{node_view, node_in, child_of, list_of};
 ghost use Rattle.symbols_tree.specs.ChildFields.{body_of, specifiers_of, local_of, decl_of, orig_of, expr_of, id_of, entity_of, ident_of, class_of, type_params_of, super_class_of, super_type_params_of, implements_of, function_of, params_of, return_type_of, body_node_of, decls_of, name_of, init_of, extends_of, type_ann_of, members_of, param_of, key_of, value_of, constraint_of, default_of, ty_of, type_args_of, expr_name_of, qualifier_of, label_of, left_of, obj_of, prop_of, right_of, elems_of, props_of, arg_of, children_of};
 
 use crate::tree::arena::{NodeId, Tree};
@@ -9,8 +10,8 @@ use crate::tree::kinds::{Decl, Expr, Item, Kind, Member, Pat, Ty};
 use crate::tree::node_ref::NodeRef;
 
 /// The node of a number, if there is a number and such a node.
-fn node_in<'a>(tree: &'a Tree, id: Option<NodeId>) -> Option<NodeRef<'a>>
-    ensures { IsRefIn tree.now id result }
+fn find<'a>(tree: &'a Tree, id: Option<NodeId>) -> Option<NodeRef<'a>>
+    ensures { option_map node_view result ≡ node_in tree.now id }
 {
     match id {
         Some(id) => NodeRef::new(tree, id),
@@ -67,7 +68,7 @@ fn type_ann_of_kind(kind: &Kind) -> Option<NodeId>
 impl<'a> NodeRef<'a> {
     /// The `body` of `Program`, `Class`, `TsInterfaceDecl`, `TsModuleBlock`.
     pub fn body(self) -> &'a [NodeId]
-        ensures { result.now ≡ list_at self.entry body_of }
+        ensures { result.now ≡ list_of (node_view self.entry) body_of }
     {
         let NodeRef { tree, id } = self;
         match &tree.nodes[id.index()].kind {
@@ -83,7 +84,7 @@ impl<'a> NodeRef<'a> {
 
     /// The `specifiers` of `Import`, `ExportNamed`.
     pub fn specifiers(self) -> &'a [NodeId]
-        ensures { result.now ≡ list_at self.entry specifiers_of }
+        ensures { result.now ≡ list_of (node_view self.entry) specifiers_of }
     {
         let NodeRef { tree, id } = self;
         match &tree.nodes[id.index()].kind {
@@ -95,7 +96,7 @@ impl<'a> NodeRef<'a> {
 
     /// The `local` of `ImportNamed`, `ImportDefault`, `ImportNamespace`, `ExportDefaultSpecifier`.
     pub fn local(self) -> Option<NodeRef<'a>>
-        ensures { IsChildRef self.entry local_of result }
+        ensures { option_map node_view result ≡ child_of (node_view self.entry) local_of }
     {
         let NodeRef { tree, id } = self;
         let child = match &tree.nodes[id.index()].kind {
@@ -107,36 +108,36 @@ impl<'a> NodeRef<'a> {
             ) => Some(*local),
             _ => None,
         };
-        node_in(tree, child)
+        find(tree, child)
     }
 
     /// The `decl` of `ExportDecl`, `ExportDefaultDecl`.
     pub fn decl(self) -> Option<NodeRef<'a>>
-        ensures { IsChildRef self.entry decl_of result }
+        ensures { option_map node_view result ≡ child_of (node_view self.entry) decl_of }
     {
         let NodeRef { tree, id } = self;
         let child = match &tree.nodes[id.index()].kind {
             Kind::Item(Item::ExportDecl { decl } | Item::ExportDefaultDecl { decl }) => Some(*decl),
             _ => None,
         };
-        node_in(tree, child)
+        find(tree, child)
     }
 
     /// The `orig` of a `ExportSpecifier`.
     pub fn orig(self) -> Option<NodeRef<'a>>
-        ensures { IsChildRef self.entry orig_of result }
+        ensures { option_map node_view result ≡ child_of (node_view self.entry) orig_of }
     {
         let NodeRef { tree, id } = self;
         let child = match &tree.nodes[id.index()].kind {
             Kind::Item(Item::ExportSpecifier { orig, .. }) => Some(*orig),
             _ => None,
         };
-        node_in(tree, child)
+        find(tree, child)
     }
 
     /// The `expr` of `ExportDefaultExpr`, `TsExportAssignment`, `ExprStmt`, `TsExprWithTypeArgs`, `TsAsExpr`, `TsTypeAssertion`, `Computed`, `ExprPat`.
     pub fn expr(self) -> Option<NodeRef<'a>>
-        ensures { IsChildRef self.entry expr_of result }
+        ensures { option_map node_view result ≡ child_of (node_view self.entry) expr_of }
     {
         let NodeRef { tree, id } = self;
         let child = match &tree.nodes[id.index()].kind {
@@ -154,12 +155,12 @@ impl<'a> NodeRef<'a> {
             Kind::Pat(Pat::ExprPat { expr }) => Some(*expr),
             _ => None,
         };
-        node_in(tree, child)
+        find(tree, child)
     }
 
     /// The `id` of `TsImportEqualsDecl`, `TsInterfaceDecl`, `TsTypeAliasDecl`, `TsEnumDecl`, `TsModuleDecl`, `TsNamespaceDecl`.
     pub fn id(self) -> Option<NodeRef<'a>>
-        ensures { IsChildRef self.entry id_of result }
+        ensures { option_map node_view result ≡ child_of (node_view self.entry) id_of }
     {
         let NodeRef { tree, id } = self;
         let child = match &tree.nodes[id.index()].kind {
@@ -173,24 +174,24 @@ impl<'a> NodeRef<'a> {
             ) => Some(*id),
             _ => None,
         };
-        node_in(tree, child)
+        find(tree, child)
     }
 
     /// The `entity` of a `TsImportEqualsDecl`.
     pub fn entity(self) -> Option<NodeRef<'a>>
-        ensures { IsChildRef self.entry entity_of result }
+        ensures { option_map node_view result ≡ child_of (node_view self.entry) entity_of }
     {
         let NodeRef { tree, id } = self;
         let child = match &tree.nodes[id.index()].kind {
             Kind::Item(Item::TsImportEqualsDecl { entity, .. }) => *entity,
             _ => None,
         };
-        node_in(tree, child)
+        find(tree, child)
     }
 
     /// The `ident` of `ClassDecl`, `ClassExpr`, `FnDecl`, `FnExpr`.
     pub fn ident(self) -> Option<NodeRef<'a>>
-        ensures { IsChildRef self.entry ident_of result }
+        ensures { option_map node_view result ≡ child_of (node_view self.entry) ident_of }
     {
         let NodeRef { tree, id } = self;
         let child = match &tree.nodes[id.index()].kind {
@@ -198,12 +199,12 @@ impl<'a> NodeRef<'a> {
             Kind::Decl(Decl::ClassExpr { ident, .. } | Decl::FnExpr { ident, .. }) => *ident,
             _ => None,
         };
-        node_in(tree, child)
+        find(tree, child)
     }
 
     /// The `class` of `ClassDecl`, `ClassExpr`.
     pub fn class(self) -> Option<NodeRef<'a>>
-        ensures { IsChildRef self.entry class_of result }
+        ensures { option_map node_view result ≡ child_of (node_view self.entry) class_of }
     {
         let NodeRef { tree, id } = self;
         let child = match &tree.nodes[id.index()].kind {
@@ -212,12 +213,12 @@ impl<'a> NodeRef<'a> {
             ),
             _ => None,
         };
-        node_in(tree, child)
+        find(tree, child)
     }
 
     /// The `type_params` of `Class`, `Function`, `TsInterfaceDecl`, `TsTypeAliasDecl`, `TsCallSignatureDecl`, `TsConstructSignatureDecl`, `TsMethodSignature`, `Arrow`.
     pub fn type_params(self) -> Option<NodeRef<'a>>
-        ensures { IsChildRef self.entry type_params_of result }
+        ensures { option_map node_view result ≡ child_of (node_view self.entry) type_params_of }
     {
         let NodeRef { tree, id } = self;
         let child = match &tree.nodes[id.index()].kind {
@@ -235,24 +236,24 @@ impl<'a> NodeRef<'a> {
             Kind::Expr(Expr::Arrow { type_params, .. }) => *type_params,
             _ => None,
         };
-        node_in(tree, child)
+        find(tree, child)
     }
 
     /// The `super_class` of a `Class`.
     pub fn super_class(self) -> Option<NodeRef<'a>>
-        ensures { IsChildRef self.entry super_class_of result }
+        ensures { option_map node_view result ≡ child_of (node_view self.entry) super_class_of }
     {
         let NodeRef { tree, id } = self;
         let child = match &tree.nodes[id.index()].kind {
             Kind::Decl(Decl::Class { super_class, .. }) => *super_class,
             _ => None,
         };
-        node_in(tree, child)
+        find(tree, child)
     }
 
     /// The `super_type_params` of a `Class`.
     pub fn super_type_params(self) -> Option<NodeRef<'a>>
-        ensures { IsChildRef self.entry super_type_params_of result }
+        ensures { option_map node_view result ≡ child_of (node_view self.entry) super_type_params_of }
     {
         let NodeRef { tree, id } = self;
         let child = match &tree.nodes[id.index()].kind {
@@ -264,12 +265,12 @@ impl<'a> NodeRef<'a> {
             ) => *super_type_params,
             _ => None,
         };
-        node_in(tree, child)
+        find(tree, child)
     }
 
     /// The `implements` of a `Class`.
     pub fn implements(self) -> &'a [NodeId]
-        ensures { result.now ≡ list_at self.entry implements_of }
+        ensures { result.now ≡ list_of (node_view self.entry) implements_of }
     {
         let NodeRef { tree, id } = self;
         match &tree.nodes[id.index()].kind {
@@ -280,7 +281,7 @@ impl<'a> NodeRef<'a> {
 
     /// The `function` of `FnDecl`, `FnExpr`, `ClassMethod`.
     pub fn function(self) -> Option<NodeRef<'a>>
-        ensures { IsChildRef self.entry function_of result }
+        ensures { option_map node_view result ≡ child_of (node_view self.entry) function_of }
     {
         let NodeRef { tree, id } = self;
         let child = match &tree.nodes[id.index()].kind {
@@ -290,12 +291,12 @@ impl<'a> NodeRef<'a> {
             Kind::Member(Member::ClassMethod { function, .. }) => Some(*function),
             _ => None,
         };
-        node_in(tree, child)
+        find(tree, child)
     }
 
     /// The `params` of `Function`, `Constructor`, `TsIndexSignature`, `TsCallSignatureDecl`, `TsConstructSignatureDecl`, `TsMethodSignature`, `TsTypeParamDecl`, `TsTypeParamInstantiation`, `Arrow`.
     pub fn params(self) -> &'a [NodeId]
-        ensures { result.now ≡ list_at self.entry params_of }
+        ensures { result.now ≡ list_of (node_view self.entry) params_of }
     {
         let NodeRef { tree, id } = self;
         match &tree.nodes[id.index()].kind {
@@ -316,7 +317,7 @@ impl<'a> NodeRef<'a> {
 
     /// The `return_type` of `Function`, `Arrow`.
     pub fn return_type(self) -> Option<NodeRef<'a>>
-        ensures { IsChildRef self.entry return_type_of result }
+        ensures { option_map node_view result ≡ child_of (node_view self.entry) return_type_of }
     {
         let NodeRef { tree, id } = self;
         let child = match &tree.nodes[id.index()].kind {
@@ -324,12 +325,12 @@ impl<'a> NodeRef<'a> {
             Kind::Expr(Expr::Arrow { return_type, .. }) => *return_type,
             _ => None,
         };
-        node_in(tree, child)
+        find(tree, child)
     }
 
     /// The `body` of `Function`, `TsModuleDecl`, `TsNamespaceDecl`, `Constructor`, `Arrow`.
     pub fn body_node(self) -> Option<NodeRef<'a>>
-        ensures { IsChildRef self.entry body_node_of result }
+        ensures { option_map node_view result ≡ child_of (node_view self.entry) body_node_of }
     {
         let NodeRef { tree, id } = self;
         let child = match &tree.nodes[id.index()].kind {
@@ -339,12 +340,12 @@ impl<'a> NodeRef<'a> {
             Kind::Expr(Expr::Arrow { body, .. }) => Some(*body),
             _ => None,
         };
-        node_in(tree, child)
+        find(tree, child)
     }
 
     /// The `decls` of `VarDecl`, `UsingDecl`.
     pub fn decls(self) -> &'a [NodeId]
-        ensures { result.now ≡ list_at self.entry decls_of }
+        ensures { result.now ≡ list_of (node_view self.entry) decls_of }
     {
         let NodeRef { tree, id } = self;
         match &tree.nodes[id.index()].kind {
@@ -355,31 +356,31 @@ impl<'a> NodeRef<'a> {
 
     /// The `name` of a `VarDeclarator`.
     pub fn name(self) -> Option<NodeRef<'a>>
-        ensures { IsChildRef self.entry name_of result }
+        ensures { option_map node_view result ≡ child_of (node_view self.entry) name_of }
     {
         let NodeRef { tree, id } = self;
         let child = match &tree.nodes[id.index()].kind {
             Kind::Decl(Decl::VarDeclarator { name, .. }) => Some(*name),
             _ => None,
         };
-        node_in(tree, child)
+        find(tree, child)
     }
 
     /// The `init` of `VarDeclarator`, `TsEnumMember`.
     pub fn init(self) -> Option<NodeRef<'a>>
-        ensures { IsChildRef self.entry init_of result }
+        ensures { option_map node_view result ≡ child_of (node_view self.entry) init_of }
     {
         let NodeRef { tree, id } = self;
         let child = match &tree.nodes[id.index()].kind {
             Kind::Decl(Decl::VarDeclarator { init, .. } | Decl::TsEnumMember { init }) => *init,
             _ => None,
         };
-        node_in(tree, child)
+        find(tree, child)
     }
 
     /// The `extends` of a `TsInterfaceDecl`.
     pub fn extends(self) -> &'a [NodeId]
-        ensures { result.now ≡ list_at self.entry extends_of }
+        ensures { result.now ≡ list_of (node_view self.entry) extends_of }
     {
         let NodeRef { tree, id } = self;
         match &tree.nodes[id.index()].kind {
@@ -390,16 +391,16 @@ impl<'a> NodeRef<'a> {
 
     /// The `type_ann` of `TsTypeAliasDecl`, `ClassProp`, `AutoAccessor`, `TsIndexSignature`, `TsCallSignatureDecl`, `TsConstructSignatureDecl`, `TsPropertySignature`, `TsGetterSignature`, `TsMethodSignature`, `BindingIdent`, `ArrayPat`, `ObjectPat`, `RestPat`.
     pub fn type_ann(self) -> Option<NodeRef<'a>>
-        ensures { IsChildRef self.entry type_ann_of result }
+        ensures { option_map node_view result ≡ child_of (node_view self.entry) type_ann_of }
     {
         let NodeRef { tree, id } = self;
         let child = type_ann_of_kind(&tree.nodes[id.index()].kind);
-        node_in(tree, child)
+        find(tree, child)
     }
 
     /// The `members` of a `TsEnumDecl`.
     pub fn members(self) -> &'a [NodeId]
-        ensures { result.now ≡ list_at self.entry members_of }
+        ensures { result.now ≡ list_of (node_view self.entry) members_of }
     {
         let NodeRef { tree, id } = self;
         match &tree.nodes[id.index()].kind {
@@ -410,7 +411,7 @@ impl<'a> NodeRef<'a> {
 
     /// The `param` of `TsParamProp`, `TsSetterSignature`.
     pub fn param(self) -> Option<NodeRef<'a>>
-        ensures { IsChildRef self.entry param_of result }
+        ensures { option_map node_view result ≡ child_of (node_view self.entry) param_of }
     {
         let NodeRef { tree, id } = self;
         let child = match &tree.nodes[id.index()].kind {
@@ -419,21 +420,21 @@ impl<'a> NodeRef<'a> {
             ) => Some(*param),
             _ => None,
         };
-        node_in(tree, child)
+        find(tree, child)
     }
 
     /// The `key` of `ClassMethod`, `ClassProp`, `AutoAccessor`, `TsPropertySignature`, `TsGetterSignature`, `TsSetterSignature`, `TsMethodSignature`, `KeyValuePatProp`, `AssignPatProp`.
     pub fn key(self) -> Option<NodeRef<'a>>
-        ensures { IsChildRef self.entry key_of result }
+        ensures { option_map node_view result ≡ child_of (node_view self.entry) key_of }
     {
         let NodeRef { tree, id } = self;
         let child = key_of_kind(&tree.nodes[id.index()].kind);
-        node_in(tree, child)
+        find(tree, child)
     }
 
     /// The `value` of `ClassProp`, `AutoAccessor`, `KeyValuePatProp`, `AssignPatProp`.
     pub fn value(self) -> Option<NodeRef<'a>>
-        ensures { IsChildRef self.entry value_of result }
+        ensures { option_map node_view result ≡ child_of (node_view self.entry) value_of }
     {
         let NodeRef { tree, id } = self;
         let child = match &tree.nodes[id.index()].kind {
@@ -443,36 +444,36 @@ impl<'a> NodeRef<'a> {
             Kind::Pat(Pat::AssignPatProp { value, .. }) => *value,
             _ => None,
         };
-        node_in(tree, child)
+        find(tree, child)
     }
 
     /// The `constraint` of a `TsTypeParam`.
     pub fn constraint(self) -> Option<NodeRef<'a>>
-        ensures { IsChildRef self.entry constraint_of result }
+        ensures { option_map node_view result ≡ child_of (node_view self.entry) constraint_of }
     {
         let NodeRef { tree, id } = self;
         let child = match &tree.nodes[id.index()].kind {
             Kind::Ty(Ty::TsTypeParam { constraint, .. }) => *constraint,
             _ => None,
         };
-        node_in(tree, child)
+        find(tree, child)
     }
 
     /// The `default` of a `TsTypeParam`.
     pub fn default(self) -> Option<NodeRef<'a>>
-        ensures { IsChildRef self.entry default_of result }
+        ensures { option_map node_view result ≡ child_of (node_view self.entry) default_of }
     {
         let NodeRef { tree, id } = self;
         let child = match &tree.nodes[id.index()].kind {
             Kind::Ty(Ty::TsTypeParam { default, .. }) => *default,
             _ => None,
         };
-        node_in(tree, child)
+        find(tree, child)
     }
 
     /// The `ty` of `TsTypeAnn`, `TsAsExpr`, `TsTypeAssertion`, `TsTupleElement`.
     pub fn ty(self) -> Option<NodeRef<'a>>
-        ensures { IsChildRef self.entry ty_of result }
+        ensures { option_map node_view result ≡ child_of (node_view self.entry) ty_of }
     {
         let NodeRef { tree, id } = self;
         let child = match &tree.nodes[id.index()].kind {
@@ -484,12 +485,12 @@ impl<'a> NodeRef<'a> {
             ) => Some(*ty),
             _ => None,
         };
-        node_in(tree, child)
+        find(tree, child)
     }
 
     /// The `type_args` of `TsExprWithTypeArgs`, `TsTypeQuery`, `TsImportType`.
     pub fn type_args(self) -> Option<NodeRef<'a>>
-        ensures { IsChildRef self.entry type_args_of result }
+        ensures { option_map node_view result ≡ child_of (node_view self.entry) type_args_of }
     {
         let NodeRef { tree, id } = self;
         let child = match &tree.nodes[id.index()].kind {
@@ -500,48 +501,48 @@ impl<'a> NodeRef<'a> {
             ) => *type_args,
             _ => None,
         };
-        node_in(tree, child)
+        find(tree, child)
     }
 
     /// The `expr_name` of a `TsTypeQuery`.
     pub fn expr_name(self) -> Option<NodeRef<'a>>
-        ensures { IsChildRef self.entry expr_name_of result }
+        ensures { option_map node_view result ≡ child_of (node_view self.entry) expr_name_of }
     {
         let NodeRef { tree, id } = self;
         let child = match &tree.nodes[id.index()].kind {
             Kind::Ty(Ty::TsTypeQuery { expr_name, .. }) => Some(*expr_name),
             _ => None,
         };
-        node_in(tree, child)
+        find(tree, child)
     }
 
     /// The `qualifier` of a `TsImportType`.
     pub fn qualifier(self) -> Option<NodeRef<'a>>
-        ensures { IsChildRef self.entry qualifier_of result }
+        ensures { option_map node_view result ≡ child_of (node_view self.entry) qualifier_of }
     {
         let NodeRef { tree, id } = self;
         let child = match &tree.nodes[id.index()].kind {
             Kind::Ty(Ty::TsImportType { qualifier, .. }) => *qualifier,
             _ => None,
         };
-        node_in(tree, child)
+        find(tree, child)
     }
 
     /// The `label` of a `TsTupleElement`.
     pub fn label(self) -> Option<NodeRef<'a>>
-        ensures { IsChildRef self.entry label_of result }
+        ensures { option_map node_view result ≡ child_of (node_view self.entry) label_of }
     {
         let NodeRef { tree, id } = self;
         let child = match &tree.nodes[id.index()].kind {
             Kind::Ty(Ty::TsTupleElement { label, .. }) => *label,
             _ => None,
         };
-        node_in(tree, child)
+        find(tree, child)
     }
 
     /// The `left` of `TsQualifiedName`, `Assign`, `AssignPat`.
     pub fn left(self) -> Option<NodeRef<'a>>
-        ensures { IsChildRef self.entry left_of result }
+        ensures { option_map node_view result ≡ child_of (node_view self.entry) left_of }
     {
         let NodeRef { tree, id } = self;
         let child = match &tree.nodes[id.index()].kind {
@@ -550,36 +551,36 @@ impl<'a> NodeRef<'a> {
             Kind::Pat(Pat::AssignPat { left, .. }) => Some(*left),
             _ => None,
         };
-        node_in(tree, child)
+        find(tree, child)
     }
 
     /// The `obj` of a `Member`.
     pub fn obj(self) -> Option<NodeRef<'a>>
-        ensures { IsChildRef self.entry obj_of result }
+        ensures { option_map node_view result ≡ child_of (node_view self.entry) obj_of }
     {
         let NodeRef { tree, id } = self;
         let child = match &tree.nodes[id.index()].kind {
             Kind::Expr(Expr::Member { obj, .. }) => Some(*obj),
             _ => None,
         };
-        node_in(tree, child)
+        find(tree, child)
     }
 
     /// The `prop` of a `Member`.
     pub fn prop(self) -> Option<NodeRef<'a>>
-        ensures { IsChildRef self.entry prop_of result }
+        ensures { option_map node_view result ≡ child_of (node_view self.entry) prop_of }
     {
         let NodeRef { tree, id } = self;
         let child = match &tree.nodes[id.index()].kind {
             Kind::Expr(Expr::Member { prop, .. }) => Some(*prop),
             _ => None,
         };
-        node_in(tree, child)
+        find(tree, child)
     }
 
     /// The `right` of `Assign`, `AssignPat`.
     pub fn right(self) -> Option<NodeRef<'a>>
-        ensures { IsChildRef self.entry right_of result }
+        ensures { option_map node_view result ≡ child_of (node_view self.entry) right_of }
     {
         let NodeRef { tree, id } = self;
         let child = match &tree.nodes[id.index()].kind {
@@ -587,12 +588,12 @@ impl<'a> NodeRef<'a> {
             Kind::Pat(Pat::AssignPat { right, .. }) => Some(*right),
             _ => None,
         };
-        node_in(tree, child)
+        find(tree, child)
     }
 
     /// The `elems` of a `ArrayPat`.
     pub fn elems(self) -> &'a [NodeId]
-        ensures { result.now ≡ list_at self.entry elems_of }
+        ensures { result.now ≡ list_of (node_view self.entry) elems_of }
     {
         let NodeRef { tree, id } = self;
         match &tree.nodes[id.index()].kind {
@@ -603,7 +604,7 @@ impl<'a> NodeRef<'a> {
 
     /// The `props` of a `ObjectPat`.
     pub fn props(self) -> &'a [NodeId]
-        ensures { result.now ≡ list_at self.entry props_of }
+        ensures { result.now ≡ list_of (node_view self.entry) props_of }
     {
         let NodeRef { tree, id } = self;
         match &tree.nodes[id.index()].kind {
@@ -614,19 +615,19 @@ impl<'a> NodeRef<'a> {
 
     /// The `arg` of a `RestPat`.
     pub fn arg(self) -> Option<NodeRef<'a>>
-        ensures { IsChildRef self.entry arg_of result }
+        ensures { option_map node_view result ≡ child_of (node_view self.entry) arg_of }
     {
         let NodeRef { tree, id } = self;
         let child = match &tree.nodes[id.index()].kind {
             Kind::Pat(Pat::RestPat { arg, .. }) => Some(*arg),
             _ => None,
         };
-        node_in(tree, child)
+        find(tree, child)
     }
 
     /// The `children` of `Plain`, `Other`.
     pub fn children(self) -> &'a [NodeId]
-        ensures { result.now ≡ list_at self.entry children_of }
+        ensures { result.now ≡ list_of (node_view self.entry) children_of }
     {
         let NodeRef { tree, id } = self;
         match &tree.nodes[id.index()].kind {

@@ -1,9 +1,11 @@
 //! A node of a tree, with the tree that it is of.
 
 ghost use Rattle.std.specs.Prelude.{◌≡◌, ◌<◌, length, Some};
+ghost use Rattle.std.specs.Option.{option_map, option_copied, option_and_then};
+ghost use Rattle.symbols_tree.specs.Ids.{sym_of};
 
-use crate::tree::arena::{NodeId, SourceRange, Tree};
-use crate::tree::kinds::Kind;
+use crate::tree::arena::{Id, NodeId, SourceRange, Tree};
+use crate::tree::kinds::{Expr, Kind, Pat};
 
 /// A node of a tree: the tree and the node's number.
 #[derive(Clone, Copy)]
@@ -14,11 +16,11 @@ pub struct NodeRef<'a> {
 }
 
 impl<'a> NodeRef<'a> {
-    ghost use Rattle.symbols_tree.specs.NodeRefs.{kind_of, range_of, IsRefIn};
+    ghost use Rattle.symbols_tree.specs.NodeRefs.{node_view, node_in, kind_of, range_of};
 
     /// The node of a tree by its number; none where the tree has no such node.
     pub fn new(tree: &'a Tree, id: NodeId) -> Option<NodeRef<'a>>
-        ensures { IsRefIn tree.now (Some id) result }
+        ensures { option_map node_view result ≡ node_in tree.now (Some id) }
     {
         if id.index() < tree.nodes.len() {
             Some(NodeRef { tree, id })
@@ -29,22 +31,33 @@ impl<'a> NodeRef<'a> {
 
     /// The node's kind, with its fields.
     pub fn kind(self) -> &'a Kind
-        ensures { kind_of self.entry ≡ Some result.now }
+        ensures { kind_of (node_view self.entry) ≡ Some result.now }
     {
         &self.tree.nodes[self.id.index()].kind
     }
 
     /// Where the node stands in the text.
     pub fn range(self) -> SourceRange
-        ensures { range_of self.entry ≡ Some result }
+        ensures { range_of (node_view self.entry) ≡ Some result }
     {
         self.tree.nodes[self.id.index()].range
     }
 
     /// Another node of the same tree, by its number; none where the tree has no such node.
     pub fn node(self, id: NodeId) -> Option<NodeRef<'a>>
-        ensures { IsRefIn self.entry.tree.now (Some id) result }
+        ensures { option_map node_view result ≡ node_in self.entry.tree.now (Some id) }
     {
         NodeRef::new(self.tree, id)
+    }
+
+    /// The name that an `Ident` or a `BindingIdent` is; none of another kind.
+    pub fn sym(self) -> Option<&'a Id>
+        ensures { option_copied result ≡ option_and_then sym_of (kind_of (node_view self.entry)) }
+    {
+        let NodeRef { tree, id } = self;
+        match &tree.nodes[id.index()].kind {
+            Kind::Expr(Expr::Ident { sym }) | Kind::Pat(Pat::BindingIdent { sym, .. }) => Some(sym),
+            _ => None,
+        }
     }
 }
