@@ -14,7 +14,7 @@ pub record TreeNode : Type 0 where
 
 -- what contracts see of a `NodeRef`
 abbrev pub node_view : NodeRef → TreeNode
-node_view node = record { tree = node.tree.now; number = node.id }
+node_view node = record { tree = node.tree.now; number = node.number }
 
 abbrev pub kind_of : TreeNode → Option Kind
 kind_of node = kind_at node.tree.nodes.items node.number

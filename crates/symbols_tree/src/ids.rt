@@ -3,33 +3,22 @@
 ghost use Rattle.std.specs.Prelude.{◌≡◌};
 
 use std::fmt;
-use std::marker::Model;
 
 /// The number of a module: modules are numbered from 0 in the order in which they are stored.
 #[derive(Clone, Copy, Debug, PartialEq, Eq, Hash)]
-pub struct ModuleId(u32);
-
-impl Model for ModuleId {
-    ghost use Rattle.std.specs.Prelude.{ℕ};
-
-    ghost Value = { ℕ };
-
-    ghost view = { λ m. m.0 };
-
-    ghost inverse = { λ n. record { 0 = n } };
-}
+pub struct ModuleId(pub u32);
 
 impl ModuleId {
     /// The module of a number (own rule: it names a module only where one has that number).
     pub fn from_number(number: u32) -> ModuleId
-        ensures { result ≡ number }
+        ensures { result.0 ≡ number }
     {
         ModuleId(number)
     }
 
     /// The module's number.
     pub fn number(self) -> u32
-        ensures { result ≡ self }
+        ensures { result ≡ self.0 }
     {
         self.0
     }
@@ -45,29 +34,19 @@ impl fmt::Display for ModuleId {
 /// The number of a symbol of its module: symbol 0 is the module, the others follow in the order
 /// in which they are made. The default is symbol 0.
 #[derive(Clone, Copy, Default, PartialEq, Eq, Hash)]
-pub struct SymbolId(u32);
-
-impl Model for SymbolId {
-    ghost use Rattle.std.specs.Prelude.{ℕ};
-
-    ghost Value = { ℕ };
-
-    ghost view = { λ s. s.0 };
-
-    ghost inverse = { λ n. record { 0 = n } };
-}
+pub struct SymbolId(pub u32);
 
 impl SymbolId {
     /// The symbol of a number (own rule: it names a symbol only where one has that number).
     pub fn from_number(number: u32) -> SymbolId
-        ensures { result ≡ number }
+        ensures { result.0 ≡ number }
     {
         SymbolId(number)
     }
 
     /// The symbol's number.
     pub fn number(self) -> u32
-        ensures { result ≡ self }
+        ensures { result ≡ self.0 }
     {
         self.0
     }

@@ -70,8 +70,8 @@ impl<'a> NodeRef<'a> {
     pub fn body(self) -> &'a [NodeId]
         ensures { result.now ≡ list_of (node_view self.entry) body_of }
     {
-        let NodeRef { tree, id } = self;
-        match &tree.nodes[id.index()].kind {
+        let NodeRef { tree, number } = self;
+        match &tree.nodes[number as usize].kind {
             Kind::Item(Item::Program { body }) => body,
             Kind::Decl(
                 Decl::Class { body, .. }
@@ -86,8 +86,8 @@ impl<'a> NodeRef<'a> {
     pub fn specifiers(self) -> &'a [NodeId]
         ensures { result.now ≡ list_of (node_view self.entry) specifiers_of }
     {
-        let NodeRef { tree, id } = self;
-        match &tree.nodes[id.index()].kind {
+        let NodeRef { tree, number } = self;
+        match &tree.nodes[number as usize].kind {
             Kind::Item(Item::Import { specifiers, .. } | Item::ExportNamed { specifiers, .. }) =>
                 specifiers,
             _ => &[],
@@ -98,8 +98,8 @@ impl<'a> NodeRef<'a> {
     pub fn local(self) -> Option<NodeRef<'a>>
         ensures { option_map node_view result ≡ child_of (node_view self.entry) local_of }
     {
-        let NodeRef { tree, id } = self;
-        let child = match &tree.nodes[id.index()].kind {
+        let NodeRef { tree, number } = self;
+        let child = match &tree.nodes[number as usize].kind {
             Kind::Item(
                 Item::ImportNamed { local, .. }
                 | Item::ImportDefault { local }
@@ -115,8 +115,8 @@ impl<'a> NodeRef<'a> {
     pub fn decl(self) -> Option<NodeRef<'a>>
         ensures { option_map node_view result ≡ child_of (node_view self.entry) decl_of }
     {
-        let NodeRef { tree, id } = self;
-        let child = match &tree.nodes[id.index()].kind {
+        let NodeRef { tree, number } = self;
+        let child = match &tree.nodes[number as usize].kind {
             Kind::Item(Item::ExportDecl { decl } | Item::ExportDefaultDecl { decl }) => Some(*decl),
             _ => None,
         };
@@ -127,8 +127,8 @@ impl<'a> NodeRef<'a> {
     pub fn orig(self) -> Option<NodeRef<'a>>
         ensures { option_map node_view result ≡ child_of (node_view self.entry) orig_of }
     {
-        let NodeRef { tree, id } = self;
-        let child = match &tree.nodes[id.index()].kind {
+        let NodeRef { tree, number } = self;
+        let child = match &tree.nodes[number as usize].kind {
             Kind::Item(Item::ExportSpecifier { orig, .. }) => Some(*orig),
             _ => None,
         };
@@ -139,8 +139,8 @@ impl<'a> NodeRef<'a> {
     pub fn expr(self) -> Option<NodeRef<'a>>
         ensures { option_map node_view result ≡ child_of (node_view self.entry) expr_of }
     {
-        let NodeRef { tree, id } = self;
-        let child = match &tree.nodes[id.index()].kind {
+        let NodeRef { tree, number } = self;
+        let child = match &tree.nodes[number as usize].kind {
             Kind::Item(
                 Item::ExportDefaultExpr { expr }
                 | Item::TsExportAssignment { expr }
@@ -162,8 +162,8 @@ impl<'a> NodeRef<'a> {
     pub fn id(self) -> Option<NodeRef<'a>>
         ensures { option_map node_view result ≡ child_of (node_view self.entry) id_of }
     {
-        let NodeRef { tree, id } = self;
-        let child = match &tree.nodes[id.index()].kind {
+        let NodeRef { tree, number } = self;
+        let child = match &tree.nodes[number as usize].kind {
             Kind::Item(Item::TsImportEqualsDecl { id, .. }) => Some(*id),
             Kind::Decl(
                 Decl::TsInterfaceDecl { id, .. }
@@ -181,8 +181,8 @@ impl<'a> NodeRef<'a> {
     pub fn entity(self) -> Option<NodeRef<'a>>
         ensures { option_map node_view result ≡ child_of (node_view self.entry) entity_of }
     {
-        let NodeRef { tree, id } = self;
-        let child = match &tree.nodes[id.index()].kind {
+        let NodeRef { tree, number } = self;
+        let child = match &tree.nodes[number as usize].kind {
             Kind::Item(Item::TsImportEqualsDecl { entity, .. }) => *entity,
             _ => None,
         };
@@ -193,8 +193,8 @@ impl<'a> NodeRef<'a> {
     pub fn ident(self) -> Option<NodeRef<'a>>
         ensures { option_map node_view result ≡ child_of (node_view self.entry) ident_of }
     {
-        let NodeRef { tree, id } = self;
-        let child = match &tree.nodes[id.index()].kind {
+        let NodeRef { tree, number } = self;
+        let child = match &tree.nodes[number as usize].kind {
             Kind::Decl(Decl::ClassDecl { ident, .. } | Decl::FnDecl { ident, .. }) => Some(*ident),
             Kind::Decl(Decl::ClassExpr { ident, .. } | Decl::FnExpr { ident, .. }) => *ident,
             _ => None,
@@ -206,8 +206,8 @@ impl<'a> NodeRef<'a> {
     pub fn class(self) -> Option<NodeRef<'a>>
         ensures { option_map node_view result ≡ child_of (node_view self.entry) class_of }
     {
-        let NodeRef { tree, id } = self;
-        let child = match &tree.nodes[id.index()].kind {
+        let NodeRef { tree, number } = self;
+        let child = match &tree.nodes[number as usize].kind {
             Kind::Decl(Decl::ClassDecl { class, .. } | Decl::ClassExpr { class, .. }) => Some(
                 *class,
             ),
@@ -220,8 +220,8 @@ impl<'a> NodeRef<'a> {
     pub fn type_params(self) -> Option<NodeRef<'a>>
         ensures { option_map node_view result ≡ child_of (node_view self.entry) type_params_of }
     {
-        let NodeRef { tree, id } = self;
-        let child = match &tree.nodes[id.index()].kind {
+        let NodeRef { tree, number } = self;
+        let child = match &tree.nodes[number as usize].kind {
             Kind::Decl(
                 Decl::Class { type_params, .. }
                 | Decl::Function { type_params, .. }
@@ -243,8 +243,8 @@ impl<'a> NodeRef<'a> {
     pub fn super_class(self) -> Option<NodeRef<'a>>
         ensures { option_map node_view result ≡ child_of (node_view self.entry) super_class_of }
     {
-        let NodeRef { tree, id } = self;
-        let child = match &tree.nodes[id.index()].kind {
+        let NodeRef { tree, number } = self;
+        let child = match &tree.nodes[number as usize].kind {
             Kind::Decl(Decl::Class { super_class, .. }) => *super_class,
             _ => None,
         };
@@ -255,8 +255,8 @@ impl<'a> NodeRef<'a> {
     pub fn super_type_params(self) -> Option<NodeRef<'a>>
         ensures { option_map node_view result ≡ child_of (node_view self.entry) super_type_params_of }
     {
-        let NodeRef { tree, id } = self;
-        let child = match &tree.nodes[id.index()].kind {
+        let NodeRef { tree, number } = self;
+        let child = match &tree.nodes[number as usize].kind {
             Kind::Decl(
                 Decl::Class {
                     super_type_params,
@@ -272,8 +272,8 @@ impl<'a> NodeRef<'a> {
     pub fn implements(self) -> &'a [NodeId]
         ensures { result.now ≡ list_of (node_view self.entry) implements_of }
     {
-        let NodeRef { tree, id } = self;
-        match &tree.nodes[id.index()].kind {
+        let NodeRef { tree, number } = self;
+        match &tree.nodes[number as usize].kind {
             Kind::Decl(Decl::Class { implements, .. }) => implements,
             _ => &[],
         }
@@ -283,8 +283,8 @@ impl<'a> NodeRef<'a> {
     pub fn function(self) -> Option<NodeRef<'a>>
         ensures { option_map node_view result ≡ child_of (node_view self.entry) function_of }
     {
-        let NodeRef { tree, id } = self;
-        let child = match &tree.nodes[id.index()].kind {
+        let NodeRef { tree, number } = self;
+        let child = match &tree.nodes[number as usize].kind {
             Kind::Decl(Decl::FnDecl { function, .. } | Decl::FnExpr { function, .. }) => Some(
                 *function,
             ),
@@ -298,8 +298,8 @@ impl<'a> NodeRef<'a> {
     pub fn params(self) -> &'a [NodeId]
         ensures { result.now ≡ list_of (node_view self.entry) params_of }
     {
-        let NodeRef { tree, id } = self;
-        match &tree.nodes[id.index()].kind {
+        let NodeRef { tree, number } = self;
+        match &tree.nodes[number as usize].kind {
             Kind::Decl(Decl::Function { params, .. }) => params,
             Kind::Member(
                 Member::Constructor { params, .. }
@@ -319,8 +319,8 @@ impl<'a> NodeRef<'a> {
     pub fn return_type(self) -> Option<NodeRef<'a>>
         ensures { option_map node_view result ≡ child_of (node_view self.entry) return_type_of }
     {
-        let NodeRef { tree, id } = self;
-        let child = match &tree.nodes[id.index()].kind {
+        let NodeRef { tree, number } = self;
+        let child = match &tree.nodes[number as usize].kind {
             Kind::Decl(Decl::Function { return_type, .. }) => *return_type,
             Kind::Expr(Expr::Arrow { return_type, .. }) => *return_type,
             _ => None,
@@ -332,8 +332,8 @@ impl<'a> NodeRef<'a> {
     pub fn body_node(self) -> Option<NodeRef<'a>>
         ensures { option_map node_view result ≡ child_of (node_view self.entry) body_node_of }
     {
-        let NodeRef { tree, id } = self;
-        let child = match &tree.nodes[id.index()].kind {
+        let NodeRef { tree, number } = self;
+        let child = match &tree.nodes[number as usize].kind {
             Kind::Decl(Decl::TsNamespaceDecl { body, .. }) => Some(*body),
             Kind::Decl(Decl::Function { body, .. } | Decl::TsModuleDecl { body, .. }) => *body,
             Kind::Member(Member::Constructor { body, .. }) => *body,
@@ -347,8 +347,8 @@ impl<'a> NodeRef<'a> {
     pub fn decls(self) -> &'a [NodeId]
         ensures { result.now ≡ list_of (node_view self.entry) decls_of }
     {
-        let NodeRef { tree, id } = self;
-        match &tree.nodes[id.index()].kind {
+        let NodeRef { tree, number } = self;
+        match &tree.nodes[number as usize].kind {
             Kind::Decl(Decl::VarDecl { decls } | Decl::UsingDecl { decls }) => decls,
             _ => &[],
         }
@@ -358,8 +358,8 @@ impl<'a> NodeRef<'a> {
     pub fn name(self) -> Option<NodeRef<'a>>
         ensures { option_map node_view result ≡ child_of (node_view self.entry) name_of }
     {
-        let NodeRef { tree, id } = self;
-        let child = match &tree.nodes[id.index()].kind {
+        let NodeRef { tree, number } = self;
+        let child = match &tree.nodes[number as usize].kind {
             Kind::Decl(Decl::VarDeclarator { name, .. }) => Some(*name),
             _ => None,
         };
@@ -370,8 +370,8 @@ impl<'a> NodeRef<'a> {
     pub fn init(self) -> Option<NodeRef<'a>>
         ensures { option_map node_view result ≡ child_of (node_view self.entry) init_of }
     {
-        let NodeRef { tree, id } = self;
-        let child = match &tree.nodes[id.index()].kind {
+        let NodeRef { tree, number } = self;
+        let child = match &tree.nodes[number as usize].kind {
             Kind::Decl(Decl::VarDeclarator { init, .. } | Decl::TsEnumMember { init }) => *init,
             _ => None,
         };
@@ -382,8 +382,8 @@ impl<'a> NodeRef<'a> {
     pub fn extends(self) -> &'a [NodeId]
         ensures { result.now ≡ list_of (node_view self.entry) extends_of }
     {
-        let NodeRef { tree, id } = self;
-        match &tree.nodes[id.index()].kind {
+        let NodeRef { tree, number } = self;
+        match &tree.nodes[number as usize].kind {
             Kind::Decl(Decl::TsInterfaceDecl { extends, .. }) => extends,
             _ => &[],
         }
@@ -393,8 +393,8 @@ impl<'a> NodeRef<'a> {
     pub fn type_ann(self) -> Option<NodeRef<'a>>
         ensures { option_map node_view result ≡ child_of (node_view self.entry) type_ann_of }
     {
-        let NodeRef { tree, id } = self;
-        let child = type_ann_of_kind(&tree.nodes[id.index()].kind);
+        let NodeRef { tree, number } = self;
+        let child = type_ann_of_kind(&tree.nodes[number as usize].kind);
         find(tree, child)
     }
 
@@ -402,8 +402,8 @@ impl<'a> NodeRef<'a> {
     pub fn members(self) -> &'a [NodeId]
         ensures { result.now ≡ list_of (node_view self.entry) members_of }
     {
-        let NodeRef { tree, id } = self;
-        match &tree.nodes[id.index()].kind {
+        let NodeRef { tree, number } = self;
+        match &tree.nodes[number as usize].kind {
             Kind::Decl(Decl::TsEnumDecl { members, .. }) => members,
             _ => &[],
         }
@@ -413,8 +413,8 @@ impl<'a> NodeRef<'a> {
     pub fn param(self) -> Option<NodeRef<'a>>
         ensures { option_map node_view result ≡ child_of (node_view self.entry) param_of }
     {
-        let NodeRef { tree, id } = self;
-        let child = match &tree.nodes[id.index()].kind {
+        let NodeRef { tree, number } = self;
+        let child = match &tree.nodes[number as usize].kind {
             Kind::Member(
                 Member::TsParamProp { param, .. } | Member::TsSetterSignature { param, .. },
             ) => Some(*param),
@@ -427,8 +427,8 @@ impl<'a> NodeRef<'a> {
     pub fn key(self) -> Option<NodeRef<'a>>
         ensures { option_map node_view result ≡ child_of (node_view self.entry) key_of }
     {
-        let NodeRef { tree, id } = self;
-        let child = key_of_kind(&tree.nodes[id.index()].kind);
+        let NodeRef { tree, number } = self;
+        let child = key_of_kind(&tree.nodes[number as usize].kind);
         find(tree, child)
     }
 
@@ -436,8 +436,8 @@ impl<'a> NodeRef<'a> {
     pub fn value(self) -> Option<NodeRef<'a>>
         ensures { option_map node_view result ≡ child_of (node_view self.entry) value_of }
     {
-        let NodeRef { tree, id } = self;
-        let child = match &tree.nodes[id.index()].kind {
+        let NodeRef { tree, number } = self;
+        let child = match &tree.nodes[number as usize].kind {
             Kind::Member(Member::ClassProp { value, .. } | Member::AutoAccessor { value, .. }) =>
                 *value,
             Kind::Pat(Pat::KeyValuePatProp { value, .. }) => Some(*value),
@@ -451,8 +451,8 @@ impl<'a> NodeRef<'a> {
     pub fn constraint(self) -> Option<NodeRef<'a>>
         ensures { option_map node_view result ≡ child_of (node_view self.entry) constraint_of }
     {
-        let NodeRef { tree, id } = self;
-        let child = match &tree.nodes[id.index()].kind {
+        let NodeRef { tree, number } = self;
+        let child = match &tree.nodes[number as usize].kind {
             Kind::Ty(Ty::TsTypeParam { constraint, .. }) => *constraint,
             _ => None,
         };
@@ -463,8 +463,8 @@ impl<'a> NodeRef<'a> {
     pub fn default(self) -> Option<NodeRef<'a>>
         ensures { option_map node_view result ≡ child_of (node_view self.entry) default_of }
     {
-        let NodeRef { tree, id } = self;
-        let child = match &tree.nodes[id.index()].kind {
+        let NodeRef { tree, number } = self;
+        let child = match &tree.nodes[number as usize].kind {
             Kind::Ty(Ty::TsTypeParam { default, .. }) => *default,
             _ => None,
         };
@@ -475,8 +475,8 @@ impl<'a> NodeRef<'a> {
     pub fn ty(self) -> Option<NodeRef<'a>>
         ensures { option_map node_view result ≡ child_of (node_view self.entry) ty_of }
     {
-        let NodeRef { tree, id } = self;
-        let child = match &tree.nodes[id.index()].kind {
+        let NodeRef { tree, number } = self;
+        let child = match &tree.nodes[number as usize].kind {
             Kind::Ty(
                 Ty::TsTypeAnn { ty }
                 | Ty::TsAsExpr { ty, .. }
@@ -492,8 +492,8 @@ impl<'a> NodeRef<'a> {
     pub fn type_args(self) -> Option<NodeRef<'a>>
         ensures { option_map node_view result ≡ child_of (node_view self.entry) type_args_of }
     {
-        let NodeRef { tree, id } = self;
-        let child = match &tree.nodes[id.index()].kind {
+        let NodeRef { tree, number } = self;
+        let child = match &tree.nodes[number as usize].kind {
             Kind::Ty(
                 Ty::TsExprWithTypeArgs { type_args, .. }
                 | Ty::TsTypeQuery { type_args, .. }
@@ -508,8 +508,8 @@ impl<'a> NodeRef<'a> {
     pub fn expr_name(self) -> Option<NodeRef<'a>>
         ensures { option_map node_view result ≡ child_of (node_view self.entry) expr_name_of }
     {
-        let NodeRef { tree, id } = self;
-        let child = match &tree.nodes[id.index()].kind {
+        let NodeRef { tree, number } = self;
+        let child = match &tree.nodes[number as usize].kind {
             Kind::Ty(Ty::TsTypeQuery { expr_name, .. }) => Some(*expr_name),
             _ => None,
         };
@@ -520,8 +520,8 @@ impl<'a> NodeRef<'a> {
     pub fn qualifier(self) -> Option<NodeRef<'a>>
         ensures { option_map node_view result ≡ child_of (node_view self.entry) qualifier_of }
     {
-        let NodeRef { tree, id } = self;
-        let child = match &tree.nodes[id.index()].kind {
+        let NodeRef { tree, number } = self;
+        let child = match &tree.nodes[number as usize].kind {
             Kind::Ty(Ty::TsImportType { qualifier, .. }) => *qualifier,
             _ => None,
         };
@@ -532,8 +532,8 @@ impl<'a> NodeRef<'a> {
     pub fn label(self) -> Option<NodeRef<'a>>
         ensures { option_map node_view result ≡ child_of (node_view self.entry) label_of }
     {
-        let NodeRef { tree, id } = self;
-        let child = match &tree.nodes[id.index()].kind {
+        let NodeRef { tree, number } = self;
+        let child = match &tree.nodes[number as usize].kind {
             Kind::Ty(Ty::TsTupleElement { label, .. }) => *label,
             _ => None,
         };
@@ -544,8 +544,8 @@ impl<'a> NodeRef<'a> {
     pub fn left(self) -> Option<NodeRef<'a>>
         ensures { option_map node_view result ≡ child_of (node_view self.entry) left_of }
     {
-        let NodeRef { tree, id } = self;
-        let child = match &tree.nodes[id.index()].kind {
+        let NodeRef { tree, number } = self;
+        let child = match &tree.nodes[number as usize].kind {
             Kind::Ty(Ty::TsQualifiedName { left, .. }) => Some(*left),
             Kind::Expr(Expr::Assign { left, .. }) => Some(*left),
             Kind::Pat(Pat::AssignPat { left, .. }) => Some(*left),
@@ -558,8 +558,8 @@ impl<'a> NodeRef<'a> {
     pub fn obj(self) -> Option<NodeRef<'a>>
         ensures { option_map node_view result ≡ child_of (node_view self.entry) obj_of }
     {
-        let NodeRef { tree, id } = self;
-        let child = match &tree.nodes[id.index()].kind {
+        let NodeRef { tree, number } = self;
+        let child = match &tree.nodes[number as usize].kind {
             Kind::Expr(Expr::Member { obj, .. }) => Some(*obj),
             _ => None,
         };
@@ -570,8 +570,8 @@ impl<'a> NodeRef<'a> {
     pub fn prop(self) -> Option<NodeRef<'a>>
         ensures { option_map node_view result ≡ child_of (node_view self.entry) prop_of }
     {
-        let NodeRef { tree, id } = self;
-        let child = match &tree.nodes[id.index()].kind {
+        let NodeRef { tree, number } = self;
+        let child = match &tree.nodes[number as usize].kind {
             Kind::Expr(Expr::Member { prop, .. }) => Some(*prop),
             _ => None,
         };
@@ -582,8 +582,8 @@ impl<'a> NodeRef<'a> {
     pub fn right(self) -> Option<NodeRef<'a>>
         ensures { option_map node_view result ≡ child_of (node_view self.entry) right_of }
     {
-        let NodeRef { tree, id } = self;
-        let child = match &tree.nodes[id.index()].kind {
+        let NodeRef { tree, number } = self;
+        let child = match &tree.nodes[number as usize].kind {
             Kind::Expr(Expr::Assign { right, .. }) => Some(*right),
             Kind::Pat(Pat::AssignPat { right, .. }) => Some(*right),
             _ => None,
@@ -595,8 +595,8 @@ impl<'a> NodeRef<'a> {
     pub fn elems(self) -> &'a [NodeId]
         ensures { result.now ≡ list_of (node_view self.entry) elems_of }
     {
-        let NodeRef { tree, id } = self;
-        match &tree.nodes[id.index()].kind {
+        let NodeRef { tree, number } = self;
+        match &tree.nodes[number as usize].kind {
             Kind::Pat(Pat::ArrayPat { elems, .. }) => elems,
             _ => &[],
         }
@@ -606,8 +606,8 @@ impl<'a> NodeRef<'a> {
     pub fn props(self) -> &'a [NodeId]
         ensures { result.now ≡ list_of (node_view self.entry) props_of }
     {
-        let NodeRef { tree, id } = self;
-        match &tree.nodes[id.index()].kind {
+        let NodeRef { tree, number } = self;
+        match &tree.nodes[number as usize].kind {
             Kind::Pat(Pat::ObjectPat { props, .. }) => props,
             _ => &[],
         }
@@ -617,8 +617,8 @@ impl<'a> NodeRef<'a> {
     pub fn arg(self) -> Option<NodeRef<'a>>
         ensures { option_map node_view result ≡ child_of (node_view self.entry) arg_of }
     {
-        let NodeRef { tree, id } = self;
-        let child = match &tree.nodes[id.index()].kind {
+        let NodeRef { tree, number } = self;
+        let child = match &tree.nodes[number as usize].kind {
             Kind::Pat(Pat::RestPat { arg, .. }) => Some(*arg),
             _ => None,
         };
@@ -629,8 +629,8 @@ impl<'a> NodeRef<'a> {
     pub fn children(self) -> &'a [NodeId]
         ensures { result.now ≡ list_of (node_view self.entry) children_of }
     {
-        let NodeRef { tree, id } = self;
-        match &tree.nodes[id.index()].kind {
+        let NodeRef { tree, number } = self;
+        match &tree.nodes[number as usize].kind {
             Kind::Pat(Pat::Plain { children } | Pat::Other { children }) => children,
             _ => &[],
         }

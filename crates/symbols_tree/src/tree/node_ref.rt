@@ -11,8 +11,8 @@ use crate::tree::kinds::{Expr, Kind, Pat};
 #[derive(Clone, Copy)]
 pub struct NodeRef<'a> {
     pub tree: &'a Tree,
-    pub id: NodeId,
-    pub ghost inside: { id < length tree.now.nodes.items },
+    pub number: u32,
+    pub ghost inside: { number < length tree.now.nodes.items },
 }
 
 impl<'a> NodeRef<'a> {
@@ -23,24 +23,31 @@ impl<'a> NodeRef<'a> {
         ensures { option_map node_view result ≡ node_in tree.now (Some id) }
     {
         if id.index() < tree.nodes.len() {
-            Some(NodeRef { tree, id })
+            Some(NodeRef { tree, number: id.0 })
         } else {
             None
         }
+    }
+
+    /// The node's number.
+    pub fn node_id(self) -> NodeId
+        ensures { result ≡ self.entry.number }
+    {
+        NodeId(self.number)
     }
 
     /// The node's kind, with its fields.
     pub fn kind(self) -> &'a Kind
         ensures { kind_of (node_view self.entry) ≡ Some result.now }
     {
-        &self.tree.nodes[self.id.index()].kind
+        &self.tree.nodes[self.number as usize].kind
     }
 
     /// Where the node stands in the text.
     pub fn range(self) -> SourceRange
         ensures { range_of (node_view self.entry) ≡ Some result }
     {
-        self.tree.nodes[self.id.index()].range
+        self.tree.nodes[self.number as usize].range
     }
 
     /// Another node of the same tree, by its number; none where the tree has no such node.
@@ -54,8 +61,8 @@ impl<'a> NodeRef<'a> {
     pub fn sym(self) -> Option<&'a Id>
         ensures { option_copied result ≡ option_and_then sym_of (kind_of (node_view self.entry)) }
     {
-        let NodeRef { tree, id } = self;
-        match &tree.nodes[id.index()].kind {
+        let NodeRef { tree, number } = self;
+        match &tree.nodes[number as usize].kind {
             Kind::Expr(Expr::Ident { sym }) | Kind::Pat(Pat::BindingIdent { sym, .. }) => Some(sym),
             _ => None,
         }

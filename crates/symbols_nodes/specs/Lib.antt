@@ -1,0 +1,2 @@
+pub mod NodeViews
+pub mod NodeTests

@@ -1,0 +1,61 @@
+-- What holds of the node of a declaration.
+use Rattle.std.specs.Prelude.{Bool, true, false, is_some, Option, Some, None}
+use Rattle.std.specs.Option.{option_and_then, option_map_or}
+use Rattle.symbols_tree.specs.NodeRefs.{TreeNode, kind_of, child_of}
+use Rattle.symbols_tree.specs.ChildFields.{function_of, body_node_of, decl_of}
+use Rattle.symbols_tree.specs.declared.tree.kinds.Kind.{Kind}
+use Rattle.symbols_tree.specs.declared.tree.kinds.Kind.TheVariants as Kind
+use Rattle.symbols_tree.specs.declared.tree.kinds.Decl.TheVariants as Decl
+use Rattle.symbols_nodes.specs.NodeViews.{ExportDeclView, NodeView, exported_class, exported_fn, exported_var, exported_ts_enum, exported_ts_interface, exported_ts_module, exported_ts_type_alias, program, export_decl, export_default_decl, class_decl, fn_decl, ts_enum, ts_interface, ts_namespace, class_method, constructor}
+
+abbrev pub is_function_kind : Kind → Bool
+is_function_kind (Kind.Decl (Decl.FnExpr _ _)) = true
+is_function_kind _ = false
+
+abbrev pub is_exported_function : ExportDeclView → Bool
+is_exported_function (exported_fn _) = true
+is_exported_function _ = false
+
+-- a function: plain, exported or default
+abbrev pub is_function : NodeView → Bool
+is_function (fn_decl _) = true
+is_function (export_decl _ exported) = is_exported_function exported
+is_function (export_default_decl node) = option_map_or is_function_kind (option_and_then kind_of (child_of node decl_of)) false
+is_function _ = false
+
+-- the node itself has a body, as a namespace or a constructor may
+abbrev pub has_own_body : TreeNode → Bool
+has_own_body node = is_some (child_of node body_node_of)
+
+-- the function of the node has a body
+abbrev pub has_function_body : TreeNode → Bool
+has_function_body node = option_map_or has_own_body (child_of node function_of) false
+
+abbrev pub exported_has_body : ExportDeclView → Bool
+exported_has_body (exported_class _) = true
+exported_has_body (exported_fn node) = has_function_body node
+exported_has_body (exported_var _ _ _) = false
+exported_has_body (exported_ts_enum _) = true
+exported_has_body (exported_ts_interface _) = true
+exported_has_body (exported_ts_module node) = has_own_body node
+exported_has_body (exported_ts_type_alias _) = false
+
+abbrev pub default_has_body : TreeNode → Option Kind → Bool
+default_has_body node (Some (Kind.Decl (Decl.FnExpr _ _))) = has_function_body node
+default_has_body node (Some (Kind.Decl (Decl.ClassExpr _ _))) = true
+default_has_body node (Some (Kind.Decl (Decl.TsInterfaceDecl _ _ _ _))) = true
+default_has_body node _ = false
+
+-- it has a body: modules, classes, enums and interfaces always, functions, namespaces, methods and constructors where one stands
+abbrev pub has_body : NodeView → Bool
+has_body (program _) = true
+has_body (export_decl _ exported) = exported_has_body exported
+has_body (export_default_decl node) = option_map_or (λ decl. default_has_body decl (kind_of decl)) (child_of node decl_of) false
+has_body (class_decl _) = true
+has_body (ts_enum _) = true
+has_body (ts_interface _) = true
+has_body (fn_decl node) = has_function_body node
+has_body (class_method node) = has_function_body node
+has_body (ts_namespace node) = has_own_body node
+has_body (constructor node) = has_own_body node
+has_body _ = false

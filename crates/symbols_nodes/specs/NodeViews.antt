@@ -1,0 +1,77 @@
+-- Declarations as nodes, as contracts see them: nodes of a tree by their numbers.
+use Rattle.symbols_tree.specs.NodeRefs.{TreeNode, node_view}
+use Rattle.symbols_nodes.specs.declared.nodes.refs.ExportDeclRef.{ExportDeclRef}
+use Rattle.symbols_nodes.specs.declared.nodes.refs.ExportDeclRef.TheVariants as ExportDeclRef
+use Rattle.symbols_nodes.specs.declared.nodes.refs.SymbolNodeRef.{SymbolNodeRef}
+use Rattle.symbols_nodes.specs.declared.nodes.refs.SymbolNodeRef.TheVariants as SymbolNodeRef
+
+-- the declaration after `export`
+pub data ExportDeclView : Type 0 where
+  exported_class : TreeNode → ExportDeclView
+  exported_fn : TreeNode → ExportDeclView
+  exported_var : TreeNode → TreeNode → TreeNode → ExportDeclView
+  exported_ts_enum : TreeNode → ExportDeclView
+  exported_ts_interface : TreeNode → ExportDeclView
+  exported_ts_module : TreeNode → ExportDeclView
+  exported_ts_type_alias : TreeNode → ExportDeclView
+
+pub data NodeView : Type 0 where
+  program : TreeNode → NodeView
+  export_decl : TreeNode → ExportDeclView → NodeView
+  export_default_decl : TreeNode → NodeView
+  export_default_expr : TreeNode → NodeView
+  class_decl : TreeNode → NodeView
+  fn_decl : TreeNode → NodeView
+  ts_enum : TreeNode → NodeView
+  ts_interface : TreeNode → NodeView
+  ts_namespace : TreeNode → NodeView
+  ts_type_alias : TreeNode → NodeView
+  var : TreeNode → TreeNode → TreeNode → NodeView
+  using_var : TreeNode → TreeNode → TreeNode → NodeView
+  auto_accessor : TreeNode → NodeView
+  class_method : TreeNode → NodeView
+  class_prop : TreeNode → NodeView
+  class_param_prop : TreeNode → NodeView
+  constructor : TreeNode → NodeView
+  ts_index_signature : TreeNode → NodeView
+  ts_call_signature_decl : TreeNode → NodeView
+  ts_construct_signature_decl : TreeNode → NodeView
+  ts_property_signature : TreeNode → NodeView
+  ts_getter_signature : TreeNode → NodeView
+  ts_setter_signature : TreeNode → NodeView
+  ts_method_signature : TreeNode → NodeView
+
+abbrev pub export_decl_view : ExportDeclRef → ExportDeclView
+export_decl_view (ExportDeclRef.Class node) = exported_class (node_view node)
+export_decl_view (ExportDeclRef.Fn node) = exported_fn (node_view node)
+export_decl_view (ExportDeclRef.Var decl declarator ident) = exported_var (node_view decl) (node_view declarator) (node_view ident)
+export_decl_view (ExportDeclRef.TsEnum node) = exported_ts_enum (node_view node)
+export_decl_view (ExportDeclRef.TsInterface node) = exported_ts_interface (node_view node)
+export_decl_view (ExportDeclRef.TsModule node) = exported_ts_module (node_view node)
+export_decl_view (ExportDeclRef.TsTypeAlias node) = exported_ts_type_alias (node_view node)
+
+abbrev pub symbol_node_view : SymbolNodeRef → NodeView
+symbol_node_view (SymbolNodeRef.Module node) = program (node_view node)
+symbol_node_view (SymbolNodeRef.ExportDecl export exported) = export_decl (node_view export) (export_decl_view exported)
+symbol_node_view (SymbolNodeRef.ExportDefaultDecl node) = export_default_decl (node_view node)
+symbol_node_view (SymbolNodeRef.ExportDefaultExpr node) = export_default_expr (node_view node)
+symbol_node_view (SymbolNodeRef.ClassDecl node) = class_decl (node_view node)
+symbol_node_view (SymbolNodeRef.FnDecl node) = fn_decl (node_view node)
+symbol_node_view (SymbolNodeRef.TsEnum node) = ts_enum (node_view node)
+symbol_node_view (SymbolNodeRef.TsInterface node) = ts_interface (node_view node)
+symbol_node_view (SymbolNodeRef.TsNamespace node) = ts_namespace (node_view node)
+symbol_node_view (SymbolNodeRef.TsTypeAlias node) = ts_type_alias (node_view node)
+symbol_node_view (SymbolNodeRef.Var decl declarator ident) = var (node_view decl) (node_view declarator) (node_view ident)
+symbol_node_view (SymbolNodeRef.UsingVar decl declarator ident) = using_var (node_view decl) (node_view declarator) (node_view ident)
+symbol_node_view (SymbolNodeRef.AutoAccessor node) = auto_accessor (node_view node)
+symbol_node_view (SymbolNodeRef.ClassMethod node) = class_method (node_view node)
+symbol_node_view (SymbolNodeRef.ClassProp node) = class_prop (node_view node)
+symbol_node_view (SymbolNodeRef.ClassParamProp node) = class_param_prop (node_view node)
+symbol_node_view (SymbolNodeRef.Constructor node) = constructor (node_view node)
+symbol_node_view (SymbolNodeRef.TsIndexSignature node) = ts_index_signature (node_view node)
+symbol_node_view (SymbolNodeRef.TsCallSignatureDecl node) = ts_call_signature_decl (node_view node)
+symbol_node_view (SymbolNodeRef.TsConstructSignatureDecl node) = ts_construct_signature_decl (node_view node)
+symbol_node_view (SymbolNodeRef.TsPropertySignature node) = ts_property_signature (node_view node)
+symbol_node_view (SymbolNodeRef.TsGetterSignature node) = ts_getter_signature (node_view node)
+symbol_node_view (SymbolNodeRef.TsSetterSignature node) = ts_setter_signature (node_view node)
+symbol_node_view (SymbolNodeRef.TsMethodSignature node) = ts_method_signature (node_view node)

@@ -1,0 +1,75 @@
+//! Declarations as nodes: each with the nodes that it is made of.
+
+use symbols_tree::tree::NodeRef;
+
+/// The declaration that stands after `export` (as deno_graph).
+#[derive(Clone, Copy)]
+pub enum ExportDeclRef<'a> {
+    /// A class.
+    Class(NodeRef<'a>),
+    /// A function.
+    Fn(NodeRef<'a>),
+    /// A variable: the `VarDecl`, the `VarDeclarator` and the `BindingIdent`.
+    Var(NodeRef<'a>, NodeRef<'a>, NodeRef<'a>),
+    /// An enum.
+    TsEnum(NodeRef<'a>),
+    /// An interface.
+    TsInterface(NodeRef<'a>),
+    /// A namespace: the `TsModuleDecl`.
+    TsModule(NodeRef<'a>),
+    /// A type alias.
+    TsTypeAlias(NodeRef<'a>),
+}
+
+/// The node of a declaration (as deno_graph).
+#[derive(Clone, Copy)]
+pub enum SymbolNodeRef<'a> {
+    /// The module: its `Program`.
+    Module(NodeRef<'a>),
+    /// `export` before a declaration: the `ExportDecl`, and the declaration.
+    ExportDecl(NodeRef<'a>, ExportDeclRef<'a>),
+    /// `export default` before a declaration: the `ExportDefaultDecl`.
+    ExportDefaultDecl(NodeRef<'a>),
+    /// `export default` before an expression: the `ExportDefaultExpr`.
+    ExportDefaultExpr(NodeRef<'a>),
+    /// A class.
+    ClassDecl(NodeRef<'a>),
+    /// A function.
+    FnDecl(NodeRef<'a>),
+    /// An enum.
+    TsEnum(NodeRef<'a>),
+    /// An interface.
+    TsInterface(NodeRef<'a>),
+    /// A namespace: the `TsModuleDecl`.
+    TsNamespace(NodeRef<'a>),
+    /// A type alias.
+    TsTypeAlias(NodeRef<'a>),
+    /// A variable: the `VarDecl`, the `VarDeclarator` and the `BindingIdent`.
+    Var(NodeRef<'a>, NodeRef<'a>, NodeRef<'a>),
+    /// A variable of `using`: the `UsingDecl`, the `VarDeclarator` and the `BindingIdent`.
+    UsingVar(NodeRef<'a>, NodeRef<'a>, NodeRef<'a>),
+    /// An accessor of a class.
+    AutoAccessor(NodeRef<'a>),
+    /// A method, a getter or a setter of a class.
+    ClassMethod(NodeRef<'a>),
+    /// A property of a class.
+    ClassProp(NodeRef<'a>),
+    /// A parameter of a constructor that is a property: the `TsParamProp`.
+    ClassParamProp(NodeRef<'a>),
+    /// The constructor of a class.
+    Constructor(NodeRef<'a>),
+    /// An index signature.
+    TsIndexSignature(NodeRef<'a>),
+    /// A call signature.
+    TsCallSignatureDecl(NodeRef<'a>),
+    /// A construct signature.
+    TsConstructSignatureDecl(NodeRef<'a>),
+    /// A property of an interface.
+    TsPropertySignature(NodeRef<'a>),
+    /// A getter of an interface.
+    TsGetterSignature(NodeRef<'a>),
+    /// A setter of an interface.
+    TsSetterSignature(NodeRef<'a>),
+    /// A method of an interface.
+    TsMethodSignature(NodeRef<'a>),
+}
