@@ -1,4 +1,4 @@
-//! Experiments
+//! What holds of the node of a declaration, by its kind.
 
 ghost use Rattle.std.specs.Prelude.{◌≡◌};
 ghost use Rattle.symbols_tree.specs.NodeRefs.{node_view, kind_of};
@@ -8,52 +8,94 @@ ghost use Rattle.symbols_nodes.specs.NodeTests.{is_exported_function, is_functio
 use crate::nodes::refs::{ExportDeclRef, SymbolNodeRef};
 use symbols_tree::tree::{Decl, Kind, NodeRef};
 
-pub fn a1(node: NodeRef<'_>) -> bool
+fn has_own_body(node: NodeRef<'_>) -> bool
     ensures { result ≡ has_own_body (node_view node.entry) }
 {
-    let body = node.body_node();
-    body.is_some()
+    node.body_node().is_some()
 }
 
-pub fn a2(node: NodeRef<'_>) -> bool
-    ensures { result ≡ has_own_body (node_view node.entry) }
+fn has_function_body(node: NodeRef<'_>) -> bool
+    ensures { result ≡ has_function_body (node_view node.entry) }
 {
-    match node.body_node() {
-        Some(_) => true,
+    match node.function() {
+        Some(function) => has_own_body(function),
         None => false,
     }
 }
 
-pub fn a3<'a>(node: NodeRef<'a>) -> bool
-    ensures { result ≡ has_own_body (node_view node.entry) }
+fn default_has_body(decl: NodeRef<'_>) -> bool
+    ensures { result ≡ default_has_body (node_view decl.entry) (kind_of (node_view decl.entry)) }
 {
-    node.body_node().is_some()
-}
-
-pub fn a4(node: &NodeRef<'_>) -> bool
-    ensures { result ≡ has_own_body (node_view node.now) }
-{
-    let node = *node;
-    node.body_node().is_some()
-}
-
-pub fn a5(decl: &ExportDeclRef<'_>) -> bool
-{
-    match decl {
-        ExportDeclRef::TsModule(node) => { let node = *node; a3(node) }
+    match decl.kind() {
+        Kind::Decl(Decl::FnExpr { .. }) => has_function_body(decl),
+        Kind::Decl(Decl::ClassExpr { .. } | Decl::TsInterfaceDecl { .. }) => true,
         _ => false,
     }
 }
 
-pub fn a6(decl: ExportDeclRef<'_>) -> bool
-    ensures { result ≡ exported_has_body (export_decl_view decl.entry) }
-{
-    match decl {
-        ExportDeclRef::Class(_) | ExportDeclRef::TsEnum(_) | ExportDeclRef::TsInterface(_) => {
-            true
+impl ExportDeclRef<'_> {
+    /// Whether it is a function (as deno_graph).
+    pub fn is_function(&self) -> bool
+        ensures { result ≡ is_exported_function (export_decl_view self.now) }
+    {
+        matches!(self, ExportDeclRef::Fn(_))
+    }
+
+    /// Whether it has a body: classes, enums and interfaces always, functions and namespaces where
+    /// one stands (as deno_graph).
+    pub fn has_body(&self) -> bool
+        ensures { result ≡ exported_has_body (export_decl_view self.now) }
+    {
+        match self {
+            ExportDeclRef::Class(_) | ExportDeclRef::TsEnum(_) | ExportDeclRef::TsInterface(_) => {
+                true
+            }
+            ExportDeclRef::Fn(node) => has_function_body(*node),
+            ExportDeclRef::TsModule(node) => has_own_body(*node),
+            ExportDeclRef::Var(..) | ExportDeclRef::TsTypeAlias(_) => false,
         }
-        ExportDeclRef::Fn(node) => a3(node),
-        ExportDeclRef::TsModule(node) => a3(node),
-        ExportDeclRef::Var(..) | ExportDeclRef::TsTypeAlias(_) => false,
+    }
+}
+
+impl SymbolNodeRef<'_> {
+    /// Whether it is a function: plain, exported or default (as deno_graph).
+    pub fn is_function(&self) -> bool
+        ensures { result ≡ is_function (symbol_node_view self.now) }
+    {
+        match self {
+            SymbolNodeRef::FnDecl(_) => true,
+            SymbolNodeRef::ExportDecl(_, decl) => decl.is_function(),
+            SymbolNodeRef::ExportDefaultDecl(node) => match node.decl() {
+                Some(decl) => matches!(decl.kind(), Kind::Decl(Decl::FnExpr { .. })),
+                None => false,
+            },
+            _ => false,
+        }
+    }
+
+    /// Whether it has a body: modules, classes, enums and interfaces always, functions,
+    /// namespaces, methods and constructors where one stands (as deno_graph, but for an
+    /// `AutoAccessor`, which has none).
+    pub fn has_body(&self) -> bool
+        ensures { result ≡ has_body (symbol_node_view self.now) }
+    {
+        match self {
+            SymbolNodeRef::Module(_)
+            | SymbolNodeRef::ClassDecl(_)
+            | SymbolNodeRef::TsEnum(_)
+            | SymbolNodeRef::TsInterface(_) => true,
+            SymbolNodeRef::ExportDecl(_, decl) => decl.has_body(),
+            SymbolNodeRef::ExportDefaultDecl(node) => match node.decl() {
+                Some(decl) => default_has_body(decl),
+                None => false,
+            },
+            SymbolNodeRef::FnDecl(node) | SymbolNodeRef::ClassMethod(node) => {
+                has_function_body(*node)
+            }
+            SymbolNodeRef::TsNamespace(node) | SymbolNodeRef::Constructor(node) => {
+                has_own_body(*node)
+            }
+            _ => false,
+        }
     }
 }
