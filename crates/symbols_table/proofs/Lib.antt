@@ -1,0 +1,5 @@
+pub mod OneMore
+pub mod OneChange
+pub mod Inside
+pub mod Rows
+pub mod Views

@@ -1,0 +1,5 @@
+pub mod DeclViews
+pub mod Changes
+pub mod Events
+pub mod TreeEvents
+pub mod Tables

@@ -1,0 +1,3 @@
+//! From a tree to the table of its symbols.
+
+mod table;
