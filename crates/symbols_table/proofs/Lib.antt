@@ -3,3 +3,4 @@ pub mod OneChange
 pub mod Inside
 pub mod Rows
 pub mod Views
+pub mod Walks

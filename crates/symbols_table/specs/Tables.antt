@@ -12,7 +12,7 @@ use Rattle.symbols_table.specs.declared.builder.table.BuildFault.{BuildFault}
 use Rattle.symbols_table.specs.declared.builder.table.BuildFault.TheVariants.{TooManySymbols}
 use Rattle.symbols_table.specs.DeclViews.{decl_view, exports_view}
 use Rattle.symbols_table.specs.Changes.{Change, makes, declares, exports, has_child, has_member, maps, parents_of, decls_of, exports_of, children_of, members_of, mapped}
-use Rattle.symbols_table.specs.Events.{Row, changes_of}
+use Rattle.symbols_table.specs.Events.{Event, Row, changes_of, symbol_at, rows_after}
 
 -- the symbol holds what was changed of the number s
 pub record IsSymbolOf (changes : List Change) (s : SymbolId) (symbol : Symbol) : Type 0 where
@@ -69,3 +69,8 @@ ReadsAll result limit new rows =
     MatchResult result
         (λ _. IsTableOf new (changes_of rows))
         (λ fault. fault ≡ TooManySymbols → limit < length (parents_of (changes_of rows)))
+
+-- a call on the item n of a list, which stands for the item's events, given by the place of the holder and that of the first of them
+abbrev pub ReadsItem : {A : Type 0} → Result A BuildFault → Builder → Builder → (ℕ → ℕ → ℕ → List Event) → SymbolId → ℕ → Type 0
+ReadsItem result old new events holder n =
+    (rows : List Row) (h : ℕ) → IsTableOf old (changes_of rows) → symbol_at rows h ≡ Some holder → ReadsAll result old.limit new (rows_after rows (events h (length rows) n))

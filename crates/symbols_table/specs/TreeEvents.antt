@@ -61,15 +61,19 @@ abbrev pub bound_name : Kind → Option Id
 bound_name (Kind.Pat (Pat.BindingIdent sym _)) = Some sym
 bound_name _ = None
 
-abbrev pub variable_events : Option TreeNode → TreeNode → ℕ → ℕ → TreeNode → List Event
-variable_events exported decl start holder declarator =
-    on (child_of declarator name_of) (λ (pattern : TreeNode).
-        on (option_and_then bound_name (kind_of pattern)) (λ (sym : Id).
-            declared start holder (id_view sym) (defined (declared_as exported (exported_var decl declarator pattern)) (range_in declarator)) (is_some exported)))
+-- of the pattern of a declarator: its name is declared, where the declarator stands
+abbrev pub binding_events : Option TreeNode → TreeNode → TreeNode → ℕ → ℕ → TreeNode → List Event
+binding_events exported decl declarator start holder pattern =
+    on (option_and_then bound_name (kind_of pattern))
+        (λ (sym : Id). declared start holder (id_view sym) (defined (declared_as exported (exported_var decl declarator pattern)) (range_in declarator)) (is_some exported))
+
+-- of a declarator, by its number
+abbrev pub variable_at : Option TreeNode → TreeNode → ℕ → ℕ → ℕ → List Event
+variable_at exported decl holder start n =
+    on (node_in decl.tree (Some n)) (λ (declarator : TreeNode). on (child_of declarator name_of) (binding_events exported decl declarator start holder))
 
 abbrev pub variables_events : Option TreeNode → ℕ → ℕ → TreeNode → List Event
-variables_events exported start holder node =
-    each_from (λ place n. on (node_in node.tree (Some n)) (λ declarator. variable_events exported node place holder declarator)) start (list_of node decls_of)
+variables_events exported start holder node = each_from (variable_at exported node holder) start (list_of node decls_of)
 
 -- of a declaration, after the `export` if one stands before it
 abbrev pub declaration_events : Option TreeNode → ℕ → ℕ → TreeNode → Kind → List Event
@@ -77,20 +81,22 @@ declaration_events exported start holder node (Kind.Decl (Decl.FnDecl _ _)) = fu
 declaration_events exported start holder node (Kind.Decl (Decl.VarDecl _)) = variables_events exported start holder node
 declaration_events exported start holder node _ = []
 
+-- of `export` before a declaration
+abbrev pub exported_events : ℕ → ℕ → TreeNode → List Event
+exported_events start holder node = on (child_of node decl_of) (λ (decl : TreeNode). on (kind_of decl) (declaration_events (Some node) start holder decl))
+
 -- of an item
 abbrev pub item_events : ℕ → ℕ → TreeNode → Kind → List Event
-item_events start holder node (Kind.Item (Item.ExportDecl _)) =
-    on (child_of node decl_of) (λ (decl : TreeNode). on (kind_of decl) (declaration_events (Some node) start holder decl))
+item_events start holder node (Kind.Item (Item.ExportDecl _)) = exported_events start holder node
 item_events start holder node kind = declaration_events None start holder node kind
 
-abbrev pub node_events : Tree → ℕ → ℕ → ℕ → List Event
-node_events tree start holder n = on (node_in tree (Some n)) (λ (node : TreeNode). on (kind_of node) (item_events start holder node))
+-- of an item, by its number
+abbrev pub item_at : Tree → ℕ → ℕ → ℕ → List Event
+item_at tree holder start n = on (node_in tree (Some n)) (λ (node : TreeNode). on (kind_of node) (item_events start holder node))
 
 abbrev pub root_of : Tree → TreeNode
 root_of tree = record { tree = tree; number = 0 }
 
--- of a tree: the module, and then the items of its body
+-- of a tree: the module, and then the items of its body, whose holder is the module
 abbrev pub tree_events : Tree → List Event
-tree_events tree =
-    begins (defined (program (root_of tree)) (range_in (root_of tree)))
-    ∷ each_from (λ place n. node_events tree place 0 n) 1 (list_of (root_of tree) body_of)
+tree_events tree = begins (defined (program (root_of tree)) (range_in (root_of tree))) ∷ each_from (item_at tree 0) 1 (list_of (root_of tree) body_of)

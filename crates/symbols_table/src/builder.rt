@@ -1,3 +1,4 @@
 //! From a tree to the table of its symbols.
 
 mod table;
+mod walk;
