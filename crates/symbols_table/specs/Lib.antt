@@ -3,3 +3,4 @@ pub mod Changes
 pub mod Events
 pub mod TreeEvents
 pub mod Tables
+pub mod Modules
