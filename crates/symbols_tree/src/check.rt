@@ -2,6 +2,7 @@
 
 mod faults;
 mod raw;
+mod shape;
 mod tree_check;
 
 pub use faults::{GraphFault, TreeFault};
