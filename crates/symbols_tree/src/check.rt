@@ -1,5 +1,6 @@
 //! Graphs of modules, and what a graph has to keep to be accepted.
 
+mod child_list;
 mod faults;
 mod raw;
 mod shape;
