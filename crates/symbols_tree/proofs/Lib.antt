@@ -1,2 +1,3 @@
 pub mod FieldLists
 pub mod NodeLemmas
+pub mod Giving
