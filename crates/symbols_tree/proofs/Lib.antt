@@ -1,3 +1,5 @@
 pub mod FieldLists
 pub mod NodeLemmas
 pub mod Giving
+pub mod FaultOrder
+pub mod DepthLemmas
