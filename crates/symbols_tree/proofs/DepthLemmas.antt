@@ -22,6 +22,9 @@ child_order nodes n c fine child =
     let inside : length nodes ≤ c → ⊥ = λ high. fine (child.0, child.1, inr (rw at high)) in
     (omega arith, omega arith)
 
+pub child_is_there : (nodes : List Node) (n i : ℕ) → (HasBadChild nodes n → ⊥) → i < length (children nodes n) → get_or (children nodes n) i 0 < length nodes
+child_is_there nodes n i fine below = (child_order nodes n _ fine (Contains-get_or (children nodes n) i 0 below)).1
+
 -- a node with no shared child has no child of a lower node
 pub no_lower_parent : (nodes : List Node) (m n c : ℕ) → (HasSharedChild nodes n → ⊥) → m < n → Contains (children nodes m) c → Contains (children nodes n) c → ⊥
 no_lower_parent nodes m n c fine lower child here =
@@ -80,20 +83,17 @@ module _ (text : List ℕ) (nodes : List Node) (n : ℕ) (depths : List ℕ) (be
   too_deep_is_over deep = ancestors_below_depth {c = n} {k = 4096} (omega arith) deep.1
 
   module _ (fine : HasBadChild nodes n → ⊥) where
-    pub child_is_there : (i : ℕ) → i < length (children nodes n) → get_or (children nodes n) i 0 < length nodes
-    child_is_there i below = (child_order nodes n _ fine (Contains-get_or (children nodes n) i 0 below)).1
-
     -- a child is met where it is shared
     pub met_is_shared : SomeIndex (children nodes n) (IsMetAt depths (children nodes n)) → HasSharedChild nodes n
     met_is_shared (i, below, inr twice) = (i, below, inr twice)
-    met_is_shared (i, below, inl more) = elim (d.level _ (child_is_there i below)) [
+    met_is_shared (i, below, inl more) = elim (d.level _ (child_is_there nodes n i fine below)) [
       | inl h ↦ absurd (more h.0)
       | inr (m, h) ↦ (i, below, inl (m, h.below, h.child))
     ]
 
     pub shared_is_met : HasSharedChild nodes n → SomeIndex (children nodes n) (IsMetAt depths (children nodes n))
     shared_is_met (i, below, inr twice) = (i, below, inr twice)
-    shared_is_met (i, below, inl (m, lower, child)) = elim (d.level _ (child_is_there i below)) [
+    shared_is_met (i, below, inl (m, lower, child)) = elim (d.level _ (child_is_there nodes n i fine below)) [
       | inl h ↦ absurd (h.1 m lower child)
       | inr (q, h) ↦
           let deep = at_least_one q (omega (arith, h.below)) in

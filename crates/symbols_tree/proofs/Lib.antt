@@ -3,3 +3,5 @@ pub mod NodeLemmas
 pub mod Giving
 pub mod FaultOrder
 pub mod DepthLemmas
+pub mod NodeSteps
+pub mod Faultless
