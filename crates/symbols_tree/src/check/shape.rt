@@ -132,8 +132,8 @@ fn breaks_rule(nodes: &[Node], kind: &Kind) -> bool
     }
 }
 
-#[tactic(auto, unfolding(crate::specs::Shapes::has_bad_shape))]
 /// Whether the node of a number is of a bad shape (own rule); one that is absent isn't.
+#[tactic(auto, unfolding(crate::specs::Shapes::has_bad_shape))]
 pub(crate) fn has_bad_shape(nodes: &[Node], n: usize) -> bool
     ensures { result ≡ has_bad_shape nodes.now n }
 {

@@ -125,3 +125,6 @@ pub(crate) fn first_tree_fault(
     }
     Ok(None)
 }
+
+#[cfg(test)]
+mod tests;
