@@ -5,6 +5,7 @@ pub mod Nodes
 pub mod NodeRefs
 pub mod Ids
 pub mod ChildFields
+pub mod Depths
 pub mod Shapes
 pub mod TreeFaults
 pub mod WellFormed

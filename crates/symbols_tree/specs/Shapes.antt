@@ -21,8 +21,12 @@ use Rattle.symbols_tree.specs.Nodes.{kind_at}
 abbrev pub is_misplaced : List Node → Category → ℕ → Bool
 is_misplaced nodes category n = option_map_or (λ kind. not (allows category (kind_name kind))) (kind_at nodes n) false
 
+-- a child in the field is misplaced
+abbrev pub holds_misplaced : List Node → FieldView → Bool
+holds_misplaced nodes field = list_any (is_misplaced nodes field.category) field.children
+
 abbrev pub has_misplaced_child : List Node → Kind → Bool
-has_misplaced_child nodes kind = list_any (λ (field : FieldView). list_any (is_misplaced nodes field.category) field.children) (fields kind)
+has_misplaced_child nodes kind = list_any (holds_misplaced nodes) (fields kind)
 
 abbrev pub is_string : Kind → Bool
 is_string (Kind.Expr (Expr.Str _)) = true

@@ -1,19 +1,130 @@
-//! The check of a tree.
+//! The check of a tree: one pass over its nodes.
 
-ghost use Rattle.std.specs.Prelude.{◌≡◌};
-ghost use Rattle.symbols_tree.specs.TreeFaults.{begins_with_program, IsFirstTreeFault};
+ghost use Rattle.std.specs.Prelude.{◌≡◌, ◌↔◌, ℕ, ◌+◌, ◌*◌, ◌<◌, ◌≤◌, ◌^◌, All, length, slice_index, SomeIndex, IsTrue, IfOk, IfSome, IfNone, Some, false};
+ghost use Rattle.symbols_tree.specs.Nodes.{children};
+ghost use Rattle.symbols_tree.specs.Depths.{HasDepths, IsMetAt, GivesDepth};
+ghost use Rattle.symbols_tree.specs.TreeFaults.{begins_with_program, IsBadChild, IsRangeOf, NoneBelow, IsFirstTreeFault};
 ghost use Rattle.symbols_tree.specs.WellFormed.{IsWellFormed};
 
-use crate::tree::Node;
+use crate::check::child_list::list_children;
+use crate::check::faults::TreeFault;
+use crate::check::shape::has_bad_shape;
+use crate::tree::{Item, Kind, Node, NodeId, SourceRange, Tree};
+use std::alloc::{AllocError, Global};
 
-pub(crate) fn begins(nodes: &[Node]) -> bool
+fn begins(nodes: &[Node]) -> bool
     ensures { result ≡ begins_with_program nodes.now }
 {
     match nodes.first() {
-        Some(node) => matches!(
-            &node.kind,
-            crate::tree::Kind::Item(crate::tree::Item::Program { .. })
-        ),
+        Some(node) => matches!(&node.kind, Kind::Item(Item::Program { .. })),
         None => false,
     }
 }
+
+fn has_bad_child(ids: &[NodeId], n: usize, count: usize) -> bool
+    ensures { IsTrue result ↔ SomeIndex ids.now (λ i. IsBadChild count n (slice_index ids.now i)) }
+{
+    for id in ids {
+        let child = id.index();
+        if child <= n || count <= child {
+            return true;
+        }
+    }
+    false
+}
+
+fn fits(range: SourceRange, text: &str) -> bool
+    ensures { IsTrue result ↔ IsRangeOf text.now range }
+{
+    range.start <= range.end
+        && text.is_char_boundary(range.start)
+        && text.is_char_boundary(range.end)
+}
+
+// Gives the children the depth in place of 1, and says whether one of them had another before.
+fn gives_twice(ids: &[NodeId], depths: &mut [u16], depth: u16) -> bool
+    requires inside { All (λ id. id < length depths.old) ids.now }
+    requires deep { 2 ≤ depth }
+    ensures len { length depths.new ≡ length depths.old }
+    ensures met { IsTrue result ↔ SomeIndex ids.now (IsMetAt depths.old ids.now) }
+    ensures given { result ≡ false → GivesDepth depths.old depths.new ids.now depth }
+{
+    for id in ids {
+        let child = id.index();
+        if depths[child] != 1 {
+            return true;
+        }
+        depths[child] = depth;
+    }
+    false
+}
+
+/// The depth of the deepest nodes that are let through: the program's is 1.
+const MAX_DEPTH: u16 = 4096;
+
+// The first fault of the node, where none stands before it.
+fn node_fault(
+    nodes: &[Node],
+    text: &str,
+    n: usize,
+    ids: &[NodeId],
+    depths: &mut [u16],
+) -> Option<TreeFault>
+    requires room { n < length nodes.now }
+    requires few { length nodes.now < 2 ^ 32 }
+    requires listed { ids.now ≡ children nodes.now n }
+    requires deep { HasDepths nodes.now n depths.old }
+    requires clear { NoneBelow text.now nodes.now (5 * n + 2) }
+    ensures first { IfSome result (λ fault. IsFirstTreeFault text.now nodes.now (Some fault)) }
+    ensures clear { IfNone result (NoneBelow text.now nodes.now (5 * (n + 1) + 2)) }
+    ensures deep { IfNone result (HasDepths nodes.now (n + 1) depths.new) }
+{
+    let id = NodeId(n as u32);
+    if has_bad_child(ids, n, nodes.len()) {
+        return Some(TreeFault::BadChild(id));
+    }
+    let depth = depths[n];
+    if gives_twice(ids, depths, depth + 1) {
+        return Some(TreeFault::SharedChild(id));
+    }
+    if !fits(nodes[n].range, text) {
+        return Some(TreeFault::BadRange(id));
+    }
+    if has_bad_shape(nodes, n) {
+        return Some(TreeFault::BadShape(id));
+    }
+    if depth > MAX_DEPTH {
+        return Some(TreeFault::TooDeep(id));
+    }
+    None
+}
+
+/// The first fault of a tree over its text, if one stands.
+pub(crate) fn first_tree_fault(
+    alloc: Global,
+    tree: &Tree,
+    text: &str,
+) -> Result<Option<TreeFault>, AllocError>
+    ensures first { IfOk result (IsFirstTreeFault text.now tree.now.nodes.items) }
+    ensures whole { IfOk result (λ fault. IfNone fault (IsWellFormed tree.now.nodes.items)) }
+{
+    let nodes = tree.nodes.as_slice();
+    if !begins(nodes) {
+        return Ok(Some(TreeFault::NoProgram));
+    }
+    if nodes.len() > u32::MAX as usize {
+        return Ok(Some(TreeFault::TooManyNodes));
+    }
+    let mut depths = vec![in alloc; 1u16; nodes.len()]?;
+    let mut ids = Vec::new(alloc);
+    for n in 0..nodes.len() {
+        list_children(nodes, n, &mut ids)?;
+        if let Some(fault) = node_fault(nodes, text, n, &ids, &mut depths) {
+            return Ok(Some(fault));
+        }
+    }
+    Ok(None)
+}
+
+#[cfg(test)]
+mod tests;

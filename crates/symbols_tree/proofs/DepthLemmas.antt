@@ -1,0 +1,121 @@
+-- The depths that the check depth_stays are those of the tree.
+use Rattle.std.proofs.Common.{◌≡◌, ℕ, zero, suc, ◌+◌, ◌*◌, ◌<◌, ◌≤◌, inl, inr, List, length, get_or, take, refl, sym, ◌∙◌, ap, arith}
+use Rattle.std.specs.List.{Contains, SomeIndex}
+use Rattle.std.proofs.lemmas.Bool.Decides.{eqb_tells}
+use Rattle.std.proofs.lemmas.List.{get_or_default}
+use Rattle.std.proofs.lemmas.List.Elements.{Contains-get_or}
+use Rattle.symbols_tree.specs.declared.tree.arena.Node.{Node}
+use Rattle.symbols_tree.specs.declared.check.faults.TreeFault.TheVariants.{BadChild, SharedChild, TooDeep}
+use Rattle.symbols_tree.specs.Nodes.{children, HasAncestors, none, above}
+use Rattle.symbols_tree.specs.TreeFaults.{HasBadChild, HasSharedChild, IsTooDeep, NoneBelow}
+use Rattle.symbols_tree.specs.Depths.{IsFree, IsHeldBy, HasDepths, IsMetAt, GivesDepth}
+
+-- an element stands at its index
+index_of_child : (ids : List ℕ) (c : ℕ) (h : Contains ids c) → get_or ids h.0 0 ≡ c
+index_of_child ids c h = get_or_default ids h.0 0 c h.1 ∙ h.2
+
+-- the children of a node that has no bad child
+pub child_order : (nodes : List Node) (n c : ℕ) → (HasBadChild nodes n → ⊥) → Contains (children nodes n) c → (n < c) × (c < length nodes)
+child_order nodes n c fine child =
+    let at = index_of_child (children nodes n) c child in
+    let after : c ≤ n → ⊥ = λ low. fine (child.0, child.1, inl (rw at low)) in
+    let inside : length nodes ≤ c → ⊥ = λ high. fine (child.0, child.1, inr (rw at high)) in
+    (omega arith, omega arith)
+
+pub child_is_there : (nodes : List Node) (n i : ℕ) → (HasBadChild nodes n → ⊥) → i < length (children nodes n) → get_or (children nodes n) i 0 < length nodes
+child_is_there nodes n i fine below = (child_order nodes n _ fine (Contains-get_or (children nodes n) i 0 below)).1
+
+-- a node with no shared child has no child of a lower node
+pub no_lower_parent : (nodes : List Node) (m n c : ℕ) → (HasSharedChild nodes n → ⊥) → m < n → Contains (children nodes m) c → Contains (children nodes n) c → ⊥
+no_lower_parent nodes m n c fine lower child here =
+    let at = index_of_child (children nodes n) c here in
+    fine (here.0, here.1, inl (m, lower, rw at child))
+
+module _ (text : List ℕ) (nodes : List Node) (n : ℕ) (depths : List ℕ) (before : NoneBelow text nodes (5 * n + 2)) (d : HasDepths nodes n depths) (room : n < length nodes) where
+  lower_child : (m c : ℕ) → m < n → Contains (children nodes m) c → (m < c) × (c < length nodes)
+  lower_child m c lower = child_order nodes m c (before (BadChild m) (omega arith))
+
+  lower_alone : (m q c : ℕ) → m < n → q < n → Contains (children nodes m) c → Contains (children nodes q) c → m ≡ q
+  lower_alone m q c lower lower' child child' =
+      let not_below : m < q → ⊥ = λ l. no_lower_parent nodes m q c (before (SharedChild q) (omega arith)) l child child' in
+      let not_above : q < m → ⊥ = λ l. no_lower_parent nodes q m c (before (SharedChild m) (omega arith)) l child' child in
+      omega arith
+
+  -- as many nodes stand above one as its depth says
+  ancestors_to_depth : (k c : ℕ) → c < length nodes → k < get_or depths c 0 → HasAncestors nodes c k
+  ancestors_to_depth zero c inside deep = none
+  ancestors_to_depth (suc k) c inside deep = elim (d.level c inside) [
+    | inl h ↦ absurd (omega (arith, h.0))
+    | inr (m, h) ↦
+        let order = lower_child m c h.below h.child in
+        above (record { lower = order.0; child = h.child }) (ancestors_to_depth k m (omega (arith, h.below)) (omega (arith, h.level)))
+  ]
+
+  at_least_one : (c : ℕ) → c < length nodes → 1 ≤ get_or depths c 0
+  at_least_one c inside = elim (d.level c inside) [ inl h ↦ omega (arith, h.0) | inr (m, h) ↦ omega (arith, h.level) ]
+
+  -- no more nodes stand above one than its depth says
+  ancestors_below_depth : {c k : ℕ} → c ≤ n → HasAncestors nodes c k → k < get_or depths c 0
+  ancestors_below_depth {c} low none = at_least_one c (omega arith)
+  ancestors_below_depth {c} low (above {m} {n = c'} {count = k} parent rest) =
+      let less = ancestors_below_depth {c = m} {k = k} (omega (arith, parent.lower)) rest in
+      elim (d.level c (omega arith)) [
+        | inl h ↦ absurd (h.1 m (omega (arith, parent.lower)) parent.child)
+        | inr (q, h) ↦
+            let same = lower_alone m q c (omega (arith, parent.lower)) h.below parent.child h.child in
+            let level : get_or depths c 0 ≡ get_or depths m 0 + 1 = rw same h.level in
+            omega (arith, less, level)
+      ]
+
+  within_limit : (m : ℕ) → m < n → get_or depths m 0 ≤ 4096
+  within_limit m lower =
+      let deep : 4096 < get_or depths m 0 → ⊥ = λ h. before (TooDeep m) (omega arith) (omega arith, ancestors_to_depth 4096 m (omega arith) h) in
+      omega arith
+
+  -- the depth of the next node can be given to its children
+  pub depth_in_range : (1 ≤ get_or depths n 0) × (get_or depths n 0 ≤ 4097)
+  depth_in_range = (at_least_one n room, elim (d.level n room) [ inl h ↦ omega (arith, h.0) | inr (m, h) ↦ omega (arith, h.level, within_limit m h.below) ])
+
+  pub over_is_too_deep : 4096 < get_or depths n 0 → IsTooDeep nodes n
+  over_is_too_deep over = (room, ancestors_to_depth 4096 n room over)
+
+  pub too_deep_is_over : IsTooDeep nodes n → 4096 < get_or depths n 0
+  too_deep_is_over deep = ancestors_below_depth {c = n} {k = 4096} (omega arith) deep.1
+
+  module _ (fine : HasBadChild nodes n → ⊥) where
+    -- a child is met where it is shared
+    pub met_is_shared : SomeIndex (children nodes n) (IsMetAt depths (children nodes n)) → HasSharedChild nodes n
+    met_is_shared (i, below, inr twice) = (i, below, inr twice)
+    met_is_shared (i, below, inl more) = elim (d.level _ (child_is_there nodes n i fine below)) [
+      | inl h ↦ absurd (more h.0)
+      | inr (m, h) ↦ (i, below, inl (m, h.below, h.child))
+    ]
+
+    pub shared_is_met : HasSharedChild nodes n → SomeIndex (children nodes n) (IsMetAt depths (children nodes n))
+    shared_is_met (i, below, inr twice) = (i, below, inr twice)
+    shared_is_met (i, below, inl (m, lower, child)) = elim (d.level _ (child_is_there nodes n i fine below)) [
+      | inl h ↦ absurd (h.1 m lower child)
+      | inr (q, h) ↦
+          let deep = at_least_one q (omega (arith, h.below)) in
+          (i, below, inl (λ one. omega (arith, h.level, deep, one)))
+    ]
+
+    module _ (new : List ℕ) (long : length new ≡ length depths) (given : GivesDepth depths new (children nodes n) (get_or depths n 0 + 1)) where
+      -- a node up to n depth_stays its depth
+      depth_stays : (m : ℕ) → m ≤ n → get_or new m 0 ≡ get_or depths m 0
+      depth_stays m low = elim (given m) [ inl h ↦ absurd (omega (arith, (child_order nodes n m fine h.0).0)) | inr h ↦ h.1 ]
+
+      -- the depths as far as the nodes up to n tell
+      pub HasDepths-next : HasDepths nodes (n + 1) new
+      HasDepths-next = record {
+        len = long ∙ d.len;
+        level = λ c inside. elim (given c) [
+          | inl h ↦ inr (n, record { below = omega arith; child = h.0; level = h.1 ∙ ap (λ k. k + 1) (sym (depth_stays n (omega arith))) })
+          | inr h ↦ elim (d.level c inside) [
+            | inl k ↦ inl (h.1 ∙ k.0, λ m lower child. elim (eqb_tells m n) [ inl same ↦ h.0 (rw same.1 at child) | inr other ↦ k.1 m (omega (arith, other.1)) child ])
+            | inr (m, k) ↦
+                let stays = depth_stays m (omega (arith, k.below)) in
+                inr (m, record { below = omega (arith, k.below); child = k.child; level = h.1 ∙ k.level ∙ ap (λ l. l + 1) (sym stays) })
+          ]
+        ];
+      }

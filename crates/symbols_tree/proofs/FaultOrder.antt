@@ -1,0 +1,57 @@
+-- The order of a tree's faults, one place after the other.
+use Rattle.std.proofs.Common.{◌≡◌, ℕ, zero, suc, ◌+◌, ◌*◌, ◌^◌, ◌<◌, ◌≤◌, ◌⊎◌, inl, inr, List, length, Some, true, false, subst, arith, refl}
+use Rattle.std.proofs.lemmas.Option.{slice_get_within}
+use Rattle.symbols_tree.specs.declared.tree.arena.Node.{Node}
+use Rattle.symbols_tree.specs.declared.check.faults.TreeFault.{TreeFault}
+use Rattle.symbols_tree.specs.declared.check.faults.TreeFault.TheVariants.{NoProgram, TooManyNodes, BadChild, SharedChild, BadRange, BadShape, TooDeep}
+use Rattle.symbols_tree.specs.Shapes.{has_bad_shape}
+use Rattle.symbols_tree.specs.TreeFaults.{begins_with_program, HasBadChild, HasSharedChild, HasBadRange, IsTooDeep, Stands, rank, NoneBelow, IsFaultless}
+use Rattle.symbols_tree.proofs.NodeLemmas.{has_child, has_shape}
+
+-- the k-th fault of the node n stands
+abbrev pub StandsAt : List ℕ → List Node → ℕ → ℕ → Type 0
+StandsAt text nodes n zero = HasBadChild nodes n
+StandsAt text nodes n (suc zero) = HasSharedChild nodes n
+StandsAt text nodes n (suc (suc zero)) = HasBadRange text nodes n
+StandsAt text nodes n (suc (suc (suc zero))) = has_bad_shape nodes n ≡ true
+StandsAt text nodes n (suc (suc (suc (suc _)))) = IsTooDeep nodes n
+
+module _ (text : List ℕ) (nodes : List Node) where
+  module _ (n k place : ℕ) (small : k ≤ 4) (at : place ≡ 5 * n + 2 + k) (before : NoneBelow text nodes place) (fine : StandsAt text nodes n k → ⊥) where
+    -- of all the faults that nodes have, only this one has the place
+    no_other : (m j : ℕ) → j ≤ 4 → 5 * m + 2 + j < place + 1 → StandsAt text nodes m j → (5 * m + 2 + j < place → ⊥) → ⊥
+    no_other m j few low stands later =
+        let here : 5 * m + 2 + j ≡ place = omega (arith, later) in
+        let same : m ≡ n = omega arith in
+        let alike : j ≡ k = omega arith in
+        fine (subst (λ x. StandsAt text nodes x k) same (subst (λ y. StandsAt text nodes m y) alike stands))
+
+    -- where the fault at a place doesn't stand, none stands before the next place
+    pub none_before_next : (next : ℕ) → next ≡ place + 1 → NoneBelow text nodes next
+    none_before_next next e NoProgram low h = before NoProgram (omega arith) h
+    none_before_next next e TooManyNodes low h = before TooManyNodes (omega arith) h
+    none_before_next next e (BadChild m) low h = no_other m 0 (omega arith) (omega arith) h (λ l. before (BadChild m) (omega arith) h)
+    none_before_next next e (SharedChild m) low h = no_other m 1 (omega arith) (omega arith) h (λ l. before (SharedChild m) (omega arith) h)
+    none_before_next next e (BadRange m) low h = no_other m 2 (omega arith) (omega arith) h (λ l. before (BadRange m) (omega arith) h)
+    none_before_next next e (BadShape m) low h = no_other m 3 (omega arith) (omega arith) h (λ l. before (BadShape m) (omega arith) h)
+    none_before_next next e (TooDeep m) low h = no_other m 4 (omega arith) (omega arith) h (λ l. before (TooDeep m) (omega arith) h)
+
+  -- before the first node
+  pub none_before_nodes : begins_with_program nodes ≡ true → length nodes < 2 ^ 32 → NoneBelow text nodes 2
+  none_before_nodes program few NoProgram low h = cc
+  none_before_nodes program few TooManyNodes low h = omega arith
+  none_before_nodes program few (BadChild m) low h = absurd (omega arith)
+  none_before_nodes program few (SharedChild m) low h = absurd (omega arith)
+  none_before_nodes program few (BadRange m) low h = absurd (omega arith)
+  none_before_nodes program few (BadShape m) low h = absurd (omega arith)
+  none_before_nodes program few (TooDeep m) low h = absurd (omega arith)
+
+  -- after the last node
+  pub faultless : (n : ℕ) → length nodes ≤ n → length nodes < 2 ^ 32 → NoneBelow text nodes (5 * n + 2) → IsFaultless text nodes
+  faultless n end few before NoProgram h = before NoProgram (omega arith) h
+  faultless n end few before TooManyNodes h = omega arith
+  faultless n end few before (BadChild m) h = before (BadChild m) (omega (arith, has_child nodes m h.0 h.1)) h
+  faultless n end few before (SharedChild m) h = before (SharedChild m) (omega (arith, has_child nodes m h.0 h.1)) h
+  faultless n end few before (BadRange m) h = before (BadRange m) (omega (arith, slice_get_within nodes m h.0 h.1)) h
+  faultless n end few before (BadShape m) h = before (BadShape m) (omega (arith, has_shape nodes m h)) h
+  faultless n end few before (TooDeep m) h = before (TooDeep m) (omega (arith, h.0)) h

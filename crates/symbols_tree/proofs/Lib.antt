@@ -1,0 +1,7 @@
+pub mod FieldLists
+pub mod NodeLemmas
+pub mod Giving
+pub mod FaultOrder
+pub mod DepthLemmas
+pub mod NodeSteps
+pub mod Faultless
