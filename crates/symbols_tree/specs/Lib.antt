@@ -5,3 +5,4 @@ pub mod Nodes
 pub mod Shapes
 pub mod TreeFaults
 pub mod WellFormed
+pub mod Graph

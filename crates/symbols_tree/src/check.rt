@@ -1,8 +1,10 @@
 //! Graphs of modules, and what a graph has to keep to be accepted.
 
 mod faults;
+mod module;
 mod raw;
 mod tree_check;
 
 pub use faults::{GraphFault, TreeFault};
+pub use module::GraphModule;
 pub use raw::{RawGraph, RawModule, RawModuleKind, RawResolution};
