@@ -1,1 +1,3 @@
 mod CheckedModules
+mod RepeatLemmas
+mod ChainLemmas

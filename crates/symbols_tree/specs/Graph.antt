@@ -1,5 +1,6 @@
 -- Modules and graphs as contracts see them: each text by its bytes.
-use Rattle.std.specs.Prelude.{ℕ, Bool, true, false, ◌&&◌, List, [], map, Option, Some, None, IfSome, unwrap_or, find, string_bytes}
+use Rattle.std.specs.Prelude.{ℕ, Bool, true, false, ◌&&◌, List, [], map, Option, Some, None, IfSome, unwrap_or, find, String, string_bytes}
+use Rattle.std.specs.Global.{Global}
 use Rattle.std.specs.Option.{option_map}
 use Rattle.std.specs.Map.{lookup}
 use Rattle.std.specs.Str.{bytes_eq}
@@ -76,12 +77,15 @@ content_of raw.External = external
 abbrev pub module_view : RawModule → ModuleView
 module_view m = record { specifier = string_bytes m.specifier; content = content_of m.kind }
 
+abbrev pub redirect_view : String Global × String Global → List ℕ × List ℕ
+redirect_view r = (string_bytes r.0, string_bytes r.1)
+
 abbrev pub resolution_view : RawResolution → Resolution
 resolution_view r = record { referrer = string_bytes r.referrer; text = string_bytes r.text; specifier = string_bytes r.specifier }
 
 abbrev pub graph_view : RawGraph → GraphView
 graph_view g = record {
   modules = map module_view g.modules.items;
-  redirects = map (λ r. (string_bytes r.0, string_bytes r.1)) g.redirects.items;
+  redirects = map redirect_view g.redirects.items;
   resolutions = map resolution_view g.resolutions.items;
 }

@@ -6,3 +6,5 @@ pub mod Shapes
 pub mod TreeFaults
 pub mod WellFormed
 pub mod Graph
+pub mod Repeats
+pub mod GraphFaults

@@ -1,0 +1,62 @@
+-- When each fault of a graph stands, and which is the first.
+use Rattle.std.specs.Prelude.{◌≡◌, ℕ, ◌<◌, ◌≤◌, ◌^◌, ◌⊎◌, List, Some, map, length, slice_get, string_bytes}
+use Rattle.symbols_tree.specs.declared.tree.arena.Tree.{Tree}
+use Rattle.symbols_tree.specs.declared.check.faults.TreeFault.{TreeFault}
+use Rattle.symbols_tree.specs.declared.check.faults.GraphFault.{GraphFault}
+use Rattle.symbols_tree.specs.declared.check.faults.GraphFault.TheVariants as fault
+use Rattle.symbols_tree.specs.Graph.{GraphView, ModuleView, Resolution, tree_of, text_of}
+use Rattle.symbols_tree.specs.Repeats.{IsRepeat}
+use Rattle.symbols_tree.specs.TreeFaults.{IsFirstTreeFault}
+
+abbrev pub specifiers : List ModuleView → List (List ℕ)
+specifiers modules = map (λ m. m.specifier) modules
+
+-- what the redirects start from
+abbrev pub sources : List (List ℕ × List ℕ) → List (List ℕ)
+sources redirects = map (λ r. r.0) redirects
+
+-- what the resolutions are looked up by
+abbrev pub asked : List Resolution → List (List ℕ × List ℕ)
+asked resolutions = map (λ r. (r.referrer, r.text)) resolutions
+
+-- the i-th redirect starts from the source, and its target is the source of a redirect, maybe its own
+abbrev pub IsChained : List (List ℕ × List ℕ) → ℕ → List ℕ → Type 0
+IsChained redirects i source =
+    (target : List ℕ) × (slice_get redirects i ≡ Some (source, target)) × ((j : ℕ) × (slice_get (sources redirects) j ≡ Some target))
+
+-- the i-th module has the specifier, and a tree whose first fault this is
+abbrev pub IsBadTree : List ModuleView → ℕ → List ℕ × TreeFault → Type 0
+IsBadTree modules i found =
+    (m : ModuleView) × (tree : Tree) × (slice_get modules i ≡ Some m) × (m.specifier ≡ found.0) × (tree_of m.content ≡ Some tree) × IsFirstTreeFault (text_of m.content) tree.nodes.items (Some found.1)
+
+-- when a fault stands at the i-th entry of the list that it is of
+abbrev pub StandsAt : GraphView → ℕ → GraphFault → Type 0
+StandsAt graph i fault.OutOfMemory = ⊥
+StandsAt graph i fault.TooManyModules = 2 ^ 32 ≤ length graph.modules
+StandsAt graph i (fault.DuplicateSpecifier specifier) = IsRepeat (specifiers graph.modules) i (string_bytes specifier)
+StandsAt graph i (fault.DuplicateRedirect source) = IsRepeat (sources graph.redirects) i (string_bytes source)
+StandsAt graph i (fault.RedirectToRedirect source) = IsChained graph.redirects i (string_bytes source)
+StandsAt graph i (fault.DuplicateResolution referrer text) = IsRepeat (asked graph.resolutions) i (string_bytes referrer, string_bytes text)
+StandsAt graph i (fault.Tree specifier found) = IsBadTree graph.modules i (string_bytes specifier, found)
+
+-- the order in which the faults are tried, each over the whole graph
+abbrev pub turn : GraphFault → ℕ
+turn fault.OutOfMemory = 0
+turn fault.TooManyModules = 0
+turn (fault.DuplicateSpecifier _) = 1
+turn (fault.DuplicateRedirect _) = 2
+turn (fault.RedirectToRedirect _) = 3
+turn (fault.DuplicateResolution _ _) = 4
+turn (fault.Tree _ _) = 5
+
+-- the fault f at i is tried before the fault g at j
+abbrev pub IsTriedBefore : ℕ → GraphFault → ℕ → GraphFault → Type 0
+IsTriedBefore i f j g = (turn f < turn g) ⊎ ((turn f ≡ turn g) × (i < j))
+
+-- no fault stands anywhere in the graph
+abbrev pub IsFaultlessGraph : GraphView → Type 0
+IsFaultlessGraph graph = (i : ℕ) (f : GraphFault) → StandsAt graph i f → ⊥
+
+-- the fault stands in the graph, and none that is tried before it
+abbrev pub IsFirstGraphFault : GraphView → GraphFault → Type 0
+IsFirstGraphFault graph g = (j : ℕ) × StandsAt graph j g × ((i : ℕ) (f : GraphFault) → IsTriedBefore i f j g → StandsAt graph i f → ⊥)
