@@ -1,3 +1,5 @@
 mod CheckedModules
 mod RepeatLemmas
 mod ChainLemmas
+mod TreeRefusal
+mod GraphFaultOrder

