@@ -5,3 +5,8 @@ pub mod FaultOrder
 pub mod DepthLemmas
 pub mod NodeSteps
 pub mod Faultless
+mod CheckedModules
+mod RepeatLemmas
+mod ChainLemmas
+mod TreeRefusal
+mod GraphFaultOrder

@@ -9,3 +9,6 @@ pub mod Depths
 pub mod Shapes
 pub mod TreeFaults
 pub mod WellFormed
+pub mod Graph
+pub mod Repeats
+pub mod GraphFaults

@@ -1,10 +1,14 @@
 //! Graphs of modules, and what a graph has to keep to be accepted.
 
 mod child_list;
+mod duplicates;
 mod faults;
+mod graph_check;
+mod module;
 mod raw;
 mod shape;
 mod tree_check;
 
 pub use faults::{GraphFault, TreeFault};
+pub use module::GraphModule;
 pub use raw::{RawGraph, RawModule, RawModuleKind, RawResolution};
