@@ -4,3 +4,4 @@ pub mod Inside
 pub mod Rows
 pub mod Views
 pub mod Walks
+pub mod Built

@@ -4,3 +4,4 @@ pub mod Events
 pub mod TreeEvents
 pub mod Tables
 pub mod Modules
+pub mod Analysis

@@ -97,6 +97,10 @@ item_at tree holder start n = on (node_in tree (Some n)) (λ (node : TreeNode). 
 abbrev pub root_of : Tree → TreeNode
 root_of tree = record { tree = tree; number = 0 }
 
+-- the definition of the module itself: the program
+abbrev pub root_decl : Tree → Declaration
+root_decl tree = defined (program (root_of tree)) (range_in (root_of tree))
+
 -- of a tree: the module, and then the items of its body, whose holder is the module
 abbrev pub tree_events : Tree → List Event
-tree_events tree = begins (defined (program (root_of tree)) (range_in (root_of tree))) ∷ each_from (item_at tree 0) 1 (list_of (root_of tree) body_of)
+tree_events tree = begins (root_decl tree) ∷ each_from (item_at tree 0) 1 (list_of (root_of tree) body_of)

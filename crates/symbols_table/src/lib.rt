@@ -5,5 +5,4 @@ mod builder;
 pub mod decl;
 pub mod info;
 
-
-
+pub use builder::analyze;
