@@ -1,7 +1,8 @@
 -- What is stored, as it is seen.
-use Rattle.std.proofs.Common.{◌≡◌, ℕ, Bool, true, false, cond, List, [], ◌∷◌, ◌++◌, map, refl, ap, ◌∙◌}
+use Rattle.std.proofs.Common.{◌≡◌, ℕ, Bool, true, false, cond, List, [], ◌∷◌, ◌++◌, map, Option, Some, refl, ap, ◌∙◌}
 use Rattle.std.specs.Prelude.{string_bytes, String}
 use Rattle.std.specs.Str.{bytes_eq}
+use Rattle.std.specs.Map.{lookup}
 use Rattle.std.specs.Global.{Global}
 use Rattle.std.proofs.lemmas.List.{map-append}
 use Rattle.indexmap.specs.IndexMap.{insert_entry}
@@ -20,6 +21,11 @@ exports_view-insert name s (e ∷ es) = by (exports_view-insert name s es) (byte
         ≡ cond same ((string_bytes e.0, s) ∷ exports_view es) ((string_bytes e.0, e.1) ∷ insert_entry bytes_eq (exports_view es) (string_bytes name) s)
     by rest true = refl
     by rest false = ap (λ xs. (string_bytes e.0, e.1) ∷ xs) rest
+
+-- an export that is looked up, by the bytes of its name
+pub lookup-exports_view : (name : List ℕ) (entries : List (String Global × SymbolId)) → lookup (λ key. bytes_eq name (string_bytes key)) entries ≡ lookup (λ key. bytes_eq name key) (exports_view entries)
+lookup-exports_view name [] = refl
+lookup-exports_view name (e ∷ es) = ap (λ (o : Option SymbolId). cond (bytes_eq name (string_bytes e.0)) (Some e.1) o) (lookup-exports_view name es)
 
 -- a declaration that is pushed with its flag
 pub pushed_decl : (before after : List SymbolDecl) (decl flagged : SymbolDecl) (flag : Bool) → after ≡ before ++ flagged ∷ []

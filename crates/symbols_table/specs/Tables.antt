@@ -10,17 +10,17 @@ use Rattle.symbols_table.specs.declared.decl.symbol.Symbol.{Symbol}
 use Rattle.symbols_table.specs.declared.builder.table.Builder.{Builder}
 use Rattle.symbols_table.specs.declared.builder.table.BuildFault.{BuildFault}
 use Rattle.symbols_table.specs.declared.builder.table.BuildFault.TheVariants.{TooManySymbols}
-use Rattle.symbols_table.specs.DeclViews.{decl_view, exports_view}
+use Rattle.symbols_table.specs.Symbols.{parent_in, decls_in, exports_in, children_in, members_in}
 use Rattle.symbols_table.specs.Changes.{Change, makes, declares, exports, has_child, has_member, maps, parents_of, decls_of, exports_of, children_of, members_of, mapped}
 use Rattle.symbols_table.specs.Events.{Event, Row, changes_of, symbol_at, rows_after}
 
 -- the symbol holds what was changed of the number s
 pub record IsSymbolOf (changes : List Change) (s : SymbolId) (symbol : Symbol) : Type 0 where
-  pub parent : slice_get (parents_of changes) s.0 ≡ Some symbol.parent_id
-  pub decls : map decl_view symbol.decls.items ≡ decls_of changes s
-  pub exports : exports_view symbol.exports.entries ≡ exports_of changes s
-  pub children : symbol.child_ids.keys ≡ children_of changes s
-  pub members : symbol.members.keys ≡ members_of changes s
+  pub parent : slice_get (parents_of changes) s.0 ≡ Some (parent_in symbol)
+  pub decls : decls_in symbol ≡ decls_of changes s
+  pub exports : exports_in symbol ≡ exports_of changes s
+  pub children : children_in symbol ≡ children_of changes s
+  pub members : members_in symbol ≡ members_of changes s
 
 -- nothing was changed of the number s
 pub record IsBare (changes : List Change) (s : SymbolId) : Type 0 where
