@@ -3,3 +3,6 @@ mod RepeatLemmas
 mod ChainLemmas
 mod TreeRefusal
 mod GraphFaultOrder
+mod FilledMaps
+mod ModuleMaps
+mod ResolutionMaps

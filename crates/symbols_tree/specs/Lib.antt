@@ -8,3 +8,4 @@ pub mod WellFormed
 pub mod Graph
 pub mod Repeats
 pub mod GraphFaults
+pub mod Tables

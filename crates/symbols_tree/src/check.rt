@@ -5,6 +5,7 @@ mod faults;
 mod graph_check;
 mod module;
 mod raw;
+mod tables;
 mod tree_check;
 
 pub use faults::{GraphFault, TreeFault};
