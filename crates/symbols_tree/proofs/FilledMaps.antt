@@ -57,9 +57,9 @@ module _ {V X R : Type 0} (f : String Global × V → R) (g : X → R) (name : R
       → (new : List (String Global × V)) → new ≡ insert_entry string_eq m.entries k v → {A : Type 0} (yielded : List A) (y : A) → n ≡ length yielded → map f new ≡ take (length (yielded ++ y ∷ [])) (map g all)
   inserted_more m all n distinct so_far k v x inside is reads new puts yielded y count =
       let keys : map (λ e. string_bytes e.0) m.entries ≡ take n (map name (map g all)) =
-          map-ext (λ e. string_bytes e.0) (λ e. name (f e)) (λ e. sym (named e)) m.entries ∙ sym (map-map name f m.entries) ∙ ap (map name) so_far ∙ sym (take-map name n (map g all)) in
+      map-ext (λ e. string_bytes e.0) (λ e. name (f e)) (λ e. sym (named e)) m.entries ∙ sym (map-map name f m.entries) ∙ ap (map name) so_far ∙ sym (take-map name n (map g all)) in
       let here : slice_get (map name (map g all)) n ≡ Some (string_bytes k) =
-          slice_get-map name (map g all) n ∙ ap (option_map name) (next_read f g m.entries all n so_far x inside is ∙ ap Some (sym reads)) ∙ ap Some (named (k, v)) in
+      slice_get-map name (map g all) n ∙ ap (option_map name) (next_read f g m.entries all n so_far x inside is ∙ ap Some (sym reads)) ∙ ap Some (named (k, v)) in
       let absent = new_name m.entries (map name (map g all)) n (string_bytes k) distinct keys here in
       ap (map f) (puts ∙ insert_entry-new string_eq m k v absent) ∙ filled_more f g m.entries all n so_far (k, v) x inside is reads ∙ ap (λ i. take i (map g all)) (ap (λ i. i + 1) count ∙ sym (length_push yielded y))
     where

@@ -18,11 +18,7 @@ use std::alloc::{AllocError, Global};
 pub(crate) type Resolutions = IndexMap<String, IndexMap<String, String>>;
 
 /// Puts a value under a name, in the place of the value that it had.
-fn put<V: Drop>(
-    named: &mut IndexMap<String, V>,
-    name: String,
-    value: V,
-) -> Result<(), AllocError>
+fn put<V: Drop>(named: &mut IndexMap<String, V>, name: String, value: V) -> Result<(), AllocError>
     ensures entries { OnOk result (named.new.entries ≡ insert_entry string_eq named.old.entries name value) }
     ensures updates { OnOk result (Updates string_eq named.old named.new name (Some value)) }
     ensures unique { OnOk result (IsUnique string_eq named.new) }

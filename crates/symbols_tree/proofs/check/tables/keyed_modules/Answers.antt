@@ -13,7 +13,7 @@ loop-raw-preserved c =
     let turn = YieldsList-turn (YieldsList-from_vec all given.0 (search rules)) c.loop-raw.yielded c.loop-raw.raw-iterator c.loop-raw.yielded_by c.next.result c.next.new.self c.in-Some.raw c.in-Some.is c.next.ensures.steps in
     let key : string_bytes c.in_ok-key.key ≡ string_bytes c.in-Some.raw.specifier = search rules in
     let reads : entry_read (c.in_ok-key.key, c.from_raw.result) ≡ entry_of c.in-Some.raw =
-        ap {B = List ℕ × ModuleView} (λ (k : List ℕ). (k, c.from_raw.result)) key ∙ ap {B = List ℕ × ModuleView} (λ (m : ModuleView). (string_bytes c.in-Some.raw.specifier, m)) c.from_raw.ensures in
+    ap {B = List ℕ × ModuleView} (λ (k : List ℕ). (k, c.from_raw.result)) key ∙ ap {B = List ℕ × ModuleView} (λ (m : ModuleView). (string_bytes c.in-Some.raw.specifier, m)) c.from_raw.ensures in
     inserted_more entry_read entry_of (λ p. p.0) (λ _. refl) c.loop-raw.keyed all (length c.loop-raw.yielded) (distinct_entries all c.requires.distinct) c.loop-raw.invariant c.in_ok-key.key c.from_raw.result c.in-Some.raw turn.0 turn.1 reads _ c.in_ok-put.ensures.entries c.loop-raw.yielded _ refl
 
 pub returns-clause-modules : goal.returns-clause-modules
