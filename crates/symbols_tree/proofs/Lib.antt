@@ -6,3 +6,5 @@ mod GraphFaultOrder
 mod FilledMaps
 mod ModuleMaps
 mod ResolutionMaps
+mod GraphLookups
+mod DistinctEntries

@@ -2,6 +2,7 @@
 
 mod duplicates;
 mod faults;
+mod graph;
 mod graph_check;
 mod module;
 mod raw;
@@ -9,5 +10,6 @@ mod tables;
 mod tree_check;
 
 pub use faults::{GraphFault, TreeFault};
+pub use graph::ModuleGraph;
 pub use module::GraphModule;
 pub use raw::{RawGraph, RawModule, RawModuleKind, RawResolution};
