@@ -10,3 +10,8 @@ mod RepeatLemmas
 mod ChainLemmas
 mod TreeRefusal
 mod GraphFaultOrder
+mod FilledMaps
+mod ModuleMaps
+mod ResolutionMaps
+mod GraphLookups
+mod DistinctEntries

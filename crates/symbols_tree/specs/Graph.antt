@@ -64,9 +64,13 @@ redirected graph specifier = unwrap_or (lookup (bytes_eq specifier) graph.redire
 abbrev pub module_of : GraphView → List ℕ → Option ModuleView
 module_of graph specifier = find (λ m. bytes_eq (redirected graph specifier) m.specifier) graph.modules
 
+-- the specifier of the first resolution of the referrer and the text
+abbrev pub found_resolution : List Resolution → List ℕ → List ℕ → Option (List ℕ)
+found_resolution resolutions referrer text = option_map (λ r. r.specifier) (find (λ r. bytes_eq referrer r.referrer && bytes_eq text r.text) resolutions)
+
 -- the specifier that the text stands for in the module of the referrer
 abbrev pub resolution_of : GraphView → List ℕ → List ℕ → Option (List ℕ)
-resolution_of graph referrer text = option_map (λ r. r.specifier) (find (λ r. bytes_eq referrer r.referrer && bytes_eq text r.text) graph.resolutions)
+resolution_of graph referrer text = found_resolution graph.resolutions referrer text
 
 -- a raw graph as a contract sees it
 abbrev pub content_of : RawModuleKind → Content

@@ -12,3 +12,4 @@ pub mod WellFormed
 pub mod Graph
 pub mod Repeats
 pub mod GraphFaults
+pub mod Tables

@@ -11,6 +11,10 @@ IsFirstWhere {A} P (Some x) = (i : ℕ) × P i x × ((j : ℕ) (y : A) → j < i
 abbrev pub IsRepeat : {A : Type 0} → List A → ℕ → A → Type 0
 IsRepeat xs i x = (slice_get xs i ≡ Some x) × ((j : ℕ) × (j < i) × (slice_get xs j ≡ Some x))
 
--- the same where eq compares
+-- no entry stands twice
+abbrev pub HasNoRepeat : {A : Type 0} → List A → Type 0
+HasNoRepeat {A} xs = (i : ℕ) (x : A) → IsRepeat xs i x → ⊥
+
+-- x stands at i, and eq finds it earlier too
 abbrev pub IsRepeatBy : {A : Type 0} → (A → A → Bool) → List A → ℕ → A → Type 0
 IsRepeatBy eq xs i x = (slice_get xs i ≡ Some x) × (list_any (λ y. eq y x) (take i xs) ≡ true)
