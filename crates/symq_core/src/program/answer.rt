@@ -1,20 +1,21 @@
 //! The answer to a line.
 
-ghost use Rattle.std.specs.Prelude.{◌≡◌, ◌+◌, ◌-◌, ◌^◌, ◌<◌, ℕ, map, length, slice_get, string_bytes, Some, IfOk, IfErr, option_map};
+ghost use Rattle.std.specs.Prelude.{◌≡◌, map, string_bytes, Some, IfOk, IfSome, IsSome, option_map};
 ghost use Rattle.serde_json.specs.View.{view};
-ghost use Rattle.symbols_tree.specs.declared.ids.SymbolId.{SymbolId as SymbolNumber};
+ghost use Rattle.std.specs.Option.{option_and_then};
+ghost use Rattle.symbols_tree.specs.Graph.{tree_of};
 ghost use Rattle.symbols_table.specs.DeclViews.{exports_view};
-ghost use Rattle.symbols_table.specs.Modules.{symbols_in};
-ghost use Rattle.symbols_table.specs.Symbols.{exports_in};
-ghost use Rattle.symq_core.specs.Queries.{query_view};
-ghost use Rattle.symq_core.specs.Answers.{export_data, exports_data, fault_data, module_answer, exports_answer, answer_data, answer_text};
 
-use crate::program::query::{Query, line_value, query};
+
+ghost use Rattle.symq_core.specs.Queries.{query_view, query_of, value_of};
+ghost use Rattle.symq_core.specs.Answers.{export_data, exports_data, fault_text, fault_data, TellsExports, module_answer, exports_answer, answer_data, answer_text};
+
+use crate::program::query::{Query, line_value, read_query};
 use indexmap::IndexMap;
 use serde_json::{Value, json};
 use std::alloc::{AllocError, Global};
 use symbols_table::analyze;
-use symbols_table::info::{EsModuleInfo, SymbolsFault};
+use symbols_table::info::{ModuleInfo, SymbolsFault};
 use symbols_tree::check::{GraphModule, ModuleGraph};
 use symbols_tree::ids::{ModuleId, SymbolId};
 
@@ -51,19 +52,40 @@ fn exports_value(
     json!(in alloc; {"exports": entries, "unresolved": []})
 }
 
+/// The own exports of a module with its symbols.
+fn own_exports(alloc: Global, info: &ModuleInfo<'_>) -> Result<Value, AllocError>
+    ensures { IfOk result (λ value. TellsExports info.now (view value)) }
+{
+    match info.esm() {
+        Some(esm) => exports_value(alloc, esm.specifier(), esm.module_symbol().exports()),
+        None => Ok(Value::Null),
+    }
+}
+
+/// The answer where a call on symbols gave nothing, want of memory apart.
+fn fault_value(alloc: Global, fault: &SymbolsFault) -> Result<Value, AllocError>
+    ensures { IfOk result (λ value. IfSome (fault_text fault.now) (λ text. view value ≡ fault_data text)
+        × IsSome (fault_text fault.now)) }
+{
+    let text = match fault {
+        SymbolsFault::OutOfMemory => return Err(AllocError),
+        SymbolsFault::TooManyModules => "too many modules",
+        SymbolsFault::TooManySymbols(_) => "too many symbols",
+        SymbolsFault::UnknownModule => "unknown module",
+        SymbolsFault::UnknownSymbol => "unknown symbol",
+    };
+    json!(in alloc; {"fault": text})
+}
+
 /// The exports of a module of the graph, which is analysed anew for each query until modules are
 /// stored.
 fn module_exports(alloc: Global, module: &GraphModule) -> Result<Value, AllocError>
     ensures { IfOk result (λ value. view value ≡ module_answer module.now (tree_of module.now.content)) }
 {
     match analyze(alloc, ModuleId::from_number(0), module, u32::MAX) {
-        Ok(Some(info)) => match info.esm() {
-            Some(esm) => exports_value(alloc, module.specifier(), esm.module_symbol().exports()),
-            None => Ok(Value::Null),
-        },
+        Ok(Some(info)) => own_exports(alloc, &info),
         Ok(None) => Ok(Value::Null),
-        Err(SymbolsFault::OutOfMemory) => Err(AllocError),
-        Err(_) => json!(in alloc; {"fault": "too many symbols"}),
+        Err(fault) => fault_value(alloc, &fault),
     }
 }
 
@@ -82,13 +104,14 @@ fn line_answer(alloc: Global, graph: &ModuleGraph, line: &[u8]) -> Result<Value,
     ensures { IfOk result (λ value. view value ≡ answer_data graph.now (option_and_then query_of (value_of line.now))) }
 {
     let value = line_value(alloc, line)?;
-    match value.as_ref().and_then(query) {
+    match value.as_ref().and_then(read_query) {
         Some(query) => query_answer(alloc, graph, query),
         None => json!(in alloc; {"fault": "bad query"}),
     }
 }
 
 /// The text of the answer to a line, without a line end.
+#[tactic(auto, using(crate::proofs::Floats::no_float), unfolding(crate::specs::Answers::answer_text))]
 pub(crate) fn answer(alloc: Global, graph: &ModuleGraph, line: &[u8]) -> Result<String, AllocError>
     ensures { IfOk result (λ text. string_bytes text ≡ answer_text graph.now line.now) }
 {

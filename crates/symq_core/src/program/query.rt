@@ -38,7 +38,7 @@ fn two_texts(value: &Value) -> Option<(&str, &str)>
 }
 
 /// The query that a value is, if it is one.
-pub(crate) fn query(value: &Value) -> Option<Query<'_>>
+pub(crate) fn read_query(value: &Value) -> Option<Query<'_>>
     ensures { option_map query_view result ≡ query_of (view value.now) }
 {
     match two_texts(value)? {

@@ -1,0 +1,40 @@
+-- No answer has a float.
+use Rattle.std.proofs.Common.{◌≡◌, ℕ, List, [], ◌∷◌, Bool, true, false, cond, Option, Some, None, map, refl}
+use Rattle.std.specs.Prelude.{nat_lt}
+use Rattle.serde_json.specs.View.{items_of}
+use Rattle.serde_json.specs.Data.{Data}
+use Rattle.serde_json.specs.Written.{has_float, items_have_float}
+use Rattle.symbols_tree.specs.declared.ids.SymbolId.{SymbolId}
+use Rattle.symbols_tree.specs.declared.tree.arena.Tree.{Tree}
+use Rattle.symbols_tree.specs.Graph.{GraphView, ModuleView, module_of, tree_of}
+use Rattle.symbols_table.specs.Analysis.{symbol_count, tree_changes}
+use Rattle.symbols_table.specs.Changes.{exports_of}
+use Rattle.symq_core.specs.Queries.{QueryView, asks_exports}
+use Rattle.symq_core.specs.Answers.{export_data, exports_data, fault_data, module_symbol, tree_answer, module_answer, found_answer, answer_data}
+
+entries : (specifier : List ℕ) (es : List (List ℕ × SymbolId)) → items_have_float (items_of (map (export_data specifier) es)) ≡ false
+entries specifier [] = refl
+entries specifier (e ∷ es) = entries specifier es
+
+exports : (specifier : List ℕ) (es : List (List ℕ × SymbolId)) → has_float (exports_data specifier es) ≡ false
+exports specifier es = rw (entries specifier es) refl
+
+either : (test : Bool) (a b : Data) → has_float a ≡ false → has_float b ≡ false → has_float (cond test a b) ≡ false
+either true a b p q = p
+either false a b p q = q
+
+tree : (specifier : List ℕ) (t : Tree) → has_float (tree_answer specifier t) ≡ false
+unfolding tree_answer
+tree specifier t = either (nat_lt (4294967295) (symbol_count t)) _ _ refl (exports specifier (exports_of (tree_changes t) module_symbol))
+
+of_module : (m : ModuleView) (t : Option Tree) → has_float (module_answer m t) ≡ false
+of_module m None = refl
+of_module m (Some t) = tree m.specifier t
+
+found : (m : Option ModuleView) → has_float (found_answer m) ≡ false
+found None = refl
+found (Some m) = of_module m (tree_of m.content)
+
+pub no_float : (graph : GraphView) (query : Option QueryView) → has_float (answer_data graph query) ≡ false
+no_float graph None = refl
+no_float graph (Some (asks_exports specifier)) = found (module_of graph specifier)
