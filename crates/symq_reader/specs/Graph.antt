@@ -1,5 +1,5 @@
 -- The graph that a value is, and what bytes give: a graph, or why there is none.
-use Rattle.std.specs.Prelude.{◌≡◌, ⊤, ℕ, List, Bool, false, if◌then◌else◌, Option, Some, None, option_map, option_and_then, Result, Ok, Err, codes, map, String, string_bytes}
+use Rattle.std.specs.Prelude.{◌≡◌, ⊤, ℕ, List, Bool, if◌then◌else◌, Option, Some, None, option_map, option_and_then, Result, Ok, Err, codes, map, String, string_bytes}
 use Rattle.std.specs.declared.alloc.Global.{Global}
 use Rattle.std.specs.Str.{bytes_eq, is_utf8}
 use Rattle.serde_json.specs.Data.{Data}

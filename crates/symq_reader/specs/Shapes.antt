@@ -6,15 +6,10 @@ use Rattle.symbols_tree.specs.Names.{item_name, decl_name, member_name, ty_name,
 use Rattle.symbols_tree.specs.declared.tree.names.KindName.{KindName}
 use Rattle.symbols_tree.specs.declared.tree.arena.Id.{Id}
 use Rattle.symbols_tree.specs.declared.tree.kinds.Item.{Item}
-use Rattle.symbols_tree.specs.declared.tree.kinds.Item.TheVariants as Item
 use Rattle.symbols_tree.specs.declared.tree.kinds.Decl.{Decl}
-use Rattle.symbols_tree.specs.declared.tree.kinds.Decl.TheVariants as Decl
 use Rattle.symbols_tree.specs.declared.tree.kinds.Expr.{Expr}
-use Rattle.symbols_tree.specs.declared.tree.kinds.Expr.TheVariants as Expr
 use Rattle.symbols_tree.specs.declared.tree.kinds.Pat.{Pat}
-use Rattle.symbols_tree.specs.declared.tree.kinds.Pat.TheVariants as Pat
 use Rattle.symbols_tree.specs.declared.tree.kinds.Kind.{Kind}
-use Rattle.symbols_tree.specs.declared.tree.kinds.Kind.TheVariants as Kind
 use Rattle.symq_reader.specs.Fields.{required}
 use Rattle.symq_reader.specs.Kinds.{Slot, has_child, has_optional_child, has_children, has_text, has_identifier, fields_of, slots_at, named, item_texts, decl_texts, expr_texts, pat_texts}
 use Rattle.symq_reader.specs.Withheld.{withheld_of, are_absent}

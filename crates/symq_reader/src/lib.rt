@@ -11,3 +11,6 @@ mod withheld;
 
 pub use faults::FormatFault;
 pub use graph::read_graph;
+
+#[cfg(test)]
+mod tests;
