@@ -55,16 +55,32 @@ fields_of _ = []
 
 -- the text of each kind that is let through, by the enum that has the kind
 abbrev pub item_texts : List (List ℕ × KindName)
-item_texts = (codes "Program", Name.Program) ∷ (codes "ExportDecl", Name.ExportDecl) ∷ (codes "ExprStmt", Name.ExprStmt) ∷ []
+item_texts =
+    (codes "Program", Name.Program) ∷
+    (codes "ExportDecl", Name.ExportDecl) ∷
+    (codes "ExprStmt", Name.ExprStmt) ∷
+    []
 
 abbrev pub decl_texts : List (List ℕ × KindName)
-decl_texts = (codes "FnDecl", Name.FnDecl) ∷ (codes "Function", Name.Function) ∷ (codes "VarDecl", Name.VarDecl) ∷ (codes "VarDeclarator", Name.VarDeclarator) ∷ []
+decl_texts =
+    (codes "FnDecl", Name.FnDecl) ∷
+    (codes "Function", Name.Function) ∷
+    (codes "VarDecl", Name.VarDecl) ∷
+    (codes "VarDeclarator", Name.VarDeclarator) ∷
+    []
 
 abbrev pub expr_texts : List (List ℕ × KindName)
-expr_texts = (codes "Ident", Name.Ident) ∷ (codes "Str", Name.Str) ∷ (codes "Num", Name.Num) ∷ []
+expr_texts =
+    (codes "Ident", Name.Ident) ∷
+    (codes "Str", Name.Str) ∷
+    (codes "Num", Name.Num) ∷
+    []
 
 abbrev pub pat_texts : List (List ℕ × KindName)
-pat_texts = (codes "BindingIdent", Name.BindingIdent) ∷ (codes "Other", Name.Other) ∷ []
+pat_texts =
+    (codes "BindingIdent", Name.BindingIdent) ∷
+    (codes "Other", Name.Other) ∷
+    []
 
 -- the kind that has the text
 abbrev pub named : List (List ℕ × KindName) → List ℕ → Option KindName

@@ -134,7 +134,11 @@ fn graph(alloc: Global, value: Value) -> Result<RawGraph, FormatFault>
     })
 }
 
-/// The graph that bytes are.
+/// The graph that bytes are, by the form of `specs/Graph.antt` and `specs/Kinds.antt` (own rules).
+/// Keys that an object's kind doesn't have are ignored, and of a repeated key the last value counts;
+/// but a number that is no whole number of 64 bits is a `BadForm` under any key that counts. Nothing
+/// is checked of the graph itself. At its peak memory holds the JSON value of the whole text, some
+/// twenty times the text, and beside it the graph as far as it is read.
 pub fn read_graph(alloc: Global, bytes: &[u8]) -> Result<RawGraph, FormatFault>
     ensures { IsOutcome result (outcome_of bytes.now) }
 {
