@@ -1,0 +1,45 @@
+//! The kinds of nodes: an object read as the kind that it says that it is.
+
+ghost use Rattle.std.specs.Prelude.{◌≡◌};
+ghost use Rattle.serde_json.specs.View.{view};
+ghost use Rattle.symq_reader.specs.Reading.{Gives};
+ghost use Rattle.symq_reader.specs.Shapes.{kind_at, kind_shape, row_named};
+
+mod decls;
+mod exprs;
+mod items;
+mod pats;
+
+use crate::faults::FormatFault;
+use crate::fields;
+use serde_json::Value;
+use std::alloc::Global;
+use symbols_tree::tree::Kind;
+
+fn kind_named(alloc: Global, kind: &str, value: &Value) -> Result<Kind, FormatFault>
+    ensures { Gives kind_shape result (row_named kind.now (view value.now)) }
+{
+    if let Some(item) = items::item(alloc, kind, value)? {
+        return Ok(Kind::Item(item));
+    }
+    if let Some(decl) = decls::decl(alloc, kind, value)? {
+        return Ok(Kind::Decl(decl));
+    }
+    if let Some(expr) = exprs::expr(alloc, kind, value)? {
+        return Ok(Kind::Expr(expr));
+    }
+    if let Some(pat) = pats::pat(alloc, kind, value)? {
+        return Ok(Kind::Pat(pat));
+    }
+    Err(FormatFault::BadForm)
+}
+
+#[tactic(auto, unfolding(crate::specs::Shapes::kind_at))]
+pub(crate) fn kind(alloc: Global, value: &Value) -> Result<Kind, FormatFault>
+    ensures { Gives kind_shape result (kind_at (view value.now)) }
+{
+    match fields::field(value, "kind").and_then(Value::as_str) {
+        Some(kind) => kind_named(alloc, kind, value),
+        None => Err(FormatFault::BadForm),
+    }
+}

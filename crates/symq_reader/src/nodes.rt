@@ -1,0 +1,71 @@
+//! Nodes and trees.
+
+ghost use Rattle.std.specs.Prelude.{codes, map, option_map};
+ghost use Rattle.serde_json.specs.View.{view, items_view};
+ghost use Rattle.symq_reader.specs.Reading.{Gives};
+ghost use Rattle.symq_reader.specs.Fields.{required, optional, each, list_of};
+ghost use Rattle.symq_reader.specs.Graph.{as_range, as_node, as_tree, node_shape, tree_shape};
+
+use crate::faults::FormatFault;
+use crate::{fields, kinds};
+use serde_json::Value;
+use std::alloc::Global;
+use symbols_tree::tree::{Node, SourceRange, Tree};
+
+fn range(value: &Value) -> Result<SourceRange, FormatFault>
+    ensures { Gives (λ r. r) result (required as_range (codes "range") (view value.now)) }
+{
+    let Some((start, end)) = fields::field(value, "range").and_then(fields::pair) else {
+        return Err(FormatFault::BadForm);
+    };
+    match (start.as_u64(), end.as_u64()) {
+        (Some(start), Some(end)) => Ok(SourceRange {
+            start: start as usize,
+            end: end as usize,
+        }),
+        _ => Err(FormatFault::BadForm),
+    }
+}
+
+#[tactic(auto, unfolding(crate::specs::Graph::as_node))]
+fn node(alloc: Global, value: &Value) -> Result<Node, FormatFault>
+    ensures { Gives node_shape result (as_node (view value.now)) }
+{
+    let kind = kinds::kind(alloc, value)?;
+    let range = range(value)?;
+    Ok(Node { kind, range })
+}
+
+fn nodes(alloc: Global, value: &Value) -> Result<Vec<Node>, FormatFault>
+    ensures { Gives (λ v. map node_shape v.items) result
+        (list_of as_node (codes "nodes") (view value.now)) }
+{
+    let items = fields::list(value, "nodes")?;
+    let mut nodes = Vec::with_capacity(alloc, items.len())?;
+    for item in items {
+        nodes.push(node(alloc, item)?)?;
+    }
+    Ok(nodes)
+}
+
+fn tree(alloc: Global, value: &Value) -> Result<Tree, FormatFault>
+    ensures { Gives tree_shape result (as_tree (view value.now)) }
+{
+    if !value.is_object() {
+        return Err(FormatFault::BadForm);
+    }
+    let declaration = fields::flag(value, "declaration")?;
+    let nodes = nodes(alloc, value)?;
+    Ok(Tree { declaration, nodes })
+}
+
+/// The tree of a module, which may be absent.
+pub(crate) fn optional_tree(alloc: Global, value: &Value) -> Result<Option<Tree>, FormatFault>
+    ensures { Gives (option_map tree_shape) result
+        (optional as_tree (codes "tree") (view value.now)) }
+{
+    match fields::field(value, "tree") {
+        None => Ok(None),
+        Some(found) => Ok(Some(tree(alloc, found)?)),
+    }
+}
