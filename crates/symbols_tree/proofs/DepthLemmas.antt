@@ -1,5 +1,5 @@
 -- The depths that the check depth_stays are those of the tree.
-use Rattle.std.proofs.Common.{◌≡◌, ℕ, zero, suc, ◌+◌, ◌*◌, ◌<◌, ◌≤◌, inl, inr, List, length, get_or, take, refl, sym, ◌∙◌, ap, arith}
+use Rattle.std.proofs.Common.{◌≡◌, ℕ, zero, suc, ◌+◌, ◌*◌, ◌<◌, ◌≤◌, inl, inr, List, length, get_or, sym, ◌∙◌, ap, arith}
 use Rattle.std.specs.List.{Contains, SomeIndex}
 use Rattle.std.proofs.lemmas.Bool.Decides.{eqb_tells}
 use Rattle.std.proofs.lemmas.List.{get_or_default}
@@ -8,7 +8,7 @@ use Rattle.symbols_tree.specs.declared.tree.arena.Node.{Node}
 use Rattle.symbols_tree.specs.declared.check.faults.TreeFault.TheVariants.{BadChild, SharedChild, TooDeep}
 use Rattle.symbols_tree.specs.Nodes.{children, HasAncestors, none, above}
 use Rattle.symbols_tree.specs.TreeFaults.{HasBadChild, HasSharedChild, IsTooDeep, NoneBelow}
-use Rattle.symbols_tree.specs.Depths.{IsFree, IsHeldBy, HasDepths, IsMetAt, GivesDepth}
+use Rattle.symbols_tree.specs.Depths.{HasDepths, IsMetAt, GivesDepth}
 
 -- an element stands at its index
 index_of_child : (ids : List ℕ) (c : ℕ) (h : Contains ids c) → get_or ids h.0 0 ≡ c

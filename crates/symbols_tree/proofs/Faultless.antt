@@ -1,9 +1,7 @@
 -- A tree in which no fault stands is well formed.
 use Rattle.std.proofs.Common.{◌≡◌, ℕ, ◌^◌, ◌<◌, ◌≤◌, List, length, Bool, true, false, refl, arith}
-use Rattle.std.specs.List.{Contains}
 use Rattle.symbols_tree.specs.declared.tree.arena.Node.{Node}
 use Rattle.symbols_tree.specs.declared.check.faults.TreeFault.TheVariants.{NoProgram, TooManyNodes, BadChild, SharedChild, BadShape}
-use Rattle.symbols_tree.specs.Nodes.{children}
 use Rattle.symbols_tree.specs.TreeFaults.{IsFaultless}
 use Rattle.symbols_tree.specs.WellFormed.{IsWellFormed}
 use Rattle.symbols_tree.proofs.DepthLemmas.{child_order, no_lower_parent}

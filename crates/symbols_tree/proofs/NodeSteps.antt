@@ -1,6 +1,6 @@
 -- What each test at a node tells of its faults.
-use Rattle.std.proofs.Common.{◌≡◌, ℕ, ◌+◌, ◌*◌, ◌<◌, ◌≤◌, List, length, get_or, true, false, IsTrue, ◌↔◌, Some, refl, ◌∙◌, subst, arith}
-use Rattle.std.specs.List.{Contains, SomeIndex, All}
+use Rattle.std.proofs.Common.{◌≡◌, ℕ, ◌+◌, ◌*◌, ◌<◌, ◌≤◌, List, length, get_or, true, false, IsTrue, ◌↔◌, refl, ◌∙◌, subst, arith}
+use Rattle.std.specs.List.{SomeIndex, All}
 use Rattle.std.proofs.lemmas.List.Elements.{All-from_get_or}
 use Rattle.std.proofs.lemmas.Option.{slice_get-get_or, get_or_from_slice_get}
 use Rattle.symbols_tree.specs.declared.tree.arena.Node.{Node}
@@ -8,7 +8,7 @@ use Rattle.symbols_tree.specs.Nodes.{children}
 use Rattle.symbols_tree.specs.Shapes.{has_bad_shape}
 use Rattle.symbols_tree.specs.TreeFaults.{IsBadChild, HasBadChild, HasSharedChild, IsRangeOf, HasBadRange, IsTooDeep, NoneBelow}
 use Rattle.symbols_tree.specs.Depths.{HasDepths, IsMetAt}
-use Rattle.symbols_tree.proofs.DepthLemmas.{child_is_there, met_is_shared, shared_is_met, over_is_too_deep, too_deep_is_over}
+use Rattle.symbols_tree.proofs.DepthLemmas.{child_is_there, met_is_shared, shared_is_met, too_deep_is_over}
 use Rattle.symbols_tree.proofs.FaultOrder.{none_before_next}
 
 -- what a test denies doesn't hold

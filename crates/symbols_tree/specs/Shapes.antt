@@ -1,13 +1,10 @@
 -- The shape of a node: each child is of a kind that may stand in its field, and each rule of the node's own kind holds.
-use Rattle.std.specs.Prelude.{ℕ, Bool, true, false, not, ◌||◌, List, Option, Some, None}
+use Rattle.std.specs.Prelude.{ℕ, Bool, true, false, not, ◌||◌, List, Some, None}
 use Rattle.std.specs.Option.{option_map_or}
 use Rattle.std.specs.List.{list_any}
 use Rattle.symbols_tree.specs.declared.tree.arena.Node.{Node}
-use Rattle.symbols_tree.specs.declared.tree.names.KindName.{KindName}
-use Rattle.symbols_tree.specs.declared.tree.names.KindName.TheVariants as Name
 use Rattle.symbols_tree.specs.declared.tree.categories.Category.{Category}
 use Rattle.symbols_tree.specs.declared.tree.kinds.Kind.{Kind}
-use Rattle.symbols_tree.specs.declared.tree.kinds.Kind.TheVariants as Kind
 use Rattle.symbols_tree.specs.declared.tree.kinds.Item.TheVariants as Item
 use Rattle.symbols_tree.specs.declared.tree.kinds.Member.TheVariants as Member
 use Rattle.symbols_tree.specs.declared.tree.kinds.Pat.TheVariants as Pat

@@ -1,115 +1,87 @@
-//! Trees by their children: good ones, and one for each fault.
+//! Trees by the children of their nodes: good ones, and one for each fault.
 
 use super::*;
-use crate::tree::{Decl, Pat};
+use crate::tree::Pat;
 use std::test::Fail;
 
-fn node(kind: Kind) -> Node {
-    Node {
-        kind,
-        range: SourceRange { start: 0, end: 0 },
+/// A node with children: a program, or else one of no kind of its own.
+fn node(alloc: Global, is_program: bool, numbers: &[u32], end: usize) -> Result<Node, AllocError> {
+    let mut children = Vec::new(alloc);
+    for number in numbers {
+        children.push(NodeId(*number))?;
     }
+    let kind = if is_program {
+        Kind::Item(Item::Program { body: children })
+    } else {
+        Kind::Pat(Pat::Other { children })
+    };
+    Ok(Node {
+        kind,
+        range: SourceRange { start: 0, end },
+    })
 }
 
-fn program(alloc: Global, body: &[NodeId]) -> Result<Node, AllocError> {
-    let body = Vec::from_slice(alloc, body)?;
-    Ok(node(Kind::Item(Item::Program { body })))
-}
-
-fn other(alloc: Global, children: &[NodeId]) -> Result<Node, AllocError> {
-    let children = Vec::from_slice(alloc, children)?;
-    Ok(node(Kind::Pat(Pat::Other { children })))
-}
-
-fn fault_of(alloc: Global, nodes: Vec<Node>, text: &str) -> Result<Option<TreeFault>, AllocError> {
+fn fault_of(alloc: Global, nodes: Vec<Node>) -> Result<Option<TreeFault>, AllocError> {
     let tree = Tree {
         declaration: false,
         nodes,
     };
-    first_tree_fault(alloc, &tree, text)
+    first_tree_fault(alloc, &tree, "aé")
 }
 
 #[test]
-fn accepts_good_trees(rt: HostRuntime) -> Result<(), Fail> {
+fn names_each_fault(rt: HostRuntime) -> Result<(), Fail> {
     let alloc = rt.alloc();
-    let mut last = other(alloc, &[])?;
-    last.range = SourceRange { start: 1, end: 3 };
-    let nodes = vec![in alloc;
-        program(alloc, &[NodeId(1), NodeId(3)])?,
-        other(alloc, &[NodeId(2)])?,
-        other(alloc, &[])?,
-        last,
-    ]?;
-    assert_eq!(rt; fault_of(alloc, nodes, "aé")?, None);
-    let orphan = vec![in alloc; program(alloc, &[])?, other(alloc, &[])?]?;
-    assert_eq!(rt;
-        fault_of(alloc, orphan, "")?,
-        None,
-        "a node that is no child"
-    );
-    Ok(())
-}
-
-#[test]
-fn finds_each_fault(rt: HostRuntime) -> Result<(), Fail> {
-    let alloc = rt.alloc();
-    assert_eq!(rt;
-        fault_of(alloc, Vec::new(alloc), "")?,
-        Some(TreeFault::NoProgram)
-    );
-    let absent = vec![in alloc; program(alloc, &[NodeId(1)])?]?;
-    assert_eq!(rt;
-        fault_of(alloc, absent, "")?,
-        Some(TreeFault::BadChild(NodeId(0)))
-    );
-    let itself = vec![in alloc; program(alloc, &[NodeId(1)])?, other(alloc, &[NodeId(1)])?]?;
-    assert_eq!(rt;
-        fault_of(alloc, itself, "")?,
-        Some(TreeFault::BadChild(NodeId(1)))
-    );
-    let twins = vec![in alloc;
-        program(alloc, &[NodeId(1), NodeId(1)])?,
-        other(alloc, &[])?,
-    ]?;
-    assert_eq!(rt;
-        fault_of(alloc, twins, "")?,
-        Some(TreeFault::SharedChild(NodeId(0)))
-    );
-    let mut cut = other(alloc, &[])?;
-    cut.range = SourceRange { start: 0, end: 2 };
-    let nodes = vec![in alloc; program(alloc, &[NodeId(1)])?, cut]?;
-    assert_eq!(rt;
-        fault_of(alloc, nodes, "aé")?,
-        Some(TreeFault::BadRange(NodeId(1)))
-    );
-    let export = node(Kind::Item(Item::ExportDecl { decl: NodeId(2) }));
-    let decls = Vec::new(alloc);
-    let using = node(Kind::Decl(Decl::UsingDecl { decls }));
-    let nodes = vec![in alloc; program(alloc, &[NodeId(1)])?, export, using]?;
-    assert_eq!(rt;
-        fault_of(alloc, nodes, "")?,
-        Some(TreeFault::BadShape(NodeId(1)))
-    );
-    Ok(())
-}
-
-/// A program of so many nodes, each the child of the one before it.
-fn chain(alloc: Global, count: u32) -> Result<Vec<Node>, AllocError> {
-    let mut nodes = vec![in alloc; program(alloc, &[NodeId(1)])?]?;
-    for n in 2..count {
-        nodes.push(other(alloc, &[NodeId(n)])?)?;
+    let cases: [(&[(bool, &[u32], usize)], Option<TreeFault>); 8] = [
+        (
+            &[
+                (true, &[1, 3], 3),
+                (false, &[2], 1),
+                (false, &[], 0),
+                (false, &[], 0),
+            ],
+            None,
+        ),
+        (&[(true, &[], 3), (false, &[], 0)], None),
+        (&[(false, &[], 0)], Some(TreeFault::NoProgram)),
+        (&[(true, &[1], 0)], Some(TreeFault::BadChild(NodeId(0)))),
+        (
+            &[(true, &[1], 0), (false, &[1], 0)],
+            Some(TreeFault::BadChild(NodeId(1))),
+        ),
+        (
+            &[(true, &[1, 1], 0), (false, &[], 0)],
+            Some(TreeFault::SharedChild(NodeId(0))),
+        ),
+        (
+            &[(true, &[1], 0), (false, &[], 2)],
+            Some(TreeFault::BadRange(NodeId(1))),
+        ),
+        (
+            &[(true, &[1], 0), (true, &[], 0)],
+            Some(TreeFault::BadShape(NodeId(0))),
+        ),
+    ];
+    for (rows, fault) in cases {
+        let mut nodes = Vec::new(alloc);
+        for (is_program, numbers, end) in rows {
+            nodes.push(node(alloc, *is_program, *numbers, *end)?)?;
+        }
+        assert_eq!(rt; fault_of(alloc, nodes)?, fault);
     }
-    nodes.push(other(alloc, &[])?)?;
-    Ok(nodes)
+    Ok(())
 }
 
 #[test]
 fn bounds_the_depth(rt: HostRuntime) -> Result<(), Fail> {
     let alloc = rt.alloc();
-    assert_eq!(rt; fault_of(alloc, chain(alloc, 4096)?, "")?, None);
-    assert_eq!(rt;
-        fault_of(alloc, chain(alloc, 4097)?, "")?,
-        Some(TreeFault::TooDeep(NodeId(4096)))
-    );
+    for (count, fault) in [(4096, None), (4097, Some(TreeFault::TooDeep(NodeId(4096))))] {
+        let mut nodes = Vec::new(alloc);
+        for n in 1..count {
+            nodes.push(node(alloc, n == 1, &[n], 0)?)?;
+        }
+        nodes.push(node(alloc, false, &[], 0)?)?;
+        assert_eq!(rt; fault_of(alloc, nodes)?, fault);
+    }
     Ok(())
 }

@@ -1,6 +1,6 @@
-use Rattle.std.proofs.Common.{length, get_or, refl, sym, arith}
+use Rattle.std.proofs.Common.{refl, sym, arith}
 use Rattle.symbols_tree.proofs.DepthLemmas.{depth_in_range, over_is_too_deep, HasDepths-next}
-use Rattle.symbols_tree.proofs.NodeSteps.{no_bad_child, children_inside, clear_of_bad, has_shared_child, no_shared_child, clear_of_shared, has_bad_range, clear_of_range, clear_of_shape, clear_of_all}
+use Rattle.symbols_tree.proofs.NodeSteps.{no_bad_child, children_inside, clear_of_bad, has_shared_child, clear_of_shared, has_bad_range, clear_of_range, clear_of_shape, clear_of_all}
 use Rattle.symbols_tree.proofs.check.tree_check.node_fault.Goals as goal
 
 pub overflow_add-depth : goal.overflow_add-depth
