@@ -1,0 +1,106 @@
+//! Why the program stops before its end, and how it says so.
+
+ghost use Rattle.std.specs.Prelude.{◌≡◌};
+
+use crate::program::engine::EngineFault;
+use std::alloc::{AllocError, Global};
+use symbols_tree::check::{GraphFault, TreeFault};
+use symq_reader::FormatFault;
+
+/// Why the program stops before its end (own rule). The number of words is tried first, then the
+/// file, its form, the graph, and at last the lines.
+#[derive(Debug, Drop, PartialEq, Eq)]
+pub enum Stop {
+    /// There isn't exactly one word after the program's name.
+    Usage,
+    /// The graph's file can't be read.
+    NotRead,
+    /// The file is no graph.
+    Format(FormatFault),
+    /// The graph is refused.
+    Graph(GraphFault),
+    /// Input or output failed, or memory was refused.
+    Engine(EngineFault),
+}
+
+impl Stop {
+    /// The exit status: 2 usage, 3 no file, 4 no graph, 5 a graph that is refused, 6 input or
+    /// output, 7 memory.
+    pub fn status(&self) -> u8
+        ensures { result ≡ status_of self.now }
+    {
+        match self {
+            Stop::Usage => 2,
+            Stop::NotRead => 3,
+            Stop::Format(FormatFault::OutOfMemory)
+            | Stop::Graph(GraphFault::OutOfMemory)
+            | Stop::Engine(EngineFault::OutOfMemory) => 7,
+            Stop::Format(_) => 4,
+            Stop::Graph(_) => 5,
+            Stop::Engine(_) => 6,
+        }
+    }
+
+    /// The line for standard error, without a line end. Of a refused graph it has the number of
+    /// the fault and what the fault names, parted by single spaces.
+    pub fn line(&self, alloc: Global) -> Result<String, AllocError> {
+        match self {
+            Stop::Usage => String::from_str(alloc, "usage: symq GRAPH"),
+            Stop::NotRead => String::from_str(alloc, "symq: cannot read graph"),
+            Stop::Format(fault) => format_line(alloc, *fault),
+            Stop::Graph(fault) => graph_line(alloc, fault),
+            Stop::Engine(fault) => engine_line(alloc, *fault),
+        }
+    }
+}
+
+fn memory_line(alloc: Global) -> Result<String, AllocError> {
+    String::from_str(alloc, "symq: out of memory")
+}
+
+fn format_line(alloc: Global, fault: FormatFault) -> Result<String, AllocError> {
+    match fault {
+        FormatFault::OutOfMemory => memory_line(alloc),
+        FormatFault::NotJson => String::from_str(alloc, "symq: not a graph: json"),
+        FormatFault::BadForm => String::from_str(alloc, "symq: not a graph: form"),
+    }
+}
+
+fn engine_line(alloc: Global, fault: EngineFault) -> Result<String, AllocError> {
+    match fault {
+        EngineFault::OutOfMemory => memory_line(alloc),
+        EngineFault::InputFailed => String::from_str(alloc, "symq: input failed"),
+        EngineFault::OutputFailed => String::from_str(alloc, "symq: output failed"),
+        EngineFault::InputTooLong => String::from_str(alloc, "symq: input too long"),
+    }
+}
+
+fn graph_line(alloc: Global, fault: &GraphFault) -> Result<String, AllocError> {
+    match fault {
+        GraphFault::OutOfMemory => memory_line(alloc),
+        GraphFault::TooManyModules => String::from_str(alloc, "symq: graph refused: 2"),
+        GraphFault::DuplicateSpecifier(specifier) => {
+            format!(in alloc; "symq: graph refused: 3 {specifier}")
+        }
+        GraphFault::DuplicateRedirect(from) => format!(in alloc; "symq: graph refused: 4 {from}"),
+        GraphFault::RedirectToRedirect(from) => format!(in alloc; "symq: graph refused: 5 {from}"),
+        GraphFault::DuplicateResolution(referrer, text) => {
+            format!(in alloc; "symq: graph refused: 6 {referrer} {text}")
+        }
+        GraphFault::Tree(specifier, fault) => tree_line(alloc, specifier, *fault),
+    }
+}
+
+fn tree_line(alloc: Global, specifier: &str, fault: TreeFault) -> Result<String, AllocError> {
+    match fault {
+        TreeFault::NoProgram => format!(in alloc; "symq: graph refused: 7 {specifier} 1"),
+        TreeFault::TooManyNodes => format!(in alloc; "symq: graph refused: 7 {specifier} 2"),
+        TreeFault::BadChild(node) => format!(in alloc; "symq: graph refused: 7 {specifier} 3 {node}"),
+        TreeFault::SharedChild(node) => {
+            format!(in alloc; "symq: graph refused: 7 {specifier} 4 {node}")
+        }
+        TreeFault::BadRange(node) => format!(in alloc; "symq: graph refused: 7 {specifier} 5 {node}"),
+        TreeFault::BadShape(node) => format!(in alloc; "symq: graph refused: 7 {specifier} 6 {node}"),
+        TreeFault::TooDeep(node) => format!(in alloc; "symq: graph refused: 7 {specifier} 7 {node}"),
+    }
+}
