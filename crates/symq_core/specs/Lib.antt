@@ -1,0 +1,4 @@
+pub mod AnswerTexts
+pub mod Devices
+pub mod Lines
+pub mod Serving

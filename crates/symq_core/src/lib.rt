@@ -1,0 +1,4 @@
+//! Queries over the symbols of a graph of modules.
+#![tactic(auto)]
+
+pub mod program;
