@@ -63,9 +63,10 @@ fn finish<W: Output>(
         × AppendsBeginning (W.written writer.old) (W.written writer.new) (pending.old.answers.items
         ++ answers_to (answer_text graph.now) (line_in pending.old.line.items))) }
 {
-    if !pending.line.is_empty() {
-        take_line(alloc, graph, writer, pending, b"")?;
+    if pending.line.is_empty() {
+        return flush(writer, &mut pending.answers);
     }
+    take_line(alloc, graph, writer, pending, b"")?;
     flush(writer, &mut pending.answers)
 }
 
@@ -87,13 +88,14 @@ pub fn serve<R: Input, W: Output>(
     ensures counted { CountsFailures result (R.failures reader.old) (R.failures reader.new)
         (W.failures writer.old) (W.failures writer.new) }
 {
-    let mut buffer = zeros(alloc, BLOCK)?;
+    let mut bytes = zeros(alloc, BLOCK)?;
+    let buffer = bytes.as_mut_slice();
     let mut pending = Pending {
         line: Vec::new(alloc),
         answers: Vec::new(alloc),
     };
     for turn in 0..u64::MAX {
-        let Ok(read) = reader.read(buffer.as_mut_slice()) else {
+        let Ok(read) = reader.read(buffer) else {
             return Err(EngineFault::InputFailed);
         };
         if read == 0 {

@@ -18,4 +18,8 @@ returns-in_err-take_line-clause-err g c =
     rw (p.1, p.2, line_in-some line some) e
 
 pub returns-clause-err : goal.returns-clause-err
-returns-clause-err g c = ?
+returns-clause-err g c =
+    let line = c.args.pending.now.line.items in
+    let some : 0 < length line = grind (arith, common_steps) in
+    let sent = c.in_ok-take_line.ensures.ok in
+    rw (line_in-some line some) (flush_failed c.flush-2.result _ _ _ c.args.pending.now.answers.items c.take_line.new.pending.answers.items _ _ _ _ c.flush-2.ensures.err sent.0 sent.2)

@@ -1,5 +1,5 @@
 use Rattle.std.proofs.Common.{◌≡◌, [], ◌∷◌, ◌++◌, ap, sym, subst, ◌∙◌}
-use Rattle.std.proofs.lemmas.Result.{err_from_is_err_and}
+use Rattle.std.proofs.lemmas.Result.{err_from_is_err_and, on_ok_weaker}
 use Rattle.std.proofs.KnownBytes.{Appends-nil}
 use Rattle.symq_core.specs.AnswerTexts.{answer_text}
 use Rattle.symq_core.specs.Lines.{answers_to, all_but_last}
@@ -38,10 +38,33 @@ lines-preserved g c =
     )
 
 pub returns-in_err-extend_from_slice-clause-err : goal.returns-in_err-extend_from_slice-clause-err
-returns-in_err-extend_from_slice-clause-err g c = ?
+returns-in_err-extend_from_slice-clause-err g c =
+    let p = err_from_is_err_and c.from_residual-in_err-extend_from_slice.result c.from_residual-in_err-extend_from_slice.ensures.1 in
+    let l = c.lines in
+    let v = l.invariant in
+    let old = c.args.pending.now in
+    let answer = answer_text c.args.graph.now in
+    let all = all_lines old.line.items c.args.block.now l.pending.line.items l.rest.now v.0 v.1 c.in_default.ensures.split in
+    rw (p.1, p.2, all.0) (
+      v.3,
+      sends_beginning_of_waiting _ _ _ old.answers.items l.pending.answers.items (answers_to answer v.0) v.2 (begins_nothing _ l.pending.answers.items),
+    )
 
 pub returns-clause-ok : goal.returns-clause-ok
-returns-clause-ok g c = ?
+returns-clause-ok g c =
+    let l = c.lines in
+    let v = l.invariant in
+    let old = c.args.pending.now in
+    let answer = answer_text c.args.graph.now in
+    let all = all_lines old.line.items c.args.block.now l.pending.line.items l.rest.now v.0 v.1 c.in_default.ensures.split in
+    rw (all.0, all.1) (on_ok_weaker c.flush.result
+    (λ done. (sends_all _ _ _ old.answers.items l.pending.answers.items (answers_to answer v.0) v.2 done.0, done.1, c.in_ok-extend_from_slice.ensures.items, done.2 ∙ v.3)) c.flush.ensures.ok)
 
 pub returns-clause-err : goal.returns-clause-err
-returns-clause-err g c = ?
+returns-clause-err g c =
+    let l = c.lines in
+    let v = l.invariant in
+    let old = c.args.pending.now in
+    let answer = answer_text c.args.graph.now in
+    let all = all_lines old.line.items c.args.block.now l.pending.line.items l.rest.now v.0 v.1 c.in_default.ensures.split in
+    rw all.0 (flush_failed c.flush.result _ _ _ old.answers.items l.pending.answers.items (answers_to answer v.0) _ _ _ c.flush.ensures.err v.2 v.3)
