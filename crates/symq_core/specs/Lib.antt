@@ -1,2 +1,6 @@
 pub mod Queries
 pub mod Answers
+pub mod Devices
+pub mod Lines
+pub mod Serving
+pub mod Stopping

@@ -1,4 +1,23 @@
-//! Queries on a graph, line by line.
+//! The program: the text of a graph, queries on it line by line, and why it stops.
 
 mod answer;
+mod device;
+mod engine;
+mod fault;
+mod lines;
+mod memory;
 mod query;
+mod sending;
+mod stop;
+mod streams;
+
+pub use device::{DeviceFault, Input, Output};
+pub use engine::serve;
+pub use fault::EngineFault;
+pub use memory::{MemoryInput, MemoryOutput};
+pub use stop::Stop;
+pub use streams::{ReaderInput, WriterOutput};
+pub use symq_reader::{FormatFault, read_graph};
+
+#[cfg(test)]
+mod tests;

@@ -1,8 +1,9 @@
 //! Why the program stops before its end, and how it says so.
 
 ghost use Rattle.std.specs.Prelude.{◌≡◌};
+ghost use Rattle.symq_core.specs.Stopping.{status_of};
 
-use crate::program::engine::EngineFault;
+use crate::program::fault::EngineFault;
 use std::alloc::{AllocError, Global};
 use symbols_tree::check::{GraphFault, TreeFault};
 use symq_reader::FormatFault;

@@ -1,0 +1,25 @@
+use Rattle.std.proofs.Common.{◌≡◌, ◌<◌, [], ◌∷◌, ◌++◌, length, ap, sym, subst, arith}
+use Rattle.std.proofs.lemmas.Result.{err_from_is_err_and}
+use Rattle.std.proofs.lemmas.Grind.{common_steps}
+use Rattle.symq_core.specs.Answers.{answer_text}
+use Rattle.symq_core.specs.Lines.{line_in, answers_to}
+use Rattle.symq_core.specs.Serving.{AppendsBeginning, Sends}
+use Rattle.symq_core.proofs.Parts.{line_in-some}
+use Rattle.symq_core.proofs.Beginnings.{sends_nothing}
+use Rattle.symq_core.proofs.Blocks.{flush_failed}
+use Rattle.symq_core.proofs.program.engine.finish.Goals as goal
+
+pub returns-in_err-take_line-clause-err : goal.returns-in_err-take_line-clause-err
+returns-in_err-take_line-clause-err g c =
+    let p = err_from_is_err_and c.from_residual.result c.from_residual.ensures.1 in
+    let e = c.in_err-take_line.ensures.err in
+    let line = c.args.pending.now.line.items in
+    let some : 0 < length line = grind (arith, common_steps) in
+    rw (p.1, p.2, line_in-some line some) e
+
+pub returns-clause-err : goal.returns-clause-err
+returns-clause-err g c =
+    let line = c.args.pending.now.line.items in
+    let some : 0 < length line = grind (arith, common_steps) in
+    let sent = c.in_ok-take_line.ensures.ok in
+    rw (line_in-some line some) (flush_failed c.flush-2.result _ _ _ c.args.pending.now.answers.items c.take_line.new.pending.answers.items _ _ _ _ c.flush-2.ensures.err sent.0 sent.2)

@@ -1,0 +1,59 @@
+use Rattle.std.proofs.Common.{◌≡◌, ◌<◌, [], ◌∷◌, ◌++◌, take, length, ap, subst, sym, ◌∙◌, arith, append-nil}
+use Rattle.std.proofs.lemmas.Result.{err_from_is_err_and}
+use Rattle.std.proofs.lemmas.Grind.{common_steps}
+use Rattle.std.proofs.KnownBytes.{Consumes-trans}
+use Rattle.std.specs.Io.KnownBytes.{Appends, Consumes}
+use Rattle.symq_core.specs.Answers.{answer_text}
+use Rattle.symq_core.specs.Lines.{answers_to, all_but_last, last_part, line_in}
+use Rattle.symq_core.specs.Serving.{AppendsBeginning, parts_after}
+use Rattle.symq_core.proofs.Outputs.{block_sent, block_line, block_begun, begun_output, begun_at_end, stops_from, stops_if}
+use Rattle.symq_core.proofs.program.engine.serve.Goals as goal
+
+pub returns-then-read-eq0-clause-stopped : goal.returns-then-read-eq0-clause-stopped
+returns-then-read-eq0-clause-stopped g c =
+    let l = c.loop-turn in
+    let v = l.invariant in
+    let answer = answer_text c.args.graph.now in
+    let start = g.R.Input.remaining c.args.reader.now in
+    let left = g.R.Input.remaining c.read.new.self in
+    let before = g.W.Output.written c.args.writer.now in
+    let after = g.W.Output.written c.finish.new.writer in
+    let none : v.0 ++ take c.in-Ok.read c.read.new.buffer ≡ v.0 = ap (λ k. v.0 ++ take k c.read.new.buffer) c.if-read-eq0.true ∙ append-nil v.0 in
+    let all : Consumes start left v.0 = subst (Consumes start left) none (Consumes-trans start (g.R.Input.remaining l.reader) left v.0 (take c.in-Ok.read c.read.new.buffer) v.1 c.in-Ok.ensures.consumed.0) in
+    let room : 0 < length c.read.new.buffer = grind (arith, common_steps) in
+    stops_if answer c.finish.result _ _ start left before (g.W.Output.written l.writer) after (l.pending.answers.items ++ answers_to answer (line_in l.pending.line.items)) c.finish.ensures.err
+    (λ q. begun_at_end answer start left before (g.W.Output.written l.writer) after v.0 l.pending.line.items l.pending.answers.items all (c.in-Ok.ensures.consumed.1 c.if-read-eq0.true room) v.3 v.4 v.2 q)
+
+pub returns-in_err-take_block-clause-stopped : goal.returns-in_err-take_block-clause-stopped
+returns-in_err-take_block-clause-stopped g c =
+    let l = c.loop-turn in
+    let v = l.invariant in
+    let answer = answer_text c.args.graph.now in
+    let p = err_from_is_err_and c.from_residual-in_err-take_block.result c.from_residual-in_err-take_block.ensures.1 in
+    let e = c.in_err-take_block.ensures.err in
+    let block = take c.in-Ok.read c.read.new.buffer in
+    let start = g.R.Input.remaining c.args.reader.now in
+    let left = g.R.Input.remaining c.read.new.self in
+    let before = g.W.Output.written c.args.writer.now in
+    let middle = g.W.Output.written l.writer in
+    let after = g.W.Output.written c.take_block.new.writer in
+    rw (p.1, p.2) (stops_from answer c.in_err-take_block.field-0.0 _ _ start left before after e.0
+    (begun_output answer start left before after (v.0 ++ block) (Consumes-trans start (g.R.Input.remaining l.reader) left v.0 block v.1 c.in-Ok.ensures.consumed.0)
+    (block_begun answer before middle after v.0 l.pending.line.items l.pending.answers.items block v.3 v.4 v.2 e.1)))
+
+pub loop-turn-preserved : goal.loop-turn-preserved
+loop-turn-preserved g c =
+    let l = c.loop-turn in
+    let v = l.invariant in
+    let answer = answer_text c.args.graph.now in
+    let done = c.in_ok-take_block.ensures.ok in
+    let block = take c.in-Ok.read c.read.new.buffer in (
+      v.0 ++ block,
+      Consumes-trans _ _ _ v.0 block v.1 c.in-Ok.ensures.consumed.0,
+      block_sent answer _ _ _ v.0 l.pending.line.items l.pending.answers.items block v.3 v.4 v.2 done.0,
+      done.1,
+      block_line v.0 l.pending.line.items c.take_block.new.pending.line.items block v.4 done.2,
+      grind (arith, common_steps),
+      grind arith,
+      done.3 ∙ v.7,
+    )

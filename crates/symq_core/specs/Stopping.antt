@@ -1,0 +1,30 @@
+-- The exit status of the program, by why it stops.
+use Rattle.std.specs.Prelude.{ℕ}
+use Rattle.symbols_tree.specs.declared.check.faults.GraphFault.{GraphFault}
+use Rattle.symbols_tree.specs.declared.check.faults.GraphFault.TheVariants as graph
+use Rattle.symq_reader.specs.declared.faults.FormatFault.{FormatFault}
+use Rattle.symq_reader.specs.declared.faults.FormatFault.TheVariants as format
+use Rattle.symq_core.specs.declared.program.fault.EngineFault.{EngineFault}
+use Rattle.symq_core.specs.declared.program.fault.EngineFault.TheVariants as engine
+use Rattle.symq_core.specs.declared.program.stop.Stop.{Stop}
+use Rattle.symq_core.specs.declared.program.stop.Stop.TheVariants as Stop
+
+-- memory is 7, whatever it was wanted for
+abbrev pub format_status : FormatFault → ℕ
+format_status format.OutOfMemory = 7
+format_status _ = 4
+
+abbrev pub graph_status : GraphFault → ℕ
+graph_status graph.OutOfMemory = 7
+graph_status _ = 5
+
+abbrev pub engine_status : EngineFault → ℕ
+engine_status engine.OutOfMemory = 7
+engine_status _ = 6
+
+abbrev pub status_of : Stop → ℕ
+status_of Stop.Usage = 2
+status_of Stop.NotRead = 3
+status_of (Stop.Format fault) = format_status fault
+status_of (Stop.Graph fault) = graph_status fault
+status_of (Stop.Engine fault) = engine_status fault
