@@ -70,8 +70,7 @@ def try_cases(cases):
                 write(folder, case.name + '.args', ''.join(a + '\n' for a in case.args).encode())
             if not case.status:
                 write(folder, case.name + '.stdout', case.lines)
-        p = subprocess.run(command, cwd=CRATE, stdout=subprocess.PIPE, stderr=subprocess.PIPE)
-    out = p.stdout + p.stderr
+        out = subprocess.run(command, cwd=CRATE, stdout=subprocess.PIPE, stderr=subprocess.STDOUT).stdout
     wrong = {}
     for case in cases:
         found = re.search(rb'^case=%s run=(\S+) status=(\d+)(.*)$' % re.escape(case.name.encode()), out, re.M)
