@@ -1,5 +1,6 @@
 //! Graphs of modules, and what a graph has to keep to be accepted.
 
+mod chains;
 mod child_list;
 mod duplicates;
 mod faults;

@@ -1,9 +1,9 @@
-//! Entries that stand twice in a raw graph, and redirects that go on.
+//! Entries that stand twice in a raw graph.
 
 ghost use Rattle.std.specs.Prelude.{IfOk, map, string_bytes};
 ghost use Rattle.std.specs.Option.{option_copied, option_map};
 ghost use Rattle.symbols_tree.specs.Graph.{module_view, redirect_view, resolution_view};
-ghost use Rattle.symbols_tree.specs.GraphFaults.{specifiers, sources, asked, IsChained};
+ghost use Rattle.symbols_tree.specs.GraphFaults.{asked, sources, specifiers};
 ghost use Rattle.symbols_tree.specs.Repeats.{IsFirstWhere, IsRepeat, IsRepeatBy};
 
 use crate::check::raw::{RawModule, RawResolution};
@@ -67,23 +67,4 @@ pub(crate) fn repeated_resolution(
         .map(|row| (row.referrer.as_str(), row.text.as_str()))
         .collect(alloc)?;
     first_repeat(alloc, &pairs)
-}
-
-/// The source of the first redirect whose target is the source of a redirect.
-pub(crate) fn chained_redirect(
-    alloc: Global,
-    redirects: &[(String, String)],
-) -> Result<Option<&str>, AllocError>
-    ensures { IfOk result (λ found. IsFirstWhere (IsChained (map redirect_view redirects.now)) (option_copied found)) }
-{
-    let mut starts: HashSet<&str> = HashSet::new(alloc);
-    for (source, _) in redirects {
-        starts.insert(source.as_str())?;
-    }
-    for (source, target) in redirects {
-        if starts.contains(target.as_str()) {
-            return Ok(Some(source.as_str()));
-        }
-    }
-    Ok(None)
 }

@@ -88,3 +88,6 @@ impl ModuleGraph {
         table.get(text).map(String::as_str)
     }
 }
+
+#[cfg(test)]
+mod tests;

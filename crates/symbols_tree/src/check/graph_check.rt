@@ -5,9 +5,8 @@ ghost use Rattle.symbols_tree.specs.declared.check.faults.GraphFault.TheVariants
 ghost use Rattle.symbols_tree.specs.Graph.{IsChecked, content_of, graph_view, module_view};
 ghost use Rattle.symbols_tree.specs.GraphFaults.{HasNoneOf, HasTreeFault, IsFaultlessGraph, IsFirstGraphFault, IsFirstOf};
 
-use crate::check::duplicates::{
-    chained_redirect, repeated_resolution, repeated_source, repeated_specifier,
-};
+use crate::check::chains::chained_redirect;
+use crate::check::duplicates::{repeated_resolution, repeated_source, repeated_specifier};
 use crate::check::raw::{RawGraph, RawModuleKind};
 use crate::check::tree_check::first_tree_fault;
 use crate::check::{GraphFault, TreeFault};

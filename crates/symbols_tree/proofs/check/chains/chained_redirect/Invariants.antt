@@ -5,7 +5,7 @@ use Rattle.std.specs.HashSet.{contains}
 use Rattle.symbols_tree.specs.Graph.{redirect_view}
 use Rattle.symbols_tree.specs.GraphFaults.{sources, IsChained}
 use Rattle.symbols_tree.proofs.RepeatLemmas.{NoneBelow}
-use Rattle.symbols_tree.proofs.check.duplicates.chained_redirect.Given as goal
+use Rattle.symbols_tree.proofs.check.chains.chained_redirect.Given as goal
 
 abbrev pub invariant-loop-source : goal.invariant-loop-source
 invariant-loop-source l =

@@ -4,7 +4,7 @@ use Rattle.std.specs.Str.{bytes_eq}
 use Rattle.symbols_tree.specs.Graph.{redirect_view}
 use Rattle.symbols_tree.specs.GraphFaults.{sources, IsChained}
 use Rattle.symbols_tree.proofs.ChainLemmas.{source_more, target_told, chained_at, unchained_more, unchained_all, gained}
-use Rattle.symbols_tree.proofs.check.duplicates.chained_redirect.Goals as goal
+use Rattle.symbols_tree.proofs.check.chains.chained_redirect.Goals as goal
 
 pub loop-source-preserved : goal.loop-source-preserved
 loop-source-preserved c = λ q.

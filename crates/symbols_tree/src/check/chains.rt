@@ -1,0 +1,29 @@
+//! Redirects to the sources of redirects.
+
+ghost use Rattle.std.specs.Prelude.{IfOk, map};
+ghost use Rattle.std.specs.Option.{option_copied};
+ghost use Rattle.symbols_tree.specs.Graph.{redirect_view};
+ghost use Rattle.symbols_tree.specs.GraphFaults.{IsChained};
+ghost use Rattle.symbols_tree.specs.Repeats.{IsFirstWhere};
+
+use std::alloc::{AllocError, Global};
+use std::collections::HashSet;
+
+/// The source of the first redirect whose target is the source of a redirect.
+pub(crate) fn chained_redirect(
+    alloc: Global,
+    redirects: &[(String, String)],
+) -> Result<Option<&str>, AllocError>
+    ensures { IfOk result (λ found. IsFirstWhere (IsChained (map redirect_view redirects.now)) (option_copied found)) }
+{
+    let mut starts: HashSet<&str> = HashSet::new(alloc);
+    for (source, _) in redirects {
+        starts.insert(source.as_str())?;
+    }
+    for (source, target) in redirects {
+        if starts.contains(target.as_str()) {
+            return Ok(Some(source.as_str()));
+        }
+    }
+    Ok(None)
+}
