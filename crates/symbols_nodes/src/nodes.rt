@@ -1,8 +1,11 @@
 //! The nodes of declarations.
 
+mod node_tests;
 mod refs;
 mod symbol_node;
-mod node_tests;
 
 pub use refs::{ExportDeclRef, SymbolNodeRef};
 pub use symbol_node::SymbolNode;
+
+#[cfg(test)]
+mod tests;

@@ -30,7 +30,7 @@ pub new_reads : (b : Builder) (before : List Change) (parent : Option SymbolId) 
 new_reads b before parent decl more s number is =
     let next : s ≡ next_symbol before = ap (λ (n : ℕ). let t : SymbolId = record { 0 = n } in t) number in
     let joined : IsTableOf b (before ++ (makes parent ∷ declares s decl ∷ more s)) =
-        subst (IsTableOf b) (append_assoc (before ++ makes parent ∷ []) (declares s decl ∷ []) (more s) ∙ append_assoc before (makes parent ∷ []) (declares s decl ∷ more s)) is in
+    subst (IsTableOf b) (append_assoc (before ++ makes parent ∷ []) (declares s decl ∷ []) (more s) ∙ append_assoc before (makes parent ∷ []) (declares s decl ∷ more s)) is in
     (ap (λ (t : SymbolId). Some t) (sym next), subst (λ (t : SymbolId). IsTableOf b (before ++ (makes parent ∷ declares t decl ∷ more t))) next joined)
 
 -- a fault that is passed up

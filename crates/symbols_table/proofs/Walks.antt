@@ -51,7 +51,7 @@ each_from-append events start [] ys = let e : start + 0 ≡ start = omega arith 
 each_from-append events start (x ∷ xs) ys =
     let rest = each_from-append events (start + length (events start x)) xs ys in
     let e : (start + length (events start x)) + length (each_from events (start + length (events start x)) xs) ≡ start + length (events start x ++ each_from events (start + length (events start x)) xs) =
-        omega (arith, length-append (events start x) (each_from events (start + length (events start x)) xs)) in
+    omega (arith, length-append (events start x) (each_from events (start + length (events start x)) xs)) in
     ap (λ es. events start x ++ es) rest
     ∙ rw e (sym (append_assoc (events start x) (each_from events (start + length (events start x)) xs) (each_from events (start + length (events start x ++ each_from events (start + length (events start x)) xs)) ys)))
 
@@ -97,7 +97,7 @@ walked_fault {A} {begun} {now} {events} {holder} {items} w next new n rest fault
 walked_fault {A} {begun} {now} {events} {holder} {items} w next new n rest fault (Err e) h reads rows place is at = λ many.
     let so_far = rows_after rows (each_from (events place) (length rows) items) in
     let here : now.limit < length (parents_of (changes_of (rows_after so_far (events place (length so_far) n)))) =
-        reads so_far place (w.table rows place is at) (symbol_at_after rows (each_from (events place) (length rows) items) place holder at) (sym h ∙ many) in
+    reads so_far place (w.table rows place is at) (symbol_at_after rows (each_from (events place) (length rows) items) place holder at) (sym h ∙ many) in
     let there : now.limit < length (parents_of (changes_of (rows_after rows (each_from (events place) (length rows) (items ++ n ∷ []))))) = rw (rows_item (events place) rows items n) here in
     let after = each_from (events place) (length rows + length (each_from (events place) (length rows) (items ++ n ∷ []))) rest in
     let more = parents_of_grow (rows_after rows (each_from (events place) (length rows) (items ++ n ∷ []))) after in

@@ -60,15 +60,15 @@ IsFilled b = (changes : List Change) × IsTableOf b changes
 abbrev pub Reads : {A : Type 0} → Result A BuildFault → (A → Option SymbolId) → ℕ → Builder → List Change → Row → Type 0
 Reads result symbol limit new before row =
     MatchResult result
-        (λ x. (row.symbol ≡ symbol x) × IsTableOf new (before ++ row.changes))
-        (λ fault. fault ≡ TooManySymbols → limit < length (parents_of (before ++ row.changes)))
+    (λ x. (row.symbol ≡ symbol x) × IsTableOf new (before ++ row.changes))
+    (λ fault. fault ≡ TooManySymbols → limit < length (parents_of (before ++ row.changes)))
 
 -- a call that stands for several events: the rows that they come to
 abbrev pub ReadsAll : {A : Type 0} → Result A BuildFault → ℕ → Builder → List Row → Type 0
 ReadsAll result limit new rows =
     MatchResult result
-        (λ _. IsTableOf new (changes_of rows))
-        (λ fault. fault ≡ TooManySymbols → limit < length (parents_of (changes_of rows)))
+    (λ _. IsTableOf new (changes_of rows))
+    (λ fault. fault ≡ TooManySymbols → limit < length (parents_of (changes_of rows)))
 
 -- a call on the item n of a list, which stands for the item's events, given by the place of the holder and that of the first of them
 abbrev pub ReadsItem : {A : Type 0} → Result A BuildFault → Builder → Builder → (ℕ → ℕ → ℕ → List Event) → SymbolId → ℕ → Type 0

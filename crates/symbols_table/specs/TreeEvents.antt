@@ -54,7 +54,7 @@ declared start holder id decl is_exported = declare holder id decl ∷ child hol
 abbrev pub function_events : Option TreeNode → ℕ → ℕ → TreeNode → List Event
 function_events exported start holder node =
     on (option_and_then sym_of (option_and_then kind_of (child_of node ident_of)))
-        (λ (sym : Id). declared start holder (id_view sym) (defined (declared_as exported (exported_fn node)) (range_in (unwrap_or exported node))) (is_some exported))
+    (λ (sym : Id). declared start holder (id_view sym) (defined (declared_as exported (exported_fn node)) (range_in (unwrap_or exported node))) (is_some exported))
 
 -- the name that a pattern binds, if it is a name
 abbrev pub bound_name : Kind → Option Id
@@ -65,7 +65,7 @@ bound_name _ = None
 abbrev pub binding_events : Option TreeNode → TreeNode → TreeNode → ℕ → ℕ → TreeNode → List Event
 binding_events exported decl declarator start holder pattern =
     on (option_and_then bound_name (kind_of pattern))
-        (λ (sym : Id). declared start holder (id_view sym) (defined (declared_as exported (exported_var decl declarator pattern)) (range_in declarator)) (is_some exported))
+    (λ (sym : Id). declared start holder (id_view sym) (defined (declared_as exported (exported_var decl declarator pattern)) (range_in declarator)) (is_some exported))
 
 -- of a declarator, by its number
 abbrev pub variable_at : Option TreeNode → TreeNode → ℕ → ℕ → ℕ → List Event

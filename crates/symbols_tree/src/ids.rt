@@ -5,7 +5,7 @@ ghost use Rattle.std.specs.Prelude.{◌≡◌};
 use std::fmt;
 
 /// The number of a module: modules are numbered from 0 in the order in which they are stored.
-#[derive(Clone, Copy, Debug, PartialEq, Eq, Hash)]
+#[derive(Clone, Copy, Debug, PartialEq, Eq, PartialOrd, Ord, Hash)]
 pub struct ModuleId(pub u32);
 
 impl ModuleId {
@@ -33,7 +33,7 @@ impl fmt::Display for ModuleId {
 
 /// The number of a symbol of its module: symbol 0 is the module, the others follow in the order
 /// in which they are made. The default is symbol 0.
-#[derive(Clone, Copy, Default, PartialEq, Eq, Hash)]
+#[derive(Clone, Copy, Default, PartialEq, Eq, PartialOrd, Ord, Hash)]
 pub struct SymbolId(pub u32);
 
 impl SymbolId {
@@ -60,7 +60,7 @@ impl fmt::Debug for SymbolId {
 }
 
 /// A symbol among those of all modules.
-#[derive(Clone, Copy, Debug, PartialEq, Eq, Hash)]
+#[derive(Clone, Copy, Debug, PartialEq, Eq, PartialOrd, Ord, Hash)]
 pub struct UniqueSymbolId {
     pub module_id: ModuleId,
     pub symbol_id: SymbolId,
@@ -78,3 +78,6 @@ impl UniqueSymbolId {
         }
     }
 }
+
+#[cfg(test)]
+mod tests;

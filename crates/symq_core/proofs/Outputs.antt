@@ -15,8 +15,8 @@ output_begins answer read left =
     let others = all_but_last (parts_after (last_part (parts_of read)) left) ++ line_in (last_part (parts_of (read ++ left))) in (
       answers_to answer others,
       ap (λ t. answers_to answer (t ++ line_in (last_part (parts_of (read ++ left))))) (ended_lines-append read left)
-      ∙ ap (answers_to answer) (append_assoc (ended_lines read) (all_but_last (parts_after (last_part (parts_of read)) left)) (line_in (last_part (parts_of (read ++ left)))))
-      ∙ answers_to-append answer (ended_lines read) others,
+          ∙ ap (answers_to answer) (append_assoc (ended_lines read) (all_but_last (parts_after (last_part (parts_of read)) left)) (line_in (last_part (parts_of (read ++ left)))))
+          ∙ answers_to-append answer (ended_lines read) others,
     )
 
 -- the answers to one more block

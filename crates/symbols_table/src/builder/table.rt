@@ -60,7 +60,11 @@ impl<'a> Builder<'a> {
     ghost use Rattle.symbols_table.specs.Tables.{IsParentOf, IsTableOf, IsFilled, Reads};
 
     /// Makes the next symbol, with its first declaration.
-    pub(crate) fn new_symbol(&mut self, parent: Option<SymbolId>, decl: SymbolDecl<'a>) -> Result<SymbolId, BuildFault>
+    pub(crate) fn new_symbol(
+        &mut self,
+        parent: Option<SymbolId>,
+        decl: SymbolDecl<'a>,
+    ) -> Result<SymbolId, BuildFault>
         requires { IsParentOf (length self.old.symbols.items) parent }
         ensures numbered { IfOk result (λ s. s.0 ≡ length self.old.symbols.items) }
         ensures limit { self.new.limit ≡ self.old.limit }
@@ -87,7 +91,12 @@ impl<'a> Builder<'a> {
     }
 
     /// Sets an export. A name that is there keeps its place and takes the symbol.
-    pub(crate) fn add_export(&mut self, holder: SymbolId, name: &str, symbol: SymbolId) -> Result<(), BuildFault>
+    pub(crate) fn add_export(
+        &mut self,
+        holder: SymbolId,
+        name: &str,
+        symbol: SymbolId,
+    ) -> Result<(), BuildFault>
         requires holder { holder.0 < length self.old.symbols.items }
         requires symbol { symbol.0 < length self.old.symbols.items }
         ensures limit { self.new.limit ≡ self.old.limit }
@@ -102,7 +111,11 @@ impl<'a> Builder<'a> {
     }
 
     /// Adds a declaration to a symbol, with its flag of an overload.
-    pub(crate) fn add_decl(&mut self, symbol: SymbolId, decl: SymbolDecl<'a>) -> Result<(), BuildFault>
+    pub(crate) fn add_decl(
+        &mut self,
+        symbol: SymbolId,
+        decl: SymbolDecl<'a>,
+    ) -> Result<(), BuildFault>
         requires { symbol.0 < length self.old.symbols.items }
         ensures limit { self.new.limit ≡ self.old.limit }
         ensures longer { OnOk result (length self.new.symbols.items ≡ length self.old.symbols.items) }
@@ -153,7 +166,12 @@ impl<'a> Builder<'a> {
     }
 
     /// A new symbol, for which the name then stands.
-    fn declare_new(&mut self, holder: SymbolId, id: &'a Id, decl: SymbolDecl<'a>) -> Result<SymbolId, BuildFault>
+    fn declare_new(
+        &mut self,
+        holder: SymbolId,
+        id: &'a Id,
+        decl: SymbolDecl<'a>,
+    ) -> Result<SymbolId, BuildFault>
         requires filled { IsFilled self.old }
         requires holder { holder.0 < length self.old.symbols.items }
         ensures filled { OnOk result (IsFilled self.new) }
@@ -169,7 +187,12 @@ impl<'a> Builder<'a> {
     }
 
     /// Declares a name: a declaration more of its symbol, or a new symbol.
-    pub(crate) fn declare(&mut self, holder: SymbolId, id: &'a Id, decl: SymbolDecl<'a>) -> Result<SymbolId, BuildFault>
+    pub(crate) fn declare(
+        &mut self,
+        holder: SymbolId,
+        id: &'a Id,
+        decl: SymbolDecl<'a>,
+    ) -> Result<SymbolId, BuildFault>
         requires filled { IsFilled self.old }
         requires holder { holder.0 < length self.old.symbols.items }
         ensures filled { OnOk result (IsFilled self.new) }

@@ -63,7 +63,13 @@ fn bound_name(kind: &Kind) -> Option<&Id>
 
 impl<'a> Builder<'a> {
     /// Exports the symbol under the name where it is exported.
-    fn export_if(&mut self, holder: SymbolId, symbol: SymbolId, name: &str, is_exported: bool) -> Result<(), BuildFault>
+    fn export_if(
+        &mut self,
+        holder: SymbolId,
+        symbol: SymbolId,
+        name: &str,
+        is_exported: bool,
+    ) -> Result<(), BuildFault>
         requires filled { IsFilled self.old }
         requires holder { holder.0 < length self.old.symbols.items }
         requires symbol { symbol.0 < length self.old.symbols.items }
@@ -80,7 +86,13 @@ impl<'a> Builder<'a> {
     }
 
     /// Makes the symbol a child of its holder, and exports it where it is exported.
-    fn add_to_holder(&mut self, holder: SymbolId, symbol: SymbolId, name: &str, is_exported: bool) -> Result<(), BuildFault>
+    fn add_to_holder(
+        &mut self,
+        holder: SymbolId,
+        symbol: SymbolId,
+        name: &str,
+        is_exported: bool,
+    ) -> Result<(), BuildFault>
         requires filled { IsFilled self.old }
         requires holder { holder.0 < length self.old.symbols.items }
         requires symbol { symbol.0 < length self.old.symbols.items }
@@ -96,7 +108,13 @@ impl<'a> Builder<'a> {
 
     /// Declares a name: its symbol becomes a child of the holder, and an export of it where
     /// `export` stands.
-    fn declared(&mut self, holder: SymbolId, id: &'a Id, decl: SymbolDecl<'a>, is_exported: bool) -> Result<(), BuildFault>
+    fn declared(
+        &mut self,
+        holder: SymbolId,
+        id: &'a Id,
+        decl: SymbolDecl<'a>,
+        is_exported: bool,
+    ) -> Result<(), BuildFault>
         requires filled { IsFilled self.old }
         requires holder { holder.0 < length self.old.symbols.items }
         ensures filled { OnOk result (IsFilled self.new) }
@@ -110,7 +128,12 @@ impl<'a> Builder<'a> {
     }
 
     /// A function, after the `export` if one stands before it.
-    fn function(&mut self, holder: SymbolId, node: NodeRef<'a>, export: Option<NodeRef<'a>>) -> Result<(), BuildFault>
+    fn function(
+        &mut self,
+        holder: SymbolId,
+        node: NodeRef<'a>,
+        export: Option<NodeRef<'a>>,
+    ) -> Result<(), BuildFault>
         requires filled { IsFilled self.old }
         requires holder { holder.0 < length self.old.symbols.items }
         ensures filled { OnOk result (IsFilled self.new) }
@@ -127,11 +150,23 @@ impl<'a> Builder<'a> {
         };
         let range = whole_range(node, export);
         let symbol_node = declared_as(export, ExportDeclRef::Fn(node));
-        self.declared(holder, sym, SymbolDecl::definition(symbol_node, range), export.is_some())
+        self.declared(
+            holder,
+            sym,
+            SymbolDecl::definition(symbol_node, range),
+            export.is_some(),
+        )
     }
 
     /// The pattern of a declarator.
-    fn binding(&mut self, holder: SymbolId, decl: NodeRef<'a>, declarator: NodeRef<'a>, pattern: NodeRef<'a>, export: Option<NodeRef<'a>>) -> Result<(), BuildFault>
+    fn binding(
+        &mut self,
+        holder: SymbolId,
+        decl: NodeRef<'a>,
+        declarator: NodeRef<'a>,
+        pattern: NodeRef<'a>,
+        export: Option<NodeRef<'a>>,
+    ) -> Result<(), BuildFault>
         requires filled { IsFilled self.old }
         requires holder { holder.0 < length self.old.symbols.items }
         ensures filled { OnOk result (IsFilled self.new) }
@@ -145,11 +180,22 @@ impl<'a> Builder<'a> {
         };
         let range = declarator.range();
         let symbol_node = declared_as(export, ExportDeclRef::Var(decl, declarator, pattern));
-        self.declared(holder, sym, SymbolDecl::definition(symbol_node, range), export.is_some())
+        self.declared(
+            holder,
+            sym,
+            SymbolDecl::definition(symbol_node, range),
+            export.is_some(),
+        )
     }
 
     /// A declarator of a statement, by its number.
-    fn variable(&mut self, holder: SymbolId, decl: NodeRef<'a>, n: NodeId, export: Option<NodeRef<'a>>) -> Result<(), BuildFault>
+    fn variable(
+        &mut self,
+        holder: SymbolId,
+        decl: NodeRef<'a>,
+        n: NodeId,
+        export: Option<NodeRef<'a>>,
+    ) -> Result<(), BuildFault>
         requires filled { IsFilled self.old }
         requires holder { holder.0 < length self.old.symbols.items }
         ensures filled { OnOk result (IsFilled self.new) }
@@ -167,7 +213,12 @@ impl<'a> Builder<'a> {
     }
 
     /// The variables of a statement, after the `export` if one stands before it.
-    fn variables(&mut self, holder: SymbolId, node: NodeRef<'a>, export: Option<NodeRef<'a>>) -> Result<(), BuildFault>
+    fn variables(
+        &mut self,
+        holder: SymbolId,
+        node: NodeRef<'a>,
+        export: Option<NodeRef<'a>>,
+    ) -> Result<(), BuildFault>
         requires filled { IsFilled self.old }
         requires holder { holder.0 < length self.old.symbols.items }
         ensures filled { OnOk result (IsFilled self.new) }
@@ -183,7 +234,12 @@ impl<'a> Builder<'a> {
     }
 
     /// A declaration, after the `export` if one stands before it.
-    fn declaration(&mut self, holder: SymbolId, node: NodeRef<'a>, export: Option<NodeRef<'a>>) -> Result<(), BuildFault>
+    fn declaration(
+        &mut self,
+        holder: SymbolId,
+        node: NodeRef<'a>,
+        export: Option<NodeRef<'a>>,
+    ) -> Result<(), BuildFault>
         requires filled { IsFilled self.old }
         requires holder { holder.0 < length self.old.symbols.items }
         ensures filled { OnOk result (IsFilled self.new) }
@@ -234,7 +290,12 @@ impl<'a> Builder<'a> {
     }
 
     /// The items of a body.
-    pub(crate) fn items(&mut self, tree: &'a Tree, holder: SymbolId, body: &[NodeId]) -> Result<(), BuildFault>
+    pub(crate) fn items(
+        &mut self,
+        tree: &'a Tree,
+        holder: SymbolId,
+        body: &[NodeId],
+    ) -> Result<(), BuildFault>
         requires filled { IsFilled self.old }
         requires holder { holder.0 < length self.old.symbols.items }
         ensures filled { OnOk result (IsFilled self.new) }

@@ -5,8 +5,6 @@ ghost use Rattle.serde_json.specs.View.{view};
 ghost use Rattle.std.specs.Option.{option_and_then};
 ghost use Rattle.symbols_tree.specs.Graph.{tree_of};
 ghost use Rattle.symbols_table.specs.DeclViews.{exports_view};
-
-
 ghost use Rattle.symq_core.specs.Queries.{query_view, query_of, value_of};
 ghost use Rattle.symq_core.specs.Answers.{export_data, exports_data, fault_text, fault_data, TellsExports, module_answer, exports_answer, answer_data, answer_text};
 
@@ -19,7 +17,12 @@ use symbols_table::info::{ModuleInfo, SymbolsFault};
 use symbols_tree::check::{GraphModule, ModuleGraph};
 use symbols_tree::ids::{ModuleId, SymbolId};
 
-fn export_value(alloc: Global, specifier: &str, name: &str, symbol: SymbolId) -> Result<Value, AllocError>
+fn export_value(
+    alloc: Global,
+    specifier: &str,
+    name: &str,
+    symbol: SymbolId,
+) -> Result<Value, AllocError>
     ensures { IfOk result (λ value. view value ≡ export_data specifier.now (name.now, symbol)) }
 {
     let number = symbol.number();

@@ -11,8 +11,8 @@ use crate::program::device::{Input, Output};
 use crate::program::fault::EngineFault;
 use crate::program::lines::split_line;
 use crate::program::sending::{BLOCK, Pending, flush, take_line};
-use symbols_tree::check::ModuleGraph;
 use std::alloc::{AllocError, Global};
+use symbols_tree::check::ModuleGraph;
 
 /// A buffer of this length.
 fn zeros(alloc: Global, len: usize) -> Result<Vec<u8>, AllocError>

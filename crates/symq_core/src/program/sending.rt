@@ -10,8 +10,8 @@ ghost use Rattle.symq_core.specs.Serving.{AppendsBeginning, Sends, IsAnswerFault
 use crate::program::answer::answer;
 use crate::program::device::Output;
 use crate::program::fault::EngineFault;
-use symbols_tree::check::ModuleGraph;
 use std::alloc::{AllocError, Global};
+use symbols_tree::check::ModuleGraph;
 
 /// How many bytes are read at once, and after how many the waiting answers are written.
 pub(crate) const BLOCK: usize = 65536;

@@ -96,12 +96,20 @@ fn tree_line(alloc: Global, specifier: &str, fault: TreeFault) -> Result<String,
     match fault {
         TreeFault::NoProgram => format!(in alloc; "symq: graph refused: 7 {specifier} 1"),
         TreeFault::TooManyNodes => format!(in alloc; "symq: graph refused: 7 {specifier} 2"),
-        TreeFault::BadChild(node) => format!(in alloc; "symq: graph refused: 7 {specifier} 3 {node}"),
+        TreeFault::BadChild(node) => format!(in alloc;
+            "symq: graph refused: 7 {specifier} 3 {node}"
+        ),
         TreeFault::SharedChild(node) => {
             format!(in alloc; "symq: graph refused: 7 {specifier} 4 {node}")
         }
-        TreeFault::BadRange(node) => format!(in alloc; "symq: graph refused: 7 {specifier} 5 {node}"),
-        TreeFault::BadShape(node) => format!(in alloc; "symq: graph refused: 7 {specifier} 6 {node}"),
-        TreeFault::TooDeep(node) => format!(in alloc; "symq: graph refused: 7 {specifier} 7 {node}"),
+        TreeFault::BadRange(node) => format!(in alloc;
+            "symq: graph refused: 7 {specifier} 5 {node}"
+        ),
+        TreeFault::BadShape(node) => format!(in alloc;
+            "symq: graph refused: 7 {specifier} 6 {node}"
+        ),
+        TreeFault::TooDeep(node) => format!(in alloc;
+            "symq: graph refused: 7 {specifier} 7 {node}"
+        ),
     }
 }

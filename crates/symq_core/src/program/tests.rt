@@ -3,12 +3,26 @@ ghost use Rattle.std.specs.Prelude.{◌<◌};
 use super::*;
 use std::alloc::{AllocError, Global};
 use std::test::Fail;
+use symbols_tree::check::{GraphFault, ModuleGraph, TreeFault};
+use symbols_tree::tree::NodeId;
 
 /// The answer to each line that is no query.
 const BAD: &[u8] = b"{\"fault\":\"bad query\"}\n";
 
-fn graph() -> ModuleGraph {
-    ModuleGraph {}
+/// A graph of the module `m`, which is the text `export var a;`, of the redirect `r` to it, and of
+/// `x`, which is external.
+const GRAPH: &[u8] =
+    br#"{"modules":[{"specifier":"m","kind":"esm","text":"export var a;","tree":{"nodes":[
+    {"kind":"Program","range":[0,13],"body":[1]},
+    {"kind":"ExportDecl","range":[0,13],"decl":2},
+    {"kind":"VarDecl","range":[7,13],"decls":[3]},
+    {"kind":"VarDeclarator","range":[11,12],"name":4},
+    {"kind":"BindingIdent","range":[11,12],"sym":["a",2]}]}},
+    {"specifier":"x","kind":"external"}],"redirects":[["r","m"]]}"#;
+
+fn graph(alloc: Global) -> Result<ModuleGraph, Stop> {
+    let raw = read_graph(alloc, GRAPH).map_err(Stop::Format)?;
+    ModuleGraph::new(alloc, raw).map_err(Stop::Graph)
 }
 
 /// This many answers to lines that are no queries.
@@ -86,7 +100,7 @@ fn answers_each_line(rt: HostRuntime) -> Result<(), Fail> {
     ] {
         let mut reader = MemoryInput { rest: input };
         let mut writer = MemoryOutput::new(rt.alloc());
-        assert!(rt; serve(rt.alloc(), &graph(), &mut reader, &mut writer).is_ok());
+        assert!(rt; serve(rt.alloc(), &graph(rt.alloc())?, &mut reader, &mut writer).is_ok());
         let want = bad_answers(rt.alloc(), count)?;
         assert_eq!(rt; writer.bytes.as_slice(), want.as_slice());
         assert!(rt; reader.rest.is_empty());
@@ -104,7 +118,7 @@ fn answers_before_a_failed_read(rt: HostRuntime) -> Result<(), Fail> {
             failed: 0,
         };
         let mut writer = MemoryOutput::new(rt.alloc());
-        let served = serve(rt.alloc(), &graph(), &mut reader, &mut writer);
+        let served = serve(rt.alloc(), &graph(rt.alloc())?, &mut reader, &mut writer);
         assert_eq!(rt; served, Err(EngineFault::InputFailed));
         let want = bad_answers(rt.alloc(), 2)?;
         assert_eq!(rt; writer.bytes.as_slice(), want.as_slice());
@@ -123,7 +137,7 @@ fn stops_where_a_write_fails(rt: HostRuntime) -> Result<(), Fail> {
             fails,
             failed: 0,
         };
-        let served = serve(rt.alloc(), &graph(), &mut reader, &mut writer);
+        let served = serve(rt.alloc(), &graph(rt.alloc())?, &mut reader, &mut writer);
         assert_eq!(rt; served, Err(EngineFault::OutputFailed));
         let want = bad_answers(rt.alloc(), 2)?;
         let (front, _) = want.as_slice().split_at(want.len().min(BAD.len() + 3));
@@ -148,7 +162,7 @@ fn answers_lines_longer_than_a_block(rt: HostRuntime) -> Result<(), Fail> {
             failed: 0,
         };
         let mut writer = MemoryOutput::new(rt.alloc());
-        assert!(rt; serve(rt.alloc(), &graph(), &mut reader, &mut writer).is_ok());
+        assert!(rt; serve(rt.alloc(), &graph(rt.alloc())?, &mut reader, &mut writer).is_ok());
         let want = bad_answers(rt.alloc(), 4)?;
         assert_eq!(rt; writer.bytes.as_slice(), want.as_slice(), "at {most}");
     }
@@ -162,7 +176,7 @@ fn writes_more_answers_than_a_block(rt: HostRuntime) -> Result<(), Fail> {
         rest: lines.as_slice(),
     };
     let mut writer = MemoryOutput::new(rt.alloc());
-    assert!(rt; serve(rt.alloc(), &graph(), &mut reader, &mut writer).is_ok());
+    assert!(rt; serve(rt.alloc(), &graph(rt.alloc())?, &mut reader, &mut writer).is_ok());
     let want = bad_answers(rt.alloc(), 100000)?;
     assert!(rt; writer.bytes.as_slice() == want.as_slice());
     Ok(())
@@ -173,9 +187,104 @@ fn answers_over_streams(rt: HostRuntime) -> Result<(), Fail> {
     let mut bytes: Vec<u8> = Vec::new(rt.alloc());
     let mut reader = ReaderInput::new(b"no\nno".as_slice());
     let mut writer = WriterOutput::new(&mut bytes);
-    assert!(rt; serve(rt.alloc(), &graph(), &mut reader, &mut writer).is_ok());
+    assert!(rt; serve(rt.alloc(), &graph(rt.alloc())?, &mut reader, &mut writer).is_ok());
     drop(writer);
     let want = bad_answers(rt.alloc(), 2)?;
     assert_eq!(rt; bytes.as_slice(), want.as_slice());
+    Ok(())
+}
+
+#[test]
+fn answers_with_exports(rt: HostRuntime) -> Result<(), Fail> {
+    let own =
+        "{\"exports\":[{\"chain\":[],\"module\":\"m\",\"name\":\"a\",\"symbol\":1}],\"unresolved\":[]}\n";
+    let graph = graph(rt.alloc())?;
+    for (line, want) in [
+        (r#"["exports","m"]"#, own),
+        (r#" [ "exports" , "r" ] "#, own),
+        (r#"["exports","x"]"#, "null\n"),
+        (r#"["exports","y"]"#, "null\n"),
+        (r#"["exports"]"#, "{\"fault\":\"bad query\"}\n"),
+        (r#"["exports","m","m"]"#, "{\"fault\":\"bad query\"}\n"),
+        (r#"["exports",0]"#, "{\"fault\":\"bad query\"}\n"),
+        (r#"["export","m"]"#, "{\"fault\":\"bad query\"}\n"),
+    ] {
+        let mut reader = MemoryInput {
+            rest: line.as_bytes(),
+        };
+        let mut writer = MemoryOutput::new(rt.alloc());
+        assert!(rt; serve(rt.alloc(), &graph, &mut reader, &mut writer).is_ok());
+        assert_eq!(rt; writer.bytes.as_slice(), want.as_bytes(), "{line}");
+    }
+    Ok(())
+}
+
+#[test]
+fn says_why_it_stops(rt: HostRuntime) -> Result<(), Fail> {
+    let alloc = rt.alloc();
+    let tree = |fault| -> Result<Stop, AllocError> {
+        let specifier = String::from_str(alloc, "m")?;
+        Ok(Stop::Graph(GraphFault::Tree(specifier, fault)))
+    };
+    let specifier = String::from_str(alloc, "m")?;
+    for (stop, status, line) in [
+        (Stop::Usage, 2, "usage: symq GRAPH"),
+        (Stop::NotRead, 3, "symq: cannot read graph"),
+        (
+            Stop::Format(FormatFault::NotJson),
+            4,
+            "symq: not a graph: json",
+        ),
+        (
+            Stop::Format(FormatFault::BadForm),
+            4,
+            "symq: not a graph: form",
+        ),
+        (
+            Stop::Format(FormatFault::OutOfMemory),
+            7,
+            "symq: out of memory",
+        ),
+        (
+            Stop::Graph(GraphFault::OutOfMemory),
+            7,
+            "symq: out of memory",
+        ),
+        (
+            Stop::Graph(GraphFault::DuplicateSpecifier(specifier)),
+            5,
+            "symq: graph refused: 3 m",
+        ),
+        (tree(TreeFault::NoProgram)?, 5, "symq: graph refused: 7 m 1"),
+        (
+            tree(TreeFault::BadShape(NodeId(4)))?,
+            5,
+            "symq: graph refused: 7 m 6 4",
+        ),
+        (
+            Stop::Engine(EngineFault::InputFailed),
+            6,
+            "symq: input failed",
+        ),
+        (
+            Stop::Engine(EngineFault::OutputFailed),
+            6,
+            "symq: output failed",
+        ),
+        (
+            Stop::Engine(EngineFault::InputTooLong),
+            6,
+            "symq: input too long",
+        ),
+        (
+            Stop::Engine(EngineFault::OutOfMemory),
+            7,
+            "symq: out of memory",
+        ),
+    ] {
+        assert_eq!(rt; stop.status(), status);
+        let found = stop.line(alloc)?;
+        assert_eq!(rt; found.as_str(), line);
+    }
     Ok(())
 }

@@ -47,8 +47,8 @@ returns-in_err-items-clause-too_many c =
     let begun = begun_tree tree _ c.new_symbol.new.self (decl_view c.definition-decl.result) c.in_ok-module.module decl c.new.ensures.items c.new-2.ensures.empty c.in_ok-module.ensures.numbered c.in_ok-module.ensures.table in
     let P : List ℕ → Type 0 = λ body. c.new_symbol.new.self.limit < length (parents_of (changes_of (rows_after (first_row (root_decl tree) ∷ []) (each_from (item_at tree 0) 1 body)))) in
     err_if c.from_residual-in_err-items.result c.in_err-items.field-0.0 c.from_residual-in_err-items.ensures.1 (λ many.
-        let over = subst P c.body.ensures (c.in_err-items.ensures.table (first_row (root_decl tree) ∷ []) 0 begun.0 begun.1 many) in
-        rw (tree_changes-first tree, ← c.in_ok-module.ensures.limit) over)
+    let over = subst P c.body.ensures (c.in_err-items.ensures.table (first_row (root_decl tree) ∷ []) 0 begun.0 begun.1 many) in
+    rw (tree_changes-first tree, ← c.in_ok-module.ensures.limit) over)
 
 pub returns-in_err-module-clause-too_many : goal.returns-in_err-module-clause-too_many
 returns-in_err-module-clause-too_many c =

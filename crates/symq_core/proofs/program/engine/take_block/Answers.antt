@@ -31,9 +31,9 @@ lines-preserved g c =
     let line = l.pending.line.items ++ c.in-Some.line.now in (
       v.0 ++ line ∷ [],
       one_more_line old.line.items c.args.block.now l.pending.line.items l.rest.now c.in-Some.line.now c.in-Some.more.now v.0 v.1 c.in-Some.ensures.split
-      ∙ ap (λ t. (v.0 ++ line ∷ []) ++ parts_after t c.in-Some.more.now) (sym done.1),
+          ∙ ap (λ t. (v.0 ++ line ∷ []) ++ parts_after t c.in-Some.more.now) (sym done.1),
       subst (Sends _ _ old.answers.items c.take_line.new.pending.answers.items) (sym (answers_to-append answer v.0 (line ∷ [])))
-      (sends_then _ _ _ old.answers.items l.pending.answers.items c.take_line.new.pending.answers.items (answers_to answer v.0) (answers_to answer (line ∷ [])) v.2 done.0),
+          (sends_then _ _ _ old.answers.items l.pending.answers.items c.take_line.new.pending.answers.items (answers_to answer v.0) (answers_to answer (line ∷ [])) v.2 done.0),
       done.2 ∙ v.3,
     )
 
