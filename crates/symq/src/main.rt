@@ -1,23 +1,36 @@
 //! `symq GRAPH`: reads a graph of modules, then answers query lines from standard input.
 #![tactic(auto)]
 
+use std::io::ErrorKind;
 use std::process::ExitCode;
 use std::rt::{Env, Files};
 use std::{env, fs, io};
 use symbols_tree::check::ModuleGraph;
-use symq_core::program::{ReaderInput, Stop, WriterOutput, read_graph, serve};
+use symq_core::program::{FormatFault, ReaderInput, Stop, WriterOutput, read_graph, serve};
+
+/// Why the program's words were not given.
+fn args_stop(kind: ErrorKind) -> Stop {
+    match kind {
+        ErrorKind::OutOfMemory => Stop::Format(FormatFault::OutOfMemory),
+        _ => Stop::Usage,
+    }
+}
+
+/// Why a file was not read.
+fn read_stop(kind: ErrorKind) -> Stop {
+    match kind {
+        ErrorKind::OutOfMemory => Stop::Format(FormatFault::OutOfMemory),
+        _ => Stop::NotRead,
+    }
+}
 
 /// The graph of the file that the one word names.
 fn graph<R: Files + Env + AllocGlobal>(rt: &R) -> Result<ModuleGraph, Stop> {
-    let Ok(mut words) = env::args(rt) else {
-        return Err(Stop::Usage);
-    };
+    let mut words = env::args(rt).map_err(|error| args_stop(error.kind()))?;
     let (Some(_), Some(path), None) = (words.next(), words.next(), words.next()) else {
         return Err(Stop::Usage);
     };
-    let Ok(bytes) = fs::read(rt, path.as_str()) else {
-        return Err(Stop::NotRead);
-    };
+    let bytes = fs::read(rt, path.as_str()).map_err(|error| read_stop(error.kind()))?;
     let raw = read_graph(rt.alloc(), bytes.as_slice()).map_err(Stop::Format)?;
     ModuleGraph::new(rt.alloc(), raw).map_err(Stop::Graph)
 }
