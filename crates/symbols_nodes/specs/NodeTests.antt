@@ -6,6 +6,8 @@ use Rattle.symbols_tree.specs.ChildFields.{function_of, body_node_of, decl_of}
 use Rattle.symbols_tree.specs.declared.tree.kinds.Kind.{Kind}
 use Rattle.symbols_tree.specs.declared.tree.kinds.Kind.TheVariants as Kind
 use Rattle.symbols_tree.specs.declared.tree.kinds.Decl.TheVariants as Decl
+use Rattle.symbols_tree.specs.declared.tree.kinds.Member.TheVariants as Member
+use Rattle.symbols_tree.specs.declared.tree.kinds.MethodKind.TheVariants as MethodKind
 use Rattle.symbols_nodes.specs.NodeViews.{ExportDeclView, NodeView, exported_class, exported_fn, exported_var, exported_ts_enum, exported_ts_interface, exported_ts_module, exported_ts_type_alias, program, export_decl, export_default_decl, class_decl, fn_decl, ts_enum, ts_interface, ts_namespace, class_method, constructor}
 
 abbrev pub is_function_kind : Kind → Bool
@@ -59,3 +61,13 @@ has_body (class_method node) = has_function_body node
 has_body (ts_namespace node) = has_own_body node
 has_body (constructor node) = has_own_body node
 has_body _ = false
+
+abbrev pub is_method_kind : Kind → Bool
+is_method_kind (Kind.Member (Member.ClassMethod _ _ MethodKind.Method _ _)) = true
+is_method_kind _ = false
+
+-- a method that is no getter and no setter, or a constructor
+abbrev pub is_method : NodeView → Bool
+is_method (class_method node) = option_map_or is_method_kind (kind_of node) false
+is_method (constructor _) = true
+is_method _ = false

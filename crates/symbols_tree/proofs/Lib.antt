@@ -5,3 +5,13 @@ pub mod FaultOrder
 pub mod DepthLemmas
 pub mod NodeSteps
 pub mod Faultless
+mod CheckedModules
+mod RepeatLemmas
+mod ChainLemmas
+mod TreeRefusal
+mod GraphFaultOrder
+mod FilledMaps
+mod ModuleMaps
+mod ResolutionMaps
+mod GraphLookups
+mod DistinctEntries

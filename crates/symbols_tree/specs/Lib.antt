@@ -9,3 +9,7 @@ pub mod Depths
 pub mod Shapes
 pub mod TreeFaults
 pub mod WellFormed
+pub mod Graph
+pub mod Repeats
+pub mod GraphFaults
+pub mod Tables

@@ -3,10 +3,10 @@
 ghost use Rattle.std.specs.Prelude.{◌≡◌};
 ghost use Rattle.symbols_tree.specs.NodeRefs.{node_view, kind_of};
 ghost use Rattle.symbols_nodes.specs.NodeViews.{export_decl_view, symbol_node_view};
-ghost use Rattle.symbols_nodes.specs.NodeTests.{is_exported_function, is_function, has_own_body, has_function_body, exported_has_body, default_has_body, has_body};
+ghost use Rattle.symbols_nodes.specs.NodeTests.{is_exported_function, is_function, has_own_body, has_function_body, exported_has_body, default_has_body, has_body, is_method};
 
 use crate::nodes::refs::{ExportDeclRef, SymbolNodeRef};
-use symbols_tree::tree::{Decl, Kind, NodeRef};
+use symbols_tree::tree::{Decl, Kind, Member, MethodKind, NodeRef};
 
 fn has_own_body(node: NodeRef<'_>) -> bool
     ensures { result ≡ has_own_body (node_view node.entry) }
@@ -95,6 +95,24 @@ impl SymbolNodeRef<'_> {
             SymbolNodeRef::TsNamespace(node) | SymbolNodeRef::Constructor(node) => {
                 has_own_body(*node)
             }
+            _ => false,
+        }
+    }
+
+    /// Whether it is a method that is no getter and no setter, or a constructor (own name for what
+    /// deno_graph asks where it sets the overload flag).
+    pub fn is_method(&self) -> bool
+        ensures { result ≡ is_method (symbol_node_view self.now) }
+    {
+        match self {
+            SymbolNodeRef::ClassMethod(node) => matches!(
+                node.kind(),
+                Kind::Member(Member::ClassMethod {
+                    kind: MethodKind::Method,
+                    ..
+                })
+            ),
+            SymbolNodeRef::Constructor(_) => true,
             _ => false,
         }
     }

@@ -1,0 +1,265 @@
+-- A builder whose table has one change more.
+use Rattle.std.proofs.Common.{◌≡◌, ℕ, ◌<◌, ◌+◌, ◌≤◌, ◌⊎◌, inl, inr, Bool, true, false, cond, List, [], ◌∷◌, ◌++◌, length, get_or, set, map, Option, None, Some, refl, sym, ◌∙◌, ap, subst, arith}
+use Rattle.std.specs.Prelude.{◌≢◌, All, slice_get}
+use Rattle.std.specs.Borrow.{Bor}
+use Rattle.std.specs.Map.{lookup}
+use Rattle.std.specs.Str.{bytes_eq}
+use Rattle.std.proofs.lemmas.Bool.{cases_eq, cases_lt}
+use Rattle.std.proofs.lemmas.List.{length-append, length-set, length_push, get_or-set_same, get_or-set_other, get_or_append_left, get_or_push, get_or_default}
+use Rattle.std.proofs.lemmas.List.Elements.{All-push}
+use Rattle.std.proofs.lemmas.Option.{slice_get-get_or, slice_get_within, get_or_from_slice_get}
+use Rattle.indexmap.specs.IndexMap.{get, insert_entry}
+use Rattle.symbols_tree.specs.declared.tree.arena.Id.{Id}
+use Rattle.symbols_tree.specs.declared.ids.SymbolId.{SymbolId}
+use Rattle.symbols_tree.specs.Ids.{IdView, id_view, same_id}
+use Rattle.symbols_table.specs.declared.decl.symbol.Symbol.{Symbol}
+use Rattle.symbols_table.specs.declared.builder.table.Builder.{Builder}
+use Rattle.symbols_table.specs.DeclViews.{Declaration, decl_view, exports_view, with_decl, is_overload_after, last_decl}
+use Rattle.symbols_table.specs.Changes.{Change, makes, declares, exports, has_child, has_member, maps, parent_in, decl_in, setting_in, child_in, member_in, mapping_in, parents_of, decls_of, exports_of, children_of, members_of, mapped, with_first}
+use Rattle.symbols_table.specs.Tables.{Fits, IsSymbolOf, IsBare, IsParentOf, IsTableOf}
+use Rattle.symbols_table.proofs.OneMore.{only_same, only_other, parents_of-out, parents_of-in, decls_of-out, decls_of-in, exports_of-out, exports_of-in, children_of-out, children_of-in, members_of-out, mapped-out, mapped-maps}
+
+-- an element stays where one more is pushed, and the pushed one comes last
+slice_get-push : {X : Type 0} (xs : List X) (y : X) (i : ℕ) (x : X) → slice_get xs i ≡ Some x → slice_get (xs ++ y ∷ []) i ≡ Some x
+slice_get-push xs y i x at =
+    let within = slice_get_within xs i x at in
+    let longer : i < length (xs ++ y ∷ []) = omega (arith, length_push xs y) in
+    slice_get-get_or (xs ++ y ∷ []) i x longer ∙ ap Some (get_or_append_left xs (y ∷ []) x i within ∙ get_or_from_slice_get xs i x x at)
+
+slice_get-push_last : {X : Type 0} (xs : List X) (y : X) (i : ℕ) → length xs ≡ i → slice_get (xs ++ y ∷ []) i ≡ Some y
+slice_get-push_last xs y i last =
+    let within : i < length (xs ++ y ∷ []) = omega (arith, length_push xs y) in
+    slice_get-get_or (xs ++ y ∷ []) i y within ∙ ap Some (get_or_push xs y y i last)
+
+pub read_back : {X : Type 0} (xs : List X) (i : ℕ) (x d : X) → i < length xs → x ≡ get_or xs i x → get_or xs i d ≡ x
+read_back xs i x d lt e = get_or_default xs i d x lt ∙ sym e
+
+fits_one_more : (count : ℕ) (change : Change) → Fits count change → Fits (count + 1) change
+fits_one_more count (makes _) h = tt
+fits_one_more count (declares _ _) h = omega (arith, h)
+fits_one_more count (exports _ _ _) h = (omega (arith, h.0), omega (arith, h.1))
+fits_one_more count (has_child _ _) h = (omega (arith, h.0), omega (arith, h.1))
+fits_one_more count (has_member _ _) h = (omega (arith, h.0), omega (arith, h.1))
+fits_one_more count (maps _ _) h = omega (arith, h)
+
+fits_more : (count : ℕ) (changes : List Change) → All (Fits count) changes → All (Fits (count + 1)) changes
+fits_more count changes all = λ k d lt. fits_one_more count (get_or changes k d) (all k d lt)
+
+-- the change says nothing of the symbol
+pub record Spares (change : Change) (s : SymbolId) : Type 0 where
+  pub decl : decl_in s change ≡ None
+  pub setting : setting_in s change ≡ None
+  pub child : child_in s change ≡ None
+  pub member : member_in s change ≡ None
+
+symbol_kept : (changes : List Change) (change : Change) (s : SymbolId) (symbol : Symbol) → parent_in change ≡ None → Spares change s → IsSymbolOf changes s symbol → IsSymbolOf (changes ++ change ∷ []) s symbol
+symbol_kept changes change s symbol silent spares is = record {
+  parent = rw (parents_of-out changes change silent) is.parent;
+  decls = rw (decls_of-out changes change s spares.decl) is.decls;
+  exports = rw (exports_of-out changes change s spares.setting) is.exports;
+  children = rw (children_of-out changes change s spares.child) is.children;
+  members = rw (members_of-out changes change s spares.member) is.members;
+}
+
+bare_kept : (changes : List Change) (change : Change) (s : SymbolId) → Spares change s → IsBare changes s → IsBare (changes ++ change ∷ []) s
+bare_kept changes change s spares is = record {
+  decls = rw (decls_of-out changes change s spares.decl) is.decls;
+  exports = rw (exports_of-out changes change s spares.setting) is.exports;
+  children = rw (children_of-out changes change s spares.child) is.children;
+  members = rw (members_of-out changes change s spares.member) is.members;
+}
+
+-- declarations are only added
+decls_of-grow : (changes : List Change) (s : SymbolId) (change : Change) → length (decls_of changes s) ≤ length (decls_of (changes ++ change ∷ []) s)
+decls_of-grow changes s change = by (decl_in s change) refl
+  where
+    by : (o : Option Declaration) → decl_in s change ≡ o → length (decls_of changes s) ≤ length (decls_of (changes ++ change ∷ []) s)
+    by None is = rw (decls_of-out changes change s is) (omega arith)
+    by (Some decl) is = rw (decls_of-in changes change s decl is, length-append (decls_of changes s) ((record decl { has_overloads = is_overload_after (last_decl (decls_of changes s)) decl }) ∷ [])) (omega arith)
+
+-- the symbol t is written, and nothing else
+pub record Writes (b after : Builder) (t : SymbolId) (old new : Symbol) : Type 0 where
+  pub below : t.0 < length b.symbols.items
+  pub read : old ≡ get_or b.symbols.items t.0 old
+  pub set_to : after.symbols.items ≡ set b.symbols.items t.0 new
+  pub ids : after.ids ≡ b.ids
+  pub limit : after.limit ≡ b.limit
+  pub parent : new.parent_id ≡ old.parent_id
+
+module _ {b after : Builder} {t : SymbolId} {old new : Symbol} (w : Writes b after t old new) (changes : List Change) (is : IsTableOf b changes) where
+  was : IsSymbolOf changes t (get_or b.symbols.items t.0 new) → IsSymbolOf changes t old
+  was h = subst (IsSymbolOf changes t) (read_back b.symbols.items t.0 old new w.below w.read) h
+
+  -- a change of the symbol t alone
+  written : (change : Change) → parent_in change ≡ None → ((id : IdView) → mapping_in id change ≡ None) → ((s : SymbolId) → s.0 ≢ t.0 → Spares change s)
+      → Fits (length b.symbols.items) change → (IsSymbolOf changes t old → IsSymbolOf (changes ++ change ∷ []) t new) → IsTableOf after (changes ++ change ∷ [])
+  written change silent unmapped spares fits changed = record {
+    count = rw (parents_of-out changes change silent) (len ∙ is.count);
+    symbols = λ s d lt. by s d (rw len at lt) (cases_eq s.0 t.0);
+    others = λ s le. let past : length b.symbols.items ≤ s.0 = omega (arith, len) in bare_kept changes change s (spares s (λ same. absurd (omega (arith, w.below)))) (is.others s past);
+    ids = λ id. rw (w.ids, mapped-out changes change (id_view id.now) (unmapped (id_view id.now))) (is.ids id);
+    few = rw (w.limit, len) is.few;
+    sound = rw len (All-push (Fits (length b.symbols.items)) changes change is.sound fits);
+    parents = rw (parents_of-out changes change silent) is.parents;
+    declared = λ s lt. let short : s.0 < length b.symbols.items = omega (arith, len) in omega (arith, is.declared s short, decls_of-grow changes s change);
+  }
+    where
+      len : length after.symbols.items ≡ length b.symbols.items
+      len = rw w.set_to (length-set b.symbols.items t.0 new)
+
+      by : (s : SymbolId) (d : Symbol) → s.0 < length b.symbols.items → (s.0 ≡ t.0) ⊎ (s.0 ≢ t.0) → IsSymbolOf (changes ++ change ∷ []) s (get_or after.symbols.items s.0 d)
+      by s d lt (inl same) =
+          let at : get_or after.symbols.items t.0 d ≡ new = rw w.set_to (get_or-set_same b.symbols.items t.0 new d w.below) in
+          let here : IsSymbolOf (changes ++ change ∷ []) t (get_or after.symbols.items t.0 d) = rw at (changed (was (is.symbols t new w.below))) in
+          let P : ℕ → Type 0 = λ n. IsSymbolOf (changes ++ change ∷ []) (record { 0 = n }) (get_or after.symbols.items n d) in
+          subst P (sym same) here
+      by s d lt (inr other) =
+          let at : get_or after.symbols.items s.0 d ≡ get_or b.symbols.items s.0 d = rw w.set_to (get_or-set_other b.symbols.items t.0 s.0 new d other) in
+          rw at (symbol_kept changes change s (get_or b.symbols.items s.0 d) silent (spares s other) (is.symbols s d lt))
+
+  same_parent : (change : Change) → parent_in change ≡ None → IsSymbolOf changes t old → slice_get (parents_of (changes ++ change ∷ [])) t.0 ≡ Some new.parent_id
+  same_parent change silent h = rw (parents_of-out changes change silent, w.parent) h.parent
+
+  pub only_exports : (name : List ℕ) (x : SymbolId) → x.0 < length b.symbols.items → exports_view new.exports.entries ≡ insert_entry bytes_eq (exports_view old.exports.entries) name x
+      → new.decls ≡ old.decls → new.child_ids ≡ old.child_ids → new.members ≡ old.members → IsTableOf after (changes ++ exports t name x ∷ [])
+  only_exports name x lt e d c m = written (exports t name x) refl (λ id. refl) (λ s other. record { decl = refl; setting = only_other t s (name, x) other; child = refl; member = refl }) (w.below, lt) by
+    where
+      by : IsSymbolOf changes t old → IsSymbolOf (changes ++ exports t name x ∷ []) t new
+      by h = record {
+        parent = same_parent (exports t name x) refl h;
+        decls = rw (d, decls_of-out changes (exports t name x) t refl) h.decls;
+        exports = e ∙ (ap (λ es. insert_entry bytes_eq es name x) h.exports ∙ sym (exports_of-in changes (exports t name x) t name x (only_same t (name, x))));
+        children = rw (c, children_of-out changes (exports t name x) t refl) h.children;
+        members = rw (m, members_of-out changes (exports t name x) t refl) h.members;
+      }
+
+  pub only_child : (x : SymbolId) → x.0 < length b.symbols.items → new.child_ids.keys ≡ with_first old.child_ids.keys x
+      → new.decls ≡ old.decls → new.exports ≡ old.exports → new.members ≡ old.members → IsTableOf after (changes ++ has_child t x ∷ [])
+  only_child x lt e d c m = written (has_child t x) refl (λ id. refl) (λ s other. record { decl = refl; setting = refl; child = only_other t s x other; member = refl }) (w.below, lt) by
+    where
+      by : IsSymbolOf changes t old → IsSymbolOf (changes ++ has_child t x ∷ []) t new
+      by h = record {
+        parent = same_parent (has_child t x) refl h;
+        decls = rw (d, decls_of-out changes (has_child t x) t refl) h.decls;
+        exports = rw (c, exports_of-out changes (has_child t x) t refl) h.exports;
+        children = e ∙ (ap (λ es. with_first es x) h.children ∙ sym (children_of-in changes (has_child t x) t x (only_same t x)));
+        members = rw (m, members_of-out changes (has_child t x) t refl) h.members;
+      }
+
+  pub only_decl : (x : Declaration) → map decl_view new.decls.items ≡ with_decl (map decl_view old.decls.items) x
+      → new.exports ≡ old.exports → new.child_ids ≡ old.child_ids → new.members ≡ old.members → IsTableOf after (changes ++ declares t x ∷ [])
+  only_decl x e d c m = written (declares t x) refl (λ id. refl) (λ s other. record { decl = only_other t s x other; setting = refl; child = refl; member = refl }) w.below by
+    where
+      by : IsSymbolOf changes t old → IsSymbolOf (changes ++ declares t x ∷ []) t new
+      by h = record {
+        parent = same_parent (declares t x) refl h;
+        decls = e ∙ (ap (λ ds. with_decl ds x) h.decls ∙ sym (decls_of-in changes (declares t x) t x (only_same t x)));
+        exports = rw (d, exports_of-out changes (declares t x) t refl) h.exports;
+        children = rw (c, children_of-out changes (declares t x) t refl) h.children;
+        members = rw (m, members_of-out changes (declares t x) t refl) h.members;
+      }
+
+silent_spares : (id : IdView) (x s : SymbolId) → Spares (maps id x) s
+silent_spares id x s = record { decl = refl; setting = refl; child = refl; member = refl }
+
+pub only_maps : (b after : Builder) (changes : List Change) (id : IdView) (x : SymbolId) → x.0 < length b.symbols.items
+    → after.symbols ≡ b.symbols → after.limit ≡ b.limit
+    → ((q : Bor Id) → get (λ (x y : Bor Id). same_id (id_view x.now) (id_view y.now)) after.ids q ≡ cond (same_id id (id_view q.now)) (Some x) (get (λ (x y : Bor Id). same_id (id_view x.now) (id_view y.now)) b.ids q))
+    → IsTableOf b changes → IsTableOf after (changes ++ maps id x ∷ [])
+only_maps b after changes id x lt same limit_same updated is = record {
+  count = rw (same, parents_of-out changes (maps id x) refl) is.count;
+  symbols = rw same (λ s d below. symbol_kept changes (maps id x) s (get_or b.symbols.items s.0 d) refl (silent_spares id x s) (is.symbols s d below));
+  others = λ s le. bare_kept changes (maps id x) s (silent_spares id x s) (is.others s (rw same at le));
+  ids = λ q. updated q ∙ (ap (λ o. cond (same_id id (id_view q.now)) (Some x) o) (is.ids q) ∙ sym (mapped-maps changes (maps id x) (id_view q.now) (same_id id (id_view q.now)) x refl));
+  few = rw (same, limit_same) is.few;
+  sound = rw same (All-push (Fits (length b.symbols.items)) changes (maps id x) is.sound lt);
+  parents = rw (parents_of-out changes (maps id x) refl) is.parents;
+  declared = rw same (λ s below. rw (decls_of-out changes (maps id x) s refl) (is.declared s below));
+}
+
+-- a new symbol with its first declaration
+module _ (b after : Builder) (changes : List Change) (parent : Option SymbolId) (x : Declaration) (t : SymbolId) (new : Symbol) where
+  kept_twice : (s : SymbolId) (symbol : Symbol) → s.0 ≢ t.0 → IsSymbolOf changes s symbol → IsSymbolOf ((changes ++ makes parent ∷ []) ++ declares t x ∷ []) s symbol
+  kept_twice s symbol other is = symbol_kept (changes ++ makes parent ∷ []) (declares t x) s symbol refl (record { decl = only_other t s x other; setting = refl; child = refl; member = refl })
+      (record {
+        parent = rw (parents_of-in changes (makes parent) parent refl) (slice_get-push (parents_of changes) parent s.0 symbol.parent_id is.parent);
+        decls = rw (decls_of-out changes (makes parent) s refl) is.decls;
+        exports = rw (exports_of-out changes (makes parent) s refl) is.exports;
+        children = rw (children_of-out changes (makes parent) s refl) is.children;
+        members = rw (members_of-out changes (makes parent) s refl) is.members;
+      })
+
+  bare_first : (s : SymbolId) → IsBare changes s → IsBare (changes ++ makes parent ∷ []) s
+  bare_first s is = bare_kept changes (makes parent) s (record { decl = refl; setting = refl; child = refl; member = refl }) is
+
+  pub made : IsTableOf b changes → after.symbols.items ≡ b.symbols.items ++ new ∷ [] → t.0 ≡ length b.symbols.items → after.ids ≡ b.ids → after.limit ≡ b.limit → length b.symbols.items < b.limit
+      → IsParentOf t.0 parent → new.parent_id ≡ parent → map decl_view new.decls.items ≡ with_decl [] x → new.exports.entries ≡ [] → new.child_ids.keys ≡ [] → new.members.keys ≡ []
+      → IsTableOf after ((changes ++ makes parent ∷ []) ++ declares t x ∷ [])
+  made is pushed number ids_same limit_same room lower parent_is decls_is exports_is children_is members_is = record {
+    count = rw (pushed, parents_of-out (changes ++ makes parent ∷ []) (declares t x) refl, parents_of-in changes (makes parent) parent refl, length_push b.symbols.items new, length_push (parents_of changes) parent) (ap (λ n. n + 1) is.count);
+    symbols = λ s d lt. by s d lt (cases_eq s.0 t.0);
+    others = λ s le. bare_kept (changes ++ makes parent ∷ []) (declares t x) s (record { decl = only_other t s x (λ e. absurd (omega (arith, len))); setting = refl; child = refl; member = refl }) (bare_first s (is.others s (omega (arith, len))));
+    ids = λ id. rw (ids_same, mapped-out (changes ++ makes parent ∷ []) (declares t x) (id_view id.now) refl, mapped-out changes (makes parent) (id_view id.now) refl) (is.ids id);
+    few = rw limit_same (omega (arith, len));
+    sound = rw len (All-push (Fits (length b.symbols.items + 1)) (changes ++ makes parent ∷ []) (declares t x) (All-push (Fits (length b.symbols.items + 1)) changes (makes parent) (fits_more (length b.symbols.items) changes is.sound) tt) (omega (arith, number)));
+    parents = rw (parents_of-out (changes ++ makes parent ∷ []) (declares t x) refl, parents_of-in changes (makes parent) parent refl) (λ n q at. parent_by n q (cases_lt n (length (parents_of changes))) at);
+    declared = λ s below. declared_by s (cases_eq s.0 t.0) below;
+  }
+    where
+      len : length after.symbols.items ≡ length b.symbols.items + 1
+      len = rw pushed (length_push b.symbols.items new)
+
+      here : IsSymbolOf ((changes ++ makes parent ∷ []) ++ declares t x ∷ []) t new
+      here =
+          let bare = bare_first t (is.others t (omega (arith, number))) in
+          record {
+            parent = rw (parents_of-out (changes ++ makes parent ∷ []) (declares t x) refl, parents_of-in changes (makes parent) parent refl, parent_is) (slice_get-push_last (parents_of changes) parent t.0 (sym is.count ∙ sym number));
+            decls = decls_is ∙ (ap (λ ds. with_decl ds x) (sym bare.decls) ∙ sym (decls_of-in (changes ++ makes parent ∷ []) (declares t x) t x (only_same t x)));
+            exports = ap exports_view exports_is ∙ (sym bare.exports ∙ sym (exports_of-out (changes ++ makes parent ∷ []) (declares t x) t refl));
+            children = children_is ∙ (sym bare.children ∙ sym (children_of-out (changes ++ makes parent ∷ []) (declares t x) t refl));
+            members = members_is ∙ (sym bare.members ∙ sym (members_of-out (changes ++ makes parent ∷ []) (declares t x) t refl));
+          }
+
+      by : (s : SymbolId) (d : Symbol) → s.0 < length after.symbols.items → (s.0 ≡ t.0) ⊎ (s.0 ≢ t.0) → IsSymbolOf ((changes ++ makes parent ∷ []) ++ declares t x ∷ []) s (get_or after.symbols.items s.0 d)
+      by s d lt (inl same) =
+          let at : get_or after.symbols.items t.0 d ≡ new = rw pushed (get_or_push b.symbols.items new d t.0 (sym number)) in
+          let P : ℕ → Type 0 = λ n. IsSymbolOf ((changes ++ makes parent ∷ []) ++ declares t x ∷ []) (record { 0 = n }) (get_or after.symbols.items n d) in
+          subst P (sym same) (rw at here)
+      by s d lt (inr other) =
+          let short : s.0 < length b.symbols.items = omega (arith, len, number, other) in
+          let at : get_or after.symbols.items s.0 d ≡ get_or b.symbols.items s.0 d = rw pushed (get_or_append_left b.symbols.items (new ∷ []) d s.0 short) in
+          rw at (kept_twice s (get_or b.symbols.items s.0 d) other (is.symbols s d short))
+
+      parent_by : (n : ℕ) (q : Option SymbolId) → (n < length (parents_of changes)) ⊎ (length (parents_of changes) ≤ n) → slice_get (parents_of changes ++ parent ∷ []) n ≡ Some q → IsParentOf n q
+      parent_by n q (inl lt) at =
+          let read : get_or (parents_of changes) n q ≡ q = sym (get_or_append_left (parents_of changes) (parent ∷ []) q n lt) ∙ get_or_from_slice_get (parents_of changes ++ parent ∷ []) n q q at in
+          is.parents n q (slice_get-get_or (parents_of changes) n q lt ∙ ap Some read)
+      parent_by n q (inr le) at =
+          let within = slice_get_within (parents_of changes ++ parent ∷ []) n q at in
+          let last : length (parents_of changes) ≡ n = omega (arith, within, length_push (parents_of changes) parent) in
+          let same : t.0 ≡ n = omega (arith, last, number, is.count) in
+          let read : parent ≡ q = sym (get_or_push (parents_of changes) parent q n last) ∙ get_or_from_slice_get (parents_of changes ++ parent ∷ []) n q q at in
+          let P : ℕ → Type 0 = λ m. IsParentOf m q in
+          subst P same (subst (IsParentOf t.0) read lower)
+
+      declared_by : (s : SymbolId) → (s.0 ≡ t.0) ⊎ (s.0 ≢ t.0) → s.0 < length after.symbols.items → 0 < length (decls_of ((changes ++ makes parent ∷ []) ++ declares t x ∷ []) s)
+      declared_by s (inl same) below =
+          let P : ℕ → Type 0 = λ m. 0 < length (decls_of ((changes ++ makes parent ∷ []) ++ declares t x ∷ []) (record { 0 = m })) in
+          let before = decls_of (changes ++ makes parent ∷ []) t in
+          let more = decls_of-in (changes ++ makes parent ∷ []) (declares t x) t x (only_same t x) in
+          subst P (sym same) (rw more (rw (length-append before ((record x { has_overloads = is_overload_after (last_decl before) x }) ∷ [])) (omega arith)))
+      declared_by s (inr other) below = rw (decls_of-out (changes ++ makes parent ∷ []) (declares t x) s (only_other t s x other), decls_of-out changes (makes parent) s refl) (is.declared s (omega (arith, len, number, other)))
+
+-- a builder with nothing in it
+pub empty_table : (b : Builder) → b.symbols.items ≡ [] → b.ids.entries ≡ [] → IsTableOf b []
+unfolding parents_of decls_of exports_of children_of members_of mapped
+empty_table b no_symbols no_ids = record {
+  count = ap length no_symbols;
+  symbols = λ s d lt. absurd (omega (arith, lt, ap length no_symbols));
+  others = λ s le. record { decls = refl; exports = refl; children = refl; members = refl };
+  ids = λ id. ap (λ (es : List (Bor Id × SymbolId)). lookup (λ y. same_id (id_view id.now) (id_view y.now)) es) no_ids;
+  few = omega (arith, ap length no_symbols);
+  sound = λ k d lt. absurd (omega (arith, lt));
+  parents = λ n parent at. absurd (omega (arith, slice_get_within [] n parent at));
+  declared = λ s lt. absurd (omega (arith, lt, ap length no_symbols));
+}

@@ -1,0 +1,138 @@
+//! One declaration of a symbol.
+
+ghost use Rattle.std.specs.Prelude.{◌≡◌, map};
+ghost use Rattle.std.specs.Option.{option_map};
+ghost use Rattle.symbols_nodes.specs.NodeViews.{symbol_node_view};
+ghost use Rattle.symbols_nodes.specs.NodeTests.{is_function, has_body, is_method};
+ghost use Rattle.symbols_table.specs.DeclViews.{decl_view, defined, node_of_kind, node_test, last_decl, is_overload_after};
+
+use crate::decl::dep::FileDep;
+use symbols_nodes::nodes::{SymbolNode, SymbolNodeRef};
+use symbols_tree::tree::{Id, SourceRange};
+
+/// What a declaration is (as deno_graph).
+#[derive(Drop)]
+pub enum SymbolDeclKind<'a> {
+    /// Another name of the same module.
+    Target(&'a Id),
+    /// The parts after a name of the same module, as in `import A = B.C`.
+    QualifiedTarget(&'a Id, Vec<&'a str>),
+    /// A name of another module.
+    FileRef(FileDep<'a>),
+    /// A definition, by its node.
+    Definition(SymbolNode<'a>),
+}
+
+/// What else is known of a declaration (as deno_graph).
+#[derive(Clone, Copy, Debug, Default, PartialEq, Eq)]
+pub struct SymbolDeclFlags {
+    has_overloads: bool,
+}
+
+impl SymbolDeclFlags {
+    /// Whether an earlier declaration is an overload of this one.
+    pub fn has_overloads(&self) -> bool
+        ensures { result ≡ self.now.has_overloads }
+    {
+        self.has_overloads
+    }
+}
+
+/// A declaration: what it is, and where it stands in the text.
+#[derive(Drop)]
+pub struct SymbolDecl<'a> {
+    pub kind: SymbolDeclKind<'a>,
+    pub range: SourceRange,
+    pub(crate) flags: SymbolDeclFlags,
+}
+
+impl<'a> SymbolDecl<'a> {
+    /// A definition by its node, which is no overload so far.
+    pub(crate) fn definition(node: SymbolNodeRef<'a>, range: SourceRange) -> SymbolDecl<'a>
+        ensures { decl_view result ≡ defined (symbol_node_view node.entry) range }
+    {
+        SymbolDecl {
+            kind: SymbolDeclKind::Definition(SymbolNode { node: Some(node) }),
+            range,
+            flags: SymbolDeclFlags {
+                has_overloads: false,
+            },
+        }
+    }
+
+    /// The node of a definition that has one (as deno_graph).
+    pub fn maybe_node(&self) -> Option<SymbolNodeRef<'a>>
+        ensures { option_map symbol_node_view result ≡ node_of_kind (decl_view self.now).kind }
+    {
+        match &self.kind {
+            SymbolDeclKind::Definition(node) => node.maybe_ref(),
+            _ => None,
+        }
+    }
+
+    /// Whether it is a function (as deno_graph); false without a node.
+    pub fn is_function(&self) -> bool
+        ensures { result ≡ node_test is_function (decl_view self.now) }
+    {
+        match self.maybe_node() {
+            Some(node) => node.is_function(),
+            None => false,
+        }
+    }
+
+    /// Whether it has a body (as deno_graph); false without a node.
+    pub fn has_body(&self) -> bool
+        ensures { result ≡ node_test has_body (decl_view self.now) }
+    {
+        match self.maybe_node() {
+            Some(node) => node.has_body(),
+            None => false,
+        }
+    }
+
+    /// Whether it is a method that is no getter and no setter, or a constructor; false without a
+    /// node.
+    pub(crate) fn is_method(&self) -> bool
+        ensures { result ≡ node_test is_method (decl_view self.now) }
+    {
+        match self.maybe_node() {
+            Some(node) => node.is_method(),
+            None => false,
+        }
+    }
+
+    /// Whether an earlier declaration of the symbol is an overload of this one (as deno_graph).
+    pub fn has_overloads(&self) -> bool
+        ensures { result ≡ (decl_view self.now).has_overloads }
+    {
+        self.flags.has_overloads()
+    }
+
+    /// Whether it is an overload where it comes after these declarations of its symbol.
+    pub(crate) fn is_overload_after(&self, before: &[SymbolDecl<'a>]) -> bool
+        ensures { result ≡ is_overload_after (last_decl (map decl_view before.now)) (decl_view self.now) }
+    {
+        match before.last() {
+            None => false,
+            Some(last) => {
+                self.has_body()
+                    && if self.is_function() {
+                        last.is_function()
+                    } else {
+                        self.is_method()
+                    }
+            }
+        }
+    }
+
+    /// The same declaration, with the flag of an overload set or not.
+    pub(crate) fn with_overloads(self, has_overloads: bool) -> SymbolDecl<'a>
+        ensures { decl_view result ≡ record (decl_view self.entry) { has_overloads = has_overloads } }
+    {
+        SymbolDecl {
+            kind: self.kind,
+            range: self.range,
+            flags: SymbolDeclFlags { has_overloads },
+        }
+    }
+}

@@ -1,0 +1,9 @@
+//! Modules with their symbols.
+
+mod es_module;
+mod fault;
+mod module_info;
+
+pub use es_module::EsModuleInfo;
+pub use fault::SymbolsFault;
+pub use module_info::{ModuleInfo, ModuleInfoRef};

@@ -1,0 +1,32 @@
+-- Maps of modules under their specifiers.
+use Rattle.std.proofs.Common.{◌≡◌, ℕ, ◌<◌, List, length, get_or, map, All, refl, sym, ap, subst, ◌∙◌}
+use Rattle.std.specs.Prelude.{String, string_bytes}
+use Rattle.std.specs.Global.{Global}
+use Rattle.std.proofs.lemmas.Simd.{map-map}
+use Rattle.symbols_tree.specs.declared.check.raw.RawModule.{RawModule}
+use Rattle.symbols_tree.specs.Graph.{ModuleView, module_view, content_of, IsChecked}
+use Rattle.symbols_tree.specs.GraphFaults.{specifiers}
+use Rattle.symbols_tree.specs.Repeats.{HasNoRepeat}
+use Rattle.symbols_tree.specs.Tables.{AreKeyed}
+
+-- an entry of the map, by bytes
+abbrev pub entry_read : String Global × ModuleView → List ℕ × ModuleView
+entry_read e = (string_bytes e.0, e.1)
+
+-- the entry that a raw module is to have
+abbrev pub entry_of : RawModule → List ℕ × ModuleView
+entry_of m = (string_bytes m.specifier, module_view m)
+
+-- the specifiers, as the entries have them
+pub distinct_entries : (all : List RawModule) → HasNoRepeat (specifiers (map module_view all)) → HasNoRepeat (map (λ p. p.0) (map entry_of all))
+distinct_entries all distinct = subst HasNoRepeat (map-map (λ m. m.specifier) module_view all ∙ sym (map-map (λ p. p.0) entry_of all)) distinct
+
+module _ (entries : List (String Global × ModuleView)) (all : List RawModule) (filled : map entry_read entries ≡ map entry_of all) where
+  -- the modules of the map are those that were given
+  pub modules_filled : map (λ e. e.1) entries ≡ map module_view all
+  modules_filled = sym (map-map (λ p. p.1) entry_read entries) ∙ ap (map (λ p. p.1)) filled ∙ map-map (λ p. p.1) entry_of all
+
+  -- and each stands under its specifier
+  pub keyed_filled : AreKeyed entries
+  keyed_filled =
+      sym (map-map (λ p. p.0) entry_read entries) ∙ ap (map (λ p. p.0)) filled ∙ map-map (λ p. p.0) entry_of all ∙ sym (map-map (λ p. p.1.specifier) entry_of all) ∙ sym (ap (map (λ p. p.1.specifier)) filled) ∙ map-map (λ p. p.1.specifier) entry_read entries

@@ -1,0 +1,19 @@
+use Rattle.std.proofs.Common.{◌≡◌, sym, ap, ◌∙◌, List, ℕ, Option, string_bytes}
+use Rattle.std.specs.Prelude.{String, unwrap_or}
+use Rattle.std.specs.Global.{Global}
+use Rattle.std.specs.Option.{option_copied, option_map}
+use Rattle.symbols_tree.specs.Tables.{rows}
+use Rattle.symbols_tree.proofs.GraphLookups.{module_found}
+use Rattle.symbols_tree.proofs.check.graph.ModuleGraph.get.Goals as goal
+
+pub returns-in-Some : goal.returns-in-Some
+returns-in-Some c =
+    let g = c.self.inside in
+    let name : Option (String Global) → List ℕ = λ o. unwrap_or (option_map string_bytes o) c.args.specifier.now in
+    rw (← c.self.view_is) (c.get-in-Some.ensures.value ∙ module_found g.modules.entries g.redirects.entries (rows g.resolutions.entries) c.self.invariant.0 c.args.specifier.now c.as_str.result.now (ap name (sym c.get.ensures.value ∙ ap option_copied c.in-Some.is) ∙ sym c.as_str.ensures.value))
+
+pub returns-in-None : goal.returns-in-None
+returns-in-None c =
+    let g = c.self.inside in
+    let name : Option (String Global) → List ℕ = λ o. unwrap_or (option_map string_bytes o) c.args.specifier.now in
+    rw (← c.self.view_is) (c.get-in-None.ensures.value ∙ module_found g.modules.entries g.redirects.entries (rows g.resolutions.entries) c.self.invariant.0 c.args.specifier.now c.args.specifier.now (ap name (sym c.get.ensures.value ∙ ap option_copied c.in-None.is)))

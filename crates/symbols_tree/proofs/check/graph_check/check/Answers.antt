@@ -1,0 +1,35 @@
+use Rattle.std.proofs.Common.{◌≡◌, ◌≢◌}
+use Rattle.std.specs.Prelude.{IfErr, IfOk}
+use Rattle.std.proofs.lemmas.Result.{err_from_is_err_and, IfOk-weaker, IfErr-weaker}
+use Rattle.symbols_tree.specs.Graph.{GraphView, graph_view}
+use Rattle.symbols_tree.specs.GraphFaults.{HasNoneOf, IsFaultlessGraph}
+use Rattle.symbols_tree.proofs.GraphFaultOrder.{NoneBefore, none_before_first, none_before_more, first_of_all, none_at_all}
+use Rattle.symbols_tree.proofs.check.graph_check.check.Goals as goal
+
+pub returns-in_err-check_sources-clause-refused : goal.returns-in_err-check_sources-clause-refused
+returns-in_err-check_sources-clause-refused c =
+    let before = none_before_more (graph_view c.args.raw.now) 1 (none_before_more (graph_view c.args.raw.now) 0 (none_before_first (graph_view c.args.raw.now)) c.in_ok-check_count.ensures.accepted) c.in_ok-check_specifiers.ensures.accepted in
+    let gives = err_from_is_err_and c.from_residual-in_err-check_sources.result c.from_residual-in_err-check_sources.ensures.1 in
+    rw (gives.1, gives.2) (first_of_all (graph_view c.args.raw.now) 2 _ before c.in_err-check_sources.ensures.refused)
+
+pub returns-in_err-check_chains-clause-refused : goal.returns-in_err-check_chains-clause-refused
+returns-in_err-check_chains-clause-refused c =
+    let before = none_before_more (graph_view c.args.raw.now) 2 (none_before_more (graph_view c.args.raw.now) 1 (none_before_more (graph_view c.args.raw.now) 0 (none_before_first (graph_view c.args.raw.now)) c.in_ok-check_count.ensures.accepted) c.in_ok-check_specifiers.ensures.accepted) c.in_ok-check_sources.ensures.accepted in
+    let gives = err_from_is_err_and c.from_residual-in_err-check_chains.result c.from_residual-in_err-check_chains.ensures.1 in
+    rw (gives.1, gives.2) (first_of_all (graph_view c.args.raw.now) 3 _ before c.in_err-check_chains.ensures.refused)
+
+pub returns-in_err-check_resolutions-clause-refused : goal.returns-in_err-check_resolutions-clause-refused
+returns-in_err-check_resolutions-clause-refused c =
+    let before = none_before_more (graph_view c.args.raw.now) 3 (none_before_more (graph_view c.args.raw.now) 2 (none_before_more (graph_view c.args.raw.now) 1 (none_before_more (graph_view c.args.raw.now) 0 (none_before_first (graph_view c.args.raw.now)) c.in_ok-check_count.ensures.accepted) c.in_ok-check_specifiers.ensures.accepted) c.in_ok-check_sources.ensures.accepted) c.in_ok-check_chains.ensures.accepted in
+    let gives = err_from_is_err_and c.from_residual-in_err-check_resolutions.result c.from_residual-in_err-check_resolutions.ensures.1 in
+    rw (gives.1, gives.2) (first_of_all (graph_view c.args.raw.now) 4 _ before c.in_err-check_resolutions.ensures.refused)
+
+pub returns-clause-accepted : goal.returns-clause-accepted
+returns-clause-accepted c =
+    let before = none_before_more (graph_view c.args.raw.now) 4 (none_before_more (graph_view c.args.raw.now) 3 (none_before_more (graph_view c.args.raw.now) 2 (none_before_more (graph_view c.args.raw.now) 1 (none_before_more (graph_view c.args.raw.now) 0 (none_before_first (graph_view c.args.raw.now)) c.in_ok-check_count.ensures.accepted) c.in_ok-check_specifiers.ensures.accepted) c.in_ok-check_sources.ensures.accepted) c.in_ok-check_chains.ensures.accepted) c.in_ok-check_resolutions.ensures.accepted in
+    IfOk-weaker c.check_trees.result _ _ (λ _ none. none_at_all (graph_view c.args.raw.now) (none_before_more (graph_view c.args.raw.now) 5 before none)) c.check_trees.ensures.accepted
+
+pub returns-clause-refused : goal.returns-clause-refused
+returns-clause-refused c =
+    let before = none_before_more (graph_view c.args.raw.now) 4 (none_before_more (graph_view c.args.raw.now) 3 (none_before_more (graph_view c.args.raw.now) 2 (none_before_more (graph_view c.args.raw.now) 1 (none_before_more (graph_view c.args.raw.now) 0 (none_before_first (graph_view c.args.raw.now)) c.in_ok-check_count.ensures.accepted) c.in_ok-check_specifiers.ensures.accepted) c.in_ok-check_sources.ensures.accepted) c.in_ok-check_chains.ensures.accepted) c.in_ok-check_resolutions.ensures.accepted in
+    IfErr-weaker c.check_trees.result _ _ (λ fault first. first_of_all (graph_view c.args.raw.now) 5 fault before first) c.check_trees.ensures.refused

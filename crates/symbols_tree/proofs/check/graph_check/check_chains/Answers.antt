@@ -1,0 +1,17 @@
+use Rattle.std.proofs.Common.{◌≡◌, ◌∙◌, sym, ap, refl, Some, map}
+use Rattle.std.specs.Option.{option_copied}
+use Rattle.symbols_tree.specs.Graph.{graph_view, redirect_view}
+use Rattle.symbols_tree.specs.GraphFaults.{IsChained}
+use Rattle.symbols_tree.proofs.GraphFaultOrder.{none_of, first_of_turn}
+use Rattle.symbols_tree.proofs.RepeatLemmas.{first_told}
+use Rattle.symbols_tree.proofs.check.graph_check.check_chains.Goals as goal
+
+pub returns-in-None-clause-accepted : goal.returns-in-None-clause-accepted
+returns-in-None-clause-accepted c =
+    let none = first_told (λ xs. IsChained (map redirect_view xs)) c.deref.ensures.value (ap option_copied c.in-None.is) c.in_ok-name.ensures in
+    none_of (graph_view c.args.raw.now) 3 (λ i here. none i here.0 here.1)
+
+pub returns-in_ok-source-in-Some-clause-refused : goal.returns-in_ok-source-in-Some-clause-refused
+returns-in_ok-source-in-Some-clause-refused c =
+    let first = first_told (λ xs. IsChained (map redirect_view xs)) c.deref.ensures.value (ap option_copied c.in-Some.is ∙ ap Some (sym c.in_ok-source-in-Some.ensures.ok)) c.in_ok-name.ensures in
+    first_of_turn (graph_view c.args.raw.now) 3 _ refl first.0 first.1 (λ i below here. first.2 i here.0 below here.1)

@@ -1,0 +1,13 @@
+use Rattle.std.proofs.Common.{◌≡◌, ◌∙◌, sym, ap, List, ℕ, Option, Some, string_bytes}
+use Rattle.std.specs.Option.{option_map}
+use Rattle.symbols_tree.specs.declared.tree.arena.Tree.{Tree}
+use Rattle.symbols_tree.specs.Graph.{Content, esm, content_of}
+use Rattle.symbols_tree.proofs.TreeRefusal.{content_told}
+use Rattle.symbols_tree.proofs.check.graph_check.tree_fault.Goals as goal
+
+pub returns : goal.returns
+returns c =
+    let types = option_map string_bytes c.in-Esm.types in
+    let is : content_of c.args.kind.now ≡ esm c.as_str.result.now (Some c.in-Some.tree) types =
+    ap content_of c.in-Esm.is ∙ ap (λ (o : Option Tree). esm (string_bytes c.in-Esm.text) o types) c.in-Some.is ∙ ap (λ (t : List ℕ). esm t (Some c.in-Some.tree) types) (sym c.as_str.ensures.value) in
+    content_told (content_of c.args.kind.now) c.as_str.result.now c.in-Some.tree types is c.first_tree_fault.result c.first_tree_fault.ensures.first c.first_tree_fault.ensures.whole

@@ -1,0 +1,73 @@
+-- When each fault of a graph stands, and which is the first.
+use Rattle.std.specs.Prelude.{◌≡◌, ◌≢◌, ℕ, ◌<◌, ◌≤◌, ◌^◌, ◌⊎◌, List, Some, map, length, slice_get, string_bytes}
+use Rattle.symbols_tree.specs.declared.tree.arena.Tree.{Tree}
+use Rattle.symbols_tree.specs.declared.check.faults.TreeFault.{TreeFault}
+use Rattle.symbols_tree.specs.declared.check.faults.GraphFault.{GraphFault}
+use Rattle.symbols_tree.specs.declared.check.faults.GraphFault.TheVariants as fault
+use Rattle.symbols_tree.specs.Graph.{GraphView, Content, ModuleView, Resolution, tree_of, text_of}
+use Rattle.symbols_tree.specs.Repeats.{IsRepeat}
+use Rattle.symbols_tree.specs.TreeFaults.{IsFirstTreeFault}
+
+abbrev pub specifiers : List ModuleView → List (List ℕ)
+specifiers modules = map (λ m. m.specifier) modules
+
+-- what the redirects start from
+abbrev pub sources : List (List ℕ × List ℕ) → List (List ℕ)
+sources redirects = map (λ r. r.0) redirects
+
+-- what the resolutions are looked up by
+abbrev pub asked : List Resolution → List (List ℕ × List ℕ)
+asked resolutions = map (λ r. (r.referrer, r.text)) resolutions
+
+-- the i-th redirect starts from the source, and its target is the source of a redirect, maybe its own
+abbrev pub IsChained : List (List ℕ × List ℕ) → ℕ → List ℕ → Type 0
+IsChained redirects i source =
+    (target : List ℕ) × (slice_get redirects i ≡ Some (source, target)) × ((j : ℕ) × (slice_get (sources redirects) j ≡ Some target))
+
+-- the first fault of the tree, where there is one
+abbrev pub HasTreeFault : Content → TreeFault → Type 0
+HasTreeFault content found = (tree : Tree) × (tree_of content ≡ Some tree) × IsFirstTreeFault (text_of content) tree.nodes.items (Some found)
+
+-- the i-th module has the specifier, and this is the first fault of its tree
+abbrev pub IsBadModule : List ModuleView → ℕ → List ℕ × TreeFault → Type 0
+IsBadModule modules i found = (m : ModuleView) × (slice_get modules i ≡ Some m) × (m.specifier ≡ found.0) × HasTreeFault m.content found.1
+
+-- when a fault stands at the i-th entry of the list that it is of
+abbrev pub StandsAt : GraphView → ℕ → GraphFault → Type 0
+StandsAt graph i fault.OutOfMemory = ⊥
+StandsAt graph i fault.TooManyModules = 2 ^ 32 ≤ length graph.modules
+StandsAt graph i (fault.DuplicateSpecifier specifier) = IsRepeat (specifiers graph.modules) i (string_bytes specifier)
+StandsAt graph i (fault.DuplicateRedirect source) = IsRepeat (sources graph.redirects) i (string_bytes source)
+StandsAt graph i (fault.RedirectToRedirect source) = IsChained graph.redirects i (string_bytes source)
+StandsAt graph i (fault.DuplicateResolution referrer text) = IsRepeat (asked graph.resolutions) i (string_bytes referrer, string_bytes text)
+StandsAt graph i (fault.Tree specifier found) = IsBadModule graph.modules i (string_bytes specifier, found)
+
+-- the order in which the faults are tried, each over the whole graph
+abbrev pub turn : GraphFault → ℕ
+turn fault.OutOfMemory = 0
+turn fault.TooManyModules = 0
+turn (fault.DuplicateSpecifier _) = 1
+turn (fault.DuplicateRedirect _) = 2
+turn (fault.RedirectToRedirect _) = 3
+turn (fault.DuplicateResolution _ _) = 4
+turn (fault.Tree _ _) = 5
+
+-- the fault f at i is tried before the fault g at j
+abbrev pub IsTriedBefore : ℕ → GraphFault → ℕ → GraphFault → Type 0
+IsTriedBefore i f j g = (turn f < turn g) ⊎ ((turn f ≡ turn g) × (i < j))
+
+-- no fault stands anywhere in the graph
+abbrev pub IsFaultlessGraph : GraphView → Type 0
+IsFaultlessGraph graph = (i : ℕ) (f : GraphFault) → StandsAt graph i f → ⊥
+
+-- the fault stands in the graph, and none that is tried before it
+abbrev pub IsFirstGraphFault : GraphView → GraphFault → Type 0
+IsFirstGraphFault graph g = (j : ℕ) × StandsAt graph j g × ((i : ℕ) (f : GraphFault) → IsTriedBefore i f j g → StandsAt graph i f → ⊥)
+
+-- no fault of this turn stands
+abbrev pub HasNoneOf : GraphView → ℕ → Type 0
+HasNoneOf graph at = (i : ℕ) (f : GraphFault) → turn f ≡ at → StandsAt graph i f → ⊥
+
+-- the fault is of this turn and stands, and no fault of the turn stands at an entry before; or memory was refused
+abbrev pub IsFirstOf : GraphView → ℕ → GraphFault → Type 0
+IsFirstOf graph at g = g ≢ fault.OutOfMemory → (turn g ≡ at) × ((j : ℕ) × StandsAt graph j g × ((i : ℕ) (f : GraphFault) → turn f ≡ at → i < j → StandsAt graph i f → ⊥))

@@ -1,0 +1,89 @@
+//! Entries that stand twice in a raw graph, and redirects that go on.
+
+ghost use Rattle.std.specs.Prelude.{IfOk, map, string_bytes};
+ghost use Rattle.std.specs.Option.{option_copied, option_map};
+ghost use Rattle.symbols_tree.specs.Graph.{module_view, redirect_view, resolution_view};
+ghost use Rattle.symbols_tree.specs.GraphFaults.{specifiers, sources, asked, IsChained};
+ghost use Rattle.symbols_tree.specs.Repeats.{IsFirstWhere, IsRepeat, IsRepeatBy};
+
+use crate::check::raw::{RawModule, RawResolution};
+use std::alloc::{AllocError, Global};
+use std::collections::HashSet;
+use std::hash::Hash;
+
+/// The first key that stands earlier in the list too.
+fn first_repeat<K: Copy + Eq + Hash + Drop>(
+    alloc: Global,
+    keys: &[K],
+) -> Result<Option<K>, AllocError>
+    ensures { IfOk result (IsFirstWhere (IsRepeatBy K.eq keys.now)) }
+{
+    let mut seen = HashSet::new(alloc);
+    for key in keys {
+        if !seen.insert(*key)? {
+            return Ok(Some(*key));
+        }
+    }
+    Ok(None)
+}
+
+/// The first specifier that an earlier module has too.
+pub(crate) fn repeated_specifier(
+    alloc: Global,
+    modules: &[RawModule],
+) -> Result<Option<&str>, AllocError>
+    ensures { IfOk result (λ found. IsFirstWhere (IsRepeat (specifiers (map module_view modules.now))) (option_copied found)) }
+{
+    let names: Vec<&str> = modules
+        .iter()
+        .map(|module| module.specifier.as_str())
+        .collect(alloc)?;
+    first_repeat(alloc, &names)
+}
+
+/// The first source that an earlier redirect has too.
+pub(crate) fn repeated_source(
+    alloc: Global,
+    redirects: &[(String, String)],
+) -> Result<Option<&str>, AllocError>
+    ensures { IfOk result (λ found. IsFirstWhere (IsRepeat (sources (map redirect_view redirects.now))) (option_copied found)) }
+{
+    let names: Vec<&str> = redirects
+        .iter()
+        .map(|redirect| redirect.0.as_str())
+        .collect(alloc)?;
+    first_repeat(alloc, &names)
+}
+
+/// The first referrer and text that an earlier resolution has too.
+pub(crate) fn repeated_resolution(
+    alloc: Global,
+    resolutions: &[RawResolution],
+) -> Result<Option<(&str, &str)>, AllocError>
+    ensures { IfOk result (λ found. IsFirstWhere (IsRepeat (asked (map resolution_view resolutions.now))) (option_map (λ p. (p.0.now, p.1.now)) found)) }
+{
+    let pairs: Vec<(&str, &str)> = resolutions
+        .iter()
+        .map(|row| (row.referrer.as_str(), row.text.as_str()))
+        .collect(alloc)?;
+    first_repeat(alloc, &pairs)
+}
+
+/// The source of the first redirect whose target is the source of a redirect.
+pub(crate) fn chained_redirect(
+    alloc: Global,
+    redirects: &[(String, String)],
+) -> Result<Option<&str>, AllocError>
+    ensures { IfOk result (λ found. IsFirstWhere (IsChained (map redirect_view redirects.now)) (option_copied found)) }
+{
+    let mut starts: HashSet<&str> = HashSet::new(alloc);
+    for (source, _) in redirects {
+        starts.insert(source.as_str())?;
+    }
+    for (source, target) in redirects {
+        if starts.contains(target.as_str()) {
+            return Ok(Some(source.as_str()));
+        }
+    }
+    Ok(None)
+}

@@ -1,0 +1,4 @@
+//! The program's work apart from files and standard streams: graph texts in, answer lines out.
+#![tactic(auto)]
+
+pub mod program;

@@ -1,0 +1,4 @@
+//! Queries on a graph, line by line.
+
+mod answer;
+mod query;

@@ -1,0 +1,97 @@
+//! The answer to a line.
+
+ghost use Rattle.std.specs.Prelude.{◌≡◌, ◌+◌, ◌-◌, ◌^◌, ◌<◌, ℕ, map, length, slice_get, string_bytes, Some, IfOk, IfErr, option_map};
+ghost use Rattle.serde_json.specs.View.{view};
+ghost use Rattle.symbols_tree.specs.declared.ids.SymbolId.{SymbolId as SymbolNumber};
+ghost use Rattle.symbols_table.specs.DeclViews.{exports_view};
+ghost use Rattle.symbols_table.specs.Modules.{symbols_in};
+ghost use Rattle.symbols_table.specs.Symbols.{exports_in};
+ghost use Rattle.symq_core.specs.Queries.{query_view};
+ghost use Rattle.symq_core.specs.Answers.{export_data, exports_data, fault_data, module_answer, exports_answer, answer_data, answer_text};
+
+use crate::program::query::{Query, line_value, query};
+use indexmap::IndexMap;
+use serde_json::{Value, json};
+use std::alloc::{AllocError, Global};
+use symbols_table::analyze;
+use symbols_table::info::{EsModuleInfo, SymbolsFault};
+use symbols_tree::check::{GraphModule, ModuleGraph};
+use symbols_tree::ids::{ModuleId, SymbolId};
+
+fn export_value(alloc: Global, specifier: &str, name: &str, symbol: SymbolId) -> Result<Value, AllocError>
+    ensures { IfOk result (λ value. view value ≡ export_data specifier.now (name.now, symbol)) }
+{
+    let number = symbol.number();
+    json!(in alloc; {"chain": [], "module": specifier, "name": name, "symbol": number})
+}
+
+fn export_values(
+    alloc: Global,
+    specifier: &str,
+    exports: &IndexMap<String, SymbolId>,
+) -> Result<Vec<Value>, AllocError>
+    ensures { IfOk result (λ values. map view values.items ≡ map (export_data specifier.now) (exports_view exports.now.entries)) }
+{
+    let mut values = Vec::with_capacity(alloc, exports.len())?;
+    for (name, symbol) in exports {
+        values.push(export_value(alloc, specifier, name.as_str(), *symbol)?)?;
+    }
+    Ok(values)
+}
+
+/// The own exports of a module.
+fn exports_value(
+    alloc: Global,
+    specifier: &str,
+    exports: &IndexMap<String, SymbolId>,
+) -> Result<Value, AllocError>
+    ensures { IfOk result (λ value. view value ≡ exports_data specifier.now (exports_view exports.now.entries)) }
+{
+    let entries = Value::Array(export_values(alloc, specifier, exports)?);
+    json!(in alloc; {"exports": entries, "unresolved": []})
+}
+
+/// The exports of a module of the graph, which is analysed anew for each query until modules are
+/// stored.
+fn module_exports(alloc: Global, module: &GraphModule) -> Result<Value, AllocError>
+    ensures { IfOk result (λ value. view value ≡ module_answer module.now (tree_of module.now.content)) }
+{
+    match analyze(alloc, ModuleId::from_number(0), module, u32::MAX) {
+        Ok(Some(info)) => match info.esm() {
+            Some(esm) => exports_value(alloc, module.specifier(), esm.module_symbol().exports()),
+            None => Ok(Value::Null),
+        },
+        Ok(None) => Ok(Value::Null),
+        Err(SymbolsFault::OutOfMemory) => Err(AllocError),
+        Err(_) => json!(in alloc; {"fault": "too many symbols"}),
+    }
+}
+
+fn query_answer(alloc: Global, graph: &ModuleGraph, query: Query<'_>) -> Result<Value, AllocError>
+    ensures { IfOk result (λ value. view value ≡ answer_data graph.now (Some (query_view query.entry))) }
+{
+    match query {
+        Query::Exports(specifier) => match graph.get(specifier) {
+            Some(module) => module_exports(alloc, module),
+            None => Ok(Value::Null),
+        },
+    }
+}
+
+fn line_answer(alloc: Global, graph: &ModuleGraph, line: &[u8]) -> Result<Value, AllocError>
+    ensures { IfOk result (λ value. view value ≡ answer_data graph.now (option_and_then query_of (value_of line.now))) }
+{
+    let value = line_value(alloc, line)?;
+    match value.as_ref().and_then(query) {
+        Some(query) => query_answer(alloc, graph, query),
+        None => json!(in alloc; {"fault": "bad query"}),
+    }
+}
+
+/// The text of the answer to a line, without a line end.
+pub(crate) fn answer(alloc: Global, graph: &ModuleGraph, line: &[u8]) -> Result<String, AllocError>
+    ensures { IfOk result (λ text. string_bytes text ≡ answer_text graph.now line.now) }
+{
+    let value = line_answer(alloc, graph, line)?;
+    value.to_string(alloc)
+}
