@@ -41,29 +41,29 @@ module _ (text : List ℕ) (nodes : List Node) (n : ℕ) (depths : List ℕ) (be
       let not_above : q < m → ⊥ = λ l. no_lower_parent nodes q m c (before (SharedChild m) (omega arith)) l child' child in
       omega arith
 
-  -- as many nodes stand above one as its depth says
+  -- a node has at least the ancestors that its depth counts
   ancestors_to_depth : (k c : ℕ) → c < length nodes → k < get_or depths c 0 → HasAncestors nodes c k
   ancestors_to_depth zero c inside deep = none
-  ancestors_to_depth (suc k) c inside deep = elim (d.level c inside) [
+  ancestors_to_depth (suc k) c inside deep = elim (d.tells c inside) [
     | inl h ↦ absurd (omega (arith, h.0))
     | inr (m, h) ↦
-        let order = lower_child m c h.below h.child in
-        above (record { lower = order.0; child = h.child }) (ancestors_to_depth k m (omega (arith, h.below)) (omega (arith, h.level)))
+        let order = lower_child m c h.lower h.holds in
+        above (record { lower = order.0; child = h.holds }) (ancestors_to_depth k m (omega (arith, h.lower)) (omega (arith, h.deeper)))
   ]
 
   at_least_one : (c : ℕ) → c < length nodes → 1 ≤ get_or depths c 0
-  at_least_one c inside = elim (d.level c inside) [ inl h ↦ omega (arith, h.0) | inr (m, h) ↦ omega (arith, h.level) ]
+  at_least_one c inside = elim (d.tells c inside) [ inl h ↦ omega (arith, h.0) | inr (m, h) ↦ omega (arith, h.deeper) ]
 
-  -- no more nodes stand above one than its depth says
+  -- and it has no more
   ancestors_below_depth : {c k : ℕ} → c ≤ n → HasAncestors nodes c k → k < get_or depths c 0
   ancestors_below_depth {c} low none = at_least_one c (omega arith)
   ancestors_below_depth {c} low (above {m} {n = c'} {count = k} parent rest) =
       let less = ancestors_below_depth {c = m} {k = k} (omega (arith, parent.lower)) rest in
-      elim (d.level c (omega arith)) [
+      elim (d.tells c (omega arith)) [
         | inl h ↦ absurd (h.1 m (omega (arith, parent.lower)) parent.child)
         | inr (q, h) ↦
-            let same = lower_alone m q c (omega (arith, parent.lower)) h.below parent.child h.child in
-            let level : get_or depths c 0 ≡ get_or depths m 0 + 1 = rw same h.level in
+            let same = lower_alone m q c (omega (arith, parent.lower)) h.lower parent.child h.holds in
+            let level : get_or depths c 0 ≡ get_or depths m 0 + 1 = rw same h.deeper in
             omega (arith, less, level)
       ]
 
@@ -74,7 +74,7 @@ module _ (text : List ℕ) (nodes : List Node) (n : ℕ) (depths : List ℕ) (be
 
   -- the depth of the next node can be given to its children
   pub depth_in_range : (1 ≤ get_or depths n 0) × (get_or depths n 0 ≤ 4097)
-  depth_in_range = (at_least_one n room, elim (d.level n room) [ inl h ↦ omega (arith, h.0) | inr (m, h) ↦ omega (arith, h.level, within_limit m h.below) ])
+  depth_in_range = (at_least_one n room, elim (d.tells n room) [ inl h ↦ omega (arith, h.0) | inr (m, h) ↦ omega (arith, h.deeper, within_limit m h.lower) ])
 
   pub over_is_too_deep : 4096 < get_or depths n 0 → IsTooDeep nodes n
   over_is_too_deep over = (room, ancestors_to_depth 4096 n room over)
@@ -86,18 +86,18 @@ module _ (text : List ℕ) (nodes : List Node) (n : ℕ) (depths : List ℕ) (be
     -- a child is met where it is shared
     pub met_is_shared : SomeIndex (children nodes n) (IsMetAt depths (children nodes n)) → HasSharedChild nodes n
     met_is_shared (i, below, inr twice) = (i, below, inr twice)
-    met_is_shared (i, below, inl more) = elim (d.level _ (child_is_there nodes n i fine below)) [
+    met_is_shared (i, below, inl more) = elim (d.tells _ (child_is_there nodes n i fine below)) [
       | inl h ↦ absurd (more h.0)
-      | inr (m, h) ↦ (i, below, inl (m, h.below, h.child))
+      | inr (m, h) ↦ (i, below, inl (m, h.lower, h.holds))
     ]
 
     pub shared_is_met : HasSharedChild nodes n → SomeIndex (children nodes n) (IsMetAt depths (children nodes n))
     shared_is_met (i, below, inr twice) = (i, below, inr twice)
-    shared_is_met (i, below, inl (m, lower, child)) = elim (d.level _ (child_is_there nodes n i fine below)) [
+    shared_is_met (i, below, inl (m, lower, child)) = elim (d.tells _ (child_is_there nodes n i fine below)) [
       | inl h ↦ absurd (h.1 m lower child)
       | inr (q, h) ↦
-          let deep = at_least_one q (omega (arith, h.below)) in
-          (i, below, inl (λ one. omega (arith, h.level, deep, one)))
+          let deep = at_least_one q (omega (arith, h.lower)) in
+          (i, below, inl (λ one. omega (arith, h.deeper, deep, one)))
     ]
 
     module _ (new : List ℕ) (long : length new ≡ length depths) (given : GivesDepth depths new (children nodes n) (get_or depths n 0 + 1)) where
@@ -108,14 +108,14 @@ module _ (text : List ℕ) (nodes : List Node) (n : ℕ) (depths : List ℕ) (be
       -- the depths as far as the nodes up to n tell
       pub HasDepths-next : HasDepths nodes (n + 1) new
       HasDepths-next = record {
-        len = long ∙ d.len;
-        level = λ c inside. elim (given c) [
-          | inl h ↦ inr (n, record { below = omega arith; child = h.0; level = h.1 ∙ ap (λ k. k + 1) (sym (depth_stays n (omega arith))) })
-          | inr h ↦ elim (d.level c inside) [
+        covers = long ∙ d.covers;
+        tells = λ c inside. elim (given c) [
+          | inl h ↦ inr (n, record { lower = omega arith; holds = h.0; deeper = h.1 ∙ ap (λ k. k + 1) (sym (depth_stays n (omega arith))) })
+          | inr h ↦ elim (d.tells c inside) [
             | inl k ↦ inl (h.1 ∙ k.0, λ m lower child. elim (eqb_tells m n) [ inl same ↦ h.0 (rw same.1 at child) | inr other ↦ k.1 m (omega (arith, other.1)) child ])
             | inr (m, k) ↦
-                let stays = depth_stays m (omega (arith, k.below)) in
-                inr (m, record { below = omega (arith, k.below); child = k.child; level = h.1 ∙ k.level ∙ ap (λ l. l + 1) (sym stays) })
+                let stays = depth_stays m (omega (arith, k.lower)) in
+                inr (m, record { lower = omega (arith, k.lower); holds = k.holds; deeper = h.1 ∙ k.deeper ∙ ap (λ l. l + 1) (sym stays) })
           ]
         ];
       }

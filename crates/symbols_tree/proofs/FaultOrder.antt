@@ -5,7 +5,7 @@ use Rattle.symbols_tree.specs.declared.tree.arena.Node.{Node}
 use Rattle.symbols_tree.specs.declared.check.faults.TreeFault.TheVariants.{NoProgram, TooManyNodes, BadChild, SharedChild, BadRange, BadShape, TooDeep}
 use Rattle.symbols_tree.specs.Shapes.{has_bad_shape}
 use Rattle.symbols_tree.specs.TreeFaults.{begins_with_program, HasBadChild, HasSharedChild, HasBadRange, IsTooDeep, NoneBelow, IsFaultless}
-use Rattle.symbols_tree.proofs.NodeLemmas.{has_child, has_shape}
+use Rattle.symbols_tree.proofs.NodeLemmas.{inside_where_child, inside_where_bad_shape}
 
 -- the k-th fault of the node n stands
 abbrev pub StandsAt : List ℕ → List Node → ℕ → ℕ → Type 0
@@ -35,7 +35,7 @@ module _ (text : List ℕ) (nodes : List Node) where
     none_before_next next e (BadShape m) low h = no_other m 3 (omega arith) (omega arith) h (λ l. before (BadShape m) (omega arith) h)
     none_before_next next e (TooDeep m) low h = no_other m 4 (omega arith) (omega arith) h (λ l. before (TooDeep m) (omega arith) h)
 
-  -- before the first node
+  -- the faults of the tree come before those of its nodes
   pub none_before_nodes : begins_with_program nodes ≡ true → length nodes < 2 ^ 32 → NoneBelow text nodes 2
   none_before_nodes program few NoProgram low h = cc
   none_before_nodes program few TooManyNodes low h = omega arith
@@ -45,12 +45,12 @@ module _ (text : List ℕ) (nodes : List Node) where
   none_before_nodes program few (BadShape m) low h = absurd (omega arith)
   none_before_nodes program few (TooDeep m) low h = absurd (omega arith)
 
-  -- after the last node
+  -- no fault stands past those of the last node
   pub faultless : (n : ℕ) → length nodes ≤ n → length nodes < 2 ^ 32 → NoneBelow text nodes (5 * n + 2) → IsFaultless text nodes
   faultless n end few before NoProgram h = before NoProgram (omega arith) h
   faultless n end few before TooManyNodes h = omega arith
-  faultless n end few before (BadChild m) h = before (BadChild m) (omega (arith, has_child nodes m h.0 h.1)) h
-  faultless n end few before (SharedChild m) h = before (SharedChild m) (omega (arith, has_child nodes m h.0 h.1)) h
+  faultless n end few before (BadChild m) h = before (BadChild m) (omega (arith, inside_where_child nodes m h.0 h.1)) h
+  faultless n end few before (SharedChild m) h = before (SharedChild m) (omega (arith, inside_where_child nodes m h.0 h.1)) h
   faultless n end few before (BadRange m) h = before (BadRange m) (omega (arith, slice_get_within nodes m h.0 h.1)) h
-  faultless n end few before (BadShape m) h = before (BadShape m) (omega (arith, has_shape nodes m h)) h
+  faultless n end few before (BadShape m) h = before (BadShape m) (omega (arith, inside_where_bad_shape nodes m h)) h
   faultless n end few before (TooDeep m) h = before (TooDeep m) (omega (arith, h.0)) h

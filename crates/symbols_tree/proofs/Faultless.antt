@@ -1,4 +1,4 @@
--- A tree in which no fault stands is well formed.
+-- A tree without a fault is well formed.
 use Rattle.std.proofs.Common.{◌≡◌, ℕ, ◌^◌, ◌<◌, ◌≤◌, List, length, Bool, true, false, refl, arith}
 use Rattle.symbols_tree.specs.declared.tree.arena.Node.{Node}
 use Rattle.symbols_tree.specs.declared.check.faults.TreeFault.TheVariants.{NoProgram, TooManyNodes, BadChild, SharedChild, BadShape}
@@ -15,8 +15,8 @@ is_true : (b : Bool) → (b ≡ false → ⊥) → b ≡ true
 is_true true refused = refl
 is_true false refused = absurd (refused refl)
 
-pub well_formed : (text : List ℕ) (nodes : List Node) → IsFaultless text nodes → IsWellFormed nodes
-well_formed text nodes none = record {
+pub well_formed_where_faultless : (text : List ℕ) (nodes : List Node) → IsFaultless text nodes → IsWellFormed nodes
+well_formed_where_faultless text nodes none = record {
   begins = is_true _ (none NoProgram);
   few = let some : 2 ^ 32 ≤ length nodes → ⊥ = none TooManyNodes in omega arith;
   ordered = λ m c _ child. child_order nodes m c (none (BadChild m)) child;

@@ -9,13 +9,13 @@ use Rattle.symbols_tree.specs.Depths.{IsMetAt, GivesDepth}
 
 -- the first i numbers have their depth, and none of them was met twice
 pub record HasGiven (ids old depths : List ℕ) (depth i : ℕ) : Type 0 where
-  pub len : length depths ≡ length old
+  pub same_len : length depths ≡ length old
   pub given : GivesDepth old depths (take i ids) depth
   pub single : (j : ℕ) → j < i → IsMetAt old ids j → ⊥
 
 pub HasGiven-none : (ids old : List ℕ) (depth : ℕ) → HasGiven ids old old depth 0
 HasGiven-none ids old depth = record {
-  len = refl;
+  same_len = refl;
   given = λ c. inr (λ h. let below : h.0 < 0 = h.1 in absurd (omega arith), refl);
   single = λ j below. absurd (omega arith);
 }
@@ -48,12 +48,12 @@ module _ (ids old depths : List ℕ) (depth i : ℕ) (h : HasGiven ids old depth
   HasGiven-more id at deep below inside one =
       let here : get_or ids i 0 ≡ id = get_or_default ids i 0 id below ∙ sym at in
       record {
-        len = length-set depths id depth ∙ h.len;
+        same_len = length-set depths id depth ∙ h.same_len;
         given = rw (take_more ids i 0 below, here) (GivesDepth-push old depths (take i ids) depth id inside h.given);
         single = below_more _ _ h.single (single_where_one deep (rw here one));
       }
 
-  -- at the end of the list
+  -- once all the numbers have been seen
   pub GivesDepth-whole : length ids ≤ i → GivesDepth old depths ids depth
   GivesDepth-whole end = let all : take i ids ≡ ids = take_all i ids end in rw all at h.given
 

@@ -21,20 +21,20 @@ children_in_fields nodes n node slots inside at same =
     ∙ ap (flat_map (λ field. field.children)) same
     ∙ sym (ap (λ o. option_map_or children_of (option_map (λ x. x.kind) o) []) here)
 
--- a node that is absent has no children
-pub children_past : (nodes : List Node) (n : ℕ) → length nodes ≤ n → children nodes n ≡ []
+-- past the end of the list there are no children
+pub no_children_past_end : (nodes : List Node) (n : ℕ) → length nodes ≤ n → children nodes n ≡ []
 unfolding children
-children_past nodes n past = ap (λ o. option_map_or children_of (option_map (λ x. x.kind) o) []) (slice_get_past nodes n past)
+no_children_past_end nodes n past = ap (λ o. option_map_or children_of (option_map (λ x. x.kind) o) []) (slice_get_past nodes n past)
 
--- a node with a child is there
-pub has_child : (nodes : List Node) (n i : ℕ) → i < length (children nodes n) → n < length nodes
-has_child nodes n i below =
-    let past : length nodes ≤ n → ⊥ = λ p. let none : length (children nodes n) ≡ 0 = ap length (children_past nodes n p) in omega arith in
+-- only a node of the list has a child
+pub inside_where_child : (nodes : List Node) (n i : ℕ) → i < length (children nodes n) → n < length nodes
+inside_where_child nodes n i below =
+    let past : length nodes ≤ n → ⊥ = λ p. let none : length (children nodes n) ≡ 0 = ap length (no_children_past_end nodes n p) in omega arith in
     omega arith
 
--- a node of a bad shape is there
-pub has_shape : (nodes : List Node) (n : ℕ) → has_bad_shape nodes n ≡ true → n < length nodes
+-- only a node of the list has a bad shape
+pub inside_where_bad_shape : (nodes : List Node) (n : ℕ) → has_bad_shape nodes n ≡ true → n < length nodes
 unfolding has_bad_shape
-has_shape nodes n bad =
+inside_where_bad_shape nodes n bad =
     let past : length nodes ≤ n → ⊥ = λ p. let none : has_bad_shape nodes n ≡ false = ap (λ o. option_map_or (λ kind. has_misplaced_child nodes kind || breaks_rule nodes kind) (option_map (λ x. x.kind) o) false) (slice_get_past nodes n p) in cc in
     omega arith

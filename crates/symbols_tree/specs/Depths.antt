@@ -9,14 +9,14 @@ IsFree nodes n c = (m : ℕ) → m < n → Contains (children nodes m) c → ⊥
 
 -- m, below n, has c as a child, and is one less deep
 pub record IsHeldBy (nodes : List Node) (n : ℕ) (depths : List ℕ) (c m : ℕ) : Type 0 where
-  pub below : m < n
-  pub child : Contains (children nodes m) c
-  pub level : slice_index depths c ≡ slice_index depths m + 1
+  pub lower : m < n
+  pub holds : Contains (children nodes m) c
+  pub deeper : slice_index depths c ≡ slice_index depths m + 1
 
 -- the depths as far as the nodes below n tell: 1 for each node that is no child of theirs
 pub record HasDepths (nodes : List Node) (n : ℕ) (depths : List ℕ) : Type 0 where
-  pub len : length depths ≡ length nodes
-  pub level : (c : ℕ) → c < length nodes → ((slice_index depths c ≡ 1) × IsFree nodes n c) ⊎ ((m : ℕ) × IsHeldBy nodes n depths c m)
+  pub covers : length depths ≡ length nodes
+  pub tells : (c : ℕ) → c < length nodes → ((slice_index depths c ≡ 1) × IsFree nodes n c) ⊎ ((m : ℕ) × IsHeldBy nodes n depths c m)
 
 -- the i-th of the numbers has another depth than 1, or stands among them earlier
 abbrev pub IsMetAt : List ℕ → List ℕ → ℕ → Type 0

@@ -34,7 +34,7 @@ fn push_all_held(fields: &[Option<Field>], ids: &mut Vec<NodeId>) -> Result<(), 
 
 /// Puts the children of the node of a number into the list, in place of what it had: none where
 /// the node is absent. After an `Err` the list may have some of them.
-#[tactic(auto, using(crate::proofs::NodeLemmas::children_in_fields, crate::proofs::NodeLemmas::children_past))]
+#[tactic(auto, using(crate::proofs::NodeLemmas::children_in_fields, crate::proofs::NodeLemmas::no_children_past_end))]
 pub(crate) fn list_children(
     nodes: &[Node],
     n: usize,

@@ -21,7 +21,7 @@ fn begins(nodes: &[Node]) -> bool
     }
 }
 
-fn has_bad_child(ids: &[NodeId], n: usize, count: usize) -> bool
+fn any_bad_child(ids: &[NodeId], n: usize, count: usize) -> bool
     ensures { IsTrue result ↔ SomeIndex ids.now (λ i. IsBadChild count n (slice_index ids.now i)) }
 {
     for id in ids {
@@ -33,7 +33,7 @@ fn has_bad_child(ids: &[NodeId], n: usize, count: usize) -> bool
     false
 }
 
-fn fits(range: SourceRange, text: &str) -> bool
+fn lies_in(range: SourceRange, text: &str) -> bool
     ensures { IsTrue result ↔ IsRangeOf text.now range }
 {
     range.start <= range.end
@@ -60,10 +60,10 @@ fn gives_twice(ids: &[NodeId], depths: &mut [u16], depth: u16) -> bool
 }
 
 /// The depth of the deepest nodes that are let through: the program's is 1.
-const MAX_DEPTH: u16 = 4096;
+const DEEPEST: u16 = 4096;
 
 // The first fault of the node, where none stands before it.
-fn node_fault(
+fn first_fault_at(
     nodes: &[Node],
     text: &str,
     n: usize,
@@ -80,20 +80,20 @@ fn node_fault(
     ensures deep { IfNone result (HasDepths nodes.now (n + 1) depths.new) }
 {
     let id = NodeId(n as u32);
-    if has_bad_child(ids, n, nodes.len()) {
+    if any_bad_child(ids, n, nodes.len()) {
         return Some(TreeFault::BadChild(id));
     }
     let depth = depths[n];
     if gives_twice(ids, depths, depth + 1) {
         return Some(TreeFault::SharedChild(id));
     }
-    if !fits(nodes[n].range, text) {
+    if !lies_in(nodes[n].range, text) {
         return Some(TreeFault::BadRange(id));
     }
     if has_bad_shape(nodes, n) {
         return Some(TreeFault::BadShape(id));
     }
-    if depth > MAX_DEPTH {
+    if depth > DEEPEST {
         return Some(TreeFault::TooDeep(id));
     }
     None
@@ -119,7 +119,7 @@ pub(crate) fn first_tree_fault(
     let mut ids = Vec::new(alloc);
     for n in 0..nodes.len() {
         list_children(nodes, n, &mut ids)?;
-        if let Some(fault) = node_fault(nodes, text, n, &ids, &mut depths) {
+        if let Some(fault) = first_fault_at(nodes, text, n, &ids, &mut depths) {
             return Ok(Some(fault));
         }
     }
