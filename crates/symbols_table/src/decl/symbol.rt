@@ -9,7 +9,7 @@ ghost use Rattle.symbols_table.specs.DeclViews.{decl_view, exports_view};
 use crate::decl::symbol_decl::SymbolDecl;
 use indexmap::{IndexMap, IndexSet};
 use std::alloc::Global;
-use symbols_tree::ids::{ModuleId, SymbolId, UniqueSymbolId};
+use symbols_tree::ids::{ModuleId, SymbolId};
 
 /// A symbol: what is declared under one name of a module, and the names that it has itself.
 #[derive(Drop)]
