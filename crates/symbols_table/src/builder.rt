@@ -5,6 +5,3 @@ mod table;
 mod walk;
 
 pub use analysis::analyze;
-
-#[cfg(test)]
-mod tests;

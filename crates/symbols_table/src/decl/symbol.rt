@@ -93,3 +93,6 @@ impl<'a> Symbol<'a> {
         &self.members
     }
 }
+
+#[cfg(test)]
+mod tests;
