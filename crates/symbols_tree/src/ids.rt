@@ -1,6 +1,6 @@
 //! Numbers that name modules and symbols.
 
-ghost use Rattle.std.specs.Prelude.{◌≡◌};
+ghost use Rattle.std.specs.Prelude.{◌≡◌, decimal, Some};
 
 use std::fmt;
 
@@ -25,6 +25,8 @@ impl ModuleId {
 }
 
 impl fmt::Display for ModuleId {
+    ghost output = { λ id. Some (decimal id.0) };
+
     fn fmt<W: fmt::Write>(&self, f: &mut fmt::Formatter<W>) -> fmt::Result {
         let number = self.0;
         write!(f, "{number}")
@@ -53,6 +55,8 @@ impl SymbolId {
 }
 
 impl fmt::Debug for SymbolId {
+    ghost debug_output = { λ id. Some (decimal id.0) };
+
     fn fmt<W: fmt::Write>(&self, f: &mut fmt::Formatter<W>) -> fmt::Result {
         let number = self.0;
         write!(f, "{number}")

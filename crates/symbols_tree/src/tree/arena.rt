@@ -1,6 +1,6 @@
 //! The arena: nodes in a list, named by their numbers.
 
-ghost use Rattle.std.specs.Prelude.{◌≡◌};
+ghost use Rattle.std.specs.Prelude.{◌≡◌, decimal, Some};
 
 use crate::tree::kinds::Kind;
 use std::fmt;
@@ -30,6 +30,8 @@ impl NodeId {
 }
 
 impl fmt::Display for NodeId {
+    ghost output = { λ id. Some (decimal id) };
+
     fn fmt<W: fmt::Write>(&self, f: &mut fmt::Formatter<W>) -> fmt::Result {
         let number = self.0;
         write!(f, "{number}")
