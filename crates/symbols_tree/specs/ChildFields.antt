@@ -253,7 +253,7 @@ abbrev pub arg_of : Kind → Option ℕ
 arg_of (Kind.Pat (Pat.RestPat child _)) = Some child
 arg_of _ = None
 
-abbrev pub children_of : Kind → List ℕ
-children_of (Kind.Pat (Pat.Plain child)) = child.items
-children_of (Kind.Pat (Pat.Other child)) = child.items
-children_of _ = []
+abbrev pub children_field_of : Kind → List ℕ
+children_field_of (Kind.Pat (Pat.Plain child)) = child.items
+children_field_of (Kind.Pat (Pat.Other child)) = child.items
+children_field_of _ = []

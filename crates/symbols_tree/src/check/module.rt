@@ -1,7 +1,7 @@
 //! Modules of a graph that was accepted.
 
 ghost use Rattle.std.specs.Prelude.{◌≡◌, IfSome};
-ghost use Rattle.std.specs.Option.{option_copied, option_map};
+ghost use Rattle.std.specs.Option.{option_copied};
 ghost use Rattle.symbols_tree.specs.Graph.{module_view, text_of, tree_of, types_of, is_json, IsChecked, content_of};
 ghost use Rattle.symbols_tree.specs.TreeFaults.{IsFaultless};
 ghost use Rattle.symbols_tree.specs.WellFormed.{IsWellFormed};
@@ -71,7 +71,7 @@ impl GraphModule {
 
     /// The specifier of the module that has this module's types, if one was named.
     pub fn types_dependency(&self) -> Option<&str>
-        ensures { option_map (λ t. t.now) result ≡ types_of self.now.content }
+        ensures { option_copied result ≡ types_of self.now.content }
     {
         match &self.kind {
             RawModuleKind::Esm { types, .. } => types.as_ref().map(String::as_str),

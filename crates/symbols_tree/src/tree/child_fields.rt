@@ -3,7 +3,7 @@
 ghost use Rattle.std.specs.Prelude.{◌≡◌};
 ghost use Rattle.std.specs.Option.{option_map};
 ghost use Rattle.symbols_tree.specs.NodeRefs.{node_view, node_in, child_of, list_of};
-ghost use Rattle.symbols_tree.specs.ChildFields.{body_of, specifiers_of, local_of, decl_of, orig_of, expr_of, id_of, entity_of, ident_of, class_of, type_params_of, super_class_of, super_type_params_of, implements_of, function_of, params_of, return_type_of, body_node_of, decls_of, name_of, init_of, extends_of, type_ann_of, members_of, param_of, key_of, value_of, constraint_of, default_of, ty_of, type_args_of, expr_name_of, qualifier_of, label_of, left_of, obj_of, prop_of, right_of, elems_of, props_of, arg_of, children_of};
+ghost use Rattle.symbols_tree.specs.ChildFields.{body_of, specifiers_of, local_of, decl_of, orig_of, expr_of, id_of, entity_of, ident_of, class_of, type_params_of, super_class_of, super_type_params_of, implements_of, function_of, params_of, return_type_of, body_node_of, decls_of, name_of, init_of, extends_of, type_ann_of, members_of, param_of, key_of, value_of, constraint_of, default_of, ty_of, type_args_of, expr_name_of, qualifier_of, label_of, left_of, obj_of, prop_of, right_of, elems_of, props_of, arg_of, children_field_of};
 
 use crate::tree::arena::{NodeId, Tree};
 use crate::tree::kinds::{Decl, Expr, Item, Kind, Member, Pat, Ty};
@@ -627,7 +627,7 @@ impl<'a> NodeRef<'a> {
 
     /// The `children` of `Plain`, `Other`.
     pub fn children(self) -> &'a [NodeId]
-        ensures { result.now ≡ list_of (node_view self.entry) children_of }
+        ensures { result.now ≡ list_of (node_view self.entry) children_field_of }
     {
         let NodeRef { tree, number } = self;
         match &tree.nodes[number as usize].kind {
