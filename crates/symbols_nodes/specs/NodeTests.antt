@@ -1,10 +1,9 @@
 -- What holds of the node of a declaration.
-use Rattle.std.specs.Prelude.{Bool, true, false, is_some, Option, Some, None}
+use Rattle.std.specs.Prelude.{Bool, true, false, is_some, Option, Some}
 use Rattle.std.specs.Option.{option_and_then, option_map_or}
 use Rattle.symbols_tree.specs.NodeRefs.{TreeNode, kind_of, child_of}
 use Rattle.symbols_tree.specs.ChildFields.{function_of, body_node_of, decl_of}
 use Rattle.symbols_tree.specs.declared.tree.kinds.Kind.{Kind}
-use Rattle.symbols_tree.specs.declared.tree.kinds.Kind.TheVariants as Kind
 use Rattle.symbols_tree.specs.declared.tree.kinds.Decl.TheVariants as Decl
 use Rattle.symbols_tree.specs.declared.tree.kinds.Member.TheVariants as Member
 use Rattle.symbols_tree.specs.declared.tree.kinds.MethodKind.TheVariants as MethodKind

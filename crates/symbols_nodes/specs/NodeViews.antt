@@ -1,9 +1,7 @@
 -- Declarations as nodes, as contracts see them: nodes of a tree by their numbers.
 use Rattle.symbols_tree.specs.NodeRefs.{TreeNode, node_view}
 use Rattle.symbols_nodes.specs.declared.nodes.refs.ExportDeclRef.{ExportDeclRef}
-use Rattle.symbols_nodes.specs.declared.nodes.refs.ExportDeclRef.TheVariants as ExportDeclRef
 use Rattle.symbols_nodes.specs.declared.nodes.refs.SymbolNodeRef.{SymbolNodeRef}
-use Rattle.symbols_nodes.specs.declared.nodes.refs.SymbolNodeRef.TheVariants as SymbolNodeRef
 
 -- the declaration after `export`
 pub data ExportDeclView : Type 0 where

@@ -1,5 +1,5 @@
 -- In a graph with no fault nothing is listed twice.
-use Rattle.std.proofs.Common.{◌≡◌, ℕ, List, Some, map, slice_get, sym, ap, subst, ◌∙◌}
+use Rattle.std.proofs.Common.{◌≡◌, ℕ, List, map, sym, ap, subst, ◌∙◌}
 use Rattle.std.specs.Prelude.{string_bytes}
 use Rattle.symbols_tree.specs.declared.check.faults.GraphFault.TheVariants as fault
 use Rattle.symbols_tree.specs.declared.check.raw.RawGraph.{RawGraph}

@@ -1,13 +1,12 @@
 -- The faults of a graph turn by turn.
-use Rattle.std.proofs.Common.{◌≡◌, ◌≢◌, ℕ, zero, suc, ◌+◌, ◌<◌, ◌≤◌, ◌^◌, ◌⊎◌, inl, inr, ⊎_elim, List, Option, None, Some, length, refl, sym, ap, subst, ◌∙◌, arith}
+use Rattle.std.proofs.Common.{◌≡◌, ◌≢◌, ℕ, zero, suc, ◌+◌, ◌<◌, ◌≤◌, ◌^◌, ◌⊎◌, ⊎_elim, List, length, subst, ◌∙◌, arith}
 use Rattle.std.specs.Prelude.{string_bytes}
-use Rattle.std.specs.Option.{option_map}
 use Rattle.symbols_tree.specs.declared.check.faults.TreeFault.{TreeFault}
 use Rattle.symbols_tree.specs.declared.check.faults.GraphFault.{GraphFault}
 use Rattle.symbols_tree.specs.declared.check.faults.GraphFault.TheVariants as fault
 use Rattle.symbols_tree.specs.Graph.{GraphView}
-use Rattle.symbols_tree.specs.GraphFaults.{specifiers, sources, asked, IsChained, IsBadModule, StandsAt, turn, IsTriedBefore, IsFaultlessGraph, IsFirstGraphFault, HasNoneOf, IsFirstOf}
-use Rattle.symbols_tree.specs.Repeats.{IsFirstWhere, IsRepeat}
+use Rattle.symbols_tree.specs.GraphFaults.{specifiers, sources, asked, IsChained, IsBadModule, StandsAt, turn, IsFaultlessGraph, IsFirstGraphFault, HasNoneOf, IsFirstOf}
+use Rattle.symbols_tree.specs.Repeats.{IsRepeat}
 
 -- what stands at the i-th entry where a fault of the turn does
 abbrev pub AtTurn : GraphView → ℕ → ℕ → Type 0

@@ -1,5 +1,5 @@
 -- What the maps of a graph find, against the lists that contracts see.
-use Rattle.std.proofs.Common.{◌≡◌, ℕ, Bool, true, false, cond, ◌&&◌, List, [], ◌∷◌, ◌++◌, Option, None, Some, get_or, drop, map, find, refl, sym, ap, subst, ◌∙◌}
+use Rattle.std.proofs.Common.{◌≡◌, ℕ, Bool, true, false, cond, ◌&&◌, List, [], ◌∷◌, Option, None, Some, get_or, drop, map, find, refl, sym, ap, ◌∙◌}
 use Rattle.std.specs.Prelude.{String, string_bytes, option_and_then, unwrap_or}
 use Rattle.std.specs.Global.{Global}
 use Rattle.std.specs.List.{IsDistinct, AllByRecursion}
@@ -7,10 +7,9 @@ use Rattle.std.specs.Map.{lookup, keys_of}
 use Rattle.std.specs.Option.{option_map, option_or}
 use Rattle.std.specs.Str.{bytes_eq}
 use Rattle.std.specs.String.{string_eq}
-use Rattle.std.proofs.lemmas.Bool.{false≢true}
 use Rattle.std.proofs.lemmas.List.Folds.{find-append}
 use Rattle.std.proofs.lemmas.Slice.Eq.{bytes_eq-Decides}
-use Rattle.symbols_tree.specs.Graph.{GraphView, ModuleView, Resolution, found_resolution, module_of}
+use Rattle.symbols_tree.specs.Graph.{ModuleView, Resolution, found_resolution, module_of}
 use Rattle.symbols_tree.specs.Tables.{AreKeyed, TextMap, rows_of, rows, text_pairs}
 
 -- the target that the redirects have

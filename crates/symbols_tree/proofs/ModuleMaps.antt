@@ -1,10 +1,10 @@
 -- Maps of modules under their specifiers.
-use Rattle.std.proofs.Common.{◌≡◌, ℕ, ◌<◌, List, length, get_or, map, All, refl, sym, ap, subst, ◌∙◌}
+use Rattle.std.proofs.Common.{◌≡◌, ℕ, List, map, sym, ap, subst, ◌∙◌}
 use Rattle.std.specs.Prelude.{String, string_bytes}
 use Rattle.std.specs.Global.{Global}
 use Rattle.std.proofs.lemmas.Simd.{map-map}
 use Rattle.symbols_tree.specs.declared.check.raw.RawModule.{RawModule}
-use Rattle.symbols_tree.specs.Graph.{ModuleView, module_view, content_of, IsChecked}
+use Rattle.symbols_tree.specs.Graph.{ModuleView, module_view}
 use Rattle.symbols_tree.specs.GraphFaults.{specifiers}
 use Rattle.symbols_tree.specs.Repeats.{HasNoRepeat}
 use Rattle.symbols_tree.specs.Tables.{AreKeyed}

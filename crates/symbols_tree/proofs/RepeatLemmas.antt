@@ -6,7 +6,7 @@ use Rattle.std.specs.Str.{bytes_eq}
 use Rattle.std.proofs.lemmas.Bool.{cases_lt, false≢true}
 use Rattle.std.proofs.lemmas.Bool.Decides.{Decides-and}
 use Rattle.std.proofs.lemmas.Slice.Eq.{bytes_eq-Decides}
-use Rattle.std.proofs.lemmas.Option.{slice_get_read, slice_get_past, slice_get_within, slice_get-map, same_Some, none-some}
+use Rattle.std.proofs.lemmas.Option.{slice_get_read, slice_get_within, slice_get-map, same_Some, none-some}
 use Rattle.symbols_tree.specs.Repeats.{IsFirstWhere, IsRepeat, IsRepeatBy}
 
 -- P holds of no entry below n

@@ -1,5 +1,5 @@
 -- Trees of modules, one after another.
-use Rattle.std.proofs.Common.{◌≡◌, ℕ, ◌+◌, ◌<◌, ◌≤◌, List, Option, None, Some, Result, Ok, Err, length, get_or, map, slice_get, All, refl, sym, ap, ◌∙◌, subst, arith}
+use Rattle.std.proofs.Common.{◌≡◌, ℕ, ◌<◌, List, Option, None, Some, Result, Ok, Err, length, get_or, map, slice_get, All, refl, sym, ap, ◌∙◌, subst, arith}
 use Rattle.std.specs.Prelude.{IfOk, IfNone, IfSome, MatchOption, string_bytes}
 use Rattle.std.specs.Option.{option_map}
 use Rattle.std.specs.List.{AllWithin}
@@ -7,7 +7,7 @@ use Rattle.std.proofs.lemmas.Option.{slice_get_read, slice_get_within, slice_get
 use Rattle.symbols_tree.specs.declared.tree.arena.Tree.{Tree}
 use Rattle.symbols_tree.specs.declared.check.raw.RawModule.{RawModule}
 use Rattle.symbols_tree.specs.declared.check.faults.TreeFault.{TreeFault}
-use Rattle.symbols_tree.specs.Graph.{Content, ModuleView, esm, tree_of, text_of, content_of, module_view, IsChecked}
+use Rattle.symbols_tree.specs.Graph.{Content, ModuleView, esm, text_of, content_of, module_view, IsChecked}
 use Rattle.symbols_tree.specs.GraphFaults.{HasTreeFault, IsBadModule}
 use Rattle.symbols_tree.specs.TreeFaults.{IsFaultless, IsFirstTreeFault}
 use Rattle.symbols_tree.specs.WellFormed.{IsWellFormed}

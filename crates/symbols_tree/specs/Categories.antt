@@ -1,9 +1,8 @@
 -- The categories: which kinds may stand at a place.
-use Rattle.std.specs.Prelude.{Bool, true, false, ◌||◌, ◌&&◌, not}
+use Rattle.std.specs.Prelude.{Bool, true, false, ◌||◌, not}
 use Rattle.symbols_tree.specs.declared.tree.names.KindName.{KindName}
 use Rattle.symbols_tree.specs.declared.tree.names.KindName.TheVariants as Name
 use Rattle.symbols_tree.specs.declared.tree.categories.Category.{Category}
-use Rattle.symbols_tree.specs.declared.tree.categories.Category.TheVariants as Category
 
 -- the declarations that stand alone
 abbrev pub is_declaration : KindName → Bool

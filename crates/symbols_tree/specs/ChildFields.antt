@@ -7,7 +7,6 @@ use Rattle.symbols_tree.specs.declared.tree.kinds.Ty.TheVariants as Ty
 use Rattle.symbols_tree.specs.declared.tree.kinds.Expr.TheVariants as Expr
 use Rattle.symbols_tree.specs.declared.tree.kinds.Pat.TheVariants as Pat
 use Rattle.symbols_tree.specs.declared.tree.kinds.Kind.{Kind}
-use Rattle.symbols_tree.specs.declared.tree.kinds.Kind.TheVariants as Kind
 
 abbrev pub body_of : Kind → List ℕ
 body_of (Kind.Item (Item.Program child)) = child.items

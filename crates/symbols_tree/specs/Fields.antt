@@ -1,26 +1,18 @@
 -- The fields of each kind that hold children, in their order, each with the category that may stand there.
-use Rattle.std.specs.Prelude.{ℕ, List, [], ◌∷◌, Option, Some, None, map}
+use Rattle.std.specs.Prelude.{ℕ, List, [], ◌∷◌, Option}
 use Rattle.std.specs.Option.{option_map, option_to_list}
-use Rattle.std.specs.List.{filter_map, flat_map}
+use Rattle.std.specs.List.{filter_map}
 use Rattle.symbols_tree.specs.declared.tree.categories.Category.{Category}
-use Rattle.symbols_tree.specs.declared.tree.categories.Category.TheVariants as Category
 use Rattle.symbols_tree.specs.declared.tree.fields.Children.{Children}
 use Rattle.symbols_tree.specs.declared.tree.fields.Children.TheVariants.{One, Optional, Many}
 use Rattle.symbols_tree.specs.declared.tree.fields.Field.{Field}
 use Rattle.symbols_tree.specs.declared.tree.kinds.Item.{Item}
-use Rattle.symbols_tree.specs.declared.tree.kinds.Item.TheVariants as Item
 use Rattle.symbols_tree.specs.declared.tree.kinds.Decl.{Decl}
-use Rattle.symbols_tree.specs.declared.tree.kinds.Decl.TheVariants as Decl
 use Rattle.symbols_tree.specs.declared.tree.kinds.Member.{Member}
-use Rattle.symbols_tree.specs.declared.tree.kinds.Member.TheVariants as Member
 use Rattle.symbols_tree.specs.declared.tree.kinds.Ty.{Ty}
-use Rattle.symbols_tree.specs.declared.tree.kinds.Ty.TheVariants as Ty
 use Rattle.symbols_tree.specs.declared.tree.kinds.Expr.{Expr}
-use Rattle.symbols_tree.specs.declared.tree.kinds.Expr.TheVariants as Expr
 use Rattle.symbols_tree.specs.declared.tree.kinds.Pat.{Pat}
-use Rattle.symbols_tree.specs.declared.tree.kinds.Pat.TheVariants as Pat
 use Rattle.symbols_tree.specs.declared.tree.kinds.Kind.{Kind}
-use Rattle.symbols_tree.specs.declared.tree.kinds.Kind.TheVariants as Kind
 
 -- a field: which kinds may stand there, and the numbers of the children that do
 pub record FieldView : Type 0 where

@@ -2,19 +2,12 @@
 use Rattle.symbols_tree.specs.declared.tree.names.KindName.{KindName}
 use Rattle.symbols_tree.specs.declared.tree.names.KindName.TheVariants as Name
 use Rattle.symbols_tree.specs.declared.tree.kinds.Item.{Item}
-use Rattle.symbols_tree.specs.declared.tree.kinds.Item.TheVariants as Item
 use Rattle.symbols_tree.specs.declared.tree.kinds.Decl.{Decl}
-use Rattle.symbols_tree.specs.declared.tree.kinds.Decl.TheVariants as Decl
 use Rattle.symbols_tree.specs.declared.tree.kinds.Member.{Member}
-use Rattle.symbols_tree.specs.declared.tree.kinds.Member.TheVariants as Member
 use Rattle.symbols_tree.specs.declared.tree.kinds.Ty.{Ty}
-use Rattle.symbols_tree.specs.declared.tree.kinds.Ty.TheVariants as Ty
 use Rattle.symbols_tree.specs.declared.tree.kinds.Expr.{Expr}
-use Rattle.symbols_tree.specs.declared.tree.kinds.Expr.TheVariants as Expr
 use Rattle.symbols_tree.specs.declared.tree.kinds.Pat.{Pat}
-use Rattle.symbols_tree.specs.declared.tree.kinds.Pat.TheVariants as Pat
 use Rattle.symbols_tree.specs.declared.tree.kinds.Kind.{Kind}
-use Rattle.symbols_tree.specs.declared.tree.kinds.Kind.TheVariants as Kind
 
 abbrev pub item_name : Item → KindName
 item_name (Item.Program _) = Name.Program

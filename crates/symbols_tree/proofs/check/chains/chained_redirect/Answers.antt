@@ -1,4 +1,4 @@
-use Rattle.std.proofs.Common.{◌≡◌, ◌+◌, ◌||◌, Bool, ◌∙◌, sym, ap, subst, take, map, List, ℕ, string_bytes}
+use Rattle.std.proofs.Common.{◌||◌, Bool, ◌∙◌, sym, ap, subst, take, map, List, ℕ}
 use Rattle.std.specs.List.{list_any}
 use Rattle.std.specs.Str.{bytes_eq}
 use Rattle.symbols_tree.specs.Graph.{redirect_view}

@@ -1,6 +1,4 @@
 use Rattle.std.proofs.Common.{◌≡◌, ◌∙◌, sym, ap, rules, map, List, ℕ, Bor, string_bytes}
-use Rattle.std.specs.Option.{option_copied}
-use Rattle.std.specs.Str.{bytes_eq}
 use Rattle.std.specs.Vec.{vec_items}
 use Rattle.std.proofs.lemmas.Iterator.{YieldsList-from_slice, YieldsList-from_map_by}
 use Rattle.std.proofs.lemmas.Iterator.Consumers.{map_from_collect}
@@ -9,7 +7,6 @@ use Rattle.std.proofs.lemmas.Simd.{map-map}
 use Rattle.std.proofs.lemmas.Slice.Eq.{bytes_eq-Decides}
 use Rattle.symbols_tree.specs.Graph.{redirect_view}
 use Rattle.symbols_tree.specs.GraphFaults.{sources}
-use Rattle.symbols_tree.specs.Repeats.{IsFirstWhere, IsRepeat, IsRepeatBy}
 use Rattle.symbols_tree.proofs.RepeatLemmas.{first_repeat_read}
 use Rattle.symbols_tree.proofs.check.duplicates.repeated_source.Goals as goal
 

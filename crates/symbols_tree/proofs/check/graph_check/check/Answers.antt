@@ -1,9 +1,6 @@
-use Rattle.std.proofs.Common.{◌≡◌, ◌≢◌}
-use Rattle.std.specs.Prelude.{IfErr, IfOk}
 use Rattle.std.proofs.lemmas.Result.{err_from_is_err_and, IfOk-weaker, IfErr-weaker}
-use Rattle.symbols_tree.specs.Graph.{GraphView, graph_view}
-use Rattle.symbols_tree.specs.GraphFaults.{HasNoneOf, IsFaultlessGraph}
-use Rattle.symbols_tree.proofs.GraphFaultOrder.{NoneBefore, none_before_first, none_before_more, first_of_all, none_at_all}
+use Rattle.symbols_tree.specs.Graph.{graph_view}
+use Rattle.symbols_tree.proofs.GraphFaultOrder.{none_before_first, none_before_more, first_of_all, none_at_all}
 use Rattle.symbols_tree.proofs.check.graph_check.check.Goals as goal
 
 pub returns-in_err-check_sources-clause-refused : goal.returns-in_err-check_sources-clause-refused

@@ -1,4 +1,4 @@
-use Rattle.std.proofs.Common.{◌≡◌, ◌∙◌, sym, ap, refl, Some, map, List, ℕ, Bor, string_bytes}
+use Rattle.std.proofs.Common.{◌∙◌, sym, ap, refl, Some, map, List, ℕ, Bor, string_bytes}
 use Rattle.std.specs.Option.{option_map}
 use Rattle.symbols_tree.specs.Graph.{graph_view, resolution_view}
 use Rattle.symbols_tree.specs.GraphFaults.{asked}

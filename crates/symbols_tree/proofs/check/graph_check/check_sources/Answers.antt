@@ -1,4 +1,4 @@
-use Rattle.std.proofs.Common.{◌≡◌, ◌∙◌, sym, ap, refl, Some, map}
+use Rattle.std.proofs.Common.{◌∙◌, sym, ap, refl, Some, map}
 use Rattle.std.specs.Option.{option_copied}
 use Rattle.symbols_tree.specs.Graph.{graph_view, redirect_view}
 use Rattle.symbols_tree.specs.GraphFaults.{sources}

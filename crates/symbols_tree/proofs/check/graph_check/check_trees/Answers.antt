@@ -1,5 +1,4 @@
-use Rattle.std.proofs.Common.{rules, ◌≡◌, ◌<◌, ◌≤◌, refl, subst, List, length, get_or, IfOk, MatchOption, string_bytes}
-use Rattle.std.specs.List.{AllWithin}
+use Rattle.std.proofs.Common.{rules, ◌≡◌, ◌<◌, ◌≤◌, refl, subst, List, length, get_or, string_bytes}
 use Rattle.std.proofs.lemmas.List.Elements.{All-from_all_within, AllWithin-upto}
 use Rattle.std.proofs.lemmas.Option.{MatchOption-at_some}
 use Rattle.symbols_tree.specs.declared.check.raw.RawModule.{RawModule}

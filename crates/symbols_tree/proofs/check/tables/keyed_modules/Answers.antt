@@ -1,4 +1,4 @@
-use Rattle.std.proofs.Common.{◌≡◌, refl, sym, ap, ◌∙◌, rules, length, List, ℕ, string_bytes}
+use Rattle.std.proofs.Common.{◌≡◌, refl, ap, ◌∙◌, rules, length, List, ℕ, string_bytes}
 use Rattle.std.proofs.lemmas.Iterator.Adapters.{YieldsList-from_vec}
 use Rattle.std.proofs.lemmas.Iterator.Consumers.{YieldsList-turn, YieldsList-end}
 use Rattle.symbols_tree.specs.Graph.{ModuleView}

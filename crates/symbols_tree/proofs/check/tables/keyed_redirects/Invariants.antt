@@ -1,7 +1,6 @@
 use Rattle.std.proofs.Common.{◌≡◌, length, map, take}
 use Rattle.symbols_tree.specs.Graph.{redirect_view}
 use Rattle.symbols_tree.specs.Tables.{text_pairs}
-use Rattle.symbols_tree.proofs.FilledMaps.{new_name}
 use Rattle.symbols_tree.proofs.check.tables.keyed_redirects.Given as goal
 
 abbrev pub invariant-loop-source : goal.invariant-loop-source

@@ -1,4 +1,4 @@
-use Rattle.std.proofs.Common.{◌≡◌, ◌+◌, ◌&&◌, cond, sym, ap, ◌∙◌, rules, length, take, map, Some, List, ℕ, string_bytes}
+use Rattle.std.proofs.Common.{◌&&◌, cond, sym, ap, ◌∙◌, rules, length, take, map, Some, string_bytes}
 use Rattle.std.specs.Str.{bytes_eq}
 use Rattle.std.proofs.lemmas.Iterator.Adapters.{YieldsList-from_vec}
 use Rattle.std.proofs.lemmas.Iterator.Consumers.{YieldsList-turn}

@@ -1,4 +1,4 @@
-use Rattle.std.proofs.Common.{◌≡◌, sym, ap, ◌∙◌, List, ℕ, Option, string_bytes}
+use Rattle.std.proofs.Common.{sym, ap, ◌∙◌, List, ℕ, Option, string_bytes}
 use Rattle.std.specs.Prelude.{String, unwrap_or}
 use Rattle.std.specs.Global.{Global}
 use Rattle.std.specs.Option.{option_copied, option_map}

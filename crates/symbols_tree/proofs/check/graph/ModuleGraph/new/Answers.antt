@@ -1,4 +1,4 @@
-use Rattle.std.proofs.Common.{◌≡◌, sym, ap, ◌∙◌}
+use Rattle.std.proofs.Common.{sym, ◌∙◌}
 use Rattle.symbols_tree.proofs.DistinctEntries.{distinct_specifiers, distinct_sources, distinct_asked}
 use Rattle.symbols_tree.proofs.GraphLookups.{rows_found}
 use Rattle.symbols_tree.proofs.check.graph.ModuleGraph.new.Goals as goal

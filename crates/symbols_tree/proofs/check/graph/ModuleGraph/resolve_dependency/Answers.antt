@@ -1,6 +1,4 @@
-use Rattle.std.proofs.Common.{◌≡◌, sym, ap, ◌∙◌, rules, List, ℕ, Option, None, Some, string_bytes}
-use Rattle.std.specs.Map.{lookup}
-use Rattle.std.specs.Str.{bytes_eq}
+use Rattle.std.proofs.Common.{◌≡◌, sym, ap, ◌∙◌, rules, string_bytes}
 use Rattle.std.specs.Option.{option_copied, option_map}
 use Rattle.symbols_tree.proofs.GraphLookups.{inside, rows_found}
 use Rattle.symbols_tree.proofs.check.graph.ModuleGraph.resolve_dependency.Goals as goal
