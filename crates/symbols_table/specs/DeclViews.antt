@@ -61,7 +61,7 @@ defined node range = record { kind = definition (Some node); range = range; has_
 abbrev pub last_decl : List Declaration → Option Declaration
 last_decl decls = slice_get decls (length decls - 1)
 
--- a declaration after others of its symbol is an overload: it has a body, and is a function after a function, or a method or a constructor
+-- a declaration has the flag of an overload where its symbol had a declaration already, it has a body, and it is a function whose declaration just before is a function, or a method of kind method, or a constructor
 abbrev pub is_overload_after : Option Declaration → Declaration → Bool
 is_overload_after None decl = false
 is_overload_after (Some before) decl = node_test has_body decl && (if node_test is_function decl then node_test is_function before else node_test is_method decl)
