@@ -10,6 +10,7 @@ pub returns-in_default : goal.returns-in_default
 returns-in_default c = record {
   filled = c.requires.filled;
   limit = refl;
+  of_module = refl;
   longer = omega arith;
   table = λ rows h is at.
       let none : on (kind_of (node_view c.args.node)) (declaration_events (option_map node_view c.args.export) (length rows) h (node_view c.args.node)) ≡ [] = search rules in
@@ -20,6 +21,7 @@ pub returns-in_default-2 : goal.returns-in_default-2
 returns-in_default-2 c = record {
   filled = c.requires.filled;
   limit = refl;
+  of_module = refl;
   longer = omega arith;
   table = λ rows h is at.
       let none : on (kind_of (node_view c.args.node)) (declaration_events (option_map node_view c.args.export) (length rows) h (node_view c.args.node)) ≡ [] = search rules in
