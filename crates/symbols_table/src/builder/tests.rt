@@ -182,6 +182,12 @@ fn analysed<'a>(
     }
 }
 
+/// The module `m`, which has symbols.
+fn found<'a>(alloc: Global, graph: &'a ModuleGraph, limit: u32) -> Result<ModuleInfo<'a>, Fail> {
+    let info = analysed(alloc, graph, "m", limit)?;
+    Ok(info.ok_or("no symbols")?)
+}
+
 /// The exports of a symbol as `name number` parts.
 fn exports_text(alloc: Global, symbol: &Symbol<'_>) -> Result<String, AllocError> {
     let mut text = String::new(alloc);
@@ -190,6 +196,13 @@ fn exports_text(alloc: Global, symbol: &Symbol<'_>) -> Result<String, AllocError
         text.push_str(part.as_str())?;
     }
     Ok(text)
+}
+
+/// The exports of the module of the nodes.
+fn exports_of(alloc: Global, rows: &[Row<'_>], limit: u32) -> Result<String, Fail> {
+    let graph = graph(alloc, rows)?;
+    let info = found(alloc, &graph, limit)?;
+    Ok(exports_text(alloc, info.as_ref().module_symbol())?)
 }
 
 /// The overload flag of each declaration.
@@ -201,11 +214,25 @@ fn flags(alloc: Global, symbol: &Symbol<'_>) -> Result<Vec<bool>, AllocError> {
     Ok(flags)
 }
 
-/// The specifier that a refusal for too many symbols names.
-fn refused(alloc: Global, graph: &ModuleGraph, limit: u32) -> Result<Option<String>, SymbolsFault> {
+/// The overload flags of symbol 1.
+fn first_flags(alloc: Global, info: &ModuleInfo<'_>) -> Result<Vec<bool>, Fail> {
+    let first = SymbolId::from_number(1);
+    let symbol = info.esm().and_then(|esm| esm.symbol(first));
+    Ok(flags(alloc, symbol.ok_or("no symbol")?)?)
+}
+
+/// The overload flags of symbol 1 of the module of the nodes.
+fn flags_of(alloc: Global, rows: &[Row<'_>], limit: u32) -> Result<Vec<bool>, Fail> {
+    let graph = graph(alloc, rows)?;
+    let info = found(alloc, &graph, limit)?;
+    first_flags(alloc, &info)
+}
+
+/// Whether the module `m` is refused, by its specifier, for its many symbols.
+fn is_refused(alloc: Global, graph: &ModuleGraph, limit: u32) -> Result<bool, SymbolsFault> {
     match analysed(alloc, graph, "m", limit) {
-        Ok(_) => Ok(None),
-        Err(SymbolsFault::TooManySymbols(specifier)) => Ok(Some(specifier)),
+        Ok(_) => Ok(false),
+        Err(SymbolsFault::TooManySymbols(specifier)) => Ok(specifier.as_str() == "m"),
         Err(fault) => Err(fault),
     }
 }
@@ -213,10 +240,7 @@ fn refused(alloc: Global, graph: &ModuleGraph, limit: u32) -> Result<Option<Stri
 #[test]
 fn numbers_exports_in_order(rt: HostRuntime) -> Result<(), Fail> {
     let alloc = rt.alloc();
-    let graph = graph(alloc, EXPORTS)?;
-    let info = analysed(alloc, &graph, "m", 4)?.ok_or("no module")?;
-    let module = info.as_ref().module_symbol();
-    let found = exports_text(alloc, module)?;
+    let found = exports_of(alloc, EXPORTS, 4)?;
     assert_eq!(rt; found.as_str(), "f 1 a 2 b 3 ");
     Ok(())
 }
@@ -224,11 +248,7 @@ fn numbers_exports_in_order(rt: HostRuntime) -> Result<(), Fail> {
 #[test]
 fn marks_overloads(rt: HostRuntime) -> Result<(), Fail> {
     let alloc = rt.alloc();
-    let graph = graph(alloc, OVERLOADS)?;
-    let info = analysed(alloc, &graph, "m", 2)?.ok_or("no module")?;
-    let esm = info.esm().ok_or("no module")?;
-    let symbol = esm.symbol(SymbolId::from_number(1)).ok_or("no symbol")?;
-    let found = flags(alloc, symbol)?;
+    let found = flags_of(alloc, OVERLOADS, 2)?;
     assert_eq!(rt; found.as_slice(), [false, true].as_slice());
     Ok(())
 }
@@ -237,12 +257,16 @@ fn marks_overloads(rt: HostRuntime) -> Result<(), Fail> {
 fn refuses_more_symbols_than_the_limit(rt: HostRuntime) -> Result<(), Fail> {
     let alloc = rt.alloc();
     let graph = graph(alloc, EXPORTS)?;
-    for limit in 0..4 {
-        let specifier = refused(alloc, &graph, limit)?.ok_or("accepted")?;
-        assert_eq!(rt; specifier.as_str(), "m");
-    }
-    for limit in [4, u32::MAX] {
-        assert!(rt; refused(alloc, &graph, limit)?.is_none());
+    let limits = [
+        (0, true),
+        (1, true),
+        (2, true),
+        (3, true),
+        (4, false),
+        (u32::MAX, false),
+    ];
+    for (limit, want) in limits {
+        assert_eq!(rt; is_refused(alloc, &graph, limit)?, want, "at {limit}");
     }
     Ok(())
 }
