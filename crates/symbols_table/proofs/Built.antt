@@ -1,5 +1,5 @@
 -- A builder that has read a whole tree.
-use Rattle.std.proofs.Common.{◌≡◌, ℕ, ◌<◌, ◌≤◌, List, [], ◌∷◌, ◌++◌, length, Option, None, Some, sym, ◌∙◌, ap, subst, arith}
+use Rattle.std.proofs.Common.{◌≡◌, ℕ, ◌<◌, ◌≤◌, List, [], ◌∷◌, ◌++◌, length, None, Some, sym, ◌∙◌, ap, subst, arith}
 use Rattle.std.specs.Prelude.{Result, Ok, Err, IsErrAnd, IfErr, slice_get}
 use Rattle.std.specs.Borrow.{Bor}
 use Rattle.std.proofs.lemmas.Option.{slice_get_within, get_or_from_slice_get}
@@ -17,7 +17,7 @@ use Rattle.symbols_table.specs.declared.builder.table.BuildFault.{BuildFault}
 use Rattle.symbols_table.specs.declared.builder.table.BuildFault.TheVariants.{TooManySymbols}
 use Rattle.symbols_table.specs.declared.info.es_module.EsModuleInfo.{EsModuleInfo}
 use Rattle.symbols_table.specs.DeclViews.{Declaration}
-use Rattle.symbols_table.specs.Changes.{Change, makes, declares, parents_of}
+use Rattle.symbols_table.specs.Changes.{Change, makes, declares}
 use Rattle.symbols_table.specs.Events.{Event, changes_of, symbol_at, rows_after}
 use Rattle.symbols_table.specs.TreeEvents.{each_from, item_at, root_of, root_decl}
 use Rattle.symbols_table.specs.Tables.{IsTableOf, IsSymbolOf}

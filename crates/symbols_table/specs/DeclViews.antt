@@ -1,6 +1,6 @@
 -- Declarations and symbols as contracts see them.
-use Rattle.std.specs.Prelude.{ℕ, Bool, true, false, ◌&&◌, if◌then◌else◌, List, [], ◌∷◌, ◌++◌, length, map, slice_get, ◌-◌, Option, Some, None, String, string_bytes}
-use Rattle.std.specs.Option.{option_map, option_map_or, option_and_then}
+use Rattle.std.specs.Prelude.{ℕ, Bool, false, ◌&&◌, if◌then◌else◌, List, [], ◌∷◌, ◌++◌, length, map, slice_get, ◌-◌, Option, Some, None, String, string_bytes}
+use Rattle.std.specs.Option.{option_map, option_map_or}
 use Rattle.std.specs.Global.{Global}
 use Rattle.std.specs.Borrow.{Bor}
 use Rattle.symbols_tree.specs.declared.tree.arena.SourceRange.{SourceRange}
@@ -9,9 +9,7 @@ use Rattle.symbols_tree.specs.Ids.{IdView, id_view}
 use Rattle.symbols_nodes.specs.NodeViews.{NodeView, symbol_node_view}
 use Rattle.symbols_nodes.specs.NodeTests.{is_function, has_body, is_method}
 use Rattle.symbols_table.specs.declared.decl.dep.FileDepName.{FileDepName}
-use Rattle.symbols_table.specs.declared.decl.dep.FileDepName.TheVariants as FileDepName
 use Rattle.symbols_table.specs.declared.decl.symbol_decl.SymbolDeclKind.{SymbolDeclKind}
-use Rattle.symbols_table.specs.declared.decl.symbol_decl.SymbolDeclKind.TheVariants as SymbolDeclKind
 use Rattle.symbols_table.specs.declared.decl.symbol_decl.SymbolDecl.{SymbolDecl}
 
 -- what an import takes of a module: all of it, or a name

@@ -1,5 +1,5 @@
 -- A builder holds the tables of what was changed.
-use Rattle.std.specs.Prelude.{◌≡◌, ℕ, ◌<◌, ◌≤◌, [], ◌++◌, List, length, map, Option, None, Some, All, Result, MatchResult, slice_index_or, slice_get}
+use Rattle.std.specs.Prelude.{◌≡◌, ℕ, ◌<◌, ◌≤◌, [], ◌++◌, List, length, Option, None, Some, All, Result, MatchResult, slice_index_or, slice_get}
 use Rattle.std.specs.Borrow.{Bor}
 use Rattle.indexmap.specs.IndexMap.{get}
 use Rattle.symbols_tree.specs.declared.tree.arena.Id.{Id}

@@ -1,4 +1,4 @@
-use Rattle.std.proofs.Common.{◌≡◌, ℕ, ◌<◌, [], ◌∷◌, List, length, Some, refl, sym, ap, ◌∙◌, subst, arith}
+use Rattle.std.proofs.Common.{◌≡◌, ℕ, ◌<◌, [], ◌∷◌, List, length, refl, sym, ap, ◌∙◌, subst}
 use Rattle.symbols_tree.specs.declared.tree.arena.SourceRange.{SourceRange}
 use Rattle.symbols_nodes.specs.NodeViews.{program}
 use Rattle.symbols_table.specs.DeclViews.{decl_view, defined}

@@ -1,5 +1,5 @@
 use Rattle.std.proofs.Common.{refl}
-use Rattle.symbols_table.proofs.OneChange.{Writes, only_child}
+use Rattle.symbols_table.proofs.OneChange.{only_child}
 use Rattle.symbols_table.proofs.builder.table.Builder.add_child.Goals as goal
 
 pub returns-clause-table : goal.returns-clause-table

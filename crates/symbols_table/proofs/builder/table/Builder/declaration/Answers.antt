@@ -1,7 +1,6 @@
-use Rattle.std.proofs.Common.{◌≡◌, [], List, length, refl, arith, rules}
+use Rattle.std.proofs.Common.{◌≡◌, [], length, refl, arith, rules}
 use Rattle.std.specs.Option.{option_map}
 use Rattle.symbols_tree.specs.NodeRefs.{node_view, kind_of}
-use Rattle.symbols_table.specs.Events.{Event}
 use Rattle.symbols_table.specs.TreeEvents.{on, declaration_events}
 use Rattle.symbols_table.proofs.Walks.{none_read}
 use Rattle.symbols_table.proofs.builder.table.Builder.declaration.Goals as goal
