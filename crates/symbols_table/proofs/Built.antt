@@ -1,5 +1,5 @@
 -- A builder that has read a whole tree.
-use Rattle.std.proofs.Common.{◌≡◌, ℕ, ◌<◌, ◌≤◌, List, [], ◌∷◌, ◌++◌, length, Option, None, Some, sym, ◌∙◌, ap, subst, arith}
+use Rattle.std.proofs.Common.{◌≡◌, ℕ, ◌<◌, ◌≤◌, List, [], ◌∷◌, ◌++◌, length, None, Some, sym, ◌∙◌, ap, subst, arith}
 use Rattle.std.specs.Prelude.{Result, Ok, Err, IsErrAnd, IfErr, slice_get}
 use Rattle.std.specs.Borrow.{Bor}
 use Rattle.std.proofs.lemmas.Option.{slice_get_within, get_or_from_slice_get}
@@ -8,7 +8,7 @@ use Rattle.symbols_tree.specs.declared.tree.arena.Id.{Id}
 use Rattle.symbols_tree.specs.declared.ids.SymbolId.{SymbolId}
 use Rattle.symbols_tree.specs.Ids.{id_view, same_id}
 use Rattle.symbols_table.specs.declared.decl.symbol.Symbol.{Symbol}
-use Rattle.symbols_table.specs.Modules.{symbols_in, mapped_in}
+use Rattle.symbols_table.specs.Modules.{module_in, symbols_in, mapped_in}
 use Rattle.symbols_tree.specs.declared.tree.arena.Tree.{Tree}
 use Rattle.symbols_tree.specs.NodeRefs.{list_of}
 use Rattle.symbols_tree.specs.ChildFields.{body_of}
@@ -17,7 +17,7 @@ use Rattle.symbols_table.specs.declared.builder.table.BuildFault.{BuildFault}
 use Rattle.symbols_table.specs.declared.builder.table.BuildFault.TheVariants.{TooManySymbols}
 use Rattle.symbols_table.specs.declared.info.es_module.EsModuleInfo.{EsModuleInfo}
 use Rattle.symbols_table.specs.DeclViews.{Declaration}
-use Rattle.symbols_table.specs.Changes.{Change, makes, declares, parents_of}
+use Rattle.symbols_table.specs.Changes.{Change, makes, declares}
 use Rattle.symbols_table.specs.Events.{Event, changes_of, symbol_at, rows_after}
 use Rattle.symbols_table.specs.TreeEvents.{each_from, item_at, root_of, root_decl}
 use Rattle.symbols_table.specs.Tables.{IsTableOf, IsSymbolOf}
@@ -40,13 +40,13 @@ begun_tree tree b0 b1 decl s is no_symbols no_ids number made =
     subst (λ (d : Declaration). IsTableOf b1 (changes_of (first_row d ∷ [])) × (symbol_at (first_row d ∷ []) 0 ≡ Some s)) is (begun_read b0 b1 decl s no_symbols no_ids number made)
 
 -- the tables are handed out
-pub has_tables : (b : Builder) (esm : EsModuleInfo) (changes : List Change) → symbols_in esm ≡ b.symbols.items
+pub has_tables : (b : Builder) (esm : EsModuleInfo) (changes : List Change) → symbols_in esm ≡ b.symbols.items → module_in esm ≡ b.module_id
     → ((id : Bor Id) → mapped_in esm id ≡ get (λ (x y : Bor Id). same_id (id_view x.now) (id_view y.now)) b.ids id) → IsTableOf b changes → HasTables esm changes
-has_tables b esm changes symbols_same ids_same is = record {
+has_tables b esm changes symbols_same module_same ids_same is = record {
   count = ap length symbols_same ∙ is.count;
-  symbols = λ s symbol at.
+  symbols = rw module_same (λ s symbol at.
       let found : slice_get b.symbols.items s.0 ≡ Some symbol = sym (ap (λ (xs : List Symbol). slice_get xs s.0) symbols_same) ∙ at in
-      subst (IsSymbolOf changes s) (get_or_from_slice_get b.symbols.items s.0 symbol symbol found) (is.symbols s symbol (slice_get_within b.symbols.items s.0 symbol found));
+      subst (IsSymbolOf b.module_id changes s) (get_or_from_slice_get b.symbols.items s.0 symbol symbol found) (is.symbols s symbol (slice_get_within b.symbols.items s.0 symbol found)));
   ids = λ id. ids_same id ∙ is.ids id;
 }
 

@@ -1,5 +1,5 @@
 -- What a table holds names symbols of the table.
-use Rattle.std.proofs.Common.{◌≡◌, ℕ, ◌+◌, ◌<◌, ◌≤◌, Bool, true, false, List, [], ◌∷◌, suc, zero, length, Option, None, Some, refl, arith}
+use Rattle.std.proofs.Common.{ℕ, ◌<◌, Bool, true, false, List, [], ◌∷◌, suc, Option, None, Some, arith}
 use Rattle.std.specs.Prelude.{All, IfSome}
 use Rattle.std.specs.List.{filter_map, last_or, cons_option}
 use Rattle.symbols_tree.specs.declared.ids.SymbolId.{SymbolId}

@@ -1,5 +1,5 @@
 -- A builder whose table has one change more.
-use Rattle.std.proofs.Common.{◌≡◌, ℕ, ◌<◌, ◌+◌, ◌≤◌, ◌⊎◌, inl, inr, Bool, true, false, cond, List, [], ◌∷◌, ◌++◌, length, get_or, set, map, Option, None, Some, refl, sym, ◌∙◌, ap, subst, arith}
+use Rattle.std.proofs.Common.{◌≡◌, ℕ, ◌<◌, ◌+◌, ◌≤◌, ◌⊎◌, inl, inr, cond, List, [], ◌∷◌, ◌++◌, length, get_or, set, map, Option, None, Some, refl, sym, ◌∙◌, ap, subst, arith}
 use Rattle.std.specs.Prelude.{◌≢◌, All, slice_get}
 use Rattle.std.specs.Borrow.{Bor}
 use Rattle.std.specs.Map.{lookup}
@@ -10,6 +10,7 @@ use Rattle.std.proofs.lemmas.List.Elements.{All-push}
 use Rattle.std.proofs.lemmas.Option.{slice_get-get_or, slice_get_within, get_or_from_slice_get}
 use Rattle.indexmap.specs.IndexMap.{get, insert_entry}
 use Rattle.symbols_tree.specs.declared.tree.arena.Id.{Id}
+use Rattle.symbols_tree.specs.declared.ids.ModuleId.{ModuleId}
 use Rattle.symbols_tree.specs.declared.ids.SymbolId.{SymbolId}
 use Rattle.symbols_tree.specs.Ids.{IdView, id_view, same_id}
 use Rattle.symbols_table.specs.declared.decl.symbol.Symbol.{Symbol}
@@ -52,8 +53,10 @@ pub record Spares (change : Change) (s : SymbolId) : Type 0 where
   pub child : child_in s change ≡ None
   pub member : member_in s change ≡ None
 
-symbol_kept : (changes : List Change) (change : Change) (s : SymbolId) (symbol : Symbol) → parent_in change ≡ None → Spares change s → IsSymbolOf changes s symbol → IsSymbolOf (changes ++ change ∷ []) s symbol
-symbol_kept changes change s symbol silent spares is = record {
+symbol_kept : (module_id : ModuleId) (changes : List Change) (change : Change) (s : SymbolId) (symbol : Symbol) → parent_in change ≡ None → Spares change s → IsSymbolOf module_id changes s symbol → IsSymbolOf module_id (changes ++ change ∷ []) s symbol
+symbol_kept module_id changes change s symbol silent spares is = record {
+  number = is.number;
+  of_module = is.of_module;
   parent = rw (parents_of-out changes change silent) is.parent;
   decls = rw (decls_of-out changes change s spares.decl) is.decls;
   exports = rw (exports_of-out changes change s spares.setting) is.exports;
@@ -84,18 +87,21 @@ pub record Writes (b after : Builder) (t : SymbolId) (old new : Symbol) : Type 0
   pub set_to : after.symbols.items ≡ set b.symbols.items t.0 new
   pub ids : after.ids ≡ b.ids
   pub limit : after.limit ≡ b.limit
+  pub of_module : after.module_id ≡ b.module_id
+  pub number : new.symbol_id ≡ old.symbol_id
+  pub module_number : new.module_id ≡ old.module_id
   pub parent : new.parent_id ≡ old.parent_id
 
 module _ {b after : Builder} {t : SymbolId} {old new : Symbol} (w : Writes b after t old new) (changes : List Change) (is : IsTableOf b changes) where
-  was : IsSymbolOf changes t (get_or b.symbols.items t.0 new) → IsSymbolOf changes t old
-  was h = subst (IsSymbolOf changes t) (read_back b.symbols.items t.0 old new w.below w.read) h
+  was : IsSymbolOf b.module_id changes t (get_or b.symbols.items t.0 new) → IsSymbolOf b.module_id changes t old
+  was h = subst (IsSymbolOf b.module_id changes t) (read_back b.symbols.items t.0 old new w.below w.read) h
 
   -- a change of the symbol t alone
   written : (change : Change) → parent_in change ≡ None → ((id : IdView) → mapping_in id change ≡ None) → ((s : SymbolId) → s.0 ≢ t.0 → Spares change s)
-      → Fits (length b.symbols.items) change → (IsSymbolOf changes t old → IsSymbolOf (changes ++ change ∷ []) t new) → IsTableOf after (changes ++ change ∷ [])
+      → Fits (length b.symbols.items) change → (IsSymbolOf b.module_id changes t old → IsSymbolOf b.module_id (changes ++ change ∷ []) t new) → IsTableOf after (changes ++ change ∷ [])
   written change silent unmapped spares fits changed = record {
     count = rw (parents_of-out changes change silent) (len ∙ is.count);
-    symbols = λ s d lt. by s d (rw len at lt) (cases_eq s.0 t.0);
+    symbols = rw w.of_module (λ s d lt. by s d (rw len at lt) (cases_eq s.0 t.0));
     others = λ s le. let past : length b.symbols.items ≤ s.0 = omega (arith, len) in bare_kept changes change s (spares s (λ same. absurd (omega (arith, w.below)))) (is.others s past);
     ids = λ id. rw (w.ids, mapped-out changes change (id_view id.now) (unmapped (id_view id.now))) (is.ids id);
     few = rw (w.limit, len) is.few;
@@ -107,25 +113,27 @@ module _ {b after : Builder} {t : SymbolId} {old new : Symbol} (w : Writes b aft
       len : length after.symbols.items ≡ length b.symbols.items
       len = rw w.set_to (length-set b.symbols.items t.0 new)
 
-      by : (s : SymbolId) (d : Symbol) → s.0 < length b.symbols.items → (s.0 ≡ t.0) ⊎ (s.0 ≢ t.0) → IsSymbolOf (changes ++ change ∷ []) s (get_or after.symbols.items s.0 d)
+      by : (s : SymbolId) (d : Symbol) → s.0 < length b.symbols.items → (s.0 ≡ t.0) ⊎ (s.0 ≢ t.0) → IsSymbolOf b.module_id (changes ++ change ∷ []) s (get_or after.symbols.items s.0 d)
       by s d lt (inl same) =
           let at : get_or after.symbols.items t.0 d ≡ new = rw w.set_to (get_or-set_same b.symbols.items t.0 new d w.below) in
-          let here : IsSymbolOf (changes ++ change ∷ []) t (get_or after.symbols.items t.0 d) = rw at (changed (was (is.symbols t new w.below))) in
-          let P : ℕ → Type 0 = λ n. IsSymbolOf (changes ++ change ∷ []) (record { 0 = n }) (get_or after.symbols.items n d) in
+          let here : IsSymbolOf b.module_id (changes ++ change ∷ []) t (get_or after.symbols.items t.0 d) = rw at (changed (was (is.symbols t new w.below))) in
+          let P : ℕ → Type 0 = λ n. IsSymbolOf b.module_id (changes ++ change ∷ []) (record { 0 = n }) (get_or after.symbols.items n d) in
           subst P (sym same) here
       by s d lt (inr other) =
           let at : get_or after.symbols.items s.0 d ≡ get_or b.symbols.items s.0 d = rw w.set_to (get_or-set_other b.symbols.items t.0 s.0 new d other) in
-          rw at (symbol_kept changes change s (get_or b.symbols.items s.0 d) silent (spares s other) (is.symbols s d lt))
+          rw at (symbol_kept b.module_id changes change s (get_or b.symbols.items s.0 d) silent (spares s other) (is.symbols s d lt))
 
-  same_parent : (change : Change) → parent_in change ≡ None → IsSymbolOf changes t old → slice_get (parents_of (changes ++ change ∷ [])) t.0 ≡ Some new.parent_id
+  same_parent : (change : Change) → parent_in change ≡ None → IsSymbolOf b.module_id changes t old → slice_get (parents_of (changes ++ change ∷ [])) t.0 ≡ Some new.parent_id
   same_parent change silent h = rw (parents_of-out changes change silent, w.parent) h.parent
 
   pub only_exports : (name : List ℕ) (x : SymbolId) → x.0 < length b.symbols.items → exports_view new.exports.entries ≡ insert_entry bytes_eq (exports_view old.exports.entries) name x
       → new.decls ≡ old.decls → new.child_ids ≡ old.child_ids → new.members ≡ old.members → IsTableOf after (changes ++ exports t name x ∷ [])
   only_exports name x lt e d c m = written (exports t name x) refl (λ id. refl) (λ s other. record { decl = refl; setting = only_other t s (name, x) other; child = refl; member = refl }) (w.below, lt) by
     where
-      by : IsSymbolOf changes t old → IsSymbolOf (changes ++ exports t name x ∷ []) t new
+      by : IsSymbolOf b.module_id changes t old → IsSymbolOf b.module_id (changes ++ exports t name x ∷ []) t new
       by h = record {
+        number = w.number ∙ h.number;
+        of_module = w.module_number ∙ h.of_module;
         parent = same_parent (exports t name x) refl h;
         decls = rw (d, decls_of-out changes (exports t name x) t refl) h.decls;
         exports = e ∙ (ap (λ es. insert_entry bytes_eq es name x) h.exports ∙ sym (exports_of-in changes (exports t name x) t name x (only_same t (name, x))));
@@ -137,8 +145,10 @@ module _ {b after : Builder} {t : SymbolId} {old new : Symbol} (w : Writes b aft
       → new.decls ≡ old.decls → new.exports ≡ old.exports → new.members ≡ old.members → IsTableOf after (changes ++ has_child t x ∷ [])
   only_child x lt e d c m = written (has_child t x) refl (λ id. refl) (λ s other. record { decl = refl; setting = refl; child = only_other t s x other; member = refl }) (w.below, lt) by
     where
-      by : IsSymbolOf changes t old → IsSymbolOf (changes ++ has_child t x ∷ []) t new
+      by : IsSymbolOf b.module_id changes t old → IsSymbolOf b.module_id (changes ++ has_child t x ∷ []) t new
       by h = record {
+        number = w.number ∙ h.number;
+        of_module = w.module_number ∙ h.of_module;
         parent = same_parent (has_child t x) refl h;
         decls = rw (d, decls_of-out changes (has_child t x) t refl) h.decls;
         exports = rw (c, exports_of-out changes (has_child t x) t refl) h.exports;
@@ -150,8 +160,10 @@ module _ {b after : Builder} {t : SymbolId} {old new : Symbol} (w : Writes b aft
       → new.exports ≡ old.exports → new.child_ids ≡ old.child_ids → new.members ≡ old.members → IsTableOf after (changes ++ declares t x ∷ [])
   only_decl x e d c m = written (declares t x) refl (λ id. refl) (λ s other. record { decl = only_other t s x other; setting = refl; child = refl; member = refl }) w.below by
     where
-      by : IsSymbolOf changes t old → IsSymbolOf (changes ++ declares t x ∷ []) t new
+      by : IsSymbolOf b.module_id changes t old → IsSymbolOf b.module_id (changes ++ declares t x ∷ []) t new
       by h = record {
+        number = w.number ∙ h.number;
+        of_module = w.module_number ∙ h.of_module;
         parent = same_parent (declares t x) refl h;
         decls = e ∙ (ap (λ ds. with_decl ds x) h.decls ∙ sym (decls_of-in changes (declares t x) t x (only_same t x)));
         exports = rw (d, exports_of-out changes (declares t x) t refl) h.exports;
@@ -163,12 +175,12 @@ silent_spares : (id : IdView) (x s : SymbolId) → Spares (maps id x) s
 silent_spares id x s = record { decl = refl; setting = refl; child = refl; member = refl }
 
 pub only_maps : (b after : Builder) (changes : List Change) (id : IdView) (x : SymbolId) → x.0 < length b.symbols.items
-    → after.symbols ≡ b.symbols → after.limit ≡ b.limit
+    → after.symbols ≡ b.symbols → after.limit ≡ b.limit → after.module_id ≡ b.module_id
     → ((q : Bor Id) → get (λ (x y : Bor Id). same_id (id_view x.now) (id_view y.now)) after.ids q ≡ cond (same_id id (id_view q.now)) (Some x) (get (λ (x y : Bor Id). same_id (id_view x.now) (id_view y.now)) b.ids q))
     → IsTableOf b changes → IsTableOf after (changes ++ maps id x ∷ [])
-only_maps b after changes id x lt same limit_same updated is = record {
+only_maps b after changes id x lt same limit_same module_same updated is = record {
   count = rw (same, parents_of-out changes (maps id x) refl) is.count;
-  symbols = rw same (λ s d below. symbol_kept changes (maps id x) s (get_or b.symbols.items s.0 d) refl (silent_spares id x s) (is.symbols s d below));
+  symbols = rw (same, module_same) (λ s d below. symbol_kept b.module_id changes (maps id x) s (get_or b.symbols.items s.0 d) refl (silent_spares id x s) (is.symbols s d below));
   others = λ s le. bare_kept changes (maps id x) s (silent_spares id x s) (is.others s (rw same at le));
   ids = λ q. updated q ∙ (ap (λ o. cond (same_id id (id_view q.now)) (Some x) o) (is.ids q) ∙ sym (mapped-maps changes (maps id x) (id_view q.now) (same_id id (id_view q.now)) x refl));
   few = rw (same, limit_same) is.few;
@@ -179,9 +191,11 @@ only_maps b after changes id x lt same limit_same updated is = record {
 
 -- a new symbol with its first declaration
 module _ (b after : Builder) (changes : List Change) (parent : Option SymbolId) (x : Declaration) (t : SymbolId) (new : Symbol) where
-  kept_twice : (s : SymbolId) (symbol : Symbol) → s.0 ≢ t.0 → IsSymbolOf changes s symbol → IsSymbolOf ((changes ++ makes parent ∷ []) ++ declares t x ∷ []) s symbol
-  kept_twice s symbol other is = symbol_kept (changes ++ makes parent ∷ []) (declares t x) s symbol refl (record { decl = only_other t s x other; setting = refl; child = refl; member = refl })
+  kept_twice : (s : SymbolId) (symbol : Symbol) → s.0 ≢ t.0 → IsSymbolOf b.module_id changes s symbol → IsSymbolOf b.module_id ((changes ++ makes parent ∷ []) ++ declares t x ∷ []) s symbol
+  kept_twice s symbol other is = symbol_kept b.module_id (changes ++ makes parent ∷ []) (declares t x) s symbol refl (record { decl = only_other t s x other; setting = refl; child = refl; member = refl })
       (record {
+        number = is.number;
+        of_module = is.of_module;
         parent = rw (parents_of-in changes (makes parent) parent refl) (slice_get-push (parents_of changes) parent s.0 symbol.parent_id is.parent);
         decls = rw (decls_of-out changes (makes parent) s refl) is.decls;
         exports = rw (exports_of-out changes (makes parent) s refl) is.exports;
@@ -192,12 +206,12 @@ module _ (b after : Builder) (changes : List Change) (parent : Option SymbolId) 
   bare_first : (s : SymbolId) → IsBare changes s → IsBare (changes ++ makes parent ∷ []) s
   bare_first s is = bare_kept changes (makes parent) s (record { decl = refl; setting = refl; child = refl; member = refl }) is
 
-  pub made : IsTableOf b changes → after.symbols.items ≡ b.symbols.items ++ new ∷ [] → t.0 ≡ length b.symbols.items → after.ids ≡ b.ids → after.limit ≡ b.limit → length b.symbols.items < b.limit
-      → IsParentOf t.0 parent → new.parent_id ≡ parent → map decl_view new.decls.items ≡ with_decl [] x → new.exports.entries ≡ [] → new.child_ids.keys ≡ [] → new.members.keys ≡ []
+  pub made : IsTableOf b changes → after.symbols.items ≡ b.symbols.items ++ new ∷ [] → t.0 ≡ length b.symbols.items → after.ids ≡ b.ids → after.limit ≡ b.limit → after.module_id ≡ b.module_id → length b.symbols.items < b.limit
+      → IsParentOf t.0 parent → new.symbol_id ≡ t → new.module_id ≡ b.module_id → new.parent_id ≡ parent → map decl_view new.decls.items ≡ with_decl [] x → new.exports.entries ≡ [] → new.child_ids.keys ≡ [] → new.members.keys ≡ []
       → IsTableOf after ((changes ++ makes parent ∷ []) ++ declares t x ∷ [])
-  made is pushed number ids_same limit_same room lower parent_is decls_is exports_is children_is members_is = record {
+  made is pushed number ids_same limit_same module_same room lower number_is of_module_is parent_is decls_is exports_is children_is members_is = record {
     count = rw (pushed, parents_of-out (changes ++ makes parent ∷ []) (declares t x) refl, parents_of-in changes (makes parent) parent refl, length_push b.symbols.items new, length_push (parents_of changes) parent) (ap (λ n. n + 1) is.count);
-    symbols = λ s d lt. by s d lt (cases_eq s.0 t.0);
+    symbols = rw module_same (λ s d lt. by s d lt (cases_eq s.0 t.0));
     others = λ s le. bare_kept (changes ++ makes parent ∷ []) (declares t x) s (record { decl = only_other t s x (λ e. absurd (omega (arith, len))); setting = refl; child = refl; member = refl }) (bare_first s (is.others s (omega (arith, len))));
     ids = λ id. rw (ids_same, mapped-out (changes ++ makes parent ∷ []) (declares t x) (id_view id.now) refl, mapped-out changes (makes parent) (id_view id.now) refl) (is.ids id);
     few = rw limit_same (omega (arith, len));
@@ -209,10 +223,12 @@ module _ (b after : Builder) (changes : List Change) (parent : Option SymbolId) 
       len : length after.symbols.items ≡ length b.symbols.items + 1
       len = rw pushed (length_push b.symbols.items new)
 
-      here : IsSymbolOf ((changes ++ makes parent ∷ []) ++ declares t x ∷ []) t new
+      here : IsSymbolOf b.module_id ((changes ++ makes parent ∷ []) ++ declares t x ∷ []) t new
       here =
           let bare = bare_first t (is.others t (omega (arith, number))) in
           record {
+            number = number_is;
+            of_module = of_module_is;
             parent = rw (parents_of-out (changes ++ makes parent ∷ []) (declares t x) refl, parents_of-in changes (makes parent) parent refl, parent_is) (slice_get-push_last (parents_of changes) parent t.0 (sym is.count ∙ sym number));
             decls = decls_is ∙ (ap (λ ds. with_decl ds x) (sym bare.decls) ∙ sym (decls_of-in (changes ++ makes parent ∷ []) (declares t x) t x (only_same t x)));
             exports = ap exports_view exports_is ∙ (sym bare.exports ∙ sym (exports_of-out (changes ++ makes parent ∷ []) (declares t x) t refl));
@@ -220,10 +236,10 @@ module _ (b after : Builder) (changes : List Change) (parent : Option SymbolId) 
             members = members_is ∙ (sym bare.members ∙ sym (members_of-out (changes ++ makes parent ∷ []) (declares t x) t refl));
           }
 
-      by : (s : SymbolId) (d : Symbol) → s.0 < length after.symbols.items → (s.0 ≡ t.0) ⊎ (s.0 ≢ t.0) → IsSymbolOf ((changes ++ makes parent ∷ []) ++ declares t x ∷ []) s (get_or after.symbols.items s.0 d)
+      by : (s : SymbolId) (d : Symbol) → s.0 < length after.symbols.items → (s.0 ≡ t.0) ⊎ (s.0 ≢ t.0) → IsSymbolOf b.module_id ((changes ++ makes parent ∷ []) ++ declares t x ∷ []) s (get_or after.symbols.items s.0 d)
       by s d lt (inl same) =
           let at : get_or after.symbols.items t.0 d ≡ new = rw pushed (get_or_push b.symbols.items new d t.0 (sym number)) in
-          let P : ℕ → Type 0 = λ n. IsSymbolOf ((changes ++ makes parent ∷ []) ++ declares t x ∷ []) (record { 0 = n }) (get_or after.symbols.items n d) in
+          let P : ℕ → Type 0 = λ n. IsSymbolOf b.module_id ((changes ++ makes parent ∷ []) ++ declares t x ∷ []) (record { 0 = n }) (get_or after.symbols.items n d) in
           subst P (sym same) (rw at here)
       by s d lt (inr other) =
           let short : s.0 < length b.symbols.items = omega (arith, len, number, other) in

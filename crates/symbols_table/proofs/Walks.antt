@@ -1,6 +1,6 @@
 -- Calls that stand for events one after another.
-use Rattle.std.proofs.Common.{◌≡◌, ℕ, suc, ◌+◌, ◌<◌, ◌≤◌, add-one, take, drop, get_or, List, [], ◌∷◌, ◌++◌, length, Option, None, Some, refl, sym, ◌∙◌, ap, subst, arith, append_assoc}
-use Rattle.std.specs.Prelude.{Result, Ok, Err, IsErrAnd, IfErr}
+use Rattle.std.proofs.Common.{◌≡◌, ℕ, suc, ◌+◌, ◌<◌, ◌≤◌, add-one, take, drop, get_or, List, [], ◌∷◌, ◌++◌, length, Option, None, Some, refl, sym, ◌∙◌, ap, arith, append_assoc}
+use Rattle.std.specs.Prelude.{Result, Ok, Err, IsErrAnd}
 use Rattle.std.proofs.Math.Seq.{take-suc}
 use Rattle.std.proofs.lemmas.List.{append-nil, length-append, take-append-drop}
 use Rattle.symbols_tree.specs.declared.ids.SymbolId.{SymbolId}
@@ -67,6 +67,7 @@ split_item items i n below is =
 pub record IsWalked (begun now : Builder) (events : ℕ → ℕ → ℕ → List Event) (holder : SymbolId) (items : List ℕ) : Type 0 where
   pub filled : IsFilled now
   pub limit : now.limit ≡ begun.limit
+  pub of_module : now.module_id ≡ begun.module_id
   pub longer : length begun.symbols.items ≤ length now.symbols.items
   pub table : (rows : List Row) (h : ℕ) → IsTableOf begun (changes_of rows) → symbol_at rows h ≡ Some holder → IsTableOf now (changes_of (rows_after rows (each_from (events h) (length rows) items)))
 
@@ -76,13 +77,14 @@ rows_item events rows items n =
     rw (each_from-append events (length rows) items (n ∷ []), rows_after-append rows (each_from events (length rows) items) (each_from events (length rows + length (each_from events (length rows) items)) (n ∷ [])), length-rows_after rows (each_from events (length rows) items), append-nil) refl
 
 pub walked_none : (b : Builder) (events : ℕ → ℕ → ℕ → List Event) (holder : SymbolId) → IsFilled b → IsWalked b b events holder []
-walked_none b events holder filled = record { filled = filled; limit = refl; longer = omega arith; table = λ rows h is at. rw (rows_after-nil rows) is }
+walked_none b events holder filled = record { filled = filled; limit = refl; of_module = refl; longer = omega arith; table = λ rows h is at. rw (rows_after-nil rows) is }
 
 pub walked_more : {A : Type 0} {begun now : Builder} {events : ℕ → ℕ → ℕ → List Event} {holder : SymbolId} {items : List ℕ} (w : IsWalked begun now events holder items) (next : Builder) (n : ℕ) (x : A)
-    → IsFilled next → next.limit ≡ now.limit → length now.symbols.items ≤ length next.symbols.items → ReadsItem (Ok x) now next events holder n → IsWalked begun next events holder (items ++ n ∷ [])
-walked_more {A} {begun} {now} {events} {holder} {items} w next n x filled limit longer reads = record {
+    → IsFilled next → next.limit ≡ now.limit → next.module_id ≡ now.module_id → length now.symbols.items ≤ length next.symbols.items → ReadsItem (Ok x) now next events holder n → IsWalked begun next events holder (items ++ n ∷ [])
+walked_more {A} {begun} {now} {events} {holder} {items} w next n x filled limit of_module longer reads = record {
   filled = filled;
   limit = limit ∙ w.limit;
+  of_module = of_module ∙ w.of_module;
   longer = omega (arith, w.longer, longer);
   table = λ rows h is at.
       let so_far = rows_after rows (each_from (events h) (length rows) items) in

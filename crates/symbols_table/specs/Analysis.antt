@@ -26,10 +26,10 @@ tree_changes tree = changes_by (tree_events tree)
 abbrev pub symbol_count : Tree → ℕ
 symbol_count tree = length (parents_of (tree_changes tree))
 
--- the module has the symbols of the changes, each with its tables, and each name stands for the symbol that they map it to
+-- the module has the symbols of the changes, each with its number and its tables, and each name stands for the symbol that they map it to
 pub record HasTables (esm : EsModuleInfo) (changes : List Change) : Type 0 where
   pub count : length (symbols_in esm) ≡ length (parents_of changes)
-  pub symbols : (s : SymbolId) (symbol : Symbol) → slice_get (symbols_in esm) s.0 ≡ Some symbol → IsSymbolOf changes s symbol
+  pub symbols : (s : SymbolId) (symbol : Symbol) → slice_get (symbols_in esm) s.0 ≡ Some symbol → IsSymbolOf (module_in esm) changes s symbol
   pub ids : (id : Bor Id) → mapped_in esm id ≡ mapped changes (id_view id.now)
 
 -- the module of the graph, with the tables of its tree

@@ -1,6 +1,6 @@
 -- Declarations and symbols as contracts see them.
-use Rattle.std.specs.Prelude.{ℕ, Bool, true, false, ◌&&◌, if◌then◌else◌, List, [], ◌∷◌, ◌++◌, length, map, slice_get, ◌-◌, Option, Some, None, String, string_bytes}
-use Rattle.std.specs.Option.{option_map, option_map_or, option_and_then}
+use Rattle.std.specs.Prelude.{ℕ, Bool, false, ◌&&◌, if◌then◌else◌, List, [], ◌∷◌, ◌++◌, length, map, slice_get, ◌-◌, Option, Some, None, String, string_bytes}
+use Rattle.std.specs.Option.{option_map, option_map_or}
 use Rattle.std.specs.Global.{Global}
 use Rattle.std.specs.Borrow.{Bor}
 use Rattle.symbols_tree.specs.declared.tree.arena.SourceRange.{SourceRange}
@@ -9,9 +9,7 @@ use Rattle.symbols_tree.specs.Ids.{IdView, id_view}
 use Rattle.symbols_nodes.specs.NodeViews.{NodeView, symbol_node_view}
 use Rattle.symbols_nodes.specs.NodeTests.{is_function, has_body, is_method}
 use Rattle.symbols_table.specs.declared.decl.dep.FileDepName.{FileDepName}
-use Rattle.symbols_table.specs.declared.decl.dep.FileDepName.TheVariants as FileDepName
 use Rattle.symbols_table.specs.declared.decl.symbol_decl.SymbolDeclKind.{SymbolDeclKind}
-use Rattle.symbols_table.specs.declared.decl.symbol_decl.SymbolDeclKind.TheVariants as SymbolDeclKind
 use Rattle.symbols_table.specs.declared.decl.symbol_decl.SymbolDecl.{SymbolDecl}
 
 -- what an import takes of a module: all of it, or a name
@@ -61,7 +59,7 @@ defined node range = record { kind = definition (Some node); range = range; has_
 abbrev pub last_decl : List Declaration → Option Declaration
 last_decl decls = slice_get decls (length decls - 1)
 
--- a declaration after others of its symbol is an overload: it has a body, and is a function after a function, or a method or a constructor
+-- a declaration has the flag of an overload where its symbol had a declaration already, it has a body, and it is a function whose declaration just before is a function, or a method of kind method, or a constructor
 abbrev pub is_overload_after : Option Declaration → Declaration → Bool
 is_overload_after None decl = false
 is_overload_after (Some before) decl = node_test has_body decl && (if node_test is_function decl then node_test is_function before else node_test is_method decl)

@@ -1,8 +1,16 @@
 -- What a symbol shows.
 use Rattle.std.specs.Prelude.{ℕ, List, map, Option}
+use Rattle.symbols_tree.specs.declared.ids.ModuleId.{ModuleId}
 use Rattle.symbols_tree.specs.declared.ids.SymbolId.{SymbolId}
 use Rattle.symbols_table.specs.declared.decl.symbol.Symbol.{Symbol}
 use Rattle.symbols_table.specs.DeclViews.{Declaration, decl_view, exports_view}
+
+-- its own number, and that of its module
+abbrev pub number_in : Symbol → SymbolId
+number_in symbol = symbol.symbol_id
+
+abbrev pub module_number_in : Symbol → ModuleId
+module_number_in symbol = symbol.module_id
 
 abbrev pub parent_in : Symbol → Option SymbolId
 parent_in symbol = symbol.parent_id

@@ -1,5 +1,5 @@
 -- A builder holds the tables of what was changed.
-use Rattle.std.specs.Prelude.{◌≡◌, ℕ, ◌<◌, ◌≤◌, [], ◌++◌, List, length, map, Option, None, Some, All, Result, MatchResult, slice_index_or, slice_get}
+use Rattle.std.specs.Prelude.{◌≡◌, ℕ, ◌<◌, ◌≤◌, [], ◌++◌, List, length, Option, None, Some, All, Result, MatchResult, slice_index_or, slice_get}
 use Rattle.std.specs.Borrow.{Bor}
 use Rattle.indexmap.specs.IndexMap.{get}
 use Rattle.symbols_tree.specs.declared.tree.arena.Id.{Id}
@@ -10,12 +10,14 @@ use Rattle.symbols_table.specs.declared.decl.symbol.Symbol.{Symbol}
 use Rattle.symbols_table.specs.declared.builder.table.Builder.{Builder}
 use Rattle.symbols_table.specs.declared.builder.table.BuildFault.{BuildFault}
 use Rattle.symbols_table.specs.declared.builder.table.BuildFault.TheVariants.{TooManySymbols}
-use Rattle.symbols_table.specs.Symbols.{parent_in, decls_in, exports_in, children_in, members_in}
+use Rattle.symbols_table.specs.Symbols.{number_in, module_number_in, parent_in, decls_in, exports_in, children_in, members_in}
 use Rattle.symbols_table.specs.Changes.{Change, makes, declares, exports, has_child, has_member, maps, parents_of, decls_of, exports_of, children_of, members_of, mapped}
 use Rattle.symbols_table.specs.Events.{Event, Row, changes_of, symbol_at, rows_after}
 
--- the symbol holds what was changed of the number s
-pub record IsSymbolOf (changes : List Change) (s : SymbolId) (symbol : Symbol) : Type 0 where
+-- the symbol is that of the number s in the module, and holds what was changed of it
+pub record IsSymbolOf (module_id : ModuleId) (changes : List Change) (s : SymbolId) (symbol : Symbol) : Type 0 where
+  pub number : number_in symbol ≡ s
+  pub of_module : module_number_in symbol ≡ module_id
   pub parent : slice_get (parents_of changes) s.0 ≡ Some (parent_in symbol)
   pub decls : decls_in symbol ≡ decls_of changes s
   pub exports : exports_in symbol ≡ exports_of changes s
@@ -45,7 +47,7 @@ IsParentOf n (Some parent) = parent.0 < n
 
 pub record IsTableOf (b : Builder) (changes : List Change) : Type 0 where
   pub count : length b.symbols.items ≡ length (parents_of changes)
-  pub symbols : (s : SymbolId) (d : Symbol) → s.0 < length b.symbols.items → IsSymbolOf changes s (slice_index_or b.symbols.items s.0 d)
+  pub symbols : (s : SymbolId) (d : Symbol) → s.0 < length b.symbols.items → IsSymbolOf b.module_id changes s (slice_index_or b.symbols.items s.0 d)
   pub others : (s : SymbolId) → length b.symbols.items ≤ s.0 → IsBare changes s
   pub ids : (id : Bor Id) → get (λ (x y : Bor Id). same_id (id_view x.now) (id_view y.now)) b.ids id ≡ mapped changes (id_view id.now)
   pub few : length b.symbols.items ≤ b.limit

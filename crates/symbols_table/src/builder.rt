@@ -5,3 +5,6 @@ mod table;
 mod walk;
 
 pub use analysis::analyze;
+
+#[cfg(test)]
+mod tests;

@@ -72,20 +72,20 @@ fn build<'a>(
 pub fn analyze<'a>(
     alloc: Global,
     module_id: ModuleId,
-    module: &'a GraphModule,
+    graph_module: &'a GraphModule,
     limit: u32,
 ) -> Result<Option<ModuleInfo<'a>>, SymbolsFault>
-    ensures table { IfOk result (IsAnalysis module_id module.now limit) }
-    ensures fault { IfErr result (IsAnalysisFault module.now limit) }
+    ensures table { IfOk result (IsAnalysis module_id graph_module.now limit) }
+    ensures fault { IfErr result (IsAnalysisFault graph_module.now limit) }
 {
-    let Some(tree) = module.tree() else {
+    let Some(tree) = graph_module.tree() else {
         return Ok(None);
     };
-    match build(alloc, module_id, module.specifier(), tree, limit) {
+    match build(alloc, module_id, graph_module.specifier(), tree, limit) {
         Ok(esm) => Ok(Some(ModuleInfo::Esm(esm))),
         Err(BuildFault::OutOfMemory) => Err(SymbolsFault::OutOfMemory),
         Err(BuildFault::TooManySymbols) => {
-            let specifier = String::from_str(alloc, module.specifier())?;
+            let specifier = String::from_str(alloc, graph_module.specifier())?;
             Err(SymbolsFault::TooManySymbols(specifier))
         }
     }

@@ -68,6 +68,7 @@ impl<'a> Builder<'a> {
         requires { IsParentOf (length self.old.symbols.items) parent }
         ensures numbered { IfOk result (λ s. s.0 ≡ length self.old.symbols.items) }
         ensures limit { self.new.limit ≡ self.old.limit }
+        ensures of_module { self.new.module_id ≡ self.old.module_id }
         ensures longer { OnOk result (length self.new.symbols.items ≡ length self.old.symbols.items + 1) }
         ensures table { IfOk result (λ s. (changes : List Change) → IsTableOf self.old changes → IsTableOf self.new ((changes ++ makes parent ∷ []) ++ declares s (decl_view decl.entry) ∷ [])) }
         ensures full { IfErr result (λ fault. fault ≡ TooManySymbols → self.old.limit ≤ length self.old.symbols.items) }
@@ -100,6 +101,7 @@ impl<'a> Builder<'a> {
         requires holder { holder.0 < length self.old.symbols.items }
         requires symbol { symbol.0 < length self.old.symbols.items }
         ensures limit { self.new.limit ≡ self.old.limit }
+        ensures of_module { self.new.module_id ≡ self.old.module_id }
         ensures longer { OnOk result (length self.new.symbols.items ≡ length self.old.symbols.items) }
         ensures table { OnOk result ((changes : List Change) → IsTableOf self.old changes → IsTableOf self.new (changes ++ exports holder name.now symbol ∷ [])) }
         ensures full { IfErr result (λ fault. fault ≡ OutOfMemory) }
@@ -118,6 +120,7 @@ impl<'a> Builder<'a> {
     ) -> Result<(), BuildFault>
         requires { symbol.0 < length self.old.symbols.items }
         ensures limit { self.new.limit ≡ self.old.limit }
+        ensures of_module { self.new.module_id ≡ self.old.module_id }
         ensures longer { OnOk result (length self.new.symbols.items ≡ length self.old.symbols.items) }
         ensures table { OnOk result ((changes : List Change) → IsTableOf self.old changes → IsTableOf self.new (changes ++ declares symbol (decl_view decl.entry) ∷ [])) }
         ensures full { IfErr result (λ fault. fault ≡ OutOfMemory) }
@@ -133,6 +136,7 @@ impl<'a> Builder<'a> {
         requires holder { holder.0 < length self.old.symbols.items }
         requires symbol { symbol.0 < length self.old.symbols.items }
         ensures limit { self.new.limit ≡ self.old.limit }
+        ensures of_module { self.new.module_id ≡ self.old.module_id }
         ensures longer { OnOk result (length self.new.symbols.items ≡ length self.old.symbols.items) }
         ensures table { OnOk result ((changes : List Change) → IsTableOf self.old changes → IsTableOf self.new (changes ++ has_child holder symbol ∷ [])) }
         ensures full { IfErr result (λ fault. fault ≡ OutOfMemory) }
@@ -146,6 +150,7 @@ impl<'a> Builder<'a> {
     pub(crate) fn map_id(&mut self, id: &'a Id, symbol: SymbolId) -> Result<(), BuildFault>
         requires { symbol.0 < length self.old.symbols.items }
         ensures limit { self.new.limit ≡ self.old.limit }
+        ensures of_module { self.new.module_id ≡ self.old.module_id }
         ensures longer { OnOk result (length self.new.symbols.items ≡ length self.old.symbols.items) }
         ensures table { OnOk result ((changes : List Change) → IsTableOf self.old changes → IsTableOf self.new (changes ++ maps (id_view id.now) symbol ∷ [])) }
         ensures full { IfErr result (λ fault. fault ≡ OutOfMemory) }
@@ -177,6 +182,7 @@ impl<'a> Builder<'a> {
         ensures filled { OnOk result (IsFilled self.new) }
         ensures inside { IfOk result (λ s. s.0 < length self.new.symbols.items) }
         ensures limit { self.new.limit ≡ self.old.limit }
+        ensures of_module { self.new.module_id ≡ self.old.module_id }
         ensures longer { OnOk result (length self.old.symbols.items ≤ length self.new.symbols.items) }
         ensures table { (changes : List Change) → IsTableOf self.old changes
             → Reads result (λ s. Some s) self.old.limit self.new changes (new_row changes (Some holder) (decl_view decl.entry) (λ s. maps (id_view id.now) s ∷ [])) }
@@ -198,6 +204,7 @@ impl<'a> Builder<'a> {
         ensures filled { OnOk result (IsFilled self.new) }
         ensures inside { IfOk result (λ s. s.0 < length self.new.symbols.items) }
         ensures limit { self.new.limit ≡ self.old.limit }
+        ensures of_module { self.new.module_id ≡ self.old.module_id }
         ensures longer { OnOk result (length self.old.symbols.items ≤ length self.new.symbols.items) }
         ensures table { (changes : List Change) → IsTableOf self.old changes
             → Reads result (λ s. Some s) self.old.limit self.new changes (declare_row changes holder (id_view id.now) (decl_view decl.entry)) }

@@ -75,6 +75,7 @@ impl<'a> Builder<'a> {
         requires symbol { symbol.0 < length self.old.symbols.items }
         ensures filled { OnOk result (IsFilled self.new) }
         ensures limit { self.new.limit ≡ self.old.limit }
+        ensures of_module { self.new.module_id ≡ self.old.module_id }
         ensures longer { OnOk result (length self.old.symbols.items ≤ length self.new.symbols.items) }
         ensures table { (rows : List Row) (h s : ℕ) → IsTableOf self.old (changes_of rows) → symbol_at rows h ≡ Some holder → symbol_at rows s ≡ Some symbol
             → ReadsAll result self.old.limit self.new (rows_after rows (export_if is_exported h name.now s)) }
@@ -98,6 +99,7 @@ impl<'a> Builder<'a> {
         requires symbol { symbol.0 < length self.old.symbols.items }
         ensures filled { OnOk result (IsFilled self.new) }
         ensures limit { self.new.limit ≡ self.old.limit }
+        ensures of_module { self.new.module_id ≡ self.old.module_id }
         ensures longer { OnOk result (length self.old.symbols.items ≤ length self.new.symbols.items) }
         ensures table { (rows : List Row) (h s : ℕ) → IsTableOf self.old (changes_of rows) → symbol_at rows h ≡ Some holder → symbol_at rows s ≡ Some symbol
             → ReadsAll result self.old.limit self.new (rows_after rows (child h s ∷ export_if is_exported h name.now s)) }
@@ -119,6 +121,7 @@ impl<'a> Builder<'a> {
         requires holder { holder.0 < length self.old.symbols.items }
         ensures filled { OnOk result (IsFilled self.new) }
         ensures limit { self.new.limit ≡ self.old.limit }
+        ensures of_module { self.new.module_id ≡ self.old.module_id }
         ensures longer { OnOk result (length self.old.symbols.items ≤ length self.new.symbols.items) }
         ensures table { (rows : List Row) (h : ℕ) → IsTableOf self.old (changes_of rows) → symbol_at rows h ≡ Some holder
             → ReadsAll result self.old.limit self.new (rows_after rows (declared (length rows) h (id_view id.now) (decl_view decl.entry) is_exported)) }
@@ -138,6 +141,7 @@ impl<'a> Builder<'a> {
         requires holder { holder.0 < length self.old.symbols.items }
         ensures filled { OnOk result (IsFilled self.new) }
         ensures limit { self.new.limit ≡ self.old.limit }
+        ensures of_module { self.new.module_id ≡ self.old.module_id }
         ensures longer { OnOk result (length self.old.symbols.items ≤ length self.new.symbols.items) }
         ensures table { (rows : List Row) (h : ℕ) → IsTableOf self.old (changes_of rows) → symbol_at rows h ≡ Some holder
             → ReadsAll result self.old.limit self.new (rows_after rows (function_events (option_map node_view export.entry) (length rows) h (node_view node.entry))) }
@@ -171,6 +175,7 @@ impl<'a> Builder<'a> {
         requires holder { holder.0 < length self.old.symbols.items }
         ensures filled { OnOk result (IsFilled self.new) }
         ensures limit { self.new.limit ≡ self.old.limit }
+        ensures of_module { self.new.module_id ≡ self.old.module_id }
         ensures longer { OnOk result (length self.old.symbols.items ≤ length self.new.symbols.items) }
         ensures table { (rows : List Row) (h : ℕ) → IsTableOf self.old (changes_of rows) → symbol_at rows h ≡ Some holder
             → ReadsAll result self.old.limit self.new (rows_after rows (binding_events (option_map node_view export.entry) (node_view decl.entry) (node_view declarator.entry) (length rows) h (node_view pattern.entry))) }
@@ -200,6 +205,7 @@ impl<'a> Builder<'a> {
         requires holder { holder.0 < length self.old.symbols.items }
         ensures filled { OnOk result (IsFilled self.new) }
         ensures limit { self.new.limit ≡ self.old.limit }
+        ensures of_module { self.new.module_id ≡ self.old.module_id }
         ensures longer { OnOk result (length self.old.symbols.items ≤ length self.new.symbols.items) }
         ensures table { ReadsItem result self.old self.new (variable_at (option_map node_view export.entry) (node_view decl.entry)) holder n }
     {
@@ -223,6 +229,7 @@ impl<'a> Builder<'a> {
         requires holder { holder.0 < length self.old.symbols.items }
         ensures filled { OnOk result (IsFilled self.new) }
         ensures limit { self.new.limit ≡ self.old.limit }
+        ensures of_module { self.new.module_id ≡ self.old.module_id }
         ensures longer { OnOk result (length self.old.symbols.items ≤ length self.new.symbols.items) }
         ensures table { (rows : List Row) (h : ℕ) → IsTableOf self.old (changes_of rows) → symbol_at rows h ≡ Some holder
             → ReadsAll result self.old.limit self.new (rows_after rows (variables_events (option_map node_view export.entry) (length rows) h (node_view node.entry))) }
@@ -244,6 +251,7 @@ impl<'a> Builder<'a> {
         requires holder { holder.0 < length self.old.symbols.items }
         ensures filled { OnOk result (IsFilled self.new) }
         ensures limit { self.new.limit ≡ self.old.limit }
+        ensures of_module { self.new.module_id ≡ self.old.module_id }
         ensures longer { OnOk result (length self.old.symbols.items ≤ length self.new.symbols.items) }
         ensures table { (rows : List Row) (h : ℕ) → IsTableOf self.old (changes_of rows) → symbol_at rows h ≡ Some holder
             → ReadsAll result self.old.limit self.new (rows_after rows (on (kind_of (node_view node.entry)) (declaration_events (option_map node_view export.entry) (length rows) h (node_view node.entry)))) }
@@ -261,6 +269,7 @@ impl<'a> Builder<'a> {
         requires holder { holder.0 < length self.old.symbols.items }
         ensures filled { OnOk result (IsFilled self.new) }
         ensures limit { self.new.limit ≡ self.old.limit }
+        ensures of_module { self.new.module_id ≡ self.old.module_id }
         ensures longer { OnOk result (length self.old.symbols.items ≤ length self.new.symbols.items) }
         ensures table { (rows : List Row) (h : ℕ) → IsTableOf self.old (changes_of rows) → symbol_at rows h ≡ Some holder
             → ReadsAll result self.old.limit self.new (rows_after rows (exported_events (length rows) h (node_view node.entry))) }
@@ -277,6 +286,7 @@ impl<'a> Builder<'a> {
         requires holder { holder.0 < length self.old.symbols.items }
         ensures filled { OnOk result (IsFilled self.new) }
         ensures limit { self.new.limit ≡ self.old.limit }
+        ensures of_module { self.new.module_id ≡ self.old.module_id }
         ensures longer { OnOk result (length self.old.symbols.items ≤ length self.new.symbols.items) }
         ensures table { ReadsItem result self.old self.new (item_at tree.now) holder n }
     {
@@ -300,6 +310,7 @@ impl<'a> Builder<'a> {
         requires holder { holder.0 < length self.old.symbols.items }
         ensures filled { OnOk result (IsFilled self.new) }
         ensures limit { self.new.limit ≡ self.old.limit }
+        ensures of_module { self.new.module_id ≡ self.old.module_id }
         ensures longer { OnOk result (length self.old.symbols.items ≤ length self.new.symbols.items) }
         ensures table { (rows : List Row) (h : ℕ) → IsTableOf self.old (changes_of rows) → symbol_at rows h ≡ Some holder
             → ReadsAll result self.old.limit self.new (rows_after rows (each_from (item_at tree.now h) (length rows) body.now)) }

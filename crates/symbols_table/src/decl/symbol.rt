@@ -24,7 +24,7 @@ pub struct Symbol<'a> {
 }
 
 impl<'a> Symbol<'a> {
-    ghost use Rattle.symbols_table.specs.Symbols.{decls_in, exports_in, children_in, members_in, parent_in};
+    ghost use Rattle.symbols_table.specs.Symbols.{number_in, module_number_in, parent_in, decls_in, exports_in, children_in, members_in};
 
     /// A symbol that nothing is declared of, with empty tables.
     pub fn new(
@@ -33,6 +33,8 @@ impl<'a> Symbol<'a> {
         symbol_id: SymbolId,
         parent_id: Option<SymbolId>,
     ) -> Symbol<'a>
+        ensures number { number_in result ≡ symbol_id }
+        ensures of_module { module_number_in result ≡ module_id }
         ensures parent { parent_in result ≡ parent_id }
         ensures decls { decls_in result ≡ [] }
         ensures exports { exports_in result ≡ [] }

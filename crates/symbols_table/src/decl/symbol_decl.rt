@@ -30,7 +30,7 @@ pub struct SymbolDeclFlags {
 }
 
 impl SymbolDeclFlags {
-    /// Whether an earlier declaration is an overload of this one.
+    /// The flag of an overload, by the rule of `SymbolDecl::has_overloads`.
     pub fn has_overloads(&self) -> bool
         ensures { result ≡ self.now.has_overloads }
     {
@@ -101,14 +101,16 @@ impl<'a> SymbolDecl<'a> {
         }
     }
 
-    /// Whether an earlier declaration of the symbol is an overload of this one (as deno_graph).
+    /// Whether it has the flag of an overload (as deno_graph): its symbol had a declaration already,
+    /// it has a body, and it is a function whose declaration just before is a function, or a method
+    /// of kind method, or a constructor.
     pub fn has_overloads(&self) -> bool
         ensures { result ≡ (decl_view self.now).has_overloads }
     {
         self.flags.has_overloads()
     }
 
-    /// Whether it is an overload where it comes after these declarations of its symbol.
+    /// Whether it has the flag of an overload where it comes after these declarations of its symbol.
     pub(crate) fn is_overload_after(&self, before: &[SymbolDecl<'a>]) -> bool
         ensures { result ≡ is_overload_after (last_decl (map decl_view before.now)) (decl_view self.now) }
     {

@@ -1,6 +1,6 @@
 use Rattle.std.proofs.Common.{refl, sym, ap, ◌∙◌, subst, Some}
 use Rattle.symbols_tree.specs.declared.tree.arena.Tree.{Tree}
-use Rattle.symbols_table.specs.Analysis.{tree_changes, symbol_count, HasTables}
+use Rattle.symbols_table.specs.Analysis.{tree_changes, HasTables}
 use Rattle.symbols_table.proofs.builder.analysis.analyze.Goals as goal
 
 pub returns-in-Ok-clause-table : goal.returns-in-Ok-clause-table

@@ -1,4 +1,4 @@
-use Rattle.std.proofs.Common.{◌≡◌, ℕ, ◌<◌, [], ◌∷◌, List, length, Some, refl, sym, ap, ◌∙◌, subst, arith}
+use Rattle.std.proofs.Common.{◌≡◌, ℕ, ◌<◌, [], ◌∷◌, List, length, refl, sym, ap, ◌∙◌, subst}
 use Rattle.symbols_tree.specs.declared.tree.arena.SourceRange.{SourceRange}
 use Rattle.symbols_nodes.specs.NodeViews.{program}
 use Rattle.symbols_table.specs.DeclViews.{decl_view, defined}
@@ -27,7 +27,7 @@ returns-clause-tables c =
     let begun = begun_tree tree _ c.new_symbol.new.self (decl_view c.definition-decl.result) c.in_ok-module.module decl c.new.ensures.items c.new-2.ensures.empty c.in_ok-module.ensures.numbered c.in_ok-module.ensures.table in
     let read = c.in_ok-items.ensures.table (first_row (root_decl tree) ∷ []) 0 begun.0 begun.1 in
     let P : List ℕ → Type 0 = λ body. IsTableOf c.items.new.self (changes_of (rows_after (first_row (root_decl tree) ∷ []) (each_from (item_at tree 0) 1 body))) in
-    has_tables c.items.new.self _ (tree_changes tree) refl (λ id. refl) (subst (IsTableOf c.items.new.self) (sym (tree_changes-first tree)) (subst P c.body.ensures read))
+    has_tables c.items.new.self _ (tree_changes tree) refl (sym (c.in_ok-items.ensures.of_module ∙ c.in_ok-module.ensures.of_module)) (λ id. refl) (subst (IsTableOf c.items.new.self) (sym (tree_changes-first tree)) (subst P c.body.ensures read))
 
 pub returns-clause-within : goal.returns-clause-within
 returns-clause-within c =

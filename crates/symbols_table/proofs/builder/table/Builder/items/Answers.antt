@@ -11,7 +11,7 @@ loop-n-init c = walked_none _ _ _ c.requires.filled
 pub loop-n-preserved : goal.loop-n-preserved
 loop-n-preserved c =
     rw (take_item c.args.body.now c.loop-n.n-index c.n-item.result c.loop-n-test.true c.n-item.is)
-    (walked_more c.loop-n.invariant c.item.new.self c.n-item.result c.in_ok-item.field-0 c.in_ok-item.ensures.filled c.in_ok-item.ensures.limit c.in_ok-item.ensures.longer c.in_ok-item.ensures.table)
+    (walked_more c.loop-n.invariant c.item.new.self c.n-item.result c.in_ok-item.field-0 c.in_ok-item.ensures.filled c.in_ok-item.ensures.limit c.in_ok-item.ensures.of_module c.in_ok-item.ensures.longer c.in_ok-item.ensures.table)
 
 pub returns-in_err-item-clause-table : goal.returns-in_err-item-clause-table
 returns-in_err-item-clause-table c = λ rows h is at.

@@ -1,6 +1,4 @@
 use Rattle.std.proofs.Common.{take}
-use Rattle.std.specs.Option.{option_map}
-use Rattle.symbols_tree.specs.NodeRefs.{node_view}
 use Rattle.symbols_table.specs.TreeEvents.{item_at}
 use Rattle.symbols_table.proofs.Walks.{IsWalked}
 use Rattle.symbols_table.proofs.builder.table.Builder.items.Given as goal

@@ -13,7 +13,7 @@ loop-n-init c = walked_none _ _ _ c.requires.filled
 pub loop-n-preserved : goal.loop-n-preserved
 loop-n-preserved c =
     rw (take_item c.decls-n-items.result.now c.loop-n.n-index c.n-item.result c.loop-n-test.true c.n-item.is)
-    (walked_more c.loop-n.invariant c.variable.new.self c.n-item.result c.in_ok-variable.field-0 c.in_ok-variable.ensures.filled c.in_ok-variable.ensures.limit c.in_ok-variable.ensures.longer c.in_ok-variable.ensures.table)
+    (walked_more c.loop-n.invariant c.variable.new.self c.n-item.result c.in_ok-variable.field-0 c.in_ok-variable.ensures.filled c.in_ok-variable.ensures.limit c.in_ok-variable.ensures.of_module c.in_ok-variable.ensures.longer c.in_ok-variable.ensures.table)
 
 pub returns-in_err-variable-clause-table : goal.returns-in_err-variable-clause-table
 returns-in_err-variable-clause-table c = λ rows h is at.
