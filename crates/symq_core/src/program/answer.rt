@@ -82,10 +82,10 @@ fn fault_value(alloc: Global, fault: &SymbolsFault) -> Result<Value, AllocError>
 
 /// The exports of a module of the graph, which is analysed anew for each query until modules are
 /// stored.
-fn module_exports(alloc: Global, module: &GraphModule) -> Result<Value, AllocError>
-    ensures { IfOk result (λ value. view value ≡ module_answer module.now (tree_of module.now.content)) }
+fn module_exports(alloc: Global, graph_module: &GraphModule) -> Result<Value, AllocError>
+    ensures { IfOk result (λ value. view value ≡ module_answer graph_module.now (tree_of graph_module.now.content)) }
 {
-    match analyze(alloc, ModuleId::from_number(0), module, u32::MAX) {
+    match analyze(alloc, ModuleId::from_number(0), graph_module, u32::MAX) {
         Ok(Some(info)) => own_exports(alloc, &info),
         Ok(None) => Ok(Value::Null),
         Err(fault) => fault_value(alloc, &fault),
