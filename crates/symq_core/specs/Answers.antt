@@ -15,7 +15,8 @@ use Rattle.symbols_table.specs.Changes.{exports_of}
 use Rattle.symbols_table.specs.Analysis.{tree_changes, symbol_count}
 use Rattle.symbols_table.specs.Modules.{specifier_in, symbols_in, esm_in}
 use Rattle.symbols_table.specs.Symbols.{exports_in}
-use Rattle.symq_core.specs.Queries.{QueryView, asks_exports, query_of, value_of}
+use Rattle.symq_reader.specs.Graph.{value_of}
+use Rattle.symq_core.specs.Queries.{QueryView, asks_exports, query_of}
 
 -- a line that answers with a fault
 abbrev pub fault_data : List ℕ → Data

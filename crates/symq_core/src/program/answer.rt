@@ -5,7 +5,8 @@ ghost use Rattle.serde_json.specs.View.{view};
 ghost use Rattle.std.specs.Option.{option_and_then};
 ghost use Rattle.symbols_tree.specs.Graph.{tree_of};
 ghost use Rattle.symbols_table.specs.DeclViews.{exports_view};
-ghost use Rattle.symq_core.specs.Queries.{query_view, query_of, value_of};
+ghost use Rattle.symq_reader.specs.Graph.{value_of};
+ghost use Rattle.symq_core.specs.Queries.{query_view, query_of};
 ghost use Rattle.symq_core.specs.Answers.{export_data, exports_data, fault_text, fault_data, TellsExports, module_answer, exports_answer, answer_data, answer_text};
 
 use crate::program::query::{Query, line_value, read_query};
