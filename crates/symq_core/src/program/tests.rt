@@ -53,14 +53,9 @@ fn output(alloc: Global, graph: &ModuleGraph, input: &[u8]) -> Result<MemoryOutp
 }
 
 /// The lines of the input are no queries, and so many.
-fn answers_bad(
-    rt: &impl Abort,
-    alloc: Global,
-    graph: &ModuleGraph,
-    input: &[u8],
-    count: usize,
-) -> Result<(), Fail> {
-    let written = output(alloc, graph, input)?;
+fn answers_bad(rt: &impl Abort, alloc: Global, input: &[u8], count: usize) -> Result<(), Fail> {
+    let graph = graph_of(alloc, GRAPH)?;
+    let written = output(alloc, &graph, input)?;
     let want = bad_answers(alloc, count)?;
     assert!(rt; written.bytes.as_slice() == want.as_slice());
     Ok(())
@@ -68,48 +63,39 @@ fn answers_bad(
 
 #[test]
 fn answers_each_line(rt: HostRuntime) -> Result<(), Fail> {
-    let graph = graph_of(rt.alloc(), GRAPH)?;
-    answers_bad(&rt, rt.alloc(), &graph, b"", 0)?;
-    answers_bad(&rt, rt.alloc(), &graph, b"\n", 1)?;
-    answers_bad(&rt, rt.alloc(), &graph, b"no\n", 1)?;
-    answers_bad(&rt, rt.alloc(), &graph, b"no\n\nno", 3)?;
-    answers_bad(&rt, rt.alloc(), &graph, b"no\r\nno\n", 2)
+    answers_bad(&rt, rt.alloc(), b"", 0)?;
+    answers_bad(&rt, rt.alloc(), b"\n", 1)?;
+    answers_bad(&rt, rt.alloc(), b"no\n", 1)?;
+    answers_bad(&rt, rt.alloc(), b"no\n\nno", 3)?;
+    answers_bad(&rt, rt.alloc(), b"no\r\nno\n", 2)
 }
 
 /// The answer to one line.
-fn answers_one(
-    rt: &impl Abort,
-    alloc: Global,
-    graph: &ModuleGraph,
-    line: &str,
-    want: &[u8],
-) -> Result<(), Fail> {
-    let written = output(alloc, graph, line.as_bytes())?;
+fn answers_one(rt: &impl Abort, alloc: Global, line: &str, want: &[u8]) -> Result<(), Fail> {
+    let graph = graph_of(alloc, GRAPH)?;
+    let written = output(alloc, &graph, line.as_bytes())?;
     assert!(rt; written.bytes.as_slice() == want);
     Ok(())
 }
 
 #[test]
 fn answers_with_exports(rt: HostRuntime) -> Result<(), Fail> {
-    let graph = graph_of(rt.alloc(), GRAPH)?;
-    answers_one(&rt, rt.alloc(), &graph, r#"["exports","m"]"#, OWN)?;
-    answers_one(&rt, rt.alloc(), &graph, r#" [ "exports" , "r" ] "#, OWN)
+    answers_one(&rt, rt.alloc(), r#"["exports","m"]"#, OWN)?;
+    answers_one(&rt, rt.alloc(), r#" [ "exports" , "r" ] "#, OWN)
 }
 
 #[test]
 fn answers_null_without_symbols(rt: HostRuntime) -> Result<(), Fail> {
-    let graph = graph_of(rt.alloc(), GRAPH)?;
-    answers_one(&rt, rt.alloc(), &graph, r#"["exports","x"]"#, b"null\n")?;
-    answers_one(&rt, rt.alloc(), &graph, r#"["exports","y"]"#, b"null\n")
+    answers_one(&rt, rt.alloc(), r#"["exports","x"]"#, b"null\n")?;
+    answers_one(&rt, rt.alloc(), r#"["exports","y"]"#, b"null\n")
 }
 
 #[test]
 fn answers_other_forms_with_a_fault(rt: HostRuntime) -> Result<(), Fail> {
-    let graph = graph_of(rt.alloc(), GRAPH)?;
-    answers_one(&rt, rt.alloc(), &graph, r#"["exports"]"#, BAD)?;
-    answers_one(&rt, rt.alloc(), &graph, r#"["exports","m","m"]"#, BAD)?;
-    answers_one(&rt, rt.alloc(), &graph, r#"["exports",0]"#, BAD)?;
-    answers_one(&rt, rt.alloc(), &graph, r#"["export","m"]"#, BAD)
+    answers_one(&rt, rt.alloc(), r#"["exports"]"#, BAD)?;
+    answers_one(&rt, rt.alloc(), r#"["exports","m","m"]"#, BAD)?;
+    answers_one(&rt, rt.alloc(), r#"["exports",0]"#, BAD)?;
+    answers_one(&rt, rt.alloc(), r#"["export","m"]"#, BAD)
 }
 
 /// Gives its bytes, at most some at a time, and then ends or fails.
@@ -252,9 +238,8 @@ fn answers_lines_longer_than_a_block(rt: HostRuntime) -> Result<(), Fail> {
 
 #[test]
 fn writes_more_answers_than_a_block(rt: HostRuntime) -> Result<(), Fail> {
-    let graph = graph_of(rt.alloc(), GRAPH)?;
     let lines = vec![in rt.alloc(); b'\n'; 100000]?;
-    answers_bad(&rt, rt.alloc(), &graph, lines.as_slice(), 100000)
+    answers_bad(&rt, rt.alloc(), lines.as_slice(), 100000)
 }
 
 #[test]

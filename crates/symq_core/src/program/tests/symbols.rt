@@ -5,7 +5,7 @@ use std::alloc::{AllocError, Global};
 use std::process::Abort;
 use std::test::Fail;
 use symbols_table::analyze;
-use symbols_table::decl::Symbol;
+use symbols_table::decl::{Symbol, SymbolDecl};
 use symbols_table::info::{ModuleInfo, SymbolsFault};
 use symbols_tree::check::ModuleGraph;
 use symbols_tree::ids::{ModuleId, SymbolId};
@@ -65,34 +65,49 @@ fn export_list(alloc: Global, module: &Symbol<'_>) -> Result<String, AllocError>
     Ok(text)
 }
 
+/// Whether the module `m` exports these names with these numbers.
+fn exports(alloc: Global, graph: &ModuleGraph, want: &str) -> Result<bool, SymbolsFault> {
+    match symbols_of(alloc, graph, "m", u32::MAX)? {
+        Some(info) => {
+            let listed = export_list(alloc, info.as_ref().module_symbol())?;
+            Ok(listed.as_str() == want)
+        }
+        None => Ok(false),
+    }
+}
+
 #[test]
 fn numbers_exports_in_order(rt: HostRuntime) -> Result<(), Fail> {
-    let alloc = rt.alloc();
-    let graph = graph_of(alloc, EXPORTS)?;
-    let info = symbols_of(alloc, &graph, "m", u32::MAX)?.ok_or("no symbols")?;
-    let listed = export_list(alloc, info.as_ref().module_symbol())?;
-    assert!(rt; listed.as_str() == "f 1;a 2;b 3;");
+    let graph = graph_of(rt.alloc(), EXPORTS)?;
+    assert!(rt; exports(rt.alloc(), &graph, "f 1;a 2;b 3;")?);
     Ok(())
 }
 
-/// Whether each declaration of the symbol has an overload before it.
-fn overload_flags(alloc: Global, symbol: &Symbol<'_>) -> Result<Vec<bool>, AllocError> {
-    let mut flags = Vec::new(alloc);
-    for decl in symbol.decls() {
-        flags.push(decl.has_overloads())?;
+/// The flag of a declaration of symbol 1.
+fn flag_at(info: &ModuleInfo<'_>, place: usize) -> Option<bool> {
+    let symbol = info.esm()?.symbol(SymbolId::from_number(1))?;
+    symbol.decls().get(place).map(SymbolDecl::has_overloads)
+}
+
+/// Whether a declaration of symbol 1 of the module `m` has an overload before it; none where it
+/// has no such declaration.
+fn overload_flag(
+    alloc: Global,
+    graph: &ModuleGraph,
+    place: usize,
+) -> Result<Option<bool>, SymbolsFault> {
+    match symbols_of(alloc, graph, "m", u32::MAX)? {
+        Some(info) => Ok(flag_at(&info, place)),
+        None => Err(SymbolsFault::UnknownModule),
     }
-    Ok(flags)
 }
 
 #[test]
 fn flags_overloads(rt: HostRuntime) -> Result<(), Fail> {
-    let alloc = rt.alloc();
-    let graph = graph_of(alloc, OVERLOADS)?;
-    let info = symbols_of(alloc, &graph, "m", u32::MAX)?.ok_or("no symbols")?;
-    let esm = info.esm().ok_or("no script")?;
-    let symbol = esm.symbol(SymbolId::from_number(1)).ok_or("no f")?;
-    let flags = overload_flags(alloc, symbol)?;
-    assert!(rt; flags.as_slice() == [false, true].as_slice());
+    let graph = graph_of(rt.alloc(), OVERLOADS)?;
+    assert!(rt; overload_flag(rt.alloc(), &graph, 0)? == Some(false));
+    assert!(rt; overload_flag(rt.alloc(), &graph, 1)? == Some(true));
+    assert!(rt; overload_flag(rt.alloc(), &graph, 2)?.is_none());
     Ok(())
 }
 
@@ -105,19 +120,19 @@ fn refused(alloc: Global, graph: &ModuleGraph, limit: u32) -> Result<Option<Stri
     }
 }
 
-fn refuses(rt: &impl Abort, alloc: Global, graph: &ModuleGraph, limit: u32) -> Result<(), Fail> {
-    let specifier = refused(alloc, graph, limit)?.ok_or("not refused")?;
+fn refuses(rt: &impl Abort, alloc: Global, limit: u32) -> Result<(), Fail> {
+    let graph = graph_of(alloc, EXPORTS)?;
+    let specifier = refused(alloc, &graph, limit)?.ok_or("not refused")?;
     assert!(rt; specifier.as_str() == "m");
     Ok(())
 }
 
 #[test]
 fn refuses_more_symbols_than_the_limit(rt: HostRuntime) -> Result<(), Fail> {
-    let graph = graph_of(rt.alloc(), EXPORTS)?;
-    refuses(&rt, rt.alloc(), &graph, 0)?;
-    refuses(&rt, rt.alloc(), &graph, 1)?;
-    refuses(&rt, rt.alloc(), &graph, 2)?;
-    refuses(&rt, rt.alloc(), &graph, 3)
+    refuses(&rt, rt.alloc(), 0)?;
+    refuses(&rt, rt.alloc(), 1)?;
+    refuses(&rt, rt.alloc(), 2)?;
+    refuses(&rt, rt.alloc(), 3)
 }
 
 #[test]
