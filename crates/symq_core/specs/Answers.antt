@@ -1,5 +1,5 @@
 -- The answer to a query, as data.
-use Rattle.std.specs.Prelude.{◌≡◌, ℕ, slice_get, nat_lt, if◌then◌else◌, List, [], map, Option, Some, None, option_and_then, codes}
+use Rattle.std.specs.Prelude.{◌≡◌, ℕ, slice_get, nat_lt, if◌then◌else◌, List, map, Option, Some, None, option_and_then, codes}
 use Rattle.serde_json.specs.Data.{Data, null, number, unsigned, string, array, object, no_items, no_members, member}
 use Rattle.serde_json.specs.View.{items_of}
 use Rattle.serde_json.specs.Written.{compact_text}

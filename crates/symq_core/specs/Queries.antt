@@ -4,7 +4,6 @@ use Rattle.std.specs.Str.{bytes_eq}
 use Rattle.serde_json.specs.Data.{Data, Items, no_items, item}
 use Rattle.serde_json.specs.Find.{as_array, as_str}
 use Rattle.symq_core.specs.declared.program.query.Query.{Query}
-use Rattle.symq_core.specs.declared.program.query.Query.TheVariants as Query
 
 -- the exports of the module of a specifier
 pub data QueryView : Type 0 where
