@@ -1,11 +1,10 @@
 -- The lines of a block that is read after the front of a line.
-use Rattle.std.proofs.Common.{◌≡◌, ◌<◌, ◌+◌, ℕ, List, [], ◌∷◌, ◌++◌, length, Option, Result, Ok, Err, IfErr, refl, sym, ap, ◌∙◌, subst, append_assoc, append-nil, arith}
-use Rattle.std.specs.Io.KnownBytes.{Appends}
+use Rattle.std.proofs.Common.{◌≡◌, ◌<◌, ◌+◌, ℕ, List, [], ◌∷◌, ◌++◌, length, Option, Result, Ok, Err, IfErr, sym, ap, ◌∙◌, subst, append_assoc, append-nil, arith}
 use Rattle.symq_core.specs.declared.program.fault.EngineFault.{EngineFault}
 use Rattle.symq_core.specs.declared.program.fault.EngineFault.TheVariants.{OutputFailed}
 use Rattle.symq_core.specs.Lines.{parts_of, all_but_last, last_part, answers_to}
 use Rattle.symq_core.specs.Serving.{parts_after, AppendsBeginning, Sends, IsAnswerFault}
-use Rattle.symq_core.proofs.Parts.{some_parts, some_joined, all_but_last-append, last_part-append, answers_to-append, parts_after_line, parts_after_unended}
+use Rattle.symq_core.proofs.Parts.{some_joined, all_but_last-append, last_part-append, answers_to-append, parts_after_line, parts_after_unended}
 use Rattle.symq_core.proofs.Beginnings.{sends_beginning, sends_beginning_of_waiting, begins_longer}
 
 -- the parts of the block, once one more line is ended

@@ -1,5 +1,5 @@
 -- The answer on a tree, from its analysis.
-use Rattle.std.proofs.Common.{◌≡◌, ℕ, ◌<◌, ◌≤◌, List, Bool, true, false, cond, Some, None, Option, sym, ◌∙◌, subst, refl, arith}
+use Rattle.std.proofs.Common.{◌≡◌, ℕ, ◌<◌, ◌≤◌, List, true, false, Some, None, sym, ◌∙◌, subst, refl, arith}
 use Rattle.std.specs.Prelude.{nat_lt, slice_get, codes, Result, Ok, Err, IfOk, IfSome, IsSome}
 use Rattle.std.specs.declared.alloc.AllocError.{AllocError}
 use Rattle.std.proofs.lemmas.Bool.Decides.{nat_tests}
@@ -12,7 +12,6 @@ use Rattle.symbols_tree.specs.Graph.{ModuleView, tree_of}
 use Rattle.symbols_table.specs.declared.decl.symbol.Symbol.{Symbol}
 use Rattle.symbols_table.specs.declared.info.es_module.EsModuleInfo.{EsModuleInfo}
 use Rattle.symbols_table.specs.declared.info.module_info.ModuleInfo.{ModuleInfo}
-use Rattle.symbols_table.specs.declared.info.module_info.ModuleInfo.TheVariants as ModuleInfo
 use Rattle.symbols_table.specs.declared.info.fault.SymbolsFault.{SymbolsFault}
 use Rattle.symbols_table.specs.declared.info.fault.SymbolsFault.TheVariants as fault
 use Rattle.symbols_table.specs.Analysis.{IsAnalyzed, IsAnalysis, IsAnalysisFault, symbol_count, tree_changes}

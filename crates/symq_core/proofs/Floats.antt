@@ -10,7 +10,7 @@ use Rattle.symbols_tree.specs.Graph.{GraphView, ModuleView, module_of, tree_of}
 use Rattle.symbols_table.specs.Analysis.{symbol_count, tree_changes}
 use Rattle.symbols_table.specs.Changes.{exports_of}
 use Rattle.symq_core.specs.Queries.{QueryView, asks_exports}
-use Rattle.symq_core.specs.Answers.{export_data, exports_data, fault_data, module_symbol, tree_answer, module_answer, found_answer, answer_data}
+use Rattle.symq_core.specs.Answers.{export_data, exports_data, module_symbol, tree_answer, module_answer, found_answer, answer_data}
 
 entries : (specifier : List ℕ) (es : List (List ℕ × SymbolId)) → items_have_float (items_of (map (export_data specifier) es)) ≡ false
 entries specifier [] = refl

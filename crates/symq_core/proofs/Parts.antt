@@ -1,12 +1,12 @@
 -- The parts of bytes: at the first line end, and of bytes that come in two pieces.
 use Rattle.std.proofs.Common.{◌≡◌, ◌<◌, ◌+◌, ℕ, List, [], ◌∷◌, ◌++◌, Bool, true, false, cond, length, take, drop, eqb, get_or, refl, sym, ap, ◌∙◌, subst, append-nil, arith}
-use Rattle.std.specs.List.{onto_first, position_or_len, slice_split, count_by}
+use Rattle.std.specs.List.{onto_first, position_or_len}
 use Rattle.std.proofs.lemmas.List.Elements.{All-from_get_or}
 use Rattle.std.proofs.lemmas.List.Splits.{slice_split_none, slice_split_first, length-slice_split}
 use Rattle.std.proofs.lemmas.List.Sums.{position_or_len_is}
 use Rattle.memchr.specs.Find.{Nowhere, NoneBefore, Passes, is_byte}
 use Rattle.std.proofs.lemmas.Grind.{flat_map-append}
-use Rattle.symq_core.specs.Lines.{line_end, parts_of, all_but_last, last_part, line_in, ended_lines, lines_of, answers_to, output_of}
+use Rattle.symq_core.specs.Lines.{parts_of, all_but_last, last_part, line_in, ended_lines, answers_to}
 use Rattle.symq_core.specs.Serving.{join_first, parts_after}
 
 not_true : (b : Bool) → ¬ (b ≡ true) → b ≡ false

@@ -1,5 +1,5 @@
 -- The answer to a query, as data.
-use Rattle.std.specs.Prelude.{◌≡◌, ℕ, slice_get, nat_lt, if◌then◌else◌, List, [], map, Option, Some, None, option_and_then, codes}
+use Rattle.std.specs.Prelude.{◌≡◌, ℕ, slice_get, nat_lt, if◌then◌else◌, List, map, Option, Some, None, option_and_then, codes}
 use Rattle.serde_json.specs.Data.{Data, null, number, unsigned, string, array, object, no_items, no_members, member}
 use Rattle.serde_json.specs.View.{items_of}
 use Rattle.serde_json.specs.Written.{compact_text}
@@ -15,7 +15,8 @@ use Rattle.symbols_table.specs.Changes.{exports_of}
 use Rattle.symbols_table.specs.Analysis.{tree_changes, symbol_count}
 use Rattle.symbols_table.specs.Modules.{specifier_in, symbols_in, esm_in}
 use Rattle.symbols_table.specs.Symbols.{exports_in}
-use Rattle.symq_core.specs.Queries.{QueryView, asks_exports, query_of, value_of}
+use Rattle.symq_reader.specs.Graph.{value_of}
+use Rattle.symq_core.specs.Queries.{QueryView, asks_exports, query_of}
 
 -- a line that answers with a fault
 abbrev pub fault_data : List ℕ → Data

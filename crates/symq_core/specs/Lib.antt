@@ -4,3 +4,4 @@ pub mod Devices
 pub mod Lines
 pub mod Serving
 pub mod Stopping
+pub mod StopLines

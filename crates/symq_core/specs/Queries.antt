@@ -1,11 +1,9 @@
 -- What a line asks.
 use Rattle.std.specs.Prelude.{ℕ, List, if◌then◌else◌, codes, Option, Some, None, option_map, option_and_then}
-use Rattle.std.specs.Str.{bytes_eq, is_utf8}
+use Rattle.std.specs.Str.{bytes_eq}
 use Rattle.serde_json.specs.Data.{Data, Items, no_items, item}
 use Rattle.serde_json.specs.Find.{as_array, as_str}
-use Rattle.serde_json.specs.Read.{read}
 use Rattle.symq_core.specs.declared.program.query.Query.{Query}
-use Rattle.symq_core.specs.declared.program.query.Query.TheVariants as Query
 
 -- the exports of the module of a specifier
 pub data QueryView : Type 0 where
@@ -13,10 +11,6 @@ pub data QueryView : Type 0 where
 
 abbrev pub query_view : Query → QueryView
 query_view (Query.Exports specifier) = asks_exports specifier.now
-
--- the value of a line: none where it is no JSON
-unfoldable pub value_of : List ℕ → Option Data
-value_of line = if is_utf8 line then read line else None
 
 abbrev pub both_texts : Data → Data → Option (List ℕ × List ℕ)
 both_texts first second = option_and_then (λ a. option_map (λ b. (a, b)) (as_str second)) (as_str first)

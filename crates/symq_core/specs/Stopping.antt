@@ -7,7 +7,6 @@ use Rattle.symq_reader.specs.declared.faults.FormatFault.TheVariants as format
 use Rattle.symq_core.specs.declared.program.fault.EngineFault.{EngineFault}
 use Rattle.symq_core.specs.declared.program.fault.EngineFault.TheVariants as engine
 use Rattle.symq_core.specs.declared.program.stop.Stop.{Stop}
-use Rattle.symq_core.specs.declared.program.stop.Stop.TheVariants as Stop
 
 -- memory is 7, whatever it was wanted for
 abbrev pub format_status : FormatFault → ℕ

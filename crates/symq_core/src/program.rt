@@ -18,3 +18,6 @@ pub use memory::{MemoryInput, MemoryOutput};
 pub use stop::Stop;
 pub use streams::{ReaderInput, WriterOutput};
 pub use symq_reader::{FormatFault, read_graph};
+
+#[cfg(test)]
+mod tests;

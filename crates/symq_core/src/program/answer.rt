@@ -5,7 +5,8 @@ ghost use Rattle.serde_json.specs.View.{view};
 ghost use Rattle.std.specs.Option.{option_and_then};
 ghost use Rattle.symbols_tree.specs.Graph.{tree_of};
 ghost use Rattle.symbols_table.specs.DeclViews.{exports_view};
-ghost use Rattle.symq_core.specs.Queries.{query_view, query_of, value_of};
+ghost use Rattle.symq_reader.specs.Graph.{value_of};
+ghost use Rattle.symq_core.specs.Queries.{query_view, query_of};
 ghost use Rattle.symq_core.specs.Answers.{export_data, exports_data, fault_text, fault_data, TellsExports, module_answer, exports_answer, answer_data, answer_text};
 
 use crate::program::query::{Query, line_value, read_query};
@@ -82,10 +83,10 @@ fn fault_value(alloc: Global, fault: &SymbolsFault) -> Result<Value, AllocError>
 
 /// The exports of a module of the graph, which is analysed anew for each query until modules are
 /// stored.
-fn module_exports(alloc: Global, module: &GraphModule) -> Result<Value, AllocError>
-    ensures { IfOk result (λ value. view value ≡ module_answer module.now (tree_of module.now.content)) }
+fn module_exports(alloc: Global, graph_module: &GraphModule) -> Result<Value, AllocError>
+    ensures { IfOk result (λ value. view value ≡ module_answer graph_module.now (tree_of graph_module.now.content)) }
 {
-    match analyze(alloc, ModuleId::from_number(0), module, u32::MAX) {
+    match analyze(alloc, ModuleId::from_number(0), graph_module, u32::MAX) {
         Ok(Some(info)) => own_exports(alloc, &info),
         Ok(None) => Ok(Value::Null),
         Err(fault) => fault_value(alloc, &fault),

@@ -2,7 +2,8 @@
 
 ghost use Rattle.std.specs.Prelude.{◌≡◌, option_map, IfOk};
 ghost use Rattle.serde_json.specs.View.{view};
-ghost use Rattle.symq_core.specs.Queries.{query_view, query_of, two_texts, value_of};
+ghost use Rattle.symq_reader.specs.Graph.{value_of};
+ghost use Rattle.symq_core.specs.Queries.{query_view, query_of, two_texts};
 
 use serde_json::Value;
 use std::alloc::{AllocError, Global};

@@ -1,11 +1,13 @@
 //! Why the program stops before its end, and how it says so.
 
-ghost use Rattle.std.specs.Prelude.{◌≡◌};
+ghost use Rattle.std.specs.Prelude.{◌≡◌, ◌++◌, IfOk, codes, string_bytes};
 ghost use Rattle.symq_core.specs.Stopping.{status_of};
+ghost use Rattle.symq_core.specs.StopLines.{memory_line, format_line, engine_line, node_text, tree_fault_text, graph_line, line_of};
 
 use crate::program::fault::EngineFault;
 use std::alloc::{AllocError, Global};
 use symbols_tree::check::{GraphFault, TreeFault};
+use symbols_tree::tree::NodeId;
 use symq_reader::FormatFault;
 
 /// Why the program stops before its end (own rule). The number of words is tried first, then the
@@ -44,7 +46,9 @@ impl Stop {
 
     /// The line for standard error, without a line end. Of a refused graph it has the number of
     /// the fault and what the fault names, parted by single spaces.
-    pub fn line(&self, alloc: Global) -> Result<String, AllocError> {
+    pub fn line(&self, alloc: Global) -> Result<String, AllocError>
+        ensures { IfOk result (λ line. string_bytes line ≡ line_of self.now) }
+    {
         match self {
             Stop::Usage => String::from_str(alloc, "usage: symq GRAPH"),
             Stop::NotRead => String::from_str(alloc, "symq: cannot read graph"),
@@ -55,11 +59,15 @@ impl Stop {
     }
 }
 
-fn memory_line(alloc: Global) -> Result<String, AllocError> {
+fn memory_line(alloc: Global) -> Result<String, AllocError>
+    ensures { IfOk result (λ line. string_bytes line ≡ memory_line) }
+{
     String::from_str(alloc, "symq: out of memory")
 }
 
-fn format_line(alloc: Global, fault: FormatFault) -> Result<String, AllocError> {
+fn format_line(alloc: Global, fault: FormatFault) -> Result<String, AllocError>
+    ensures { IfOk result (λ line. string_bytes line ≡ format_line fault) }
+{
     match fault {
         FormatFault::OutOfMemory => memory_line(alloc),
         FormatFault::NotJson => String::from_str(alloc, "symq: not a graph: json"),
@@ -67,7 +75,9 @@ fn format_line(alloc: Global, fault: FormatFault) -> Result<String, AllocError> 
     }
 }
 
-fn engine_line(alloc: Global, fault: EngineFault) -> Result<String, AllocError> {
+fn engine_line(alloc: Global, fault: EngineFault) -> Result<String, AllocError>
+    ensures { IfOk result (λ line. string_bytes line ≡ engine_line fault) }
+{
     match fault {
         EngineFault::OutOfMemory => memory_line(alloc),
         EngineFault::InputFailed => String::from_str(alloc, "symq: input failed"),
@@ -76,7 +86,9 @@ fn engine_line(alloc: Global, fault: EngineFault) -> Result<String, AllocError> 
     }
 }
 
-fn graph_line(alloc: Global, fault: &GraphFault) -> Result<String, AllocError> {
+fn graph_line(alloc: Global, fault: &GraphFault) -> Result<String, AllocError>
+    ensures { IfOk result (λ line. string_bytes line ≡ graph_line fault.now) }
+{
     match fault {
         GraphFault::OutOfMemory => memory_line(alloc),
         GraphFault::TooManyModules => String::from_str(alloc, "symq: graph refused: 2"),
@@ -92,24 +104,32 @@ fn graph_line(alloc: Global, fault: &GraphFault) -> Result<String, AllocError> {
     }
 }
 
-fn tree_line(alloc: Global, specifier: &str, fault: TreeFault) -> Result<String, AllocError> {
+fn tree_line(alloc: Global, specifier: &str, fault: TreeFault) -> Result<String, AllocError>
+    ensures { IfOk result (λ line. string_bytes line
+        ≡ codes "symq: graph refused: 7 " ++ (specifier.now ++ (codes " " ++ tree_fault_text fault))) }
+{
+    let rest = tree_fault_text(alloc, fault)?;
+    format!(in alloc; "symq: graph refused: 7 {specifier} {rest}")
+}
+
+fn tree_fault_text(alloc: Global, fault: TreeFault) -> Result<String, AllocError>
+    ensures { IfOk result (λ text. string_bytes text ≡ tree_fault_text fault) }
+{
     match fault {
-        TreeFault::NoProgram => format!(in alloc; "symq: graph refused: 7 {specifier} 1"),
-        TreeFault::TooManyNodes => format!(in alloc; "symq: graph refused: 7 {specifier} 2"),
-        TreeFault::BadChild(node) => format!(in alloc;
-            "symq: graph refused: 7 {specifier} 3 {node}"
-        ),
-        TreeFault::SharedChild(node) => {
-            format!(in alloc; "symq: graph refused: 7 {specifier} 4 {node}")
-        }
-        TreeFault::BadRange(node) => format!(in alloc;
-            "symq: graph refused: 7 {specifier} 5 {node}"
-        ),
-        TreeFault::BadShape(node) => format!(in alloc;
-            "symq: graph refused: 7 {specifier} 6 {node}"
-        ),
-        TreeFault::TooDeep(node) => format!(in alloc;
-            "symq: graph refused: 7 {specifier} 7 {node}"
-        ),
+        TreeFault::NoProgram => String::from_str(alloc, "1"),
+        TreeFault::TooManyNodes => String::from_str(alloc, "2"),
+        TreeFault::BadChild(node) => node_text(alloc, 3, node),
+        TreeFault::SharedChild(node) => node_text(alloc, 4, node),
+        TreeFault::BadRange(node) => node_text(alloc, 5, node),
+        TreeFault::BadShape(node) => node_text(alloc, 6, node),
+        TreeFault::TooDeep(node) => node_text(alloc, 7, node),
     }
+}
+
+/// The place of a fault and the number of a node.
+fn node_text(alloc: Global, place: u8, node: NodeId) -> Result<String, AllocError>
+    ensures { IfOk result (λ text. string_bytes text ≡ node_text place node) }
+{
+    let number = node.index();
+    format!(in alloc; "{place} {number}")
 }

@@ -6,8 +6,8 @@ use Rattle.symq_core.proofs.program.answer.module_exports.Goals as goal
 
 pub returns-in-Ok-Some : goal.returns-in-Ok-Some
 returns-in-Ok-Some c =
-    let given = subst (λ (o : Option ModuleInfo). IsAnalysis c.from_number.result c.args.module.now 4294967295 o) c.in-Ok-Some.field-0-is c.in-Ok-Some.ensures.table in
-    own_answer c.own_exports.result c.from_number.result c.args.module.now c.in-Ok-Some.info given c.own_exports.ensures
+    let given = subst (λ (o : Option ModuleInfo). IsAnalysis c.from_number.result c.args.graph_module.now 4294967295 o) c.in-Ok-Some.field-0-is c.in-Ok-Some.ensures.table in
+    own_answer c.own_exports.result c.from_number.result c.args.graph_module.now c.in-Ok-Some.info given c.own_exports.ensures
 
 pub returns-in-Err : goal.returns-in-Err
-returns-in-Err c = fault_answer c.fault_value.result c.args.module.now c.in-Err.fault c.in-Err.ensures.fault c.fault_value.ensures
+returns-in-Err c = fault_answer c.fault_value.result c.args.graph_module.now c.in-Err.fault c.in-Err.ensures.fault c.fault_value.ensures

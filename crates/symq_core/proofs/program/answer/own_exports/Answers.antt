@@ -1,4 +1,3 @@
-use Rattle.std.proofs.Common.{List}
 use Rattle.symbols_table.specs.DeclViews.{exports_view}
 use Rattle.symq_core.proofs.Exports.{own_value, no_other_kind}
 use Rattle.symq_core.proofs.program.answer.own_exports.Goals as goal

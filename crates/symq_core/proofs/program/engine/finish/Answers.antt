@@ -1,11 +1,7 @@
-use Rattle.std.proofs.Common.{◌≡◌, ◌<◌, [], ◌∷◌, ◌++◌, length, ap, sym, subst, arith}
+use Rattle.std.proofs.Common.{◌<◌, length, arith}
 use Rattle.std.proofs.lemmas.Result.{err_from_is_err_and}
 use Rattle.std.proofs.lemmas.Grind.{common_steps}
-use Rattle.symq_core.specs.Answers.{answer_text}
-use Rattle.symq_core.specs.Lines.{line_in, answers_to}
-use Rattle.symq_core.specs.Serving.{AppendsBeginning, Sends}
 use Rattle.symq_core.proofs.Parts.{line_in-some}
-use Rattle.symq_core.proofs.Beginnings.{sends_nothing}
 use Rattle.symq_core.proofs.Blocks.{flush_failed}
 use Rattle.symq_core.proofs.program.engine.finish.Goals as goal
 

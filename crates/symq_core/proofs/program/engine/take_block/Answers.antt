@@ -1,9 +1,8 @@
-use Rattle.std.proofs.Common.{◌≡◌, [], ◌∷◌, ◌++◌, ap, sym, subst, ◌∙◌}
+use Rattle.std.proofs.Common.{[], ◌∷◌, ◌++◌, ap, sym, subst, ◌∙◌}
 use Rattle.std.proofs.lemmas.Result.{err_from_is_err_and, on_ok_weaker}
-use Rattle.std.proofs.KnownBytes.{Appends-nil}
 use Rattle.symq_core.specs.Answers.{answer_text}
-use Rattle.symq_core.specs.Lines.{answers_to, all_but_last}
-use Rattle.symq_core.specs.Serving.{AppendsBeginning, Sends, IsAnswerFault, parts_after}
+use Rattle.symq_core.specs.Lines.{answers_to}
+use Rattle.symq_core.specs.Serving.{Sends, IsAnswerFault, parts_after}
 use Rattle.symq_core.proofs.Parts.{answers_to-append}
 use Rattle.symq_core.proofs.Beginnings.{sends_then, sends_all, sends_beginning_of_waiting, begins_nothing}
 use Rattle.symq_core.proofs.Blocks.{one_more_line, one_more_begun, all_lines, flush_failed}

@@ -1,4 +1,3 @@
-use Rattle.std.proofs.Common.{◌≡◌}
 use Rattle.symq_core.proofs.Parts.{parts_unended, parts_at_end}
 use Rattle.symq_core.proofs.program.lines.split_line.Goals as goal
 

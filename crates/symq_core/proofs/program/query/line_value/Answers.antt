@@ -1,6 +1,6 @@
 use Rattle.std.proofs.Common.{sym, rules}
 use Rattle.serde_json.specs.View.{view}
-use Rattle.symq_core.proofs.LineValues.{value_of-read, value_of-refused}
+use Rattle.symq_reader.proofs.Outcomes.{value_of-read, value_of-refused}
 use Rattle.symq_core.proofs.program.query.line_value.Goals as goal
 
 pub returns-in-Ok : goal.returns-in-Ok

@@ -1,4 +1,4 @@
-use Rattle.std.proofs.Common.{◌≡◌, ◌++◌, take, drop, sym, ap, ◌∙◌, append_assoc, take-append-drop, arith}
+use Rattle.std.proofs.Common.{◌++◌, take, drop, sym, ap, ◌∙◌, append_assoc, take-append-drop, arith}
 use Rattle.std.proofs.KnownBytes.{Appends-trans}
 use Rattle.symq_core.proofs.Beginnings.{write_counts_none}
 use Rattle.symq_core.proofs.program.sending.write_all.Goals as goal

@@ -1,0 +1,256 @@
+//! Whole runs of the engine over memory, over streams and over devices that fail.
+
+mod stops;
+mod symbols;
+
+ghost use Rattle.std.specs.Prelude.{◌<◌};
+ghost use Rattle.symq_core.specs.Devices.{COUNT_LIMIT};
+
+use super::*;
+use std::alloc::{AllocError, Global};
+use std::process::Abort;
+use std::test::Fail;
+use symbols_tree::check::ModuleGraph;
+
+/// The answer to each line that is no query.
+const BAD: &[u8] = b"{\"fault\":\"bad query\"}\n";
+
+/// The answer where the module `m` is asked for.
+const OWN: &[u8] =
+    b"{\"exports\":[{\"chain\":[],\"module\":\"m\",\"name\":\"a\",\"symbol\":1}],\"unresolved\":[]}\n";
+
+/// A graph of the module `m`, which is the text `export var a;`, of the redirect `r` to it, and of
+/// `x`, which is external.
+const GRAPH: &[u8] =
+    br#"{"modules":[{"specifier":"m","kind":"esm","text":"export var a;","tree":{"nodes":[
+    {"kind":"Program","range":[0,13],"body":[1]},
+    {"kind":"ExportDecl","range":[0,13],"decl":2},
+    {"kind":"VarDecl","range":[7,13],"decls":[3]},
+    {"kind":"VarDeclarator","range":[11,12],"name":4},
+    {"kind":"BindingIdent","range":[11,12],"sym":["a",2]}]}},
+    {"specifier":"x","kind":"external"}],"redirects":[["r","m"]]}"#;
+
+fn graph_of(alloc: Global, text: &[u8]) -> Result<ModuleGraph, Stop> {
+    let raw = read_graph(alloc, text).map_err(Stop::Format)?;
+    ModuleGraph::new(alloc, raw).map_err(Stop::Graph)
+}
+
+/// This many answers to lines that are no queries.
+fn bad_answers(alloc: Global, count: usize) -> Result<Vec<u8>, AllocError> {
+    let mut text = Vec::new(alloc);
+    for _ in 0..count {
+        text.extend_from_slice(BAD)?;
+    }
+    Ok(text)
+}
+
+/// What is written for an input.
+fn output(alloc: Global, graph: &ModuleGraph, input: &[u8]) -> Result<MemoryOutput, EngineFault> {
+    let mut reader = MemoryInput { rest: input };
+    let mut writer = MemoryOutput::new(alloc);
+    serve(alloc, graph, &mut reader, &mut writer)?;
+    Ok(writer)
+}
+
+/// The lines of the input are no queries, and so many.
+fn answers_bad(rt: &impl Abort, alloc: Global, input: &[u8], count: usize) -> Result<(), Fail> {
+    let graph = graph_of(alloc, GRAPH)?;
+    let written = output(alloc, &graph, input)?;
+    let want = bad_answers(alloc, count)?;
+    assert!(rt; written.bytes.as_slice() == want.as_slice());
+    Ok(())
+}
+
+#[test]
+fn answers_each_line(rt: HostRuntime) -> Result<(), Fail> {
+    answers_bad(&rt, rt.alloc(), b"", 0)?;
+    answers_bad(&rt, rt.alloc(), b"\n", 1)?;
+    answers_bad(&rt, rt.alloc(), b"no\n", 1)?;
+    answers_bad(&rt, rt.alloc(), b"no\n\nno", 3)?;
+    answers_bad(&rt, rt.alloc(), b"no\r\nno\n", 2)
+}
+
+/// The answer to one line.
+fn answers_one(rt: &impl Abort, alloc: Global, line: &str, want: &[u8]) -> Result<(), Fail> {
+    let graph = graph_of(alloc, GRAPH)?;
+    let written = output(alloc, &graph, line.as_bytes())?;
+    assert!(rt; written.bytes.as_slice() == want);
+    Ok(())
+}
+
+#[test]
+fn answers_with_exports(rt: HostRuntime) -> Result<(), Fail> {
+    answers_one(&rt, rt.alloc(), r#"["exports","m"]"#, OWN)?;
+    answers_one(&rt, rt.alloc(), r#" [ "exports" , "r" ] "#, OWN)
+}
+
+#[test]
+fn answers_null_without_symbols(rt: HostRuntime) -> Result<(), Fail> {
+    answers_one(&rt, rt.alloc(), r#"["exports","x"]"#, b"null\n")?;
+    answers_one(&rt, rt.alloc(), r#"["exports","y"]"#, b"null\n")
+}
+
+#[test]
+fn answers_other_forms_with_a_fault(rt: HostRuntime) -> Result<(), Fail> {
+    answers_one(&rt, rt.alloc(), r#"["exports"]"#, BAD)?;
+    answers_one(&rt, rt.alloc(), r#"["exports","m","m"]"#, BAD)?;
+    answers_one(&rt, rt.alloc(), r#"["exports",0]"#, BAD)?;
+    answers_one(&rt, rt.alloc(), r#"["export","m"]"#, BAD)
+}
+
+/// Gives its bytes, at most some at a time, and then ends or fails.
+#[derive(Drop)]
+struct Piecewise<'a> {
+    rest: &'a [u8],
+    most: usize,
+    breaks: bool,
+    failed: u64,
+    ghost some: { 0 < most },
+}
+
+impl Input for Piecewise<'_> {
+    ghost failures = { λ s. s.failed };
+
+    fn has_room(&self) -> bool {
+        self.failed < u64::MAX
+    }
+
+    fn read(&mut self, buffer: &mut [u8]) -> Result<usize, DeviceFault> {
+        if self.rest.is_empty() && self.breaks {
+            self.failed += 1;
+            return Err(DeviceFault);
+        }
+        let taken = self.rest.len().min(buffer.len()).min(self.most);
+        let (front, rest) = self.rest.split_at(taken);
+        buffer[..taken].copy_from_slice(front);
+        self.rest = rest;
+        Ok(taken)
+    }
+}
+
+/// A read fails behind two lines and the front of a third: the two are answered.
+fn answers_two(rt: &impl Abort, alloc: Global, most: usize) -> Result<(), Fail>
+    requires { 0 < most }
+{
+    let graph = graph_of(alloc, GRAPH)?;
+    let mut reader = Piecewise {
+        rest: b"no\nno\nno",
+        most,
+        breaks: true,
+        failed: 0,
+    };
+    let mut writer = MemoryOutput::new(alloc);
+    let served = serve(alloc, &graph, &mut reader, &mut writer);
+    assert!(rt; served == Err(EngineFault::InputFailed) && reader.failed == 1);
+    let want = bad_answers(alloc, 2)?;
+    assert!(rt; writer.bytes.as_slice() == want.as_slice());
+    Ok(())
+}
+
+#[test]
+fn answers_before_a_failed_read(rt: HostRuntime) -> Result<(), Fail> {
+    answers_two(&rt, rt.alloc(), 1)?;
+    answers_two(&rt, rt.alloc(), 5)?;
+    answers_two(&rt, rt.alloc(), 100)
+}
+
+/// Takes one byte at a time, so many in all, and then fails, or takes nothing.
+#[derive(Drop)]
+struct Full {
+    taken: Vec<u8>,
+    most: usize,
+    fails: bool,
+    failed: u64,
+}
+
+impl Output for Full {
+    ghost failures = { λ s. s.failed };
+
+    fn has_room(&self) -> bool {
+        self.failed < u64::MAX
+    }
+
+    fn write(&mut self, bytes: &[u8]) -> Result<usize, DeviceFault> {
+        if self.taken.len() < self.most && self.taken.push(bytes[0]).is_ok() {
+            return Ok(1);
+        }
+        self.failed += 1;
+        if self.fails { Err(DeviceFault) } else { Ok(0) }
+    }
+}
+
+/// A write fails behind one answer and three bytes of the next: these are written.
+fn writes_a_beginning(rt: &impl Abort, alloc: Global, fails: bool) -> Result<(), Fail> {
+    let graph = graph_of(alloc, GRAPH)?;
+    let mut reader = MemoryInput { rest: b"no\nno\n" };
+    let mut writer = Full {
+        taken: Vec::new(alloc),
+        most: BAD.len() + 3,
+        fails,
+        failed: 0,
+    };
+    let served = serve(alloc, &graph, &mut reader, &mut writer);
+    assert!(rt; served == Err(EngineFault::OutputFailed) && writer.failed == 1);
+    assert!(rt; writer.taken.as_slice() == b"{\"fault\":\"bad query\"}\n{\"f".as_slice());
+    Ok(())
+}
+
+#[test]
+fn stops_where_a_write_fails(rt: HostRuntime) -> Result<(), Fail> {
+    writes_a_beginning(&rt, rt.alloc(), true)?;
+    writes_a_beginning(&rt, rt.alloc(), false)
+}
+
+/// Lines of 70,000 bytes, of 140,000, of none, and of two without an end.
+fn long_lines(alloc: Global) -> Result<Vec<u8>, AllocError> {
+    let mut text = vec![in alloc; b'n'; 70000]?;
+    text.push(b'\n')?;
+    let long = vec![in alloc; b'n'; 140000]?;
+    text.extend_from_slice(long.as_slice())?;
+    text.extend_from_slice(b"\n\nno")?;
+    Ok(text)
+}
+
+fn answers_four(rt: &impl Abort, alloc: Global, text: &[u8], most: usize) -> Result<(), Fail>
+    requires { 0 < most }
+{
+    let graph = graph_of(alloc, GRAPH)?;
+    let mut reader = Piecewise {
+        rest: text,
+        most,
+        breaks: false,
+        failed: 0,
+    };
+    let mut writer = MemoryOutput::new(alloc);
+    serve(alloc, &graph, &mut reader, &mut writer)?;
+    let want = bad_answers(alloc, 4)?;
+    assert!(rt; writer.bytes.as_slice() == want.as_slice());
+    Ok(())
+}
+
+#[test]
+fn answers_lines_longer_than_a_block(rt: HostRuntime) -> Result<(), Fail> {
+    let text = long_lines(rt.alloc())?;
+    answers_four(&rt, rt.alloc(), text.as_slice(), 1000)?;
+    answers_four(&rt, rt.alloc(), text.as_slice(), 65535)?;
+    answers_four(&rt, rt.alloc(), text.as_slice(), 1000000)
+}
+
+#[test]
+fn writes_more_answers_than_a_block(rt: HostRuntime) -> Result<(), Fail> {
+    let lines = vec![in rt.alloc(); b'\n'; 100000]?;
+    answers_bad(&rt, rt.alloc(), lines.as_slice(), 100000)
+}
+
+#[test]
+fn answers_over_streams(rt: HostRuntime) -> Result<(), Fail> {
+    let graph = graph_of(rt.alloc(), GRAPH)?;
+    let mut bytes: Vec<u8> = Vec::new(rt.alloc());
+    let mut reader = ReaderInput::new(b"no\nno".as_slice());
+    let mut writer = WriterOutput::new(&mut bytes);
+    serve(rt.alloc(), &graph, &mut reader, &mut writer)?;
+    drop(writer);
+    let want = bad_answers(rt.alloc(), 2)?;
+    assert!(rt; bytes.as_slice() == want.as_slice());
+    Ok(())
+}
