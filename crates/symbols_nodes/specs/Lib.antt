@@ -1,2 +1,5 @@
+pub mod Expando
+pub mod ExpandoViews
 pub mod NodeViews
+pub mod NodeNames
 pub mod NodeTests

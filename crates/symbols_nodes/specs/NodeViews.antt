@@ -31,6 +31,7 @@ pub data NodeView : Type 0 where
   class_prop : TreeNode → NodeView
   class_param_prop : TreeNode → NodeView
   constructor : TreeNode → NodeView
+  expando_property : TreeNode → NodeView
   ts_index_signature : TreeNode → NodeView
   ts_call_signature_decl : TreeNode → NodeView
   ts_construct_signature_decl : TreeNode → NodeView
@@ -66,6 +67,7 @@ symbol_node_view (SymbolNodeRef.ClassMethod node) = class_method (node_view node
 symbol_node_view (SymbolNodeRef.ClassProp node) = class_prop (node_view node)
 symbol_node_view (SymbolNodeRef.ClassParamProp node) = class_param_prop (node_view node)
 symbol_node_view (SymbolNodeRef.Constructor node) = constructor (node_view node)
+symbol_node_view (SymbolNodeRef.ExpandoProperty expando) = expando_property (node_view expando.inner)
 symbol_node_view (SymbolNodeRef.TsIndexSignature node) = ts_index_signature (node_view node)
 symbol_node_view (SymbolNodeRef.TsCallSignatureDecl node) = ts_call_signature_decl (node_view node)
 symbol_node_view (SymbolNodeRef.TsConstructSignatureDecl node) = ts_construct_signature_decl (node_view node)

@@ -1,10 +1,12 @@
 //! The nodes of declarations.
 
+mod expando;
+mod names;
 mod node_tests;
 mod refs;
 mod symbol_node;
 
-pub use refs::{ExportDeclRef, SymbolNodeRef};
+pub use refs::{ExpandoPropertyRef, ExportDeclRef, SymbolNodeRef};
 pub use symbol_node::SymbolNode;
 
 #[cfg(test)]

@@ -1,5 +1,9 @@
 //! Declarations as nodes: each with the nodes that it is made of.
 
+ghost use Rattle.std.specs.Prelude.{◌≡◌, is_some, true};
+ghost use Rattle.symbols_tree.specs.NodeRefs.{node_view};
+ghost use Rattle.symbols_nodes.specs.Expando.{expando_in};
+
 use symbols_tree::tree::NodeRef;
 
 /// The declaration that stands after `export` (as deno_graph).
@@ -19,6 +23,14 @@ pub enum ExportDeclRef<'a> {
     TsModule(NodeRef<'a>),
     /// A type alias.
     TsTypeAlias(NodeRef<'a>),
+}
+
+/// An assignment that adds a property to a function: `f.p = ..` or `f["p"] = ..`, where `f` is an
+/// identifier and so is `p` (as deno_graph).
+#[derive(Clone, Copy)]
+pub struct ExpandoPropertyRef<'a> {
+    pub(crate) inner: NodeRef<'a>,
+    pub(crate) ghost is_expando: { is_some (expando_in (node_view inner)) ≡ true },
 }
 
 /// The node of a declaration (as deno_graph).
@@ -58,6 +70,8 @@ pub enum SymbolNodeRef<'a> {
     ClassParamProp(NodeRef<'a>),
     /// The constructor of a class.
     Constructor(NodeRef<'a>),
+    /// A property that is assigned to a function.
+    ExpandoProperty(ExpandoPropertyRef<'a>),
     /// An index signature.
     TsIndexSignature(NodeRef<'a>),
     /// A call signature.
