@@ -1,14 +1,16 @@
 -- A builder that has read a whole tree.
-use Rattle.std.proofs.Common.{◌≡◌, ℕ, ◌<◌, ◌≤◌, List, [], ◌∷◌, ◌++◌, length, None, Some, sym, ◌∙◌, ap, subst, arith}
+use Rattle.std.proofs.Common.{◌≡◌, ℕ, ◌<◌, ◌≤◌, List, [], ◌∷◌, ◌++◌, length, None, Some, true, sym, ◌∙◌, ap, subst, arith}
 use Rattle.std.specs.Prelude.{Result, Ok, Err, IsErrAnd, IfErr, slice_get}
 use Rattle.std.specs.Borrow.{Bor}
 use Rattle.std.proofs.lemmas.Option.{slice_get_within, get_or_from_slice_get}
 use Rattle.indexmap.specs.IndexMap.{get}
 use Rattle.symbols_tree.specs.declared.tree.arena.Id.{Id}
+use Rattle.symbols_tree.specs.declared.tree.arena.Node.{Node}
+use Rattle.symbols_tree.specs.TreeFaults.{begins_with_program}
 use Rattle.symbols_tree.specs.declared.ids.SymbolId.{SymbolId}
 use Rattle.symbols_tree.specs.Ids.{id_view, same_id}
 use Rattle.symbols_table.specs.declared.decl.symbol.Symbol.{Symbol}
-use Rattle.symbols_table.specs.Modules.{module_in, symbols_in, mapped_in}
+use Rattle.symbols_table.specs.Modules.{module_in, symbols_in, mapped_in, stars_in}
 use Rattle.symbols_tree.specs.declared.tree.arena.Tree.{Tree}
 use Rattle.symbols_tree.specs.NodeRefs.{list_of}
 use Rattle.symbols_tree.specs.ChildFields.{body_of}
@@ -19,44 +21,50 @@ use Rattle.symbols_table.specs.declared.info.es_module.EsModuleInfo.{EsModuleInf
 use Rattle.symbols_table.specs.DeclViews.{Declaration}
 use Rattle.symbols_table.specs.Changes.{Change, makes, declares}
 use Rattle.symbols_table.specs.Events.{Event, changes_of, symbol_at, rows_after}
-use Rattle.symbols_table.specs.TreeEvents.{each_from, item_at, root_of, root_decl}
+use Rattle.symbols_table.specs.TreeEvents.{items_at, module_scope, root_of, root_decl}
 use Rattle.symbols_table.specs.Tables.{IsTableOf, IsSymbolOf}
 use Rattle.symbols_table.specs.Analysis.{tree_changes, symbol_count, HasTables}
 use Rattle.symbols_table.proofs.Walks.{first_row, first_step, begun_read, begun_fault}
 
 -- the events of the items of a tree's body
-abbrev pub body_events : Tree → List Event
-body_events tree = each_from (item_at tree 0) 1 (list_of (root_of tree) body_of)
+abbrev pub root_events : Tree → List Event
+root_events tree = items_at tree (module_scope tree) (list_of (root_of tree) body_of) 0 1
 
 -- what a tree changes, from the row of its module on
-pub tree_changes-first : (tree : Tree) → tree_changes tree ≡ changes_of (rows_after (first_row (root_decl tree) ∷ []) (body_events tree))
-tree_changes-first tree = ap changes_of (first_step (root_decl tree) (body_events tree))
+pub tree_changes-first : (tree : Tree) → tree_changes tree ≡ changes_of (rows_after (first_row (root_decl tree) ∷ []) (root_events tree))
+tree_changes-first tree = ap changes_of (first_step (root_decl tree) (root_events tree))
 
 -- the module's symbol was made
-pub begun_tree : (tree : Tree) (b0 b1 : Builder) (decl : Declaration) (s : SymbolId) → decl ≡ root_decl tree → b0.symbols.items ≡ [] → b0.ids.entries ≡ [] → s.0 ≡ length b0.symbols.items
+pub begun_tree : (tree : Tree) (b0 b1 : Builder) (decl : Declaration) (s : SymbolId) → decl ≡ root_decl tree → b0.symbols.items ≡ [] → b0.ids.entries ≡ [] → b0.child_names.entries ≡ [] → b0.member_names.entries ≡ [] → b0.stars.items ≡ [] → s.0 ≡ length b0.symbols.items
     → ((changes : List Change) → IsTableOf b0 changes → IsTableOf b1 ((changes ++ makes None ∷ []) ++ declares s decl ∷ []))
     → IsTableOf b1 (changes_of (first_row (root_decl tree) ∷ [])) × (symbol_at (first_row (root_decl tree) ∷ []) 0 ≡ Some s)
-begun_tree tree b0 b1 decl s is no_symbols no_ids number made =
-    subst (λ (d : Declaration). IsTableOf b1 (changes_of (first_row d ∷ [])) × (symbol_at (first_row d ∷ []) 0 ≡ Some s)) is (begun_read b0 b1 decl s no_symbols no_ids number made)
+begun_tree tree b0 b1 decl s is no_symbols no_ids no_children no_members no_stars number made =
+    subst (λ (d : Declaration). IsTableOf b1 (changes_of (first_row d ∷ [])) × (symbol_at (first_row d ∷ []) 0 ≡ Some s)) is (begun_read b0 b1 decl s no_symbols no_ids no_children no_members no_stars number made)
 
 -- the tables are handed out
-pub has_tables : (b : Builder) (esm : EsModuleInfo) (changes : List Change) → symbols_in esm ≡ b.symbols.items → module_in esm ≡ b.module_id
+pub has_tables : (b : Builder) (esm : EsModuleInfo) (changes : List Change) → symbols_in esm ≡ b.symbols.items → module_in esm ≡ b.setting.module_id → stars_in esm ≡ b.stars.items
     → ((id : Bor Id) → mapped_in esm id ≡ get (λ (x y : Bor Id). same_id (id_view x.now) (id_view y.now)) b.ids id) → IsTableOf b changes → HasTables esm changes
-has_tables b esm changes symbols_same module_same ids_same is = record {
+has_tables b esm changes symbols_same module_same stars_same ids_same is = record {
   count = ap length symbols_same ∙ is.count;
   symbols = rw module_same (λ s symbol at.
       let found : slice_get b.symbols.items s.0 ≡ Some symbol = sym (ap (λ (xs : List Symbol). slice_get xs s.0) symbols_same) ∙ at in
-      subst (IsSymbolOf b.module_id changes s) (get_or_from_slice_get b.symbols.items s.0 symbol symbol found) (is.symbols s symbol (slice_get_within b.symbols.items s.0 symbol found)));
+      subst (IsSymbolOf b.setting.module_id changes s) (get_or_from_slice_get b.symbols.items s.0 symbol symbol found) (is.symbols s symbol (slice_get_within b.symbols.items s.0 symbol found)));
   ids = λ id. ids_same id ∙ is.ids id;
+  stars = stars_same ∙ is.stars;
 }
 
-pub is_within : (b : Builder) (tree : Tree) (limit : ℕ) → b.limit ≡ limit → IsTableOf b (tree_changes tree) → symbol_count tree ≤ limit
+pub is_within : (b : Builder) (tree : Tree) (limit : ℕ) → b.setting.limit ≡ limit → IsTableOf b (tree_changes tree) → symbol_count tree ≤ limit
 is_within b tree limit e is = omega (arith, e, is.count, is.few)
 
 -- not even the module fits
 pub too_many_at_once : (tree : Tree) (limit count : ℕ) → count ≡ 0 → limit ≤ count → limit < symbol_count tree
-too_many_at_once tree limit count none le = begun_fault (root_decl tree) (body_events tree) limit count none le
+too_many_at_once tree limit count none le = begun_fault (root_decl tree) (root_events tree) limit count none le
 
 pub err_if : {A P : Type 0} (r : Result A BuildFault) (fault : BuildFault) → IsErrAnd r (λ e. e ≡ fault) → (fault ≡ TooManySymbols → P) → IfErr r (λ e. e ≡ TooManySymbols → P)
 err_if (Ok x) fault h p = tt
 err_if (Err e) fault h p = λ is. p (sym h ∙ is)
+
+-- a tree that begins with a program has a first node
+pub has_root : (nodes : List Node) → begins_with_program nodes ≡ true → 0 < length nodes
+has_root [] begins = absurd (let e : ⊥ = cc in e)
+has_root (node ∷ nodes) begins = omega arith

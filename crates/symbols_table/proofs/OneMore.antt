@@ -1,5 +1,5 @@
 -- The tables after one change more.
-use Rattle.std.proofs.Common.{◌≡◌, ℕ, Bool, true, false, cond, List, [], ◌∷◌, ◌++◌, Option, None, Some, refl, ◌∙◌, arith}
+use Rattle.std.proofs.Common.{◌≡◌, ℕ, Bool, true, false, cond, List, [], ◌∷◌, ◌++◌, Option, None, Some, refl, sym, ◌∙◌, ap, arith}
 use Rattle.std.specs.Prelude.{◌==◌, ◌≢◌}
 use Rattle.std.specs.List.{filter_map, last_or}
 use Rattle.std.specs.Str.{bytes_eq}
@@ -11,7 +11,7 @@ use Rattle.indexmap.specs.IndexMap.{insert_entry}
 use Rattle.symbols_tree.specs.declared.ids.SymbolId.{SymbolId}
 use Rattle.symbols_tree.specs.Ids.{IdView}
 use Rattle.symbols_table.specs.DeclViews.{Declaration, with_decl}
-use Rattle.symbols_table.specs.Changes.{Change, is_same, only_if, parent_in, decl_in, setting_in, child_in, member_in, mapping_in, with_first, parents_of, decls_of, exports_of, children_of, members_of, mapped}
+use Rattle.symbols_table.specs.Changes.{Change, is_same, only_if, parent_in, decl_in, setting_in, child_in, member_in, mapping_in, star_in, with_first, parents_of, decls_of, exports_of, children_of, members_of, stars_of, mapped}
 
 -- what the filter leaves out adds nothing
 pub filter_map-out : {X Y : Type 0} (h : X → Option Y) (xs : List X) (x : X) → h x ≡ None → filter_map h (xs ++ x ∷ []) ≡ filter_map h xs
@@ -66,6 +66,18 @@ module _ (changes : List Change) (change : Change) where
   pub members_of-out : (s : SymbolId) → member_in s change ≡ None → members_of (changes ++ change ∷ []) s ≡ members_of changes s
   unfolding members_of
   members_of-out s out = rw (filter_map-out (member_in s) changes change out) refl
+
+  pub members_of-in : (s x : SymbolId) → member_in s change ≡ Some x → members_of (changes ++ change ∷ []) s ≡ with_first (members_of changes s) x
+  unfolding members_of
+  members_of-in s x is = rw (filter_map-in (member_in s) changes change x is) (fold-append with_first [] (filter_map (member_in s) changes) (x ∷ []))
+
+  pub stars_of-out : star_in change ≡ None → stars_of (changes ++ change ∷ []) ≡ stars_of changes
+  unfolding stars_of
+  stars_of-out out = filter_map-out star_in changes change out
+
+  pub stars_of-in : (n : ℕ) → star_in change ≡ Some n → stars_of (changes ++ change ∷ []) ≡ stars_of changes ++ n ∷ []
+  unfolding stars_of
+  stars_of-in n is = filter_map-in star_in changes change n is
 
   pub mapped-out : (id : IdView) → mapping_in id change ≡ None → mapped (changes ++ change ∷ []) id ≡ mapped changes id
   unfolding mapped

@@ -1,6 +1,6 @@
 -- Calls that stand for events one after another.
-use Rattle.std.proofs.Common.{◌≡◌, ℕ, suc, ◌+◌, ◌<◌, ◌≤◌, add-one, take, drop, get_or, List, [], ◌∷◌, ◌++◌, length, Option, None, Some, refl, sym, ◌∙◌, ap, arith, append_assoc}
-use Rattle.std.specs.Prelude.{Result, Ok, Err, IsErrAnd}
+use Rattle.std.proofs.Common.{◌≡◌, ℕ, suc, ◌+◌, ◌<◌, ◌≤◌, add-one, take, drop, get_or, List, [], ◌∷◌, ◌++◌, length, Option, None, Some, refl, sym, ◌∙◌, ap, subst, arith, append_assoc}
+use Rattle.std.specs.Prelude.{Result, Ok, Err, IsErrAnd, IfErr}
 use Rattle.std.proofs.Math.Seq.{take-suc}
 use Rattle.std.proofs.lemmas.List.{append-nil, length-append, take-append-drop}
 use Rattle.symbols_tree.specs.declared.ids.SymbolId.{SymbolId}
@@ -10,8 +10,9 @@ use Rattle.symbols_table.specs.declared.builder.table.BuildFault.TheVariants.{To
 use Rattle.symbols_table.specs.DeclViews.{Declaration}
 use Rattle.symbols_table.specs.Changes.{Change, makes, declares, parents_of}
 use Rattle.symbols_table.specs.Events.{Event, Row, begins, new_row, row_of, changes_of, symbol_at, rows_after}
-use Rattle.symbols_table.specs.TreeEvents.{on, each_from}
-use Rattle.symbols_table.specs.Tables.{IsTableOf, IsFilled, ReadsAll, ReadsItem}
+use Rattle.symbols_table.specs.Walks.{Walk, none, on, followed_by, each}
+use Rattle.symbols_table.specs.Tables.{IsTableOf, IsFilled, ReadsAll, ReadsWalk}
+use Rattle.symbols_table.specs.declared.builder.table.Setting.{Setting}
 use Rattle.symbols_table.proofs.OneChange.{empty_table}
 use Rattle.symbols_table.proofs.Rows.{new_reads, changes_of-push, rows_after-step, rows_after-nil, rows_after-append, length-rows_after, symbol_at_after, parents_of_grow}
 
@@ -20,12 +21,16 @@ pub none_read : (b : Builder) (rows : List Row) → IsTableOf b (changes_of rows
 none_read b rows is = rw (rows_after-nil rows) is
 
 -- what isn't there has no events
-pub on_none : {A : Type 0} (b : Builder) (rows : List Row) (found : Option A) (events : A → List Event) → found ≡ None → IsTableOf b (changes_of rows) → IsTableOf b (changes_of (rows_after rows (on found events)))
-on_none {A} b rows found events e is = rw e (none_read b rows is)
+pub on_none : {A : Type 0} (b : Builder) (rows : List Row) (found : Option A) (walk : A → Walk) (h start : ℕ) → found ≡ None → IsTableOf b (changes_of rows) → IsTableOf b (changes_of (rows_after rows (on found walk h start)))
+on_none {A} b rows found walk h start e is = rw e (none_read b rows is)
 
 -- the events of what is there
-pub on_some : {A : Type 0} (b : Builder) (rows : List Row) (found : Option A) (x : A) (events : A → List Event) → found ≡ Some x → IsTableOf b (changes_of (rows_after rows (events x))) → IsTableOf b (changes_of (rows_after rows (on found events)))
-on_some b rows found x events e is = rw e is
+pub on_some : {A : Type 0} (b : Builder) (rows : List Row) (found : Option A) (x : A) (walk : A → Walk) (h start : ℕ) → found ≡ Some x → IsTableOf b (changes_of (rows_after rows (walk x h start))) → IsTableOf b (changes_of (rows_after rows (on found walk h start)))
+on_some b rows found x walk h start e is = rw e is
+
+-- a call on what is there stands for its events
+pub on_reads : {A R : Type 0} (r : Result R BuildFault) (limit : ℕ) (new : Builder) (rows : List Row) (found : Option A) (x : A) (walk : A → Walk) (h start : ℕ) → found ≡ Some x → ReadsAll r limit new (rows_after rows (walk x h start)) → ReadsAll r limit new (rows_after rows (on found walk h start))
+on_reads r limit new rows found x walk h start e is = rw e is
 
 pub one_read : (b : Builder) (rows : List Row) (row : Row) → IsTableOf b (changes_of rows ++ row.changes) → IsTableOf b (changes_of (rows ++ row ∷ []))
 one_read b rows row is = rw (changes_of-push rows row) is
@@ -45,15 +50,17 @@ err_all (Err e) limit new rows event row events fault is h full = λ many.
     rw (rows_after-step rows event events row is) (omega (arith, there, parents_of_grow (rows ++ row ∷ []) events))
 
 -- the events of one item more
-pub each_from-append : {A : Type 0} (events : ℕ → A → List Event) (start : ℕ) (xs ys : List A)
-    → each_from events start (xs ++ ys) ≡ each_from events start xs ++ each_from events (start + length (each_from events start xs)) ys
-each_from-append events start [] ys = let e : start + 0 ≡ start = omega arith in rw e refl
-each_from-append events start (x ∷ xs) ys =
-    let rest = each_from-append events (start + length (events start x)) xs ys in
-    let e : (start + length (events start x)) + length (each_from events (start + length (events start x)) xs) ≡ start + length (events start x ++ each_from events (start + length (events start x)) xs) =
-    omega (arith, length-append (events start x) (each_from events (start + length (events start x)) xs)) in
-    ap (λ es. events start x ++ es) rest
-    ∙ rw e (sym (append_assoc (events start x) (each_from events (start + length (events start x)) xs) (each_from events (start + length (events start x ++ each_from events (start + length (events start x)) xs)) ys)))
+pub each-append : {A : Type 0} (walk : A → Walk) (h start : ℕ) (xs ys : List A) → each walk (xs ++ ys) h start ≡ followed_by (each walk xs) (each walk ys) h start
+each-append walk h start [] ys = let e : start + 0 ≡ start = omega arith in rw e refl
+each-append walk h start (x ∷ xs) ys =
+    let first = walk x h start in
+    let after = each walk xs h (start + length first) in
+    let rest = each-append walk h (start + length first) xs ys in
+    let e : (start + length first) + length after ≡ start + length (first ++ after) = omega (arith, length-append first after) in
+    ap (λ es. first ++ es) rest ∙ rw e (sym (append_assoc first after (each walk ys h (start + length (first ++ after)))))
+
+pub each-more : {A : Type 0} (walk : A → Walk) (h start : ℕ) (xs : List A) (x : A) → each walk (xs ++ x ∷ []) h start ≡ followed_by (each walk xs) (walk x) h start
+each-more walk h start xs x = each-append walk h start xs (x ∷ []) ∙ ap (λ (es : List Event). each walk xs h start ++ es) (append-nil (walk x h (start + length (each walk xs h start))))
 
 -- one item more of a list
 pub take_item : (items : List ℕ) (i n : ℕ) → i < length items → n ≡ get_or items i n → take (i + 1) items ≡ take i items ++ n ∷ []
@@ -63,47 +70,72 @@ pub split_item : (items : List ℕ) (i n : ℕ) → i < length items → n ≡ g
 split_item items i n below is =
     ap (λ m. (take i items ++ m ∷ []) ++ drop (suc i) items) is ∙ ap (λ (xs : List ℕ). xs ++ drop (suc i) items) (sym (take-suc items i n below)) ∙ take-append-drop (suc i) items
 
--- a builder that has read some items of a list
-pub record IsWalked (begun now : Builder) (events : ℕ → ℕ → ℕ → List Event) (holder : SymbolId) (items : List ℕ) : Type 0 where
+-- a builder that has read a part under a holder
+pub record IsWalked (begun now : Builder) (walk : Walk) (holder : SymbolId) : Type 0 where
   pub filled : IsFilled now
-  pub limit : now.limit ≡ begun.limit
-  pub of_module : now.module_id ≡ begun.module_id
+  pub setting : now.setting ≡ begun.setting
   pub longer : length begun.symbols.items ≤ length now.symbols.items
-  pub table : (rows : List Row) (h : ℕ) → IsTableOf begun (changes_of rows) → symbol_at rows h ≡ Some holder → IsTableOf now (changes_of (rows_after rows (each_from (events h) (length rows) items)))
+  pub table : (rows : List Row) (h : ℕ) → IsTableOf begun (changes_of rows) → symbol_at rows h ≡ Some holder → IsTableOf now (changes_of (rows_after rows (walk h (length rows))))
 
-rows_item : (events : ℕ → ℕ → List Event) (rows : List Row) (items : List ℕ) (n : ℕ)
-    → rows_after rows (each_from events (length rows) (items ++ n ∷ [])) ≡ rows_after (rows_after rows (each_from events (length rows) items)) (events (length (rows_after rows (each_from events (length rows) items))) n)
-rows_item events rows items n =
-    rw (each_from-append events (length rows) items (n ∷ []), rows_after-append rows (each_from events (length rows) items) (each_from events (length rows + length (each_from events (length rows) items)) (n ∷ [])), length-rows_after rows (each_from events (length rows) items), append-nil) refl
+rows_then : (rows : List Row) (first next : Walk) (h : ℕ)
+    → rows_after rows (followed_by first next h (length rows)) ≡ rows_after (rows_after rows (first h (length rows))) (next h (length (rows_after rows (first h (length rows)))))
+rows_then rows first next h =
+    rw (rows_after-append rows (first h (length rows)) (next h (length rows + length (first h (length rows)))), length-rows_after rows (first h (length rows))) refl
 
-pub walked_none : (b : Builder) (events : ℕ → ℕ → ℕ → List Event) (holder : SymbolId) → IsFilled b → IsWalked b b events holder []
-walked_none b events holder filled = record { filled = filled; limit = refl; of_module = refl; longer = omega arith; table = λ rows h is at. rw (rows_after-nil rows) is }
+pub walked_none : (b : Builder) (holder : SymbolId) → IsFilled b → IsWalked b b none holder
+walked_none b holder filled = record { filled = filled; setting = refl; longer = omega arith; table = λ rows h is at. rw (rows_after-nil rows) is }
 
-pub walked_more : {A : Type 0} {begun now : Builder} {events : ℕ → ℕ → ℕ → List Event} {holder : SymbolId} {items : List ℕ} (w : IsWalked begun now events holder items) (next : Builder) (n : ℕ) (x : A)
-    → IsFilled next → next.limit ≡ now.limit → next.module_id ≡ now.module_id → length now.symbols.items ≤ length next.symbols.items → ReadsItem (Ok x) now next events holder n → IsWalked begun next events holder (items ++ n ∷ [])
-walked_more {A} {begun} {now} {events} {holder} {items} w next n x filled limit of_module longer reads = record {
+pub walked_then : {A : Type 0} {begun now : Builder} {first : Walk} {holder : SymbolId} (w : IsWalked begun now first holder) (next : Builder) (then : Walk) (x : A)
+    → IsFilled next → next.setting ≡ now.setting → length now.symbols.items ≤ length next.symbols.items → ReadsWalk (Ok x) now next then holder → IsWalked begun next (followed_by first then) holder
+walked_then {A} {begun} {now} {first} {holder} w next then x filled setting longer reads = record {
   filled = filled;
-  limit = limit ∙ w.limit;
-  of_module = of_module ∙ w.of_module;
+  setting = setting ∙ w.setting;
   longer = omega (arith, w.longer, longer);
   table = λ rows h is at.
-      let so_far = rows_after rows (each_from (events h) (length rows) items) in
-      rw (rows_item (events h) rows items n) (reads so_far h (w.table rows h is at) (symbol_at_after rows (each_from (events h) (length rows) items) h holder at));
+      let so_far = rows_after rows (first h (length rows)) in
+      rw (rows_then rows first then h) (reads so_far h (w.table rows h is at) (symbol_at_after rows (first h (length rows)) h holder at));
 }
 
-pub walked_fault : {A : Type 0} {begun now : Builder} {events : ℕ → ℕ → ℕ → List Event} {holder : SymbolId} {items : List ℕ} (w : IsWalked begun now events holder items) (next new : Builder) (n : ℕ) (rest : List ℕ) (fault : BuildFault) (r : Result A BuildFault)
-    → IsErrAnd r (λ e. e ≡ fault) → ReadsItem {A = A} (Err fault) now next events holder n
-    → (rows : List Row) (h : ℕ) → IsTableOf begun (changes_of rows) → symbol_at rows h ≡ Some holder
-    → ReadsAll r begun.limit new (rows_after rows (each_from (events h) (length rows) ((items ++ n ∷ []) ++ rest)))
-walked_fault {A} {begun} {now} {events} {holder} {items} w next new n rest fault (Ok x) h reads rows place is at = absurd h
-walked_fault {A} {begun} {now} {events} {holder} {items} w next new n rest fault (Err e) h reads rows place is at = λ many.
-    let so_far = rows_after rows (each_from (events place) (length rows) items) in
-    let here : now.limit < length (parents_of (changes_of (rows_after so_far (events place (length so_far) n)))) =
-    reads so_far place (w.table rows place is at) (symbol_at_after rows (each_from (events place) (length rows) items) place holder at) (sym h ∙ many) in
-    let there : now.limit < length (parents_of (changes_of (rows_after rows (each_from (events place) (length rows) (items ++ n ∷ []))))) = rw (rows_item (events place) rows items n) here in
-    let after = each_from (events place) (length rows + length (each_from (events place) (length rows) (items ++ n ∷ []))) rest in
-    let more = parents_of_grow (rows_after rows (each_from (events place) (length rows) (items ++ n ∷ []))) after in
-    rw (each_from-append (events place) (length rows) (items ++ n ∷ []) rest, rows_after-append rows (each_from (events place) (length rows) (items ++ n ∷ [])) after) (omega (arith, there, more, w.limit))
+-- the last call of a part
+pub walked_last : {A : Type 0} {begun now : Builder} {first : Walk} {holder : SymbolId} (w : IsWalked begun now first holder) (r : Result A BuildFault) (next : Builder) (then : Walk) → ReadsWalk r now next then holder → ReadsWalk r begun next (followed_by first then) holder
+walked_last {A} {begun} {now} {first} {holder} w (Ok x) next then reads rows h is at =
+    rw (rows_then rows first then h) (reads (rows_after rows (first h (length rows))) h (w.table rows h is at) (symbol_at_after rows (first h (length rows)) h holder at))
+walked_last {A} {begun} {now} {first} {holder} w (Err e) next then reads rows h is at = λ many.
+    rw (rows_then rows first then h, ← ap (λ (s : Setting). s.limit) w.setting) (reads (rows_after rows (first h (length rows))) h (w.table rows h is at) (symbol_at_after rows (first h (length rows)) h holder at) many)
+
+-- a fault at a call, with more to come after it
+pub walked_fault : (A : Type 0) {B : Type 0} {begun now : Builder} {first : Walk} {holder : SymbolId} (w : IsWalked begun now first holder) (next new : Builder) (then rest : Walk) (fault : BuildFault) (r : Result B BuildFault)
+    → IsErrAnd r (λ e. e ≡ fault) → ReadsWalk {A = A} (Err fault) now next then holder → ReadsWalk r begun new (followed_by (followed_by first then) rest) holder
+walked_fault A {B} {begun} {now} {first} {holder} w next new then rest fault (Ok x) h reads rows place is at = absurd h
+walked_fault A {B} {begun} {now} {first} {holder} w next new then rest fault (Err e) h reads rows place is at = λ many.
+    let both = followed_by first then in
+    let here : begun.setting.limit < length (parents_of (changes_of (rows_after rows (both place (length rows))))) = walked_last {A = A} w (Err fault) next then reads rows place is at (sym h ∙ many) in
+    let after = rest place (length rows + length (both place (length rows))) in
+    rw (rows_after-append rows (both place (length rows)) after) (omega (arith, here, parents_of_grow (rows_after rows (both place (length rows))) after))
+
+-- the same as the events of a list
+pub read_as : {A : Type 0} (r : Result A BuildFault) (old new : Builder) (walk : Walk) (holder : SymbolId) (other : Walk) → ((h start : ℕ) → other h start ≡ walk h start) → ReadsWalk r old new walk holder → ReadsWalk r old new other holder
+read_as r old new walk holder other same reads rows h is at = rw (same h (length rows)) (reads rows h is at)
+
+pub walked_as : {begun now : Builder} (walk : Walk) {holder : SymbolId} (other : Walk) → ((h start : ℕ) → other h start ≡ walk h start) → IsWalked begun now walk holder → IsWalked begun now other holder
+walked_as {begun} {now} walk {holder} other same w = record { filled = w.filled; setting = w.setting; longer = w.longer; table = λ rows h is at. rw (same h (length rows)) (w.table rows h is at) }
+
+-- ---- a loop over a list whose items are parts
+
+pub each_none : {A : Type 0} (b : Builder) (walk : A → Walk) (holder : SymbolId) → IsFilled b → IsWalked b b (each walk []) holder
+each_none b walk holder filled = walked_none b holder filled
+
+pub each_next : {A : Type 0} {begun now : Builder} (walk : ℕ → Walk) (items : List ℕ) {holder : SymbolId} (w : IsWalked begun now (each walk items) holder) (next : Builder) (n : ℕ) (x : A)
+    → IsFilled next → next.setting ≡ now.setting → length now.symbols.items ≤ length next.symbols.items → ReadsWalk (Ok x) now next (walk n) holder → IsWalked begun next (each walk (items ++ n ∷ [])) holder
+each_next {A} {begun} {now} walk items {holder} w next n x filled setting longer reads =
+    walked_as (followed_by (each walk items) (walk n)) (each walk (items ++ n ∷ [])) (λ h start. each-more walk h start items n) (walked_then w next (walk n) x filled setting longer reads)
+
+pub each_fault : (A : Type 0) {B : Type 0} {begun now : Builder} (walk : ℕ → Walk) (items : List ℕ) {holder : SymbolId} (w : IsWalked begun now (each walk items) holder) (next new : Builder) (n : ℕ) (rest : List ℕ) (fault : BuildFault) (r : Result B BuildFault)
+    → IsErrAnd r (λ e. e ≡ fault) → ReadsWalk {A = A} (Err fault) now next (walk n) holder → ReadsWalk r begun new (each walk ((items ++ n ∷ []) ++ rest)) holder
+each_fault A {B} {begun} {now} walk items {holder} w next new n rest fault r h reads =
+    let same : (h start : ℕ) → each walk ((items ++ n ∷ []) ++ rest) h start ≡ followed_by (followed_by (each walk items) (walk n)) (each walk rest) h start =
+    λ h start. each-append walk h start (items ++ n ∷ []) rest ∙ ap (λ (es : List Event). es ++ each walk rest h (start + length es)) (each-more walk h start items n) in
+    read_as r begun new (followed_by (followed_by (each walk items) (walk n)) (each walk rest)) holder (each walk ((items ++ n ∷ []) ++ rest)) same (walked_fault A w next new (walk n) (each walk rest) fault r h reads)
 
 -- the row of the module
 abbrev pub first_row : Declaration → Row
@@ -113,11 +145,11 @@ pub first_step : (decl : Declaration) (events : List Event) → rows_after [] (b
 unfolding changes_of
 first_step decl events = rows_after-step [] (begins decl) events (first_row decl) refl
 
-pub begun_read : (b0 b1 : Builder) (decl : Declaration) (s : SymbolId) → b0.symbols.items ≡ [] → b0.ids.entries ≡ [] → s.0 ≡ length b0.symbols.items
+pub begun_read : (b0 b1 : Builder) (decl : Declaration) (s : SymbolId) → b0.symbols.items ≡ [] → b0.ids.entries ≡ [] → b0.child_names.entries ≡ [] → b0.member_names.entries ≡ [] → b0.stars.items ≡ [] → s.0 ≡ length b0.symbols.items
     → ((changes : List Change) → IsTableOf b0 changes → IsTableOf b1 ((changes ++ makes None ∷ []) ++ declares s decl ∷ [])) → IsTableOf b1 (changes_of (first_row decl ∷ [])) × (symbol_at (first_row decl ∷ []) 0 ≡ Some s)
 unfolding changes_of symbol_at parents_of
-begun_read b0 b1 decl s no_symbols no_ids number made =
-    let empty = empty_table b0 no_symbols no_ids in
+begun_read b0 b1 decl s no_symbols no_ids no_children no_members no_stars number made =
+    let empty = empty_table b0 no_symbols no_ids no_children no_members no_stars in
     let read = new_reads b1 [] None decl (λ _. []) s (number ∙ ap length no_symbols) (made [] empty) in
     (read.1, read.0)
 

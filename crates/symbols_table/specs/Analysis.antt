@@ -12,11 +12,11 @@ use Rattle.symbols_table.specs.declared.info.es_module.EsModuleInfo.{EsModuleInf
 use Rattle.symbols_table.specs.declared.info.module_info.ModuleInfo.{ModuleInfo}
 use Rattle.symbols_table.specs.declared.info.fault.SymbolsFault.{SymbolsFault}
 use Rattle.symbols_table.specs.declared.info.fault.SymbolsFault.TheVariants as fault
-use Rattle.symbols_table.specs.Changes.{Change, parents_of, mapped}
+use Rattle.symbols_table.specs.Changes.{Change, parents_of, stars_of, mapped}
 use Rattle.symbols_table.specs.Events.{changes_by}
 use Rattle.symbols_table.specs.TreeEvents.{tree_events}
 use Rattle.symbols_table.specs.Tables.{IsSymbolOf}
-use Rattle.symbols_table.specs.Modules.{module_in, specifier_in, source_in, symbols_in, mapped_in, esm_in}
+use Rattle.symbols_table.specs.Modules.{module_in, specifier_in, source_in, symbols_in, mapped_in, stars_in, esm_in}
 
 -- what the events of a tree change
 abbrev pub tree_changes : Tree → List Change
@@ -31,6 +31,7 @@ pub record HasTables (esm : EsModuleInfo) (changes : List Change) : Type 0 where
   pub count : length (symbols_in esm) ≡ length (parents_of changes)
   pub symbols : (s : SymbolId) (symbol : Symbol) → slice_get (symbols_in esm) s.0 ≡ Some symbol → IsSymbolOf (module_in esm) changes s symbol
   pub ids : (id : Bor Id) → mapped_in esm id ≡ mapped changes (id_view id.now)
+  pub stars : stars_in esm ≡ stars_of changes
 
 -- the module of the graph, with the tables of its tree
 pub record IsAnalyzed (module_id : ModuleId) (graph_module : ModuleView) (limit : ℕ) (esm : EsModuleInfo) : Type 0 where

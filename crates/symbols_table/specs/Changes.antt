@@ -1,13 +1,16 @@
 -- What events change in the tables, and the tables as filters over the list of changes.
-use Rattle.std.specs.Prelude.{ℕ, ◌==◌, Bool, if◌then◌else◌, List, [], ◌∷◌, ◌++◌, fold, Option, None, Some}
-use Rattle.std.specs.List.{filter_map, last_or, list_any}
+use Rattle.std.specs.Prelude.{ℕ, ◌==◌, Bool, true, false, if◌then◌else◌, List, [], ◌∷◌, ◌++◌, fold, slice_get, Option, None, Some}
+use Rattle.std.specs.List.{filter_map, last_or, list_any, find}
+use Rattle.std.specs.Map.{lookup}
+use Rattle.std.specs.Option.{option_and_then, option_map_or}
 use Rattle.std.specs.Str.{bytes_eq}
 use Rattle.indexmap.specs.IndexMap.{insert_all}
 use Rattle.symbols_tree.specs.declared.ids.SymbolId.{SymbolId}
 use Rattle.symbols_tree.specs.Ids.{IdView, same_id}
-use Rattle.symbols_table.specs.DeclViews.{Declaration, with_decl}
+use Rattle.symbols_table.specs.DeclViews.{Declaration, with_decl, decl_name, node_test}
+use Rattle.symbols_nodes.specs.NodeTests.{is_function}
 
--- one change: a new symbol with this parent; a declaration of a symbol; a name that a symbol exports as another; a child or a member of a symbol; what a name stands for
+-- one change: a new symbol with this parent; a declaration of a symbol; a name that a symbol exports as another; a child or a member of a symbol; what a name stands for; an `export *`, by the number of its node
 pub data Change : Type 0 where
   makes : Option SymbolId → Change
   declares : SymbolId → Declaration → Change
@@ -15,6 +18,7 @@ pub data Change : Type 0 where
   has_child : SymbolId → SymbolId → Change
   has_member : SymbolId → SymbolId → Change
   maps : IdView → SymbolId → Change
+  passes_on : ℕ → Change
 
 abbrev pub is_same : SymbolId → SymbolId → Bool
 is_same s t = s.0 == t.0
@@ -47,6 +51,10 @@ abbrev pub mapping_in : IdView → Change → Option SymbolId
 mapping_in id (maps other x) = only_if (same_id other id) x
 mapping_in id _ = None
 
+abbrev pub star_in : Change → Option ℕ
+star_in (passes_on n) = Some n
+star_in _ = None
+
 -- a symbol has the place where it first stands
 abbrev pub with_first : List SymbolId → SymbolId → List SymbolId
 with_first xs x = if list_any (is_same x) xs then xs else xs ++ x ∷ []
@@ -73,3 +81,29 @@ members_of changes s = fold with_first [] (filter_map (member_in s) changes)
 -- the symbol that a name stands for: that of its last mapping
 unfoldable pub mapped : List Change → IdView → Option SymbolId
 mapped changes id = last_or None (filter_map (mapping_in id) changes)
+
+-- the statements `export *`, in order
+unfoldable pub stars_of : List Change → List ℕ
+stars_of changes = filter_map star_in changes
+
+-- the symbol that a symbol exports under a name
+abbrev pub exported : List Change → SymbolId → List ℕ → Option SymbolId
+exported changes s name = lookup (λ key. bytes_eq name key) (exports_of changes s)
+
+-- a symbol's local name: that of its first declaration
+abbrev pub local_name : List Change → SymbolId → Option (List ℕ)
+local_name changes s = option_and_then decl_name (slice_get (decls_of changes s) 0)
+
+abbrev pub is_named : List Change → List ℕ → SymbolId → Bool
+is_named changes name s = option_map_or (λ (own : List ℕ). bytes_eq own name) (local_name changes s) false
+
+-- the first child, and the first member, with that local name
+abbrev pub child_named : List Change → SymbolId → List ℕ → Option SymbolId
+child_named changes s name = find (is_named changes name) (children_of changes s)
+
+abbrev pub member_named : List Change → SymbolId → List ℕ → Option SymbolId
+member_named changes s name = find (is_named changes name) (members_of changes s)
+
+-- one of its declarations is a function
+abbrev pub has_function : List Change → SymbolId → Bool
+has_function changes s = list_any (node_test is_function) (decls_of changes s)

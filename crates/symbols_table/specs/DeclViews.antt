@@ -1,15 +1,18 @@
 -- Declarations and symbols as contracts see them.
-use Rattle.std.specs.Prelude.{ℕ, Bool, false, ◌&&◌, if◌then◌else◌, List, [], ◌∷◌, ◌++◌, length, map, slice_get, ◌-◌, Option, Some, None, String, string_bytes}
-use Rattle.std.specs.Option.{option_map, option_map_or}
+use Rattle.std.specs.Prelude.{ℕ, Bool, true, false, ◌&&◌, if◌then◌else◌, List, [], ◌∷◌, ◌++◌, length, map, slice_get, ◌-◌, Option, Some, None, String, string_bytes}
+use Rattle.std.specs.Option.{option_map, option_map_or, option_and_then}
 use Rattle.std.specs.Global.{Global}
 use Rattle.std.specs.Borrow.{Bor}
 use Rattle.symbols_tree.specs.declared.tree.arena.SourceRange.{SourceRange}
 use Rattle.symbols_tree.specs.declared.ids.SymbolId.{SymbolId}
 use Rattle.symbols_tree.specs.Ids.{IdView, id_view}
 use Rattle.symbols_nodes.specs.NodeViews.{NodeView, symbol_node_view}
+use Rattle.symbols_nodes.specs.NodeNames.{node_name}
 use Rattle.symbols_nodes.specs.NodeTests.{is_function, has_body, is_method}
 use Rattle.symbols_table.specs.declared.decl.dep.FileDepName.{FileDepName}
+use Rattle.symbols_table.specs.declared.decl.dep.FileDepName.TheVariants as FileDepName
 use Rattle.symbols_table.specs.declared.decl.symbol_decl.SymbolDeclKind.{SymbolDeclKind}
+use Rattle.symbols_table.specs.declared.decl.symbol_decl.SymbolDeclKind.TheVariants as SymbolDeclKind
 use Rattle.symbols_table.specs.declared.decl.symbol_decl.SymbolDecl.{SymbolDecl}
 
 -- what an import takes of a module: all of it, or a name
@@ -51,9 +54,21 @@ node_of_kind _ = None
 abbrev pub node_test : (NodeView → Bool) → Declaration → Bool
 node_test test decl = option_map_or test (node_of_kind decl.kind) false
 
+-- a declaration is called what its node is called; without a node it has no name
+abbrev pub decl_name : Declaration → Option (List ℕ)
+decl_name decl = option_and_then node_name (node_of_kind decl.kind)
+
+abbrev pub is_definition : DeclKind → Bool
+is_definition (definition _) = true
+is_definition _ = false
+
+-- a declaration of this kind that stands there, with no flag so far
+abbrev pub declaration_at : DeclKind → SourceRange → Declaration
+declaration_at kind range = record { kind = kind; range = range; has_overloads = false }
+
 -- a definition by its node, with no flag so far
 abbrev pub defined : NodeView → SourceRange → Declaration
-defined node range = record { kind = definition (Some node); range = range; has_overloads = false }
+defined node range = declaration_at (definition (Some node)) range
 
 -- the last of the declarations
 abbrev pub last_decl : List Declaration → Option Declaration

@@ -1,5 +1,5 @@
 -- What a symbol shows.
-use Rattle.std.specs.Prelude.{ℕ, List, map, Option}
+use Rattle.std.specs.Prelude.{ℕ, Bool, List, map, Option}
 use Rattle.symbols_tree.specs.declared.ids.ModuleId.{ModuleId}
 use Rattle.symbols_tree.specs.declared.ids.SymbolId.{SymbolId}
 use Rattle.symbols_table.specs.declared.decl.symbol.Symbol.{Symbol}
@@ -26,3 +26,7 @@ children_in symbol = symbol.child_ids.keys
 
 abbrev pub members_in : Symbol → List SymbolId
 members_in symbol = symbol.members.keys
+
+-- one of the symbol's declarations is a function
+abbrev pub has_function_in : Symbol → Bool
+has_function_in symbol = symbol.has_function

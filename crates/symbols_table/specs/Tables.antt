@@ -1,18 +1,25 @@
 -- A builder holds the tables of what was changed.
-use Rattle.std.specs.Prelude.{◌≡◌, ℕ, ◌<◌, ◌≤◌, [], ◌++◌, List, length, Option, None, Some, All, Result, MatchResult, slice_index_or, slice_get}
+use Rattle.std.specs.Prelude.{◌≡◌, ℕ, ◌<◌, ◌≤◌, Bool, ◌&&◌, [], ◌++◌, List, length, map, Option, None, Some, All, Result, MatchResult, slice_index_or, slice_get}
 use Rattle.std.specs.Borrow.{Bor}
+use Rattle.std.specs.Option.{option_and_then}
+use Rattle.std.specs.Str.{bytes_eq}
+use Rattle.std.specs.Cow.{cow_str_bytes}
+use Rattle.std.specs.HashMap.{HashMap, get as get_symbol}
 use Rattle.indexmap.specs.IndexMap.{get}
 use Rattle.symbols_tree.specs.declared.tree.arena.Id.{Id}
 use Rattle.symbols_tree.specs.declared.ids.ModuleId.{ModuleId}
 use Rattle.symbols_tree.specs.declared.ids.SymbolId.{SymbolId}
 use Rattle.symbols_tree.specs.Ids.{id_view, same_id}
 use Rattle.symbols_table.specs.declared.decl.symbol.Symbol.{Symbol}
+use Rattle.symbols_table.specs.declared.builder.names.LocalName.{LocalName}
 use Rattle.symbols_table.specs.declared.builder.table.Builder.{Builder}
 use Rattle.symbols_table.specs.declared.builder.table.BuildFault.{BuildFault}
 use Rattle.symbols_table.specs.declared.builder.table.BuildFault.TheVariants.{TooManySymbols}
-use Rattle.symbols_table.specs.Symbols.{number_in, module_number_in, parent_in, decls_in, exports_in, children_in, members_in}
-use Rattle.symbols_table.specs.Changes.{Change, makes, declares, exports, has_child, has_member, maps, parents_of, decls_of, exports_of, children_of, members_of, mapped}
-use Rattle.symbols_table.specs.Events.{Event, Row, changes_of, symbol_at, rows_after}
+use Rattle.symbols_table.specs.Symbols.{number_in, module_number_in, parent_in, decls_in, exports_in, children_in, members_in, has_function_in}
+use Rattle.symbols_table.specs.Changes.{Change, makes, declares, exports, has_child, has_member, maps, passes_on, is_same, parents_of, decls_of, exports_of, children_of, members_of, stars_of, mapped, child_named, member_named, has_function}
+use Rattle.symbols_table.specs.Events.{Row, changes_of, symbol_at, rows_after}
+use Rattle.symbols_table.specs.Walks.{Walk}
+use Rattle.symbols_table.specs.DeclViews.{decl_name}
 
 -- the symbol is that of the number s in the module, and holds what was changed of it
 pub record IsSymbolOf (module_id : ModuleId) (changes : List Change) (s : SymbolId) (symbol : Symbol) : Type 0 where
@@ -23,6 +30,7 @@ pub record IsSymbolOf (module_id : ModuleId) (changes : List Change) (s : Symbol
   pub exports : exports_in symbol ≡ exports_of changes s
   pub children : children_in symbol ≡ children_of changes s
   pub members : members_in symbol ≡ members_of changes s
+  pub functions : has_function_in symbol ≡ has_function changes s
 
 -- nothing was changed of the number s
 pub record IsBare (changes : List Change) (s : SymbolId) : Type 0 where
@@ -39,18 +47,34 @@ Fits count (exports s _ x) = (s.0 < count) × (x.0 < count)
 Fits count (has_child s x) = (s.0 < count) × (x.0 < count)
 Fits count (has_member s x) = (s.0 < count) × (x.0 < count)
 Fits count (maps _ x) = x.0 < count
+Fits count (passes_on _) = Unit {0}
 
 -- a parent of the symbol n: symbol 0 has none, and the others have a lower one
 abbrev pub IsParentOf : ℕ → Option SymbolId → Type 0
 IsParentOf n None = n ≡ 0
 IsParentOf n (Some parent) = parent.0 < n
 
+-- what a symbol is called
+abbrev pub name_in : List Symbol → SymbolId → Option (List ℕ)
+name_in symbols s = option_and_then (λ (symbol : Symbol). option_and_then decl_name (slice_get (decls_in symbol) 0)) (slice_get symbols s.0)
+
+-- the same name in the same holder
+abbrev pub is_same_name : LocalName → LocalName → Bool
+is_same_name x y = is_same x.holder y.holder && bytes_eq (cow_str_bytes x.name) (cow_str_bytes y.name)
+
+-- the symbol of a name
+abbrev pub symbol_named : {S : Type 0} → HashMap LocalName SymbolId S → LocalName → Option SymbolId
+symbol_named names q = get_symbol is_same_name names q
+
 pub record IsTableOf (b : Builder) (changes : List Change) : Type 0 where
   pub count : length b.symbols.items ≡ length (parents_of changes)
-  pub symbols : (s : SymbolId) (d : Symbol) → s.0 < length b.symbols.items → IsSymbolOf b.module_id changes s (slice_index_or b.symbols.items s.0 d)
+  pub symbols : (s : SymbolId) (d : Symbol) → s.0 < length b.symbols.items → IsSymbolOf b.setting.module_id changes s (slice_index_or b.symbols.items s.0 d)
   pub others : (s : SymbolId) → length b.symbols.items ≤ s.0 → IsBare changes s
   pub ids : (id : Bor Id) → get (λ (x y : Bor Id). same_id (id_view x.now) (id_view y.now)) b.ids id ≡ mapped changes (id_view id.now)
-  pub few : length b.symbols.items ≤ b.limit
+  pub child_names : (q : LocalName) → symbol_named b.child_names q ≡ child_named changes q.holder (cow_str_bytes q.name)
+  pub member_names : (q : LocalName) → symbol_named b.member_names q ≡ member_named changes q.holder (cow_str_bytes q.name)
+  pub stars : b.stars.items ≡ stars_of changes
+  pub few : length b.symbols.items ≤ b.setting.limit
   pub sound : All (Fits (length b.symbols.items)) changes
   pub parents : (n : ℕ) (parent : Option SymbolId) → slice_get (parents_of changes) n ≡ Some parent → IsParentOf n parent
   pub declared : (s : SymbolId) → s.0 < length b.symbols.items → 0 < length (decls_of changes s)
@@ -72,7 +96,14 @@ ReadsAll result limit new rows =
     (λ _. IsTableOf new (changes_of rows))
     (λ fault. fault ≡ TooManySymbols → limit < length (parents_of (changes_of rows)))
 
--- a call on the item n of a list, which stands for the item's events, given by the place of the holder and that of the first of them
-abbrev pub ReadsItem : {A : Type 0} → Result A BuildFault → Builder → Builder → (ℕ → ℕ → ℕ → List Event) → SymbolId → ℕ → Type 0
-ReadsItem result old new events holder n =
-    (rows : List Row) (h : ℕ) → IsTableOf old (changes_of rows) → symbol_at rows h ≡ Some holder → ReadsAll result old.limit new (rows_after rows (events h (length rows) n))
+-- the same of an event whose symbol no other event speaks of
+abbrev pub ReadsOnly : {A : Type 0} → Result A BuildFault → ℕ → Builder → List Change → Row → Type 0
+ReadsOnly result limit new before row =
+    MatchResult result
+    (λ _. IsTableOf new (before ++ row.changes))
+    (λ fault. fault ≡ TooManySymbols → limit < length (parents_of (before ++ row.changes)))
+
+-- a call that stands for the events of a part of a tree under a holder, whatever events came before
+abbrev pub ReadsWalk : {A : Type 0} → Result A BuildFault → Builder → Builder → Walk → SymbolId → Type 0
+ReadsWalk result old new walk holder =
+    (rows : List Row) (h : ℕ) → IsTableOf old (changes_of rows) → symbol_at rows h ≡ Some holder → ReadsAll result old.setting.limit new (rows_after rows (walk h (length rows)))

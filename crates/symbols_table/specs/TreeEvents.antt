@@ -1,97 +1,108 @@
--- The events of a tree, by the kinds of its nodes.
-use Rattle.std.specs.Prelude.{ℕ, ◌+◌, Bool, if◌then◌else◌, is_some, List, [], ◌∷◌, ◌++◌, length, Option, None, Some, unwrap_or}
-use Rattle.std.specs.Option.{option_map_or, option_and_then}
+-- The events of a tree: of its items, and of those in its namespaces.
+use Rattle.std.specs.Prelude.{ℕ, suc, zero, ◌+◌, Bool, true, false, ◌||◌, List, [], ◌∷◌, ◌++◌, length, Option, None, Some}
+use Rattle.std.specs.Option.{option_and_then}
 use Rattle.symbols_tree.specs.declared.tree.arena.Tree.{Tree}
 use Rattle.symbols_tree.specs.declared.tree.arena.Id.{Id}
-use Rattle.symbols_tree.specs.declared.tree.arena.SourceRange.{SourceRange}
 use Rattle.symbols_tree.specs.declared.tree.kinds.Kind.{Kind}
+use Rattle.symbols_tree.specs.declared.tree.kinds.Kind.TheVariants as Kind
 use Rattle.symbols_tree.specs.declared.tree.kinds.Item.TheVariants as Item
 use Rattle.symbols_tree.specs.declared.tree.kinds.Decl.TheVariants as Decl
-use Rattle.symbols_tree.specs.declared.tree.kinds.Pat.TheVariants as Pat
-use Rattle.symbols_tree.specs.NodeRefs.{TreeNode, kind_of, range_of, node_in, child_of, list_of}
-use Rattle.symbols_tree.specs.ChildFields.{body_of, decl_of, decls_of, ident_of, name_of}
-use Rattle.symbols_tree.specs.Ids.{IdView, id_view, sym_of}
-use Rattle.symbols_nodes.specs.NodeViews.{NodeView, ExportDeclView, program, export_decl, class_decl, fn_decl, ts_enum, ts_interface, ts_namespace, ts_type_alias, var, exported_class, exported_fn, exported_ts_enum, exported_ts_interface, exported_ts_module, exported_ts_type_alias, exported_var}
+use Rattle.symbols_tree.specs.NodeRefs.{TreeNode, kind_of, node_in, child_of, list_of}
+use Rattle.symbols_tree.specs.ChildFields.{body_of, body_node_of, decl_of, id_of}
+use Rattle.symbols_tree.specs.Ids.{IdView, id_view}
+use Rattle.symbols_nodes.specs.NodeViews.{program, ts_namespace, exported_ts_module}
+use Rattle.symbols_table.specs.declared.builder.scope.Scope.{Scope}
 use Rattle.symbols_table.specs.DeclViews.{Declaration, defined}
-use Rattle.symbols_table.specs.Events.{Event, begins, declare, child, export}
+use Rattle.symbols_table.specs.Events.{Event, begins, declare, export, child}
+use Rattle.symbols_table.specs.Walks.{Walk, none, on, each, range_in, sym_in}
+use Rattle.symbols_table.specs.DeclarationEvents.{declared_as, whole_range, is_exported, declared, declaration_events}
+use Rattle.symbols_table.specs.ModuleEvents.{module_events}
 
--- the events of what is there, and none of what isn't
-abbrev pub on : {A : Type 0} → Option A → (A → List Event) → List Event
-on found events = option_map_or events found []
+-- a namespace: the `export` before it, and the namespace itself
+pub record Namespace : Type 0 where
+  pub exported : Option TreeNode
+  pub decl : TreeNode
 
--- the events of each item from a place on, one item's after another's
-abbrev pub each_from : {A : Type 0} → (ℕ → A → List Event) → ℕ → List A → List Event
-each_from events start [] = []
-each_from events start (x ∷ xs) = events start x ++ each_from events (start + length (events start x)) xs
+abbrev pub plain_namespace : Option TreeNode → TreeNode → Kind → Option Namespace
+plain_namespace exported node (Kind.Decl (Decl.TsModuleDecl _ _ _)) = Some (record { exported = exported; decl = node })
+plain_namespace exported node _ = None
 
--- a node is where it stands; what is no node, nowhere
-abbrev pub range_in : TreeNode → SourceRange
-range_in node = unwrap_or (range_of node) (record { start = 0; end = 0 })
+abbrev pub exported_namespace : TreeNode → TreeNode → Option Namespace
+exported_namespace node decl = option_and_then (plain_namespace (Some node) decl) (kind_of decl)
 
--- the plain form of a declaration, where no `export` stands before it
-abbrev pub plain : ExportDeclView → NodeView
-plain (exported_class node) = class_decl node
-plain (exported_fn node) = fn_decl node
-plain (exported_var decl declarator ident) = var decl declarator ident
-plain (exported_ts_enum node) = ts_enum node
-plain (exported_ts_interface node) = ts_interface node
-plain (exported_ts_module node) = ts_namespace node
-plain (exported_ts_type_alias node) = ts_type_alias node
+abbrev pub namespace_of : TreeNode → Kind → Option Namespace
+namespace_of node (Kind.Item (Item.ExportDecl _)) = option_and_then (exported_namespace node) (child_of node decl_of)
+namespace_of node kind = plain_namespace None node kind
 
--- a declaration, after the `export` if one stands before it
-abbrev pub declared_as : Option TreeNode → ExportDeclView → NodeView
-declared_as None decl = plain decl
-declared_as (Some node) decl = export_decl node decl
+-- `declare` before a namespace makes its items ambient
+abbrev pub declares_items : Kind → Bool
+declares_items (Kind.Decl (Decl.TsModuleDecl _ is_declared _)) = is_declared
+declares_items _ = false
 
-abbrev pub export_if : Bool → ℕ → List ℕ → ℕ → List Event
-export_if is_exported holder name of = if is_exported then export holder name of ∷ [] else []
+-- the scope of the items of a namespace
+abbrev pub inner_scope : Bool → Scope
+inner_scope ambient = record { ambient = ambient; is_module = false }
 
--- a name is declared: its symbol becomes a child of the holder, and an export of it where `export` stands
-abbrev pub declared : ℕ → ℕ → IdView → Declaration → Bool → List Event
-declared start holder id decl is_exported = declare holder id decl ∷ child holder start ∷ export_if is_exported holder id.name start
+-- the events of a list of items in a scope
+abbrev pub Block : Type 0
+Block = Scope → List ℕ → Walk
 
-abbrev pub function_events : Option TreeNode → ℕ → ℕ → TreeNode → List Event
-function_events exported start holder node =
-    on (option_and_then sym_of (option_and_then kind_of (child_of node ident_of)))
-    (λ (sym : Id). declared start holder (id_view sym) (defined (declared_as exported (exported_fn node)) (range_in (unwrap_or exported node))) (is_some exported))
+-- a later part of a dotted name: declared in the part before, by the whole namespace where the part stands, and its export and its child
+abbrev pub part_events : TreeNode → TreeNode → Walk → Id → Walk
+part_events whole node inner id holder start =
+    declare holder (id_view id) (defined (ts_namespace whole) (range_in node)) ∷ export holder (id_view id).name start ∷ child holder start ∷ inner start (start + 3)
 
--- the name that a pattern binds, if it is a name
-abbrev pub bound_name : Kind → Option Id
-bound_name (Kind.Pat (Pat.BindingIdent sym _)) = Some sym
-bound_name _ = None
+abbrev pub body_events : (ℕ → Walk) → Block → TreeNode → Bool → TreeNode → Kind → Walk
+body_events inner block whole ambient node (Kind.Decl (Decl.TsModuleBlock items)) = block (inner_scope ambient) items.items
+body_events inner block whole ambient node (Kind.Decl (Decl.TsNamespaceDecl _ body)) = on (sym_in id_of node) (part_events whole node (inner body))
+body_events inner block whole ambient node _ = none
 
--- of the pattern of a declarator: its name is declared, where the declarator stands
-abbrev pub binding_events : Option TreeNode → TreeNode → TreeNode → ℕ → ℕ → TreeNode → List Event
-binding_events exported decl declarator start holder pattern =
-    on (option_and_then bound_name (kind_of pattern))
-    (λ (sym : Id). declared start holder (id_view sym) (defined (declared_as exported (exported_var decl declarator pattern)) (range_in declarator)) (is_some exported))
+-- of the body of a namespace: the later parts of its name, and its items in the last of them
+unfoldable pub body_within : Block → TreeNode → Bool → ℕ → ℕ → Walk
+body_within block whole ambient zero n = none
+body_within block whole ambient (suc levels) n = on (node_in whole.tree (Some n)) (λ (node : TreeNode). on (kind_of node) (body_events (body_within block whole ambient levels) block whole ambient node))
 
--- of a declarator, by its number
-abbrev pub variable_at : Option TreeNode → TreeNode → ℕ → ℕ → ℕ → List Event
-variable_at exported decl holder start n =
-    on (node_in decl.tree (Some n)) (λ (declarator : TreeNode). on (child_of declarator name_of) (binding_events exported decl declarator start holder))
+abbrev pub body_at : Block → TreeNode → Bool → TreeNode → Walk
+body_at block whole ambient body = body_within block whole ambient (length whole.tree.nodes.items) body.number
 
-abbrev pub variables_events : Option TreeNode → ℕ → ℕ → TreeNode → List Event
-variables_events exported start holder node = each_from (variable_at exported node holder) start (list_of node decls_of)
+-- a namespace that has a name is declared, with the events of its body; one that is a text is not
+abbrev pub namespace_events : Block → Scope → Namespace → Kind → Walk
+namespace_events block scope namespace kind =
+    on (sym_in id_of namespace.decl)
+    (λ (id : Id). declared (is_exported scope namespace.exported) (id_view id) (defined (declared_as namespace.exported (exported_ts_module namespace.decl)) (whole_range namespace.exported namespace.decl))
+    (on (child_of namespace.decl body_node_of) (body_at block namespace.decl (scope.ambient || declares_items kind))))
 
--- of a declaration, after the `export` if one stands before it
-abbrev pub declaration_events : Option TreeNode → ℕ → ℕ → TreeNode → Kind → List Event
-declaration_events exported start holder node (Kind.Decl (Decl.FnDecl _ _)) = function_events exported start holder node
-declaration_events exported start holder node (Kind.Decl (Decl.VarDecl _)) = variables_events exported start holder node
-declaration_events exported start holder node _ = []
+-- `export` before a declaration, and all else
+abbrev pub exported_events : Scope → TreeNode → TreeNode → Walk
+exported_events scope node decl = on (kind_of decl) (declaration_events scope (Some node) decl)
 
--- of `export` before a declaration
-abbrev pub exported_events : ℕ → ℕ → TreeNode → List Event
-exported_events start holder node = on (child_of node decl_of) (λ (decl : TreeNode). on (kind_of decl) (declaration_events (Some node) start holder decl))
+abbrev pub plain_item_events : Scope → TreeNode → Kind → Walk
+plain_item_events scope node (Kind.Item (Item.ExportDecl _)) = on (child_of node decl_of) (exported_events scope node)
+plain_item_events scope node (Kind.Item item) = module_events node (Kind.Item item)
+plain_item_events scope node kind = declaration_events scope None node kind
 
--- of an item
-abbrev pub item_events : ℕ → ℕ → TreeNode → Kind → List Event
-item_events start holder node (Kind.Item (Item.ExportDecl _)) = exported_events start holder node
-item_events start holder node kind = declaration_events None start holder node kind
+abbrev pub item_or : Option Namespace → (Namespace → Walk) → Walk → Walk
+item_or None namespace other = other
+item_or (Some found) namespace other = namespace found
 
--- of an item, by its number
-abbrev pub item_at : Tree → ℕ → ℕ → ℕ → List Event
-item_at tree holder start n = on (node_in tree (Some n)) (λ (node : TreeNode). on (kind_of node) (item_events start holder node))
+-- of an item: a namespace, or another one
+abbrev pub item_events : Block → Scope → TreeNode → Kind → Walk
+item_events block scope node kind =
+    item_or (namespace_of node kind) (λ (namespace : Namespace). on (kind_of namespace.decl) (namespace_events block scope namespace)) (plain_item_events scope node kind)
+
+-- of the item n, down to so many levels
+unfoldable pub item_within : Tree → ℕ → Scope → ℕ → Walk
+item_within tree zero scope n = none
+item_within tree (suc levels) scope n =
+    on (node_in tree (Some n)) (λ (node : TreeNode). on (kind_of node) (item_events (λ (inner : Scope). each (item_within tree levels inner)) scope node))
+
+-- the items of a list, down to so many levels
+abbrev pub block_within : Tree → ℕ → Block
+block_within tree levels scope = each (item_within tree levels scope)
+
+-- of a list of items: no namespace is deeper than the tree
+abbrev pub items_at : Tree → Scope → List ℕ → Walk
+items_at tree = block_within tree (length tree.nodes.items)
 
 abbrev pub root_of : Tree → TreeNode
 root_of tree = record { tree = tree; number = 0 }
@@ -100,6 +111,9 @@ root_of tree = record { tree = tree; number = 0 }
 abbrev pub root_decl : Tree → Declaration
 root_decl tree = defined (program (root_of tree)) (range_in (root_of tree))
 
+abbrev pub module_scope : Tree → Scope
+module_scope tree = record { ambient = tree.declaration; is_module = true }
+
 -- of a tree: the module, and then the items of its body, whose holder is the module
 abbrev pub tree_events : Tree → List Event
-tree_events tree = begins (root_decl tree) ∷ each_from (item_at tree 0) 1 (list_of (root_of tree) body_of)
+tree_events tree = begins (root_decl tree) ∷ items_at tree (module_scope tree) (list_of (root_of tree) body_of) 0 1

@@ -1,8 +1,15 @@
 //! From a tree to the table of its symbols.
 
 mod analysis;
+mod declarations;
+mod events;
+mod items;
+mod members;
+mod modules;
+mod names;
+mod patterns;
+mod scope;
 mod table;
-mod walk;
 
 pub use analysis::analyze;
 

@@ -1,16 +1,19 @@
 //! The analysis of one module.
 
-ghost use Rattle.std.specs.Prelude.{◌≡◌, ◌<◌, ◌≤◌, length, IfOk, IfErr};
+ghost use Rattle.std.specs.Prelude.{◌≡◌, ◌<◌, ◌≤◌, length, IfOk, IfErr, IfSome};
 ghost use Rattle.symbols_tree.specs.WellFormed.{IsWellFormed};
-ghost use Rattle.symbols_table.specs.Modules.{module_in, specifier_in, source_in};
+ghost use Rattle.symbols_table.specs.Modules.{module_in, specifier_in, source_in, symbols_in};
 ghost use Rattle.symbols_table.specs.Analysis.{tree_changes, symbol_count, HasTables, IsAnalysis, IsAnalysisFault};
+ghost use Rattle.symbols_table.specs.Laws.{AreLawful, IsLawful};
 ghost use Rattle.symbols_table.specs.declared.builder.table.BuildFault.TheVariants.{TooManySymbols};
 
-use crate::builder::table::{BuildFault, Builder};
+use crate::builder::scope::Scope;
+use crate::builder::table::{BuildFault, Builder, Setting};
 use crate::decl::SymbolDecl;
 use crate::info::{EsModuleInfo, ModuleInfo, SymbolsFault};
 use indexmap::IndexMap;
 use std::alloc::Global;
+use std::collections::HashMap;
 use symbols_nodes::nodes::SymbolNodeRef;
 use symbols_tree::check::GraphModule;
 use symbols_tree::ids::ModuleId;
@@ -29,26 +32,38 @@ fn build<'a>(
     ensures specifier { IfOk result (λ esm. specifier_in esm ≡ specifier.now) }
     ensures source { IfOk result (λ esm. source_in esm ≡ tree.now) }
     ensures tables { IfOk result (λ esm. HasTables esm (tree_changes tree.now)) }
+    ensures laws { IfOk result (λ esm. AreLawful (symbols_in esm)) }
     ensures within { IfOk result (λ _. symbol_count tree.now ≤ limit) }
     ensures too_many { IfErr result (λ fault. fault ≡ TooManySymbols → limit < symbol_count tree.now) }
 {
     let program = NodeRef { tree, number: 0 };
-    let mut builder = Builder {
+    let setting = Setting {
         alloc,
         module_id,
         limit,
+    };
+    let mut builder = Builder {
+        setting,
         symbols: Vec::new(alloc),
         ids: IndexMap::new(alloc),
+        child_names: HashMap::new(alloc),
+        member_names: HashMap::new(alloc),
+        stars: Vec::new(alloc),
     };
     let decl = SymbolDecl::definition(SymbolNodeRef::Module(program), program.range());
     let module = builder.new_symbol(None, decl)?;
-    builder.items(tree, module, program.body())?;
+    let scope = Scope {
+        ambient: tree.declaration,
+        is_module: true,
+    };
+    builder.items(module, scope, program, program.body())?;
     let Builder {
-        alloc: _,
-        module_id: _,
-        limit: _,
+        setting: _,
         symbols,
         ids,
+        child_names: _,
+        member_names: _,
+        stars,
     } = builder;
     Ok(EsModuleInfo {
         module_id,
@@ -56,6 +71,7 @@ fn build<'a>(
         source: tree,
         symbols,
         ids,
+        stars,
     })
 }
 
@@ -67,14 +83,14 @@ fn build<'a>(
 /// `TooManySymbols` where the tree has more symbols than the limit, `OutOfMemory` where memory was
 /// refused; nothing is left then.
 ///
-/// Symbols, exports and children are those of deno_graph for functions and variables, which are
-/// all the declarations that are built so far.
+/// The symbols are those of all declarations of the tree, with their exports, children and members.
 pub fn analyze<'a>(
     alloc: Global,
     module_id: ModuleId,
     graph_module: &'a GraphModule,
     limit: u32,
 ) -> Result<Option<ModuleInfo<'a>>, SymbolsFault>
+    ensures laws { IfOk result (λ info. IfSome info IsLawful) }
     ensures table { IfOk result (IsAnalysis module_id graph_module.now limit) }
     ensures fault { IfErr result (IsAnalysisFault graph_module.now limit) }
 {

@@ -1,17 +1,23 @@
 //! A table that is being filled, and the steps that fill it.
 
-ghost use Rattle.std.specs.Prelude.{◌≡◌, ◌+◌, ◌<◌, ◌≤◌, ◌++◌, [], ◌∷◌, List, length, IfOk, OnOk, IfErr, IfSome, Some, None, string_bytes};
+ghost use Rattle.std.specs.Prelude.{◌≡◌, ◌+◌, ◌<◌, ◌≤◌, ◌++◌, [], ◌∷◌, List, length, IfOk, OnOk, IfErr, IfSome, Some, None, string_bytes, slice_get};
 ghost use Rattle.symbols_tree.specs.Ids.{id_view};
+ghost use Rattle.std.specs.Option.{option_map, option_or};
+ghost use Rattle.std.specs.Cow.{cow_str_bytes};
 ghost use Rattle.symbols_table.specs.DeclViews.{decl_view};
-ghost use Rattle.symbols_table.specs.Changes.{Change, makes, declares, exports, has_child, maps, mapped};
-ghost use Rattle.symbols_table.specs.Events.{declare_row, new_row};
+ghost use Rattle.symbols_table.specs.Changes.{Change, only_if, makes, declares, exports, has_child, has_member, maps, passes_on, mapped};
+ghost use Rattle.symbols_table.specs.Tables.{name_in, symbol_named, is_same_name};
+ghost use Rattle.symbols_table.specs.declared.builder.names.LocalName.{LocalName};
 ghost use Rattle.symbols_table.specs.declared.builder.table.BuildFault.TheVariants.{OutOfMemory, TooManySymbols};
 
+use crate::builder::names::LocalName;
 use crate::decl::{Symbol, SymbolDecl};
 use indexmap::{IndexMap, IndexSet};
 use std::alloc::{AllocError, AllocFailed, Global};
+use std::borrow::CowStr;
+use std::collections::HashMap;
 use symbols_tree::ids::{ModuleId, SymbolId};
-use symbols_tree::tree::Id;
+use symbols_tree::tree::{Id, NodeId};
 
 /// Why no table is given.
 #[derive(Clone, Copy, Debug, PartialEq, Eq)]
@@ -36,14 +42,24 @@ impl<T: Drop> From<AllocFailed<T>> for BuildFault {
     }
 }
 
-/// A table that is being filled.
-#[derive(Drop)]
-pub(crate) struct Builder<'a> {
+/// What stays while a table is filled.
+#[derive(Clone, Copy)]
+pub(crate) struct Setting {
     pub(crate) alloc: Global,
     pub(crate) module_id: ModuleId,
     pub(crate) limit: u32,
+}
+
+/// A table that is being filled. Children and members are found by the names that they have in
+/// their holders.
+#[derive(Drop)]
+pub(crate) struct Builder<'a> {
+    pub(crate) setting: Setting,
     pub(crate) symbols: Vec<Symbol<'a>>,
     pub(crate) ids: IndexMap<&'a Id, SymbolId>,
+    pub(crate) child_names: HashMap<LocalName<'a>, SymbolId>,
+    pub(crate) member_names: HashMap<LocalName<'a>, SymbolId>,
+    pub(crate) stars: Vec<NodeId>,
 }
 
 /// The declarations of a symbol that has one.
@@ -56,8 +72,26 @@ fn one_decl<'a>(alloc: Global, decl: SymbolDecl<'a>) -> Result<Vec<SymbolDecl<'a
     Ok(decls)
 }
 
+/// Adds a name of a symbol, where its holder has no symbol of that name.
+fn add_name<'a>(
+    names: &mut HashMap<LocalName<'a>, SymbolId>,
+    key: LocalName<'a>,
+    symbol: SymbolId,
+) -> Result<(), BuildFault>
+    ensures named { OnOk result ((q : LocalName) → symbol_named names.new q ≡ option_or (symbol_named names.old q) (only_if (is_same_name key.entry q) symbol)) }
+    ensures full { IfErr result (λ fault. fault ≡ OutOfMemory) }
+{
+    if names.contains_key(&key) {
+        return Ok(());
+    }
+    match names.insert(key, symbol) {
+        Ok(_) => Ok(()),
+        Err(_) => Err(BuildFault::OutOfMemory),
+    }
+}
+
 impl<'a> Builder<'a> {
-    ghost use Rattle.symbols_table.specs.Tables.{IsParentOf, IsTableOf, IsFilled, Reads};
+    ghost use Rattle.symbols_table.specs.Tables.{IsParentOf, IsTableOf, IsFilled};
 
     /// Makes the next symbol, with its first declaration.
     pub(crate) fn new_symbol(
@@ -67,25 +101,26 @@ impl<'a> Builder<'a> {
     ) -> Result<SymbolId, BuildFault>
         requires { IsParentOf (length self.old.symbols.items) parent }
         ensures numbered { IfOk result (λ s. s.0 ≡ length self.old.symbols.items) }
-        ensures limit { self.new.limit ≡ self.old.limit }
-        ensures of_module { self.new.module_id ≡ self.old.module_id }
+        ensures setting { self.new.setting ≡ self.old.setting }
         ensures longer { OnOk result (length self.new.symbols.items ≡ length self.old.symbols.items + 1) }
         ensures table { IfOk result (λ s. (changes : List Change) → IsTableOf self.old changes → IsTableOf self.new ((changes ++ makes parent ∷ []) ++ declares s (decl_view decl.entry) ∷ [])) }
-        ensures full { IfErr result (λ fault. fault ≡ TooManySymbols → self.old.limit ≤ length self.old.symbols.items) }
+        ensures full { IfErr result (λ fault. fault ≡ TooManySymbols → self.old.setting.limit ≤ length self.old.symbols.items) }
     {
-        if self.symbols.len() >= self.limit as usize {
+        if self.symbols.len() >= self.setting.limit as usize {
             return Err(BuildFault::TooManySymbols);
         }
         let symbol_id = SymbolId(self.symbols.len() as u32);
-        let decls = one_decl(self.alloc, decl.with_overloads(false))?;
+        let has_function = decl.is_function();
+        let decls = one_decl(self.setting.alloc, decl.with_overloads(false))?;
         let symbol = Symbol {
-            module_id: self.module_id,
+            module_id: self.setting.module_id,
             symbol_id,
             parent_id: parent,
             decls,
-            exports: IndexMap::new(self.alloc),
-            child_ids: IndexSet::new(self.alloc),
-            members: IndexSet::new(self.alloc),
+            exports: IndexMap::new(self.setting.alloc),
+            child_ids: IndexSet::new(self.setting.alloc),
+            members: IndexSet::new(self.setting.alloc),
+            has_function,
         };
         self.symbols.push(symbol)?;
         Ok(symbol_id)
@@ -100,13 +135,12 @@ impl<'a> Builder<'a> {
     ) -> Result<(), BuildFault>
         requires holder { holder.0 < length self.old.symbols.items }
         requires symbol { symbol.0 < length self.old.symbols.items }
-        ensures limit { self.new.limit ≡ self.old.limit }
-        ensures of_module { self.new.module_id ≡ self.old.module_id }
+        ensures setting { self.new.setting ≡ self.old.setting }
         ensures longer { OnOk result (length self.new.symbols.items ≡ length self.old.symbols.items) }
         ensures table { OnOk result ((changes : List Change) → IsTableOf self.old changes → IsTableOf self.new (changes ++ exports holder name.now symbol ∷ [])) }
         ensures full { IfErr result (λ fault. fault ≡ OutOfMemory) }
     {
-        let name = String::from_str(self.alloc, name)?;
+        let name = String::from_str(self.setting.alloc, name)?;
         let held = &mut self.symbols[holder.0 as usize];
         held.exports.insert(name, symbol)?;
         Ok(())
@@ -119,38 +153,90 @@ impl<'a> Builder<'a> {
         decl: SymbolDecl<'a>,
     ) -> Result<(), BuildFault>
         requires { symbol.0 < length self.old.symbols.items }
-        ensures limit { self.new.limit ≡ self.old.limit }
-        ensures of_module { self.new.module_id ≡ self.old.module_id }
+        ensures setting { self.new.setting ≡ self.old.setting }
         ensures longer { OnOk result (length self.new.symbols.items ≡ length self.old.symbols.items) }
         ensures table { OnOk result ((changes : List Change) → IsTableOf self.old changes → IsTableOf self.new (changes ++ declares symbol (decl_view decl.entry) ∷ [])) }
         ensures full { IfErr result (λ fault. fault ≡ OutOfMemory) }
     {
         let held = &mut self.symbols[symbol.0 as usize];
         let has_overloads = decl.is_overload_after(&held.decls);
+        held.has_function = held.has_function | decl.is_function();
         held.decls.push(decl.with_overloads(has_overloads))?;
         Ok(())
+    }
+
+    /// The local name of a symbol: that of its first declaration.
+    fn local_name(&self, symbol: SymbolId) -> Result<Option<CowStr<'a>>, AllocError>
+        requires { symbol.0 < length self.now.symbols.items }
+        ensures { IfOk result (λ name. option_map cow_str_bytes name ≡ name_in self.now.symbols.items symbol) }
+    {
+        match self.symbols[symbol.0 as usize].decls.first() {
+            Some(decl) => decl.maybe_name(self.setting.alloc),
+            None => Ok(None),
+        }
     }
 
     /// Adds a child, once.
     pub(crate) fn add_child(&mut self, holder: SymbolId, symbol: SymbolId) -> Result<(), BuildFault>
         requires holder { holder.0 < length self.old.symbols.items }
         requires symbol { symbol.0 < length self.old.symbols.items }
-        ensures limit { self.new.limit ≡ self.old.limit }
-        ensures of_module { self.new.module_id ≡ self.old.module_id }
+        ensures setting { self.new.setting ≡ self.old.setting }
         ensures longer { OnOk result (length self.new.symbols.items ≡ length self.old.symbols.items) }
         ensures table { OnOk result ((changes : List Change) → IsTableOf self.old changes → IsTableOf self.new (changes ++ has_child holder symbol ∷ [])) }
         ensures full { IfErr result (λ fault. fault ≡ OutOfMemory) }
     {
+        let name = self.local_name(symbol)?;
         let held = &mut self.symbols[holder.0 as usize];
         held.child_ids.insert(symbol)?;
+        match name {
+            Some(name) => {
+                add_name(&mut self.child_names, LocalName { holder, name }, symbol)?;
+                Ok(())
+            }
+            None => Ok(()),
+        }
+    }
+
+    /// Adds a member, once.
+    pub(crate) fn add_member(
+        &mut self,
+        holder: SymbolId,
+        symbol: SymbolId,
+    ) -> Result<(), BuildFault>
+        requires holder { holder.0 < length self.old.symbols.items }
+        requires symbol { symbol.0 < length self.old.symbols.items }
+        ensures setting { self.new.setting ≡ self.old.setting }
+        ensures longer { OnOk result (length self.new.symbols.items ≡ length self.old.symbols.items) }
+        ensures table { OnOk result ((changes : List Change) → IsTableOf self.old changes → IsTableOf self.new (changes ++ has_member holder symbol ∷ [])) }
+        ensures full { IfErr result (λ fault. fault ≡ OutOfMemory) }
+    {
+        let name = self.local_name(symbol)?;
+        let held = &mut self.symbols[holder.0 as usize];
+        held.members.insert(symbol)?;
+        match name {
+            Some(name) => {
+                add_name(&mut self.member_names, LocalName { holder, name }, symbol)?;
+                Ok(())
+            }
+            None => Ok(()),
+        }
+    }
+
+    /// Adds a statement `export *`.
+    pub(crate) fn add_star(&mut self, node: NodeId) -> Result<(), BuildFault>
+        ensures setting { self.new.setting ≡ self.old.setting }
+        ensures longer { OnOk result (length self.new.symbols.items ≡ length self.old.symbols.items) }
+        ensures table { OnOk result ((changes : List Change) → IsTableOf self.old changes → IsTableOf self.new (changes ++ passes_on node ∷ [])) }
+        ensures full { IfErr result (λ fault. fault ≡ OutOfMemory) }
+    {
+        self.stars.push(node)?;
         Ok(())
     }
 
     /// Maps a name, also where it is mapped.
     pub(crate) fn map_id(&mut self, id: &'a Id, symbol: SymbolId) -> Result<(), BuildFault>
         requires { symbol.0 < length self.old.symbols.items }
-        ensures limit { self.new.limit ≡ self.old.limit }
-        ensures of_module { self.new.module_id ≡ self.old.module_id }
+        ensures setting { self.new.setting ≡ self.old.setting }
         ensures longer { OnOk result (length self.new.symbols.items ≡ length self.old.symbols.items) }
         ensures table { OnOk result ((changes : List Change) → IsTableOf self.old changes → IsTableOf self.new (changes ++ maps (id_view id.now) symbol ∷ [])) }
         ensures full { IfErr result (λ fault. fault ≡ OutOfMemory) }
@@ -168,51 +254,5 @@ impl<'a> Builder<'a> {
         ensures inside { IfSome result (λ s. s.0 < length self.now.symbols.items) }
     {
         self.ids.get(&id).copied()
-    }
-
-    /// A new symbol, for which the name then stands.
-    fn declare_new(
-        &mut self,
-        holder: SymbolId,
-        id: &'a Id,
-        decl: SymbolDecl<'a>,
-    ) -> Result<SymbolId, BuildFault>
-        requires filled { IsFilled self.old }
-        requires holder { holder.0 < length self.old.symbols.items }
-        ensures filled { OnOk result (IsFilled self.new) }
-        ensures inside { IfOk result (λ s. s.0 < length self.new.symbols.items) }
-        ensures limit { self.new.limit ≡ self.old.limit }
-        ensures of_module { self.new.module_id ≡ self.old.module_id }
-        ensures longer { OnOk result (length self.old.symbols.items ≤ length self.new.symbols.items) }
-        ensures table { (changes : List Change) → IsTableOf self.old changes
-            → Reads result (λ s. Some s) self.old.limit self.new changes (new_row changes (Some holder) (decl_view decl.entry) (λ s. maps (id_view id.now) s ∷ [])) }
-    {
-        let symbol = self.new_symbol(Some(holder), decl)?;
-        self.map_id(id, symbol)?;
-        Ok(symbol)
-    }
-
-    /// Declares a name: a declaration more of its symbol, or a new symbol.
-    pub(crate) fn declare(
-        &mut self,
-        holder: SymbolId,
-        id: &'a Id,
-        decl: SymbolDecl<'a>,
-    ) -> Result<SymbolId, BuildFault>
-        requires filled { IsFilled self.old }
-        requires holder { holder.0 < length self.old.symbols.items }
-        ensures filled { OnOk result (IsFilled self.new) }
-        ensures inside { IfOk result (λ s. s.0 < length self.new.symbols.items) }
-        ensures limit { self.new.limit ≡ self.old.limit }
-        ensures of_module { self.new.module_id ≡ self.old.module_id }
-        ensures longer { OnOk result (length self.old.symbols.items ≤ length self.new.symbols.items) }
-        ensures table { (changes : List Change) → IsTableOf self.old changes
-            → Reads result (λ s. Some s) self.old.limit self.new changes (declare_row changes holder (id_view id.now) (decl_view decl.entry)) }
-    {
-        if let Some(symbol) = self.mapped(id) {
-            self.add_decl(symbol, decl)?;
-            return Ok(symbol);
-        }
-        self.declare_new(holder, id, decl)
     }
 }

@@ -21,6 +21,7 @@ pub struct Symbol<'a> {
     pub(crate) exports: IndexMap<String, SymbolId>,
     pub(crate) child_ids: IndexSet<SymbolId>,
     pub(crate) members: IndexSet<SymbolId>,
+    pub(crate) has_function: bool,
 }
 
 impl<'a> Symbol<'a> {
@@ -49,6 +50,7 @@ impl<'a> Symbol<'a> {
             exports: IndexMap::new(alloc),
             child_ids: IndexSet::new(alloc),
             members: IndexSet::new(alloc),
+            has_function: false,
         }
     }
 

@@ -1,12 +1,15 @@
 //! One declaration of a symbol.
 
-ghost use Rattle.std.specs.Prelude.{◌≡◌, map};
+ghost use Rattle.std.specs.Prelude.{◌≡◌, map, IfOk};
+ghost use Rattle.std.specs.Cow.{cow_str_bytes};
 ghost use Rattle.std.specs.Option.{option_map};
 ghost use Rattle.symbols_nodes.specs.NodeViews.{symbol_node_view};
 ghost use Rattle.symbols_nodes.specs.NodeTests.{is_function, has_body, is_method};
-ghost use Rattle.symbols_table.specs.DeclViews.{decl_view, defined, node_of_kind, node_test, last_decl, is_overload_after};
+ghost use Rattle.symbols_table.specs.DeclViews.{decl_view, decl_kind_view, decl_name, declaration_at, defined, is_definition, node_of_kind, node_test, last_decl, is_overload_after};
 
 use crate::decl::dep::FileDep;
+use std::alloc::{AllocError, Global};
+use std::borrow::CowStr;
 use symbols_nodes::nodes::{SymbolNode, SymbolNodeRef};
 use symbols_tree::tree::{Id, SourceRange};
 
@@ -21,6 +24,15 @@ pub enum SymbolDeclKind<'a> {
     FileRef(FileDep<'a>),
     /// A definition, by its node.
     Definition(SymbolNode<'a>),
+}
+
+impl SymbolDeclKind<'_> {
+    /// Whether it is a definition (as deno_graph).
+    pub fn is_definition(&self) -> bool
+        ensures { result ≡ is_definition (decl_kind_view self.now) }
+    {
+        matches!(self, SymbolDeclKind::Definition(_))
+    }
 }
 
 /// What else is known of a declaration (as deno_graph).
@@ -47,16 +59,39 @@ pub struct SymbolDecl<'a> {
 }
 
 impl<'a> SymbolDecl<'a> {
-    /// A definition by its node, which is no overload so far.
-    pub(crate) fn definition(node: SymbolNodeRef<'a>, range: SourceRange) -> SymbolDecl<'a>
-        ensures { decl_view result ≡ defined (symbol_node_view node.entry) range }
+    /// A declaration of this kind that stands there, which is no overload so far.
+    pub(crate) fn new(kind: SymbolDeclKind<'a>, range: SourceRange) -> SymbolDecl<'a>
+        ensures { decl_view result ≡ declaration_at (decl_kind_view kind.entry) range }
     {
         SymbolDecl {
-            kind: SymbolDeclKind::Definition(SymbolNode { node: Some(node) }),
+            kind,
             range,
             flags: SymbolDeclFlags {
                 has_overloads: false,
             },
+        }
+    }
+
+    /// A definition by its node.
+    pub(crate) fn definition(node: SymbolNodeRef<'a>, range: SourceRange) -> SymbolDecl<'a>
+        ensures { decl_view result ≡ defined (symbol_node_view node.entry) range }
+    {
+        let node = SymbolNode { node: Some(node) };
+        SymbolDecl::new(SymbolDeclKind::Definition(node), range)
+    }
+
+    /// What the declaration is called (as deno_graph): the name of its node; without a node it has
+    /// none.
+    ///
+    /// # Errors
+    ///
+    /// Memory was refused, which only the name of a private key takes.
+    pub fn maybe_name(&self, alloc: Global) -> Result<Option<CowStr<'a>>, AllocError>
+        ensures { IfOk result (λ name. option_map cow_str_bytes name ≡ decl_name (decl_view self.now)) }
+    {
+        match self.maybe_node() {
+            Some(node) => node.maybe_name(alloc),
+            None => Ok(None),
         }
     }
 

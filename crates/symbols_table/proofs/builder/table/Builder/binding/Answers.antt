@@ -1,11 +1,15 @@
-use Rattle.std.proofs.Common.{◌≡◌, None, sym}
+use Rattle.std.proofs.Common.{◌≡◌, None, Some, refl, sym}
 use Rattle.std.specs.Option.{option_and_then}
-use Rattle.symbols_tree.specs.NodeRefs.{node_view, kind_of}
-use Rattle.symbols_table.specs.TreeEvents.{bound_name}
-use Rattle.symbols_table.proofs.Walks.{on_none}
+use Rattle.symbols_tree.specs.Ids.{sym_of}
+use Rattle.symbols_tree.specs.NodeRefs.{node_view, node_in, kind_of}
+use Rattle.symbols_table.proofs.Walks.{on_none, on_some}
 use Rattle.symbols_table.proofs.builder.table.Builder.binding.Goals as goal
 
 pub returns-in_default-clause-table : goal.returns-in_default-clause-table
-returns-in_default-clause-table c = λ rows h is at.
-    let none : option_and_then bound_name (kind_of (node_view c.args.pattern)) ≡ None = rw c.kind.ensures (sym c.in_default.ensures) in
-    on_none _ rows (option_and_then bound_name (kind_of (node_view c.args.pattern))) _ none is
+returns-in_default-clause-table c = λ rows h is at. on_none _ rows (node_in c.args.variables.decl.tree.now (Some c.args.n)) _ _ _ (sym c.in_default.ensures) is
+
+pub returns-in_default-sym-clause-table : goal.returns-in_default-sym-clause-table
+returns-in_default-sym-clause-table c = λ rows h is at.
+    let ident = node_view c.in-Some.ident in
+    let none : option_and_then sym_of (kind_of ident) ≡ None = sym c.in_default-sym.ensures in
+    on_some _ rows (node_in c.args.variables.decl.tree.now (Some c.args.n)) ident _ _ _ (sym c.in-Some.ensures) (on_none _ rows (option_and_then sym_of (kind_of ident)) _ _ _ none is)

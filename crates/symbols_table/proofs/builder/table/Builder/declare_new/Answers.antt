@@ -14,5 +14,5 @@ returns-clause-table c = λ changes is.
 pub returns-in_err-symbol-clause-table : goal.returns-in_err-symbol-clause-table
 returns-in_err-symbol-clause-table c = λ changes is.
     let row = new_row changes (Some c.args.holder) (decl_view c.args.decl) (λ s. maps (id_view c.args.id.now) s ∷ []) in
-    err_reads c.from_residual.result (λ s. Some s) c.args.self.now.limit c.new_symbol.new.self changes row c.in_err-symbol.field-0.0 c.from_residual.ensures.1
-    (λ e. past_limit changes (Some c.args.holder) (decl_view c.args.decl) (λ s. maps (id_view c.args.id.now) s ∷ []) c.args.self.now.limit _ is.count (c.in_err-symbol.ensures.full e))
+    err_reads c.from_residual.result (λ s. Some s) c.args.self.now.setting.limit c.new_symbol.new.self changes row c.in_err-symbol.field-0.0 c.from_residual.ensures.1
+    (λ e. past_limit changes (Some c.args.holder) (decl_view c.args.decl) (λ s. maps (id_view c.args.id.now) s ∷ []) c.args.self.now.setting.limit _ is.count (c.in_err-symbol.ensures.full e))

@@ -1,9 +1,10 @@
 use Rattle.std.proofs.Common.{take}
-use Rattle.std.specs.Option.{option_map}
 use Rattle.symbols_tree.specs.NodeRefs.{node_view}
-use Rattle.symbols_table.specs.TreeEvents.{variable_at}
+use Rattle.symbols_table.specs.Walks.{each}
+use Rattle.symbols_table.specs.DeclarationEvents.{binding_at, declarator_at}
+use Rattle.symbols_table.specs.VariablesViews.{variables_view}
 use Rattle.symbols_table.proofs.Walks.{IsWalked}
 use Rattle.symbols_table.proofs.builder.table.Builder.variables.Given as goal
 
 abbrev pub invariant-loop-n : goal.invariant-loop-n
-invariant-loop-n l = IsWalked l.fn.self l.self (variable_at (option_map node_view l.export) (node_view l.node)) l.holder (take l.n-index l.n-items)
+invariant-loop-n l = IsWalked l.fn.self l.self (each (declarator_at (variables_view l.variables)) (take l.n-index l.n-items)) l.holder

@@ -1,0 +1,123 @@
+-- Each event makes one symbol and one declaration at most, and only some forms of events make any.
+use Rattle.std.proofs.Common.{◌≡◌, ℕ, ◌+◌, ◌≤◌, Bool, true, false, if◌then◌else◌, List, [], ◌∷◌, ◌++◌, length, Option, Some, None, arith}
+use Rattle.std.specs.List.{filter_map}
+use Rattle.std.proofs.lemmas.List.{length-append}
+use Rattle.std.proofs.lemmas.List.Elements.{filter_map-append}
+use Rattle.symbols_tree.specs.declared.ids.SymbolId.{SymbolId}
+use Rattle.symbols_table.specs.DeclViews.{Declaration, is_definition, decl_name}
+use Rattle.symbols_table.specs.Changes.{Change, exports, has_child, maps, parent_in, parents_of, mapped, exported, has_function}
+use Rattle.symbols_table.specs.Events.{Event, begins, declare, alias, fresh, default, binds, member, expando, export, child, star, Row, nothing, new_row, found_or, known_or, member_changes, member_found, member_row, declare_row, alias_row, default_row, default_text, expando_row, with_symbol, row_of, changes_of, symbol_at, rows_after, changes_by, only, of_symbol}
+use Rattle.symbols_table.specs.Laws.{declared_in, declaration_count}
+use Rattle.symbols_table.proofs.Rows.{changes_of-push}
+
+-- one for an event that may declare something
+abbrev pub declaring : Event → ℕ
+declaring (binds _ _) = 0
+declaring (export _ _ _) = 0
+declaring (child _ _) = 0
+declaring (star _) = 0
+declaring _ = 1
+
+abbrev pub count : List Event → ℕ
+count [] = 0
+count (event ∷ events) = declaring event + count events
+
+pub count-append : (es fs : List Event) → count (es ++ fs) ≡ count es + count fs
+count-append [] fs = omega arith
+count-append (e ∷ es) fs = omega (arith, count-append es fs)
+
+-- so many symbols and so many declarations at most
+pub record IsFew (changes : List Change) (n : ℕ) : Type 0 where
+  pub symbols : length (filter_map parent_in changes) ≤ n
+  pub declarations : declaration_count changes ≤ n
+
+few_no_symbol : (n : ℕ) → IsFew nothing.changes n
+few_no_symbol n = record { symbols = omega arith; declarations = omega arith }
+
+few_new : (before : List Change) (parent : Option SymbolId) (decl : Declaration) (more : SymbolId → List Change) → ((s : SymbolId) → IsFew (more s) 0) → IsFew (new_row before parent decl more).changes 1
+few_new before parent decl more quiet =
+    let none = quiet (record { 0 = length (parents_of before) }) in
+    record { symbols = omega (arith, none.symbols); declarations = omega (arith, none.declarations) }
+
+few_found : (found : Option SymbolId) (decl : Declaration) (row : Row) → IsFew row.changes 1 → IsFew (found_or found decl row).changes 1
+few_found None decl row few = few
+few_found (Some s) decl row few = record { symbols = omega arith; declarations = omega arith }
+
+few_known : (found : Option SymbolId) (row : Row) → IsFew row.changes 1 → IsFew (known_or found row).changes 1
+few_known None row few = few
+few_known (Some s) row few = record { symbols = omega arith; declarations = omega arith }
+
+few_with : (n : ℕ) (found : Option SymbolId) (row : SymbolId → Row) → ((s : SymbolId) → IsFew (row s).changes n) → IsFew (with_symbol found row).changes n
+few_with n None row few = few_no_symbol n
+few_with n (Some s) row few = few s
+
+few_export : (holder s : SymbolId) (is_child : Bool) → IsFew (exports holder default_text s ∷ (if is_child then has_child holder s ∷ [] else [])) 0
+few_export holder s true = record { symbols = omega arith; declarations = omega arith }
+few_export holder s false = record { symbols = omega arith; declarations = omega arith }
+
+few_default : (before : List Change) (holder : SymbolId) (decl : Declaration) → IsFew (default_row before holder decl).changes 1
+few_default before holder decl =
+    let more : SymbolId → List Change = λ s. exports holder default_text s ∷ (if is_definition decl.kind then has_child holder s ∷ [] else []) in
+    few_found (exported before holder default_text) decl (new_row before (Some holder) decl more) (few_new before (Some holder) decl more (λ s. few_export holder s (is_definition decl.kind)))
+
+few_of_member : (holder : SymbolId) (is_static : Bool) (name : Option (List ℕ)) (s : SymbolId) → IsFew (member_changes holder is_static name s) 0
+few_of_member holder true None s = record { symbols = omega arith; declarations = omega arith }
+few_of_member holder true (Some name) s = record { symbols = omega arith; declarations = omega arith }
+few_of_member holder false name s = record { symbols = omega arith; declarations = omega arith }
+
+few_member : (before : List Change) (holder : SymbolId) (decl : Declaration) (is_static : Bool) → IsFew (member_row before holder decl is_static).changes 1
+few_member before holder decl is_static =
+    let name = decl_name decl in
+    few_found (member_found before holder is_static name) decl (new_row before (Some holder) decl (member_changes holder is_static name)) (few_new before (Some holder) decl (member_changes holder is_static name) (few_of_member holder is_static name))
+
+few_function : (is_function : Bool) (row : Row) → IsFew row.changes 1 → IsFew (if is_function then row else nothing).changes 1
+few_function true row few = few
+few_function false row few = few_no_symbol 1
+
+few_expando : (before : List Change) (found : Option SymbolId) (decl : Declaration) → IsFew (expando_row before found decl).changes 1
+few_expando before None decl = few_no_symbol 1
+few_expando before (Some s) decl = few_function (has_function before s) (member_row before s decl true) (few_member before s decl true)
+
+-- a row makes no more than its event may
+few_row : (before : List Change) (at : ℕ → Option SymbolId) (event : Event) → IsFew (row_of before at event).changes (declaring event)
+few_row before at (begins decl) = few_new before None decl (λ _. []) (λ s. record { symbols = omega arith; declarations = omega arith })
+few_row before at (declare holder id decl) =
+    few_with 1 (at holder) (λ h. declare_row before h id decl) (λ h. few_found (mapped before id) decl (new_row before (Some h) decl (λ s. maps id s ∷ [])) (few_new before (Some h) decl (λ s. maps id s ∷ []) (λ s. record { symbols = omega arith; declarations = omega arith })))
+few_row before at (alias holder id decl) =
+    few_with 1 (at holder) (λ h. alias_row before h id decl) (λ h. few_known (mapped before id) (new_row before (Some h) decl (λ s. maps id s ∷ [])) (few_new before (Some h) decl (λ s. maps id s ∷ []) (λ s. record { symbols = omega arith; declarations = omega arith })))
+few_row before at (fresh holder decl) = few_with 1 (at holder) (λ h. new_row before (Some h) decl (λ _. [])) (λ h. few_new before (Some h) decl (λ _. []) (λ s. record { symbols = omega arith; declarations = omega arith }))
+few_row before at (default holder decl) = few_with 1 (at holder) (λ h. default_row before h decl) (λ h. few_default before h decl)
+few_row before at (binds id of) = few_with 0 (at of) (λ s. of_symbol s (maps id s ∷ [])) (λ s. record { symbols = omega arith; declarations = omega arith })
+few_row before at (member holder decl is_static) = few_with 1 (at holder) (λ h. member_row before h decl is_static) (λ h. few_member before h decl is_static)
+few_row before at (expando id decl) = few_expando before (mapped before id) decl
+few_row before at (export holder name of) =
+    few_with 0 (at holder) (λ h. with_symbol (at of) (λ s. only (exports h name s ∷ []))) (λ h. few_with 0 (at of) (λ s. only (exports h name s ∷ [])) (λ s. record { symbols = omega arith; declarations = omega arith }))
+few_row before at (child holder of) =
+    few_with 0 (at holder) (λ h. with_symbol (at of) (λ s. only (has_child h s ∷ []))) (λ h. few_with 0 (at of) (λ s. only (has_child h s ∷ [])) (λ s. record { symbols = omega arith; declarations = omega arith }))
+few_row before at (star node) = record { symbols = omega arith; declarations = omega arith }
+
+few-append : (before more : List Change) (n k : ℕ) → IsFew before n → IsFew more k → IsFew (before ++ more) (n + k)
+few-append before more n k few rest = record {
+  symbols = rw (filter_map-append parent_in before more) (omega (arith, few.symbols, rest.symbols, length-append (filter_map parent_in before) (filter_map parent_in more)));
+  declarations = rw (filter_map-append declared_in before more) (omega (arith, few.declarations, rest.declarations, length-append (filter_map declared_in before) (filter_map declared_in more)));
+}
+
+few_as : (changes : List Change) (n k : ℕ) → n ≡ k → IsFew changes n → IsFew changes k
+few_as changes n k is few = rw is at few
+
+few_after : (rows : List Row) (events : List Event) (n : ℕ) → IsFew (changes_of rows) n → IsFew (changes_of (rows_after rows events)) (n + count events)
+unfolding rows_after
+few_after rows [] n few = few_as (changes_of rows) n (n + 0) (omega arith) few
+few_after rows (e ∷ es) n few =
+    let row = row_of (changes_of rows) (symbol_at rows) e in
+    let here : IsFew (changes_of (rows ++ row ∷ [])) (n + declaring e) = rw (changes_of-push rows row) (few-append (changes_of rows) row.changes n (declaring e) few (few_row (changes_of rows) (symbol_at rows) e)) in
+    few_as (changes_of (rows_after (rows ++ row ∷ []) es)) ((n + declaring e) + count es) (n + (declaring e + count es)) (omega arith) (few_after (rows ++ row ∷ []) es (n + declaring e) here)
+
+-- the events of a walk make no more symbols, and no more declarations, than may declare something
+pub few_by : (events : List Event) → IsFew (changes_by events) (count events)
+unfolding changes_of
+few_by events = few_as (changes_by events) (0 + count events) (count events) (omega arith) (few_after [] events 0 (record { symbols = omega arith; declarations = omega arith }))
+
+pub symbols_by : (events : List Event) → length (parents_of (changes_by events)) ≤ count events
+unfolding parents_of
+symbols_by events = (few_by events).symbols

@@ -1,0 +1,345 @@
+-- Items and namespaces, level by level.
+use Rattle.std.proofs.Common.{◌≡◌, ℕ, suc, zero, ◌+◌, ◌<◌, ◌≤◌, ◌||◌, Bool, List, [], ◌∷◌, ◌++◌, get_or, length, Option, None, Some, refl, sym, ◌∙◌, ap, subst, arith}
+use Rattle.std.specs.Prelude.{Result, Ok, Err, IsErrAnd, Contains}
+use Rattle.std.specs.Option.{option_map_or, option_and_then, option_to_list}
+use Rattle.std.proofs.lemmas.List.{length_push, get_or_default}
+use Rattle.std.proofs.lemmas.List.Elements.{Contains-append_left, Contains-append_right}
+use Rattle.std.proofs.lemmas.Bool.{lt-ltb}
+use Rattle.symbols_tree.specs.declared.tree.arena.Id.{Id}
+use Rattle.symbols_tree.specs.declared.tree.arena.Tree.{Tree}
+use Rattle.symbols_tree.specs.declared.tree.kinds.Kind.{Kind}
+use Rattle.symbols_tree.specs.declared.tree.kinds.Item.TheVariants as Item
+use Rattle.symbols_tree.specs.declared.tree.kinds.Decl.TheVariants as Decl
+use Rattle.symbols_tree.specs.declared.tree.kinds.Member.TheVariants as Member
+use Rattle.symbols_tree.specs.declared.tree.kinds.Expr.TheVariants as Expr
+use Rattle.symbols_tree.specs.declared.ids.SymbolId.{SymbolId}
+use Rattle.symbols_tree.specs.Nodes.{children, children_of}
+use Rattle.symbols_tree.specs.NodeRefs.{TreeNode, kind_of, node_in, child_of, list_of}
+use Rattle.symbols_tree.specs.ChildFields.{body_of, body_node_of, decl_of, id_of}
+use Rattle.symbols_tree.specs.WellFormed.{IsWellFormed}
+use Rattle.symbols_tree.specs.Ids.{IdView, id_view}
+use Rattle.symbols_nodes.specs.NodeViews.{ts_namespace, exported_ts_module}
+use Rattle.symbols_table.specs.declared.builder.scope.Scope.{Scope}
+use Rattle.symbols_table.specs.declared.builder.table.Builder.{Builder}
+use Rattle.symbols_table.specs.declared.builder.table.BuildFault.{BuildFault}
+use Rattle.symbols_table.specs.declared.builder.table.BuildFault.TheVariants.{TooManySymbols}
+use Rattle.symbols_table.specs.DeclViews.{Declaration, defined}
+use Rattle.symbols_table.specs.Changes.{Change, exports, has_child, parents_of}
+use Rattle.symbols_table.specs.Events.{Event, Row, only, declare, export, child, declare_row, row_of, changes_of, symbol_at, rows_after}
+use Rattle.symbols_table.specs.Walks.{Walk, none, on, range_in, sym_in}
+use Rattle.symbols_table.specs.DeclarationEvents.{declared_as, whole_range, is_exported, added, declared}
+use Rattle.symbols_table.specs.TreeEvents.{declares_items, body_at, Namespace, plain_namespace, exported_namespace, namespace_of, Block, part_events, body_events, body_within, namespace_events, plain_item_events, item_or, item_events, item_within, block_within}
+use Rattle.symbols_table.specs.Levels.{AreAbove, ReadsPart, part_first}
+use Rattle.symbols_table.specs.Tables.{IsTableOf, ReadsAll, ReadsWalk}
+use Rattle.symbols_table.proofs.Rows.{rows_after-step, rows_after-nil, rows_after-append, length-rows_after, symbol_at_kept, symbol_at-push, symbol_at_after, parents_of_grow}
+use Rattle.symbols_table.proofs.Walks.{one_read, none_read, reads_from, err_all, on_none, on_some, on_reads, read_as}
+use Rattle.symbols_table.proofs.PatternLemmas.{IsFound, is_found, is_above}
+
+-- ---- a later part of a dotted name
+
+-- its events, with any declaration
+abbrev part_declares : Id → Declaration → ℕ → ℕ → List Event
+part_declares id decl h start = declare h (id_view id) decl ∷ export h (id_view id).name start ∷ child h start ∷ []
+
+abbrev IsPartRead : Builder → SymbolId → List Row → List Event → Type 0
+IsPartRead b s rows events = IsTableOf b (changes_of (rows_after rows events)) × (symbol_at (rows_after rows events) (length rows) ≡ Some s)
+
+pub part_read : (whole node : TreeNode) (id : Id) (decl : Declaration) (rows : List Row) (h : ℕ) (holder s : SymbolId) (b1 b2 b3 : Builder) → decl ≡ defined (ts_namespace whole) (range_in node) → symbol_at rows h ≡ Some holder
+    → ((declare_row (changes_of rows) holder (id_view id) decl).symbol ≡ Some s) × IsTableOf b1 (changes_of rows ++ (declare_row (changes_of rows) holder (id_view id) decl).changes)
+    → ((changes : List Change) → IsTableOf b1 changes → IsTableOf b2 (changes ++ exports holder (id_view id).name s ∷ []))
+    → ((changes : List Change) → IsTableOf b2 changes → IsTableOf b3 (changes ++ has_child holder s ∷ [])) → IsPartRead b3 s rows (part_first whole node id h (length rows))
+part_read whole node id decl rows h holder s b1 b2 b3 is at read exported added =
+    let name = (id_view id).name in
+    let row1 = declare_row (changes_of rows) holder (id_view id) decl in
+    let rows1 = rows ++ row1 ∷ [] in
+    let row2 = only (exports holder name s ∷ []) in
+    let rows2 = rows1 ++ row2 ∷ [] in
+    let row3 = only (has_child holder s ∷ []) in
+    let rows3 = rows2 ++ row3 ∷ [] in
+    let at1 : symbol_at rows1 h ≡ Some holder = symbol_at_kept rows row1 h holder at in
+    let of1 : symbol_at rows1 (length rows) ≡ Some s = symbol_at-push rows row1 ∙ read.0 in
+    let at2 : symbol_at rows2 h ≡ Some holder = symbol_at_kept rows1 row2 h holder at1 in
+    let of2 : symbol_at rows2 (length rows) ≡ Some s = symbol_at_kept rows1 row2 (length rows) s of1 in
+    let first : row_of (changes_of rows) (symbol_at rows) (declare h (id_view id) decl) ≡ row1 = rw at refl in
+    let second : row_of (changes_of rows1) (symbol_at rows1) (export h name (length rows)) ≡ row2 = rw (at1, of1) refl in
+    let third : row_of (changes_of rows2) (symbol_at rows2) (child h (length rows)) ≡ row3 = rw (at2, of2) refl in
+    let last : List Event = child h (length rows) ∷ [] in
+    let all : rows_after rows (part_declares id decl h (length rows)) ≡ rows3 =
+    rows_after-step rows (declare h (id_view id) decl) (export h name (length rows) ∷ last) row1 first ∙ rows_after-step rows1 (export h name (length rows)) last row2 second ∙ rows_after-step rows2 (child h (length rows)) [] row3 third ∙ rows_after-nil rows3 in
+    let table : IsTableOf b3 (changes_of rows3) = one_read b3 rows2 row3 (added (changes_of rows2) (one_read b2 rows1 row2 (exported (changes_of rows1) (one_read b1 rows row1 read.1)))) in
+    let there : IsTableOf b3 (changes_of rows3) × (symbol_at rows3 (length rows) ≡ Some s) = (table, symbol_at_kept rows2 row3 (length rows) s of2) in
+    let read3 : IsPartRead b3 s rows (part_declares id decl h (length rows)) = subst (λ (rs : List Row). IsTableOf b3 (changes_of rs) × (symbol_at rs (length rows) ≡ Some s)) (sym all) there in
+    subst (λ (d : Declaration). IsPartRead b3 s rows (part_declares id d h (length rows))) is read3
+
+pub part_fault : (r : Result SymbolId BuildFault) (whole node : TreeNode) (id : Id) (decl : Declaration) (rows : List Row) (h : ℕ) (holder : SymbolId) (limit : ℕ) (new : Builder) (fault : BuildFault) → decl ≡ defined (ts_namespace whole) (range_in node) → symbol_at rows h ≡ Some holder
+    → IsErrAnd r (λ e. e ≡ fault) → (fault ≡ TooManySymbols → limit < length (parents_of (changes_of rows ++ (declare_row (changes_of rows) holder (id_view id) decl).changes))) → ReadsPart r limit new rows (part_first whole node id h (length rows))
+part_fault (Ok x) whole node id decl rows h holder limit new fault is at same read = absurd same
+part_fault (Err e) whole node id decl rows h holder limit new fault is at same read =
+    let first : row_of (changes_of rows) (symbol_at rows) (declare h (id_view id) decl) ≡ declare_row (changes_of rows) holder (id_view id) decl = rw at refl in
+    let r : Result SymbolId BuildFault = Err e in
+    let all = err_all r limit new rows (declare h (id_view id) decl) (declare_row (changes_of rows) holder (id_view id) decl) (export h (id_view id).name (length rows) ∷ child h (length rows) ∷ []) fault first same read in
+    subst (λ (d : Declaration). e ≡ TooManySymbols → limit < length (parents_of (changes_of (rows_after rows (part_declares id d h (length rows)))))) is all
+
+-- the same of a call that goes on in the part
+pub later_read : {A : Type 0} (r : Result A BuildFault) (whole node : TreeNode) (id : Id) (inner : Walk) (rows : List Row) (h : ℕ) (s : SymbolId) (limit : ℕ) (b1 b2 : Builder) → b1.setting.limit ≡ limit → IsPartRead b1 s rows (part_first whole node id h (length rows)) → ReadsWalk r b1 b2 inner s
+    → ReadsAll r limit b2 (rows_after rows (part_events whole node inner id h (length rows)))
+later_read r whole node id inner rows h s limit b1 b2 same read reads =
+    let first = part_first whole node id h (length rows) in
+    let rows1 = rows_after rows first in
+    let count : length rows1 ≡ length rows + 3 = length-rows_after rows first in
+    let all : rows_after rows (first ++ inner (length rows) (length rows + 3)) ≡ rows_after rows1 (inner (length rows) (length rows1)) = rw count (rows_after-append rows first (inner (length rows) (length rows + 3))) in
+    reads_from r limit b1.setting.limit b2 (rows_after rows (part_events whole node inner id h (length rows))) (rows_after rows1 (inner (length rows) (length rows1))) same all (reads rows1 (length rows) read.0 read.1)
+
+pub later_fault : {A : Type 0} (r : Result A BuildFault) (whole node : TreeNode) (id : Id) (inner : Walk) (rows : List Row) (h : ℕ) (limit : ℕ) (new : Builder) (fault : BuildFault) → IsErrAnd r (λ e. e ≡ fault)
+    → (fault ≡ TooManySymbols → limit < length (parents_of (changes_of (rows_after rows (part_first whole node id h (length rows)))))) → ReadsAll r limit new (rows_after rows (part_events whole node inner id h (length rows)))
+later_fault (Ok x) whole node id inner rows h limit new fault same read = absurd same
+later_fault (Err e) whole node id inner rows h limit new fault same read = λ many.
+    let first = part_first whole node id h (length rows) in
+    let rest = inner (length rows) (length rows + 3) in
+    let here : limit < length (parents_of (changes_of (rows_after rows first))) = read (sym same ∙ many) in
+    let there : limit < length (parents_of (changes_of (rows_after rows (first ++ rest)))) = rw (rows_after-append rows first rest) (omega (arith, here, parents_of_grow (rows_after rows first) rest)) in
+    there
+
+-- ---- a name that is declared with what is under it
+
+-- the rows after the name was declared
+abbrev declared_rows : List Row → SymbolId → IdView → Declaration → List Row
+declared_rows rows holder id decl = rows ++ declare_row (changes_of rows) holder id decl ∷ []
+
+declared_split : (test : Bool) (id : IdView) (decl : Declaration) (inner : Walk) (rows : List Row) (h : ℕ) (holder : SymbolId) → symbol_at rows h ≡ Some holder → rows_after rows (declared test id decl inner h (length rows))
+    ≡ rows_after (rows_after (declared_rows rows holder id decl) (inner (length rows) (length (declared_rows rows holder id decl)))) (added test h id.name (length rows))
+declared_split test id decl inner rows h holder at =
+    let row = declare_row (changes_of rows) holder id decl in
+    let first : row_of (changes_of rows) (symbol_at rows) (declare h id decl) ≡ row = rw at refl in
+    let events = inner (length rows) (length rows + 1) in
+    rows_after-step rows (declare h id decl) (events ++ added test h id.name (length rows)) row first ∙ rows_after-append (rows ++ row ∷ []) events (added test h id.name (length rows))
+    ∙ ap (λ (start : ℕ). rows_after (rows_after (rows ++ row ∷ []) (inner (length rows) start)) (added test h id.name (length rows))) (sym (length_push rows row))
+
+-- a fault at its first event
+pub declared_fault : {A : Type 0} (r : Result A BuildFault) (test : Bool) (id : IdView) (decl : Declaration) (inner : Walk) (rows : List Row) (h : ℕ) (holder : SymbolId) (limit : ℕ) (new : Builder) (fault : BuildFault) → symbol_at rows h ≡ Some holder → IsErrAnd r (λ e. e ≡ fault)
+    → (fault ≡ TooManySymbols → limit < length (parents_of (changes_of rows ++ (declare_row (changes_of rows) holder id decl).changes))) → ReadsAll r limit new (rows_after rows (declared test id decl inner h (length rows)))
+declared_fault r test id decl inner rows h holder limit new fault at same read =
+    let first : row_of (changes_of rows) (symbol_at rows) (declare h id decl) ≡ declare_row (changes_of rows) holder id decl = rw at refl in
+    err_all r limit new rows (declare h id decl) (declare_row (changes_of rows) holder id decl) (inner (length rows) (length rows + 1) ++ added test h id.name (length rows)) fault first same read
+
+-- a fault under it
+pub declared_inner_fault : (A : Type 0) {B : Type 0} (r : Result B BuildFault) (test : Bool) (id : IdView) (decl : Declaration) (inner : Walk) (rows : List Row) (h : ℕ) (holder s : SymbolId) (limit : ℕ) (b1 b2 new : Builder) (fault : BuildFault) → b1.setting.limit ≡ limit → symbol_at rows h ≡ Some holder
+    → ((declare_row (changes_of rows) holder id decl).symbol ≡ Some s) × IsTableOf b1 (changes_of rows ++ (declare_row (changes_of rows) holder id decl).changes) → IsErrAnd r (λ e. e ≡ fault) → ReadsWalk {A = A} (Err fault) b1 b2 inner s
+    → ReadsAll r limit new (rows_after rows (declared test id decl inner h (length rows)))
+declared_inner_fault A (Ok x) test id decl inner rows h holder s limit b1 b2 new fault setting at read same reads = absurd same
+declared_inner_fault A (Err e) test id decl inner rows h holder s limit b1 b2 new fault setting at read same reads = λ many.
+    let row = declare_row (changes_of rows) holder id decl in
+    let rows1 = declared_rows rows holder id decl in
+    let under = rows_after rows1 (inner (length rows) (length rows1)) in
+    let of : symbol_at rows1 (length rows) ≡ Some s = symbol_at-push rows row ∙ read.0 in
+    let here : b1.setting.limit < length (parents_of (changes_of under)) = reads rows1 (length rows) (one_read b1 rows row read.1) of (sym same ∙ many) in
+    rw (declared_split test id decl inner rows h holder at) (omega (arith, here, setting, parents_of_grow under (added test h id.name (length rows))))
+
+-- it is read, and then added to its holder
+pub declared_read : {A : Type 0} (r : Result A BuildFault) (test : Bool) (id : IdView) (decl : Declaration) (inner : Walk) (rows : List Row) (h : ℕ) (holder s : SymbolId) (limit : ℕ) (b1 b2 b3 : Builder) → b2.setting.limit ≡ limit → symbol_at rows h ≡ Some holder
+    → ((declare_row (changes_of rows) holder id decl).symbol ≡ Some s) × IsTableOf b1 (changes_of rows ++ (declare_row (changes_of rows) holder id decl).changes)
+    → ((rs : List Row) (h' : ℕ) → IsTableOf b1 (changes_of rs) → symbol_at rs h' ≡ Some s → IsTableOf b2 (changes_of (rows_after rs (inner h' (length rs)))))
+    → ((rs : List Row) (h' s' : ℕ) → IsTableOf b2 (changes_of rs) → symbol_at rs h' ≡ Some holder → symbol_at rs s' ≡ Some s → ReadsAll r b2.setting.limit b3 (rows_after rs (added test h' id.name s')))
+    → ReadsAll r limit b3 (rows_after rows (declared test id decl inner h (length rows)))
+declared_read r test id decl inner rows h holder s limit b1 b2 b3 setting at read reads put =
+    let row = declare_row (changes_of rows) holder id decl in
+    let rows1 = declared_rows rows holder id decl in
+    let events = inner (length rows) (length rows1) in
+    let under = rows_after rows1 events in
+    let of : symbol_at rows1 (length rows) ≡ Some s = symbol_at-push rows row ∙ read.0 in
+    let at1 : symbol_at rows1 h ≡ Some holder = symbol_at_kept rows row h holder at in
+    let table : IsTableOf b2 (changes_of under) = reads rows1 (length rows) (one_read b1 rows row read.1) of in
+    reads_from r limit b2.setting.limit b3 (rows_after rows (declared test id decl inner h (length rows))) (rows_after under (added test h id.name (length rows))) setting (declared_split test id decl inner rows h holder at)
+    (put under h (length rows) table (symbol_at_after rows1 events h holder at1) (symbol_at_after rows1 events (length rows) s of))
+
+-- ---- children
+
+-- a child that was found lies above its parent, in the same tree
+pub record IsChild (node found : TreeNode) : Type 0 where
+  pub same_tree : found.tree ≡ node.tree
+  pub above : node.number < found.number
+  pub inside : found.number < length node.tree.nodes.items
+
+-- a child lies above its parent
+is_child : (node : TreeNode) (kind : Kind) (c : ℕ) → IsWellFormed node.tree.nodes.items → node.number < length node.tree.nodes.items → kind_of node ≡ Some kind → Contains (children_of kind) c → (node.number < c) × (c < length node.tree.nodes.items)
+unfolding children
+is_child node kind c formed inside is holds =
+    let here : Contains (children node.tree.nodes.items node.number) c = rw is holds in
+    formed.ordered node.number c inside here
+
+child_at : (node found : TreeNode) (kind : Kind) (o : Option ℕ) → IsWellFormed node.tree.nodes.items → node.number < length node.tree.nodes.items → kind_of node ≡ Some kind → ((n : ℕ) → o ≡ Some n → Contains (children_of kind) n) → Some found ≡ node_in node.tree o → IsChild node found
+child_at node found kind None formed inside is holds e = absurd (let f : ⊥ = cc in f)
+child_at node found kind (Some n) formed inside is holds e =
+    let at = is_found node.tree n found e in
+    let above : node.number < n = is_above node kind n formed inside is (holds n refl) in
+    record { same_tree = at.same_tree; above = rw at.number_is above; inside = rw at.number_is at.inside }
+
+child_of_kind : (node found : TreeNode) (field : Kind → Option ℕ) (kinds : Option Kind) → kind_of node ≡ kinds → IsWellFormed node.tree.nodes.items → node.number < length node.tree.nodes.items → ((kind : Kind) (n : ℕ) → field kind ≡ Some n → Contains (children_of kind) n)
+    → Some found ≡ node_in node.tree (option_and_then field kinds) → IsChild node found
+child_of_kind node found field None is formed inside holds e = absurd (let f : ⊥ = cc in f)
+child_of_kind node found field (Some kind) is formed inside holds e = child_at node found kind (field kind) formed inside is (holds kind) e
+
+pub child_found : (node found : TreeNode) (field : Kind → Option ℕ) → IsWellFormed node.tree.nodes.items → node.number < length node.tree.nodes.items → ((kind : Kind) (n : ℕ) → field kind ≡ Some n → Contains (children_of kind) n) → Some found ≡ child_of node field → IsChild node found
+child_found node found field formed inside holds e = child_of_kind node found field (kind_of node) refl formed inside holds e
+
+one_has : (n m : ℕ) → Some m ≡ Some n → Contains (m ∷ []) n
+one_has n m e = let same : m ≡ n = cc in (0, omega arith, same)
+
+optional_has : (n : ℕ) (o : Option ℕ) → o ≡ Some n → Contains (option_to_list o ++ []) n
+optional_has n None e = absurd (let f : ⊥ = cc in f)
+optional_has n (Some m) e = one_has n m e
+
+pub bodies_are_children : (kind : Kind) (n : ℕ) → body_node_of kind ≡ Some n → Contains (children_of kind) n
+bodies_are_children (Kind.Decl (Decl.Function type_params params return_type body)) n e =
+    Contains-append_right (option_to_list type_params) (params.items ++ (option_to_list return_type ++ (option_to_list body ++ []))) n (Contains-append_right params.items (option_to_list return_type ++ (option_to_list body ++ [])) n (Contains-append_right (option_to_list return_type) (option_to_list body ++ []) n (optional_has n body e)))
+bodies_are_children (Kind.Decl (Decl.TsModuleDecl id is_declared body)) n e = Contains-append_right (id ∷ []) (option_to_list body ++ []) n (optional_has n body e)
+bodies_are_children (Kind.Decl (Decl.TsNamespaceDecl id body)) n e = Contains-append_right (id ∷ []) (body ∷ []) n (one_has n body e)
+bodies_are_children (Kind.Member (Member.Constructor params body is_private)) n e = Contains-append_right params.items (option_to_list body ++ []) n (optional_has n body e)
+bodies_are_children (Kind.Expr (Expr.Arrow type_params params return_type is_block body)) n e =
+    Contains-append_right (option_to_list type_params) (params.items ++ (option_to_list return_type ++ (body ∷ []))) n (Contains-append_right params.items (option_to_list return_type ++ (body ∷ [])) n (Contains-append_right (option_to_list return_type) (body ∷ []) n (one_has n body e)))
+bodies_are_children kind n e = absurd (let f : ⊥ = cc in f)
+
+pub decls_are_children : (kind : Kind) (n : ℕ) → decl_of kind ≡ Some n → Contains (children_of kind) n
+decls_are_children (Kind.Item (Item.ExportDecl decl)) n e = one_has n decl e
+decls_are_children (Kind.Item (Item.ExportDefaultDecl decl)) n e = one_has n decl e
+decls_are_children kind n e = absurd (let f : ⊥ = cc in f)
+
+pub items_are_children : (kind : Kind) (n : ℕ) → Contains (body_of kind) n → Contains (children_of kind) n
+items_are_children (Kind.Item (Item.Program body)) n has = Contains-append_left body.items [] n has
+items_are_children (Kind.Decl (Decl.Class type_params super_class super_type_params implements body)) n has =
+    let rest1 = body.items ++ [] in
+    let rest2 = implements.items ++ rest1 in
+    let rest3 = option_to_list super_type_params ++ rest2 in
+    let rest4 = option_to_list super_class ++ rest3 in
+    Contains-append_right (option_to_list type_params) rest4 n (Contains-append_right (option_to_list super_class) rest3 n (Contains-append_right (option_to_list super_type_params) rest2 n (Contains-append_right implements.items rest1 n (Contains-append_left body.items [] n has))))
+items_are_children (Kind.Decl (Decl.TsInterfaceDecl id type_params extends body)) n has =
+    let rest1 = body.items ++ [] in
+    let rest2 = extends.items ++ rest1 in
+    Contains-append_right (id ∷ []) (option_to_list type_params ++ rest2) n (Contains-append_right (option_to_list type_params) rest2 n (Contains-append_right extends.items rest1 n (Contains-append_left body.items [] n has)))
+items_are_children (Kind.Decl (Decl.TsModuleBlock body)) n has = Contains-append_left body.items [] n has
+items_are_children kind n has = absurd (omega (arith, has.1))
+
+-- the rest of a dotted name lies above its part
+pub rest_above : (node : TreeNode) (id body : ℕ) → IsWellFormed node.tree.nodes.items → node.number < length node.tree.nodes.items → kind_of node ≡ Some (Kind.Decl (Decl.TsNamespaceDecl id body)) → (node.number < body) × (body < length node.tree.nodes.items)
+rest_above node id body formed inside is = is_child node (Kind.Decl (Decl.TsNamespaceDecl id body)) body formed inside is (bodies_are_children (Kind.Decl (Decl.TsNamespaceDecl id body)) body refl)
+
+-- the items of a body lie above it
+pub items_above : (node : TreeNode) (kind : Kind) → IsWellFormed node.tree.nodes.items → node.number < length node.tree.nodes.items → kind_of node ≡ Some kind → AreAbove node.tree.nodes.items node.number (body_of kind)
+unfolding children
+items_above node kind formed inside is = λ k d below.
+    let n = get_or (body_of kind) k d in
+    let has : Contains (body_of kind) n = (k, below, get_or_default (body_of kind) k n d below) in
+    let here : Contains (children node.tree.nodes.items node.number) n = rw is (items_are_children kind n has) in
+    formed.ordered node.number n inside here
+
+pub list_above : (node : TreeNode) → IsWellFormed node.tree.nodes.items → node.number < length node.tree.nodes.items → AreAbove node.tree.nodes.items node.number (list_of node body_of)
+list_above node formed inside = of_kind (kind_of node) refl
+  where
+    of_kind : (kinds : Option Kind) → kind_of node ≡ kinds → AreAbove node.tree.nodes.items node.number (option_map_or body_of kinds [])
+    of_kind None is = λ k d below. absurd (omega (arith, below))
+    of_kind (Some kind) is = items_above node kind formed inside is
+
+-- ---- bodies and items, a level down
+
+pub none_reads : {A : Type 0} (x : A) (b : Builder) (holder : SymbolId) → ReadsWalk (Ok x) b b none holder
+none_reads x b holder rows h is at = none_read b rows is
+
+pub body_reads : {A : Type 0} (r : Result A BuildFault) (old new : Builder) (holder : SymbolId) (block : Block) (whole : TreeNode) (ambient : Bool) (parts n : ℕ) (node : TreeNode) (kind : Kind) → IsFound whole.tree n node → kind_of node ≡ Some kind → length whole.tree.nodes.items ≤ n + parts
+    → ((left : ℕ) → length whole.tree.nodes.items ≤ n + suc left → ReadsWalk r old new (body_events (body_within block whole ambient left) block whole ambient node kind) holder) → ReadsWalk r old new (body_within block whole ambient parts n) holder
+unfolding body_within
+body_reads r old new holder block whole ambient zero n node kind found is enough reads = absurd (omega (arith, found.inside))
+body_reads r old new holder block whole ambient (suc left) n node kind found is enough reads =
+    let there : node_in whole.tree (Some n) ≡ Some node = rw (lt-ltb n (length whole.tree.nodes.items) found.inside, found.same) refl in
+    λ rows h before at. on_reads r old.setting.limit new rows (node_in whole.tree (Some n)) node (λ (found : TreeNode). on (kind_of found) (body_events (body_within block whole ambient left) block whole ambient found)) h (length rows) there
+    (on_reads r old.setting.limit new rows (kind_of node) kind (body_events (body_within block whole ambient left) block whole ambient node) h (length rows) is (reads left enough rows h before at))
+
+pub item_reads : {A : Type 0} (r : Result A BuildFault) (old new : Builder) (holder : SymbolId) (tree : Tree) (scope : Scope) (levels n : ℕ) (node : TreeNode) → IsFound tree n node → length tree.nodes.items ≤ n + levels
+    → ((left : ℕ) → length tree.nodes.items ≤ n + suc left → ReadsWalk r old new (on (kind_of node) (item_events (block_within tree left) scope node)) holder) → ReadsWalk r old new (item_within tree levels scope n) holder
+unfolding item_within
+item_reads r old new holder tree scope zero n node found enough reads = absurd (omega (arith, found.inside))
+item_reads r old new holder tree scope (suc left) n node found enough reads =
+    let there : node_in tree (Some n) ≡ Some node = rw (lt-ltb n (length tree.nodes.items) found.inside, found.same) refl in
+    λ rows h before at. on_reads r old.setting.limit new rows (node_in tree (Some n)) node (λ (found : TreeNode). on (kind_of found) (item_events (block_within tree left) scope found)) h (length rows) there (reads left enough rows h before at)
+
+-- an item that is no namespace, and one that is
+plain_same : (block : Block) (scope : Scope) (node : TreeNode) (kinds : Option Kind) → None ≡ option_and_then (namespace_of node) kinds → (h start : ℕ) → on kinds (item_events block scope node) h start ≡ on kinds (plain_item_events scope node) h start
+plain_same block scope node None e h start = refl
+plain_same block scope node (Some kind) e h start = ap (λ (found : Option Namespace). item_or found (λ (namespace : Namespace). on (kind_of namespace.decl) (namespace_events block scope namespace)) (plain_item_events scope node kind) h start) (sym e)
+
+pub plain_reads : {A : Type 0} (r : Result A BuildFault) (old new : Builder) (holder : SymbolId) (block : Block) (scope : Scope) (node : TreeNode) → None ≡ option_and_then (namespace_of node) (kind_of node) → ReadsWalk r old new (on (kind_of node) (plain_item_events scope node)) holder
+    → ReadsWalk r old new (on (kind_of node) (item_events block scope node)) holder
+plain_reads r old new holder block scope node e reads = read_as r old new (on (kind_of node) (plain_item_events scope node)) holder (on (kind_of node) (item_events block scope node)) (plain_same block scope node (kind_of node) e) reads
+
+namespace_same : (block : Block) (scope : Scope) (node : TreeNode) (found : Namespace) (kinds : Option Kind) → Some found ≡ option_and_then (namespace_of node) kinds → (h start : ℕ) → on kinds (item_events block scope node) h start ≡ on (kind_of found.decl) (namespace_events block scope found) h start
+namespace_same block scope node found None e h start = absurd (let f : ⊥ = cc in f)
+namespace_same block scope node found (Some kind) e h start = ap (λ (o : Option Namespace). item_or o (λ (namespace : Namespace). on (kind_of namespace.decl) (namespace_events block scope namespace)) (plain_item_events scope node kind) h start) (sym e)
+
+pub namespace_reads : {A : Type 0} (r : Result A BuildFault) (old new : Builder) (holder : SymbolId) (tree : Tree) (left : ℕ) (scope : Scope) (node : TreeNode) (found : Namespace) → found.decl.tree ≡ tree → Some found ≡ option_and_then (namespace_of node) (kind_of node)
+    → ReadsWalk r old new (on (kind_of found.decl) (namespace_events (block_within found.decl.tree left) scope found)) holder → ReadsWalk r old new (on (kind_of node) (item_events (block_within tree left) scope node)) holder
+namespace_reads r old new holder tree left scope node found same e reads =
+    let there = subst (λ (t : Tree). ReadsWalk r old new (on (kind_of found.decl) (namespace_events (block_within t left) scope found)) holder) same reads in
+    read_as r old new (on (kind_of found.decl) (namespace_events (block_within tree left) scope found)) holder (on (kind_of node) (item_events (block_within tree left) scope node)) (namespace_same (block_within tree left) scope node found (kind_of node) e) there
+
+-- a namespace lies where the item does, or above it
+pub record IsAtItem (node : TreeNode) (found : Namespace) : Type 0 where
+  pub same_tree : found.decl.tree ≡ node.tree
+  pub from : node.number ≤ found.decl.number
+
+plain_at : (node decl : TreeNode) (exported : Option TreeNode) (found : Namespace) (kind : Kind) → Some found ≡ plain_namespace exported decl kind → found.decl ≡ decl
+plain_at node decl exported found (Kind.Decl (Decl.TsModuleDecl id is_declared body)) e = let same : found ≡ (let n : Namespace = record { exported = exported; decl = decl } in n) = cc in ap (λ (n : Namespace). n.decl) same
+plain_at node decl exported found kind e = absurd (let f : ⊥ = cc in f)
+
+exported_at : (node : TreeNode) (found : Namespace) (decl : TreeNode) (kinds : Option Kind) → Some found ≡ option_and_then (plain_namespace (Some node) decl) kinds → found.decl ≡ decl
+exported_at node found decl None e = absurd (let f : ⊥ = cc in f)
+exported_at node found decl (Some kind) e = plain_at node decl (Some node) found kind e
+
+child_item : (node : TreeNode) (found : Namespace) (decls : Option TreeNode) → IsWellFormed node.tree.nodes.items → node.number < length node.tree.nodes.items → child_of node decl_of ≡ decls → Some found ≡ option_and_then (exported_namespace node) decls → IsAtItem node found
+child_item node found None formed inside is e = absurd (let f : ⊥ = cc in f)
+child_item node found (Some decl) formed inside is e =
+    let child = child_found node decl decl_of formed inside decls_are_children (sym is) in
+    let same : found.decl ≡ decl = exported_at node found decl (kind_of decl) e in
+    record { same_tree = ap (λ (t : TreeNode). t.tree) same ∙ child.same_tree; from = rw same (omega (arith, child.above)) }
+
+own_item : (node : TreeNode) (found : Namespace) → found.decl ≡ node → IsAtItem node found
+own_item node found same = record { same_tree = ap (λ (t : TreeNode). t.tree) same; from = rw same (omega arith) }
+
+item_at : (node : TreeNode) (found : Namespace) (kind : Kind) → IsWellFormed node.tree.nodes.items → node.number < length node.tree.nodes.items → Some found ≡ namespace_of node kind → IsAtItem node found
+item_at node found (Kind.Item (Item.ExportDecl decl)) formed inside e = child_item node found (child_of node decl_of) formed inside refl e
+item_at node found kind formed inside e = own_item node found (plain_at node node None found kind e)
+
+pub namespace_at : (node : TreeNode) (found : Namespace) → IsWellFormed node.tree.nodes.items → node.number < length node.tree.nodes.items → Some found ≡ option_and_then (namespace_of node) (kind_of node) → IsAtItem node found
+namespace_at node found formed inside e = of_kind (kind_of node) e
+  where
+    of_kind : (kinds : Option Kind) → Some found ≡ option_and_then (namespace_of node) kinds → IsAtItem node found
+    of_kind None is = absurd (let f : ⊥ = cc in f)
+    of_kind (Some kind) is = item_at node found kind formed inside is
+
+-- nothing was read of a part that has no events
+pub body_stays : (b : Builder) (holder : SymbolId) (block : Block) (whole : TreeNode) (ambient : Bool) (parts n : ℕ) (node : TreeNode) (kind : Kind) → IsFound whole.tree n node → kind_of node ≡ Some kind → length whole.tree.nodes.items ≤ n + parts
+    → ((left : ℕ) (rows : List Row) (h : ℕ) → IsTableOf b (changes_of rows) → IsTableOf b (changes_of (rows_after rows (body_events (body_within block whole ambient left) block whole ambient node kind h (length rows)))))
+    → (rows : List Row) (h : ℕ) → IsTableOf b (changes_of rows) → symbol_at rows h ≡ Some holder → IsTableOf b (changes_of (rows_after rows (body_within block whole ambient parts n h (length rows))))
+body_stays b holder block whole ambient parts n node kind found is enough stays =
+    let done : Result ℕ BuildFault = Ok 0 in
+    body_reads done b b holder block whole ambient parts n node kind found is enough (λ left more rows h before at. stays left rows h before)
+
+-- ---- a namespace
+
+abbrev pub namespace_inner : Block → Scope → Namespace → Kind → Walk
+namespace_inner block scope namespace kind = on (child_of namespace.decl body_node_of) (body_at block namespace.decl (scope.ambient || declares_items kind))
+
+abbrev pub namespace_decl : Namespace → Declaration
+namespace_decl namespace = defined (declared_as namespace.exported (exported_ts_module namespace.decl)) (whole_range namespace.exported namespace.decl)
+
+-- the events of one that has a name
+abbrev pub namespace_declared : Block → Scope → Namespace → Kind → Id → Walk
+namespace_declared block scope namespace kind id = declared (is_exported scope namespace.exported) (id_view id) (namespace_decl namespace) (namespace_inner block scope namespace kind)
+
+pub namespace_read : {A : Type 0} (r : Result A BuildFault) (limit : ℕ) (new : Builder) (rows : List Row) (h : ℕ) (block : Block) (scope : Scope) (namespace : Namespace) (kind : Kind) (id : Id) → kind_of namespace.decl ≡ Some kind → sym_in id_of namespace.decl ≡ Some id
+    → ReadsAll r limit new (rows_after rows (namespace_declared block scope namespace kind id h (length rows))) → ReadsAll r limit new (rows_after rows (on (kind_of namespace.decl) (namespace_events block scope namespace) h (length rows)))
+namespace_read r limit new rows h block scope namespace kind id is named reads =
+    on_reads r limit new rows (kind_of namespace.decl) kind (namespace_events block scope namespace) h (length rows) is (on_reads r limit new rows (sym_in id_of namespace.decl) id (namespace_declared block scope namespace kind) h (length rows) named reads)
+
+pub namespace_stays : (b : Builder) (rows : List Row) (h : ℕ) (block : Block) (scope : Scope) (namespace : Namespace) (kind : Kind) → kind_of namespace.decl ≡ Some kind → sym_in id_of namespace.decl ≡ None → IsTableOf b (changes_of rows)
+    → IsTableOf b (changes_of (rows_after rows (on (kind_of namespace.decl) (namespace_events block scope namespace) h (length rows))))
+namespace_stays b rows h block scope namespace kind is named before =
+    on_some b rows (kind_of namespace.decl) kind (namespace_events block scope namespace) h (length rows) is (on_none b rows (sym_in id_of namespace.decl) (namespace_declared block scope namespace kind) h (length rows) named before)

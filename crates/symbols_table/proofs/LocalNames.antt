@@ -1,0 +1,57 @@
+-- The names under which children and members are kept.
+use Rattle.std.proofs.Common.{◌≡◌, ℕ, ◌<◌, Bool, true, false, ◌&&◌, cond, List, [], ◌∷◌, length, get_or, Option, None, Some, refl, sym, ◌∙◌, ap, subst}
+use Rattle.std.specs.Prelude.{slice_get, IfSome}
+use Rattle.std.specs.List.{find}
+use Rattle.std.specs.Option.{option_or, option_map, option_map_or, option_and_then}
+use Rattle.std.specs.Str.{bytes_eq}
+use Rattle.std.specs.Cow.{cow_str_bytes}
+use Rattle.std.specs.Prelude.{All}
+use Rattle.std.specs.HashMap.{HashMap}
+use Rattle.std.proofs.lemmas.Option.{slice_get-get_or}
+use Rattle.symbols_tree.specs.declared.ids.SymbolId.{SymbolId}
+use Rattle.symbols_table.specs.declared.decl.symbol.Symbol.{Symbol}
+use Rattle.symbols_table.specs.declared.builder.names.LocalName.{LocalName}
+use Rattle.symbols_table.specs.declared.builder.table.Builder.{Builder}
+use Rattle.symbols_table.specs.DeclViews.{Declaration, decl_name}
+use Rattle.symbols_table.specs.Symbols.{decls_in}
+use Rattle.symbols_table.specs.Changes.{Change, is_same, only_if, local_name, is_named, child_named, member_named, children_of, members_of}
+use Rattle.symbols_table.specs.Tables.{Fits, IsTableOf, name_in, is_same_name, symbol_named}
+use Rattle.symbols_table.proofs.Inside.{Below, All-head, All-tail, children_inside, members_inside}
+use Rattle.symbols_table.proofs.Named.{if_named}
+
+-- what a symbol of the table is called
+pub name_is : (b : Builder) (changes : List Change) (s : SymbolId) (d : Symbol) → s.0 < length b.symbols.items → IsTableOf b changes → name_in b.symbols.items s ≡ local_name changes s
+name_is b changes s d lt is =
+    let at : slice_get b.symbols.items s.0 ≡ Some (get_or b.symbols.items s.0 d) = slice_get-get_or b.symbols.items s.0 d lt in
+    rw (at, (is.symbols s d lt).decls) refl
+
+none_else : (o : Option SymbolId) → o ≡ option_or o None
+none_else None = refl
+none_else (Some y) = refl
+
+and_none : (b : Bool) (x : SymbolId) → None ≡ only_if (b && false) x
+and_none true x = refl
+and_none false x = refl
+
+-- a symbol without a name is found by none
+pub unnamed : (changes : List Change) (x : SymbolId) (name : List ℕ) (same : Bool) (o : Option SymbolId) → local_name changes x ≡ None → o ≡ option_or o (if_named changes name same x)
+unnamed changes x name same o none = rw (none, ← and_none same x) (none_else o)
+
+-- a symbol with a name is found by that
+pub with_name : (changes : List Change) (key q : LocalName) (x : SymbolId) → local_name changes x ≡ Some (cow_str_bytes key.name) → only_if (is_same_name key q) x ≡ if_named changes (cow_str_bytes q.name) (is_same key.holder q.holder) x
+with_name changes key q x name = rw name refl
+
+-- what is found by name is a symbol of the table
+found_inside : (count : ℕ) (p : SymbolId → Bool) (xs : List SymbolId) → All (Below count) xs → IfSome (find p xs) (Below count)
+found_inside count p [] all = tt
+found_inside count p (x ∷ xs) all = by (found_inside count p xs (All-tail (Below count) x xs all)) (All-head (Below count) x xs all) (p x)
+  where
+    by : IfSome (find p xs) (Below count) → Below count x → (holds : Bool) → IfSome (cond holds (Some x) (find p xs)) (Below count)
+    by rest here true = here
+    by rest here false = rest
+
+pub child_inside : (count : ℕ) (changes : List Change) (s : SymbolId) (name : List ℕ) → All (Fits count) changes → IfSome (child_named changes s name) (Below count)
+child_inside count changes s name all = found_inside count (is_named changes name) (children_of changes s) (children_inside count changes s all)
+
+pub member_inside : (count : ℕ) (changes : List Change) (s : SymbolId) (name : List ℕ) → All (Fits count) changes → IfSome (member_named changes s name) (Below count)
+member_inside count changes s name all = found_inside count (is_named changes name) (members_of changes s) (members_inside count changes s all)

@@ -1,0 +1,39 @@
+use Rattle.std.proofs.Common.{◌≡◌, [], ◌∷◌, length, refl, ◌∙◌, arith, rules}
+use Rattle.symbols_tree.specs.NodeRefs.{node_view, kind_of}
+use Rattle.symbols_table.specs.Changes.{passes_on}
+use Rattle.symbols_table.specs.Events.{only, star, changes_of}
+use Rattle.symbols_table.specs.ModuleEvents.{module_events}
+use Rattle.symbols_table.specs.Walks.{on}
+use Rattle.symbols_table.proofs.ModuleWalks.{no_events, on_thing, on_ok, only_memory, not_item}
+use Rattle.symbols_table.proofs.builder.table.Builder.module_item.Goals as goal
+
+pub returns-in_default : goal.returns-in_default
+returns-in_default c = record {
+  filled = c.requires.filled;
+  setting = refl;
+  longer = omega arith;
+  table = λ rows h is at.
+      let node = node_view c.args.node in
+      no_events _ rows _ (on_thing (kind_of node) c.kind.result.now (module_events node) h (length rows) c.kind.ensures ∙ not_item node c.kind.result.now h (length rows) c.in_default.not-Item) is;
+}
+
+pub returns-in-ExportAll-clause-table : goal.returns-in-ExportAll-clause-table
+returns-in-ExportAll-clause-table c = λ rows h is at.
+    let node = node_view c.args.node in
+    let events : on (kind_of node) (module_events node) h (length rows) ≡ star c.node_id.result ∷ [] = rw (c.kind.ensures, c.in-Item.is, c.in-ExportAll.is, c.node_id.ensures) refl in
+    only_memory c.add_star.result _ _ rows _ (star c.node_id.result) (only (passes_on c.node_id.result ∷ [])) events refl (on_ok c.add_star.result (λ table. table (changes_of rows) is) c.add_star.ensures.table) c.add_star.ensures.full
+
+pub returns-in-None-clause-table : goal.returns-in-None-clause-table
+returns-in-None-clause-table c = λ rows h is at. no_events _ rows (on (kind_of (node_view c.args.node)) (module_events (node_view c.args.node)) h (length rows)) (search rules) is
+
+pub returns-in-None-expr-clause-table : goal.returns-in-None-expr-clause-table
+returns-in-None-expr-clause-table c = λ rows h is at. no_events _ rows (on (kind_of (node_view c.args.node)) (module_events (node_view c.args.node)) h (length rows)) (search rules) is
+
+pub returns-in-None-expr-2-clause-table : goal.returns-in-None-expr-2-clause-table
+returns-in-None-expr-2-clause-table c = λ rows h is at. no_events _ rows (on (kind_of (node_view c.args.node)) (module_events (node_view c.args.node)) h (length rows)) (search rules) is
+
+pub returns-in-None-expr-3-clause-table : goal.returns-in-None-expr-3-clause-table
+returns-in-None-expr-3-clause-table c = λ rows h is at. no_events _ rows (on (kind_of (node_view c.args.node)) (module_events (node_view c.args.node)) h (length rows)) (search rules) is
+
+pub returns-in_default-item-clause-table : goal.returns-in_default-item-clause-table
+returns-in_default-item-clause-table c = λ rows h is at. no_events _ rows (on (kind_of (node_view c.args.node)) (module_events (node_view c.args.node)) h (length rows)) (search rules) is

@@ -1,0 +1,109 @@
+-- The events of declarations: variables, functions, classes, interfaces, enums and aliases.
+use Rattle.std.specs.Prelude.{ℕ, ◌+◌, Bool, true, false, ◌&&◌, ◌||◌, not, if◌then◌else◌, is_some, List, [], ◌∷◌, ◌++◌, Option, None, Some, unwrap_or}
+use Rattle.std.specs.Option.{option_or, option_and_then}
+use Rattle.symbols_tree.specs.declared.tree.arena.Id.{Id}
+use Rattle.symbols_tree.specs.declared.tree.arena.SourceRange.{SourceRange}
+use Rattle.symbols_tree.specs.declared.tree.kinds.Kind.{Kind}
+use Rattle.symbols_tree.specs.declared.tree.kinds.Kind.TheVariants as Kind
+use Rattle.symbols_tree.specs.declared.tree.kinds.Decl.TheVariants as Decl
+use Rattle.symbols_tree.specs.NodeRefs.{TreeNode, kind_of, node_in, child_of, list_of}
+use Rattle.symbols_tree.specs.ChildFields.{decls_of, id_of, ident_of, name_of}
+use Rattle.symbols_tree.specs.Ids.{IdView, id_view, sym_of}
+use Rattle.symbols_nodes.specs.NodeViews.{NodeView, ExportDeclView, export_decl, class_decl, fn_decl, ts_enum, ts_interface, ts_namespace, ts_type_alias, var, using_var, exported_class, exported_fn, exported_ts_enum, exported_ts_interface, exported_ts_module, exported_ts_type_alias, exported_var}
+use Rattle.symbols_table.specs.declared.builder.scope.Scope.{Scope}
+use Rattle.symbols_table.specs.DeclViews.{Declaration, defined}
+use Rattle.symbols_table.specs.Events.{Event, declare, child, export}
+use Rattle.symbols_table.specs.Walks.{Walk, none, on, each, range_in, sym_in}
+use Rattle.symbols_table.specs.Patterns.{leaves_of}
+use Rattle.symbols_table.specs.MemberEvents.{member_at, members_in}
+
+-- the plain form of a declaration, where no `export` stands before it
+abbrev pub plain : ExportDeclView → NodeView
+plain (exported_class node) = class_decl node
+plain (exported_fn node) = fn_decl node
+plain (exported_var decl declarator ident) = var decl declarator ident
+plain (exported_ts_enum node) = ts_enum node
+plain (exported_ts_interface node) = ts_interface node
+plain (exported_ts_module node) = ts_namespace node
+plain (exported_ts_type_alias node) = ts_type_alias node
+
+-- a declaration, after the `export` if one stands before it
+abbrev pub declared_as : Option TreeNode → ExportDeclView → NodeView
+declared_as None decl = plain decl
+declared_as (Some node) decl = export_decl node decl
+
+-- where the `export` stands, or the declaration where none is before it
+abbrev pub whole_range : Option TreeNode → TreeNode → SourceRange
+whole_range exported node = range_in (unwrap_or exported node)
+
+-- exported is what stands after `export`, and in a namespace all that is ambient
+abbrev pub is_exported : Scope → Option TreeNode → Bool
+is_exported scope exported = is_some exported || (scope.ambient && not scope.is_module)
+
+abbrev pub export_if : Bool → ℕ → List ℕ → ℕ → List Event
+export_if test holder name of = if test then export holder name of ∷ [] else []
+
+-- a symbol becomes a child of its holder, and an export of it where it is exported
+abbrev pub added : Bool → ℕ → List ℕ → ℕ → List Event
+added test holder name of = child holder of ∷ export_if test holder name of
+
+-- a name is declared; then come the events under its symbol, and then it is added to its holder
+abbrev pub declared : Bool → IdView → Declaration → Walk → Walk
+declared test id decl inner holder start = declare holder id decl ∷ (inner start (start + 1) ++ added test holder id.name start)
+
+-- ---- variables
+
+abbrev pub variable_form : Option TreeNode → Bool → TreeNode → TreeNode → TreeNode → NodeView
+variable_form exported is_using decl declarator ident = if is_using then using_var decl declarator ident else declared_as exported (exported_var decl declarator ident)
+
+-- a statement of variables, as it stands
+pub record Variables : Type 0 where
+  pub scope : Scope
+  pub exported : Option TreeNode
+  pub is_using : Bool
+  pub decl : TreeNode
+
+-- of a name that the pattern of a declarator binds: it is declared where the declarator stands
+abbrev pub binding_events : Variables → TreeNode → TreeNode → Walk
+binding_events vars declarator ident =
+    on (option_and_then sym_of (kind_of ident))
+    (λ (id : Id). declared (is_exported vars.scope vars.exported) (id_view id) (defined (variable_form vars.exported vars.is_using vars.decl declarator ident) (range_in declarator)) none)
+
+abbrev pub binding_at : Variables → TreeNode → ℕ → Walk
+binding_at vars declarator n = on (node_in vars.decl.tree (Some n)) (binding_events vars declarator)
+
+-- of a declarator: each name that its pattern binds, in order
+abbrev pub declarator_events : Variables → TreeNode → Walk
+declarator_events vars declarator = on (child_of declarator name_of) (λ (pattern : TreeNode). each (binding_at vars declarator) (leaves_of vars.decl.tree pattern.number))
+
+abbrev pub declarator_at : Variables → ℕ → Walk
+declarator_at vars n = on (node_in vars.decl.tree (Some n)) (declarator_events vars)
+
+abbrev pub variables_events : Variables → Walk
+variables_events vars = each (declarator_at vars) (list_of vars.decl decls_of)
+
+-- ---- what has a name of its own
+
+abbrev pub named_form : TreeNode → Kind → Option ExportDeclView
+named_form node (Kind.Decl (Decl.ClassDecl _ _)) = Some (exported_class node)
+named_form node (Kind.Decl (Decl.FnDecl _ _)) = Some (exported_fn node)
+named_form node (Kind.Decl (Decl.TsInterfaceDecl _ _ _ _)) = Some (exported_ts_interface node)
+named_form node (Kind.Decl (Decl.TsTypeAliasDecl _ _ _)) = Some (exported_ts_type_alias node)
+named_form node (Kind.Decl (Decl.TsEnumDecl _ _)) = Some (exported_ts_enum node)
+named_form node _ = None
+
+-- the name of a declaration: it stands in one of two fields
+abbrev pub own_name : TreeNode → Option Id
+own_name node = option_or (sym_in ident_of node) (sym_in id_of node)
+
+-- it is declared where the whole statement stands, with its members
+abbrev pub named_events : Scope → Option TreeNode → TreeNode → ExportDeclView → Walk
+named_events scope exported node form =
+    on (own_name node)
+    (λ (id : Id). declared (is_exported scope exported) (id_view id) (defined (declared_as exported form) (whole_range exported node)) (each (member_at node.tree) (members_in node)))
+
+-- of a declaration, after the `export` if one stands before it
+abbrev pub declaration_events : Scope → Option TreeNode → TreeNode → Kind → Walk
+declaration_events scope exported node (Kind.Decl (Decl.VarDecl _)) = variables_events (record { scope = scope; exported = exported; is_using = false; decl = node })
+declaration_events scope exported node (Kind.Decl (Decl.UsingDecl _)) = variables_events (record { scope = scope; exported = exported; is_using = true; decl = node })
+declaration_events scope exported node kind = on (named_form node kind) (named_events scope exported node)

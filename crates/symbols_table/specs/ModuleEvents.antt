@@ -1,0 +1,141 @@
+-- The events of imports and exports.
+use Rattle.std.specs.Prelude.{ℕ, ◌+◌, Bool, true, false, List, [], ◌∷◌, ◌++◌, length, Option, None, Some, unwrap_or, String, string_bytes}
+use Rattle.std.specs.Option.{option_map, option_map_or, option_and_then}
+use Rattle.std.specs.Global.{Global}
+use Rattle.symbols_tree.specs.declared.tree.arena.Tree.{Tree}
+use Rattle.symbols_tree.specs.declared.tree.arena.Id.{Id}
+use Rattle.symbols_tree.specs.declared.tree.arena.SourceRange.{SourceRange}
+use Rattle.symbols_tree.specs.declared.tree.kinds.Kind.{Kind}
+use Rattle.symbols_tree.specs.declared.tree.kinds.Kind.TheVariants as Kind
+use Rattle.symbols_tree.specs.declared.tree.kinds.Item.TheVariants as Item
+use Rattle.symbols_tree.specs.declared.tree.kinds.Expr.TheVariants as Expr
+use Rattle.symbols_tree.specs.NodeRefs.{TreeNode, kind_of, node_in, child_of}
+use Rattle.symbols_tree.specs.ChildFields.{local_of, orig_of, expr_of, decl_of, id_of, entity_of}
+use Rattle.symbols_tree.specs.Ids.{IdView, id_view, sym_of}
+use Rattle.symbols_nodes.specs.Expando.{Expando, expando_in}
+use Rattle.symbols_nodes.specs.NodeViews.{export_default_decl, export_default_expr, expando_property}
+use Rattle.symbols_table.specs.DeclViews.{Declaration, DepName, DeclKind, all_names, one_name, target, qualified_target, file_ref, declaration_at, defined}
+use Rattle.symbols_table.specs.Events.{Event, declare, alias, fresh, default, binds, expando, export, star, default_text}
+use Rattle.symbols_table.specs.Walks.{Walk, none, on, each, range_in, sym_in}
+use Rattle.symbols_table.specs.Patterns.{Entity, entity_at}
+use Rattle.symbols_table.specs.MemberEvents.{member_at, members_in}
+use Rattle.symbols_table.specs.DeclarationEvents.{own_name, export_if}
+
+-- ---- import { a as b }, c, * as d from "src"
+
+-- what an import takes of the other module: the name said, or else the local one; its default; or all of it
+abbrev pub import_name : Id → Kind → Option DepName
+import_name id (Kind.Item (Item.ImportNamed _ None)) = Some (one_name (string_bytes id.name))
+import_name id (Kind.Item (Item.ImportNamed _ (Some name))) = Some (one_name (string_bytes name))
+import_name id (Kind.Item (Item.ImportDefault _)) = Some (one_name default_text)
+import_name id (Kind.Item (Item.ImportNamespace _)) = Some all_names
+import_name id _ = None
+
+-- a local name is declared as that
+abbrev pub imported : List ℕ → TreeNode → Id → DepName → Walk
+imported src node id name holder start = declare holder (id_view id) (declaration_at (file_ref name src) (range_in node)) ∷ []
+
+abbrev pub import_events : List ℕ → TreeNode → Kind → Walk
+import_events src node kind = on (sym_in local_of node) (λ (id : Id). on (import_name id kind) (imported src node id))
+
+abbrev pub import_at : List ℕ → Tree → ℕ → Walk
+import_at src tree n = on (node_in tree (Some n)) (λ (node : TreeNode). on (kind_of node) (import_events src node))
+
+-- ---- export { a as b, * as c } from "src"
+
+-- a new symbol under an exported name, which no name of the module stands for
+abbrev pub named_export : List ℕ → Declaration → Walk
+named_export name decl holder start = fresh holder decl ∷ export holder name start ∷ []
+
+-- the name before `as`
+abbrev pub orig_name : Kind → Option (List ℕ)
+orig_name (Kind.Expr (Expr.Ident sym)) = Some (string_bytes sym.name)
+orig_name (Kind.Expr (Expr.Str value)) = Some (string_bytes value)
+orig_name _ = None
+
+-- what it is: with a source a name of the other module, else a name of this one
+abbrev pub orig_kind : Option (List ℕ) → Kind → List ℕ → Option DeclKind
+orig_kind (Some src) orig name = Some (file_ref (one_name name) src)
+orig_kind None orig name = option_map (λ (id : Id). target (id_view id)) (sym_of orig)
+
+abbrev pub specifier_events : Option (List ℕ) → TreeNode → Option (List ℕ) → Kind → Walk
+specifier_events src node exported orig =
+    on (orig_name orig) (λ (name : List ℕ).
+    on (orig_kind src orig name) (λ (kind : DeclKind). named_export (unwrap_or exported name) (declaration_at kind (range_in node))))
+
+abbrev pub specifier_at : Option (List ℕ) → TreeNode → Option (List ℕ) → Walk
+specifier_at src node exported = on (option_and_then kind_of (child_of node orig_of)) (specifier_events src node exported)
+
+abbrev pub export_events : Option (List ℕ) → TreeNode → Kind → Walk
+export_events src node (Kind.Item (Item.ExportSpecifier _ exported)) = specifier_at src node (option_map string_bytes exported)
+export_events src node (Kind.Item (Item.ExportNamespace name)) = on src (λ (text : List ℕ). named_export (string_bytes name) (declaration_at (file_ref all_names text) (range_in node)))
+export_events src node _ = none
+
+abbrev pub export_at : Option (List ℕ) → Tree → ℕ → Walk
+export_at src tree n = on (node_in tree (Some n)) (λ (node : TreeNode). on (kind_of node) (export_events src node))
+
+-- ---- export default .., export = ..
+
+abbrev pub binds_if : Option Id → ℕ → List Event
+binds_if None of = []
+binds_if (Some id) of = binds (id_view id) of ∷ []
+
+-- a class, a function or an interface: its name stands for the default symbol, which has its members
+abbrev pub default_decl_events : TreeNode → TreeNode → Walk
+default_decl_events node decl holder start =
+    default holder (defined (export_default_decl node) (range_in node))
+    ∷ (binds_if (own_name decl) start ++ each (member_at decl.tree) (members_in decl) start (start + 1 + length (binds_if (own_name decl) start)))
+
+abbrev pub default_at : Declaration → Walk
+default_at decl holder start = default holder decl ∷ []
+
+-- a name is the target of the default symbol,
+abbrev pub target_at : TreeNode → Id → Declaration
+target_at expr id = declaration_at (target (id_view id)) (range_in expr)
+
+-- and any other expression after `export default` is its definition
+abbrev pub default_expr : TreeNode → TreeNode → Kind → Declaration
+default_expr node expr (Kind.Expr (Expr.Ident id)) = target_at expr id
+default_expr node expr _ = defined (export_default_expr node) (range_in node)
+
+abbrev pub assignment_events : TreeNode → Kind → Walk
+assignment_events expr (Kind.Expr (Expr.Ident id)) = default_at (target_at expr id)
+assignment_events expr _ = none
+
+-- ---- import a = b.c, import a = require("src")
+
+-- what the name is: the parts of an entity, or the default of another module
+abbrev pub alias_kind : TreeNode → Option ℕ → Option (String Global) → Option DeclKind
+alias_kind node (Some entity) external = option_map (λ (e : Entity). qualified_target e.leftmost e.parts) (entity_at node.tree entity)
+alias_kind node None external = option_map (λ (text : String Global). file_ref (one_name default_text) (string_bytes text)) external
+
+abbrev pub alias_events : TreeNode → Bool → Id → DeclKind → Walk
+alias_events node is_export id kind holder start = alias holder (id_view id) (declaration_at kind (range_in node)) ∷ export_if is_export holder (string_bytes id.name) start
+
+abbrev pub import_equals_events : TreeNode → Bool → Option ℕ → Option (String Global) → Walk
+import_equals_events node is_export entity external = on (sym_in id_of node) (λ (id : Id). on (alias_kind node entity external) (alias_events node is_export id))
+
+-- ---- f.p = ..
+
+abbrev pub expando_events : TreeNode → Walk
+expando_events node =
+    on (option_and_then (λ (e : Expando). option_and_then sym_of (kind_of e.object)) (expando_in node))
+    (λ (id : Id) (holder : ℕ) (start : ℕ). expando (id_view id) (defined (expando_property node) (range_in node)) ∷ [])
+
+-- ---- export * from "src"
+
+abbrev pub star_at : TreeNode → Walk
+star_at node holder start = star node.number ∷ []
+
+-- ---- each of these, by its kind
+
+abbrev pub module_events : TreeNode → Kind → Walk
+module_events node (Kind.Item (Item.Import specifiers src)) = each (import_at (string_bytes src) node.tree) specifiers.items
+module_events node (Kind.Item (Item.ExportNamed specifiers src)) = each (export_at (option_map string_bytes src) node.tree) specifiers.items
+module_events node (Kind.Item (Item.ExportDefaultDecl _)) = on (child_of node decl_of) (default_decl_events node)
+module_events node (Kind.Item (Item.ExportDefaultExpr _)) = on (child_of node expr_of) (λ (expr : TreeNode). on (kind_of expr) (λ (kind : Kind). default_at (default_expr node expr kind)))
+module_events node (Kind.Item (Item.TsExportAssignment _)) = on (child_of node expr_of) (λ (expr : TreeNode). on (kind_of expr) (assignment_events expr))
+module_events node (Kind.Item (Item.ExportAll _)) = star_at node
+module_events node (Kind.Item (Item.TsImportEqualsDecl is_export _ entity external)) = import_equals_events node is_export entity external
+module_events node (Kind.Item (Item.ExprStmt _)) = on (child_of node expr_of) expando_events
+module_events node _ = none

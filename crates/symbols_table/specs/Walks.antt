@@ -1,0 +1,38 @@
+-- The events of parts of a tree, one part after the other.
+use Rattle.std.specs.Prelude.{ℕ, ◌+◌, List, [], ◌∷◌, ◌++◌, length, Option, None, Some, unwrap_or}
+use Rattle.std.specs.Option.{option_map_or, option_and_then}
+use Rattle.symbols_tree.specs.declared.tree.arena.Id.{Id}
+use Rattle.symbols_tree.specs.declared.tree.arena.SourceRange.{SourceRange}
+use Rattle.symbols_tree.specs.declared.tree.kinds.Kind.{Kind}
+use Rattle.symbols_tree.specs.NodeRefs.{TreeNode, kind_of, range_of, child_of}
+use Rattle.symbols_tree.specs.Ids.{sym_of}
+use Rattle.symbols_table.specs.Events.{Event}
+
+-- the events of a part, by the place of their holder and that of the first of them
+abbrev pub Walk : Type 0
+Walk = ℕ → ℕ → List Event
+
+abbrev pub none : Walk
+none holder start = []
+
+-- the events of what is there, and none of what isn't
+abbrev pub on : {A : Type 0} → Option A → (A → Walk) → Walk
+on None walk = none
+on (Some x) walk = walk x
+
+-- one part, and then another under the same holder
+abbrev pub followed_by : Walk → Walk → Walk
+followed_by first next holder start = first holder start ++ next holder (start + length (first holder start))
+
+-- each part of a list in order
+abbrev pub each : {A : Type 0} → (A → Walk) → List A → Walk
+each walk [] holder start = []
+each walk (x ∷ xs) holder start = walk x holder start ++ each walk xs holder (start + length (walk x holder start))
+
+-- a node is where it stands; what is no node, nowhere
+abbrev pub range_in : TreeNode → SourceRange
+range_in node = unwrap_or (range_of node) (record { start = 0; end = 0 })
+
+-- the name that a child is
+abbrev pub sym_in : (Kind → Option ℕ) → TreeNode → Option Id
+sym_in field node = option_and_then sym_of (option_and_then kind_of (child_of node field))

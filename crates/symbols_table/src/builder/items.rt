@@ -1,0 +1,276 @@
+//! The items of a module and of its namespaces.
+
+ghost use Rattle.std.specs.Prelude.{◌≡◌, ℕ, suc, ◌+◌, ◌<◌, ◌≤◌, ◌||◌, List, length, OnOk, IfOk, Some};
+ghost use Rattle.std.specs.Option.{option_map, option_copied, option_and_then};
+ghost use Rattle.symbols_tree.specs.NodeRefs.{node_view, kind_of, child_of};
+ghost use Rattle.symbols_tree.specs.ChildFields.{id_of, body_node_of};
+ghost use Rattle.symbols_tree.specs.WellFormed.{IsWellFormed};
+ghost use Rattle.symbols_table.specs.NamespaceViews.{namespace_view};
+ghost use Rattle.symbols_table.specs.Walks.{Walk, on, each, sym_in};
+ghost use Rattle.symbols_table.specs.Levels.{AreAbove, ReadsPart, part_first};
+ghost use Rattle.symbols_table.specs.Events.{Row, rows_after, symbol_at, changes_of};
+ghost use Rattle.symbols_table.specs.TreeEvents.{plain_namespace, namespace_of, declares_items, body_within, body_at, namespace_events, plain_item_events, item_within, block_within};
+
+use crate::builder::declarations::{declared_as, is_exported, whole_range};
+use crate::builder::scope::Scope;
+use crate::builder::table::{BuildFault, Builder};
+use crate::decl::SymbolDecl;
+use symbols_nodes::nodes::{ExportDeclRef, SymbolNodeRef};
+use symbols_tree::ids::SymbolId;
+use symbols_tree::tree::{Decl, Id, Item, Kind, NodeId, NodeRef};
+
+/// A namespace: the `export` before it, if one stands there, and the namespace itself.
+#[derive(Clone, Copy)]
+pub(crate) struct Namespace<'a> {
+    exported: Option<NodeRef<'a>>,
+    decl: NodeRef<'a>,
+}
+
+/// The namespace that a node is.
+fn plain_namespace<'a>(exported: Option<NodeRef<'a>>, node: NodeRef<'a>) -> Option<Namespace<'a>>
+    ensures { option_map namespace_view result ≡ option_and_then (plain_namespace (option_map node_view exported.entry) (node_view node.entry)) (kind_of (node_view node.entry)) }
+{
+    match node.kind() {
+        Kind::Decl(Decl::TsModuleDecl { .. }) => Some(Namespace {
+            exported,
+            decl: node,
+        }),
+        _ => None,
+    }
+}
+
+/// The namespace that an item is, after the `export` if one stands before it.
+fn namespace_of<'a>(node: NodeRef<'a>) -> Option<Namespace<'a>>
+    ensures { option_map namespace_view result ≡ option_and_then (namespace_of (node_view node.entry)) (kind_of (node_view node.entry)) }
+{
+    match node.kind() {
+        Kind::Item(Item::ExportDecl { .. }) => plain_namespace(Some(node), node.decl()?),
+        _ => plain_namespace(None, node),
+    }
+}
+
+/// Whether `declare` stands before a namespace, so that its items are ambient.
+fn declares_items(kind: &Kind) -> bool
+    ensures { result ≡ declares_items kind.now }
+{
+    match kind {
+        Kind::Decl(Decl::TsModuleDecl { declare, .. }) => *declare,
+        _ => false,
+    }
+}
+
+/// Whether the items of a namespace are ambient.
+fn inner_ambient(scope: Scope, kind: &Kind) -> bool
+    ensures { result ≡ (scope.ambient || declares_items kind.now) }
+{
+    scope.ambient || declares_items(kind)
+}
+
+/// The name of a namespace, or of a later part of a dotted one; none where it is a text.
+fn namespace_id<'a>(node: NodeRef<'a>) -> Option<&'a Id>
+    ensures { option_copied result ≡ sym_in id_of (node_view node.entry) }
+{
+    node.id()?.sym()
+}
+
+impl<'a> Builder<'a> {
+    ghost use Rattle.symbols_table.specs.Tables.{IsTableOf, IsFilled, ReadsAll, ReadsWalk};
+
+    /// A later part of the dotted name of a namespace.
+    fn part(
+        &mut self,
+        holder: SymbolId,
+        whole: NodeRef<'a>,
+        node: NodeRef<'a>,
+        id: &'a Id,
+    ) -> Result<SymbolId, BuildFault>
+        requires filled { IsFilled self.old }
+        requires holder { holder.0 < length self.old.symbols.items }
+        ensures inside { IfOk result (λ s. s.0 < length self.new.symbols.items) }
+        ensures filled { OnOk result (IsFilled self.new) }
+        ensures setting { self.new.setting ≡ self.old.setting }
+        ensures longer { OnOk result (length self.old.symbols.items ≤ length self.new.symbols.items) }
+        ensures table { (rows : List Row) (h : ℕ) → IsTableOf self.old (changes_of rows) → symbol_at rows h ≡ Some holder
+            → ReadsPart result self.old.setting.limit self.new rows (part_first (node_view whole.entry) (node_view node.entry) id.now h (length rows)) }
+    {
+        let decl = SymbolDecl::definition(SymbolNodeRef::TsNamespace(whole), node.range());
+        let symbol = self.declare(holder, id, decl)?;
+        self.add_export(holder, id.name.as_str(), symbol)?;
+        self.add_child(holder, symbol)?;
+        Ok(symbol)
+    }
+
+    /// The body of a namespace: the later parts of its name, and its items in the last of them.
+    #[cycle(walk)]
+    fn body(
+        &mut self,
+        holder: SymbolId,
+        whole: NodeRef<'a>,
+        ambient: bool,
+        n: NodeId,
+    ) -> Result<(), BuildFault>
+        requires well_formed { IsWellFormed whole.tree.now.nodes.items }
+        requires inside { n < length whole.tree.now.nodes.items }
+        requires filled { IsFilled self.old }
+        requires holder { holder.0 < length self.old.symbols.items }
+        ensures filled { OnOk result (IsFilled self.new) }
+        ensures setting { self.new.setting ≡ self.old.setting }
+        ensures longer { OnOk result (length self.old.symbols.items ≤ length self.new.symbols.items) }
+        ensures table { (levels parts : ℕ) → length whole.entry.tree.now.nodes.items ≤ n + suc levels → length whole.entry.tree.now.nodes.items ≤ n + parts
+            → ReadsWalk result self.old self.new (body_within (block_within whole.entry.tree.now levels) (node_view whole.entry) ambient parts n) holder }
+    {
+        let Some(node) = whole.node(n) else {
+            return Ok(());
+        };
+        match node.kind() {
+            Kind::Decl(Decl::TsModuleBlock { body }) => {
+                let scope = Scope {
+                    ambient,
+                    is_module: false,
+                };
+                self.items(holder, scope, node, body)
+            }
+            Kind::Decl(Decl::TsNamespaceDecl { body, .. }) => {
+                let Some(id) = namespace_id(node) else {
+                    return Ok(());
+                };
+                let symbol = self.part(holder, whole, node, id)?;
+                self.body(symbol, whole, ambient, *body)
+            }
+            _ => Ok(()),
+        }
+    }
+
+    /// What is in a namespace, where it has a body.
+    #[cycle(walk)]
+    fn inside(
+        &mut self,
+        holder: SymbolId,
+        whole: NodeRef<'a>,
+        ambient: bool,
+    ) -> Result<(), BuildFault>
+        requires well_formed { IsWellFormed whole.tree.now.nodes.items }
+        requires filled { IsFilled self.old }
+        requires holder { holder.0 < length self.old.symbols.items }
+        ensures filled { OnOk result (IsFilled self.new) }
+        ensures setting { self.new.setting ≡ self.old.setting }
+        ensures longer { OnOk result (length self.old.symbols.items ≤ length self.new.symbols.items) }
+        ensures table { (levels : ℕ) → length whole.entry.tree.now.nodes.items ≤ whole.entry.number + suc levels
+            → ReadsWalk result self.old self.new (on (child_of (node_view whole.entry) body_node_of) (body_at (block_within whole.entry.tree.now levels) (node_view whole.entry) ambient)) holder }
+    {
+        match whole.body_node() {
+            Some(body) => self.body(holder, whole, ambient, body.node_id()),
+            None => Ok(()),
+        }
+    }
+
+    /// A namespace: it is declared, with its body, where it has a name.
+    #[cycle(walk)]
+    fn namespace(
+        &mut self,
+        holder: SymbolId,
+        scope: Scope,
+        namespace: Namespace<'a>,
+    ) -> Result<(), BuildFault>
+        requires well_formed { IsWellFormed namespace.decl.tree.now.nodes.items }
+        requires filled { IsFilled self.old }
+        requires holder { holder.0 < length self.old.symbols.items }
+        ensures filled { OnOk result (IsFilled self.new) }
+        ensures setting { self.new.setting ≡ self.old.setting }
+        ensures longer { OnOk result (length self.old.symbols.items ≤ length self.new.symbols.items) }
+        ensures table { (levels : ℕ) → length namespace.entry.decl.tree.now.nodes.items ≤ namespace.entry.decl.number + suc levels
+            → ReadsWalk result self.old self.new (on (kind_of (node_view namespace.entry.decl)) (namespace_events (block_within namespace.entry.decl.tree.now levels) scope (namespace_view namespace.entry))) holder }
+    {
+        let Namespace { exported, decl } = namespace;
+        let kind = decl.kind();
+        let Some(id) = namespace_id(decl) else {
+            return Ok(());
+        };
+        let form = declared_as(exported, ExportDeclRef::TsModule(decl));
+        let definition = SymbolDecl::definition(form, whole_range(exported, decl));
+        let symbol = self.declare(holder, id, definition)?;
+        self.inside(symbol, decl, inner_ambient(scope, kind))?;
+        self.added(
+            holder,
+            symbol,
+            id.name.as_str(),
+            is_exported(scope, exported),
+        )
+    }
+
+    /// An item that is no namespace.
+    fn plain_item(
+        &mut self,
+        holder: SymbolId,
+        scope: Scope,
+        node: NodeRef<'a>,
+    ) -> Result<(), BuildFault>
+        requires well_formed { IsWellFormed node.tree.now.nodes.items }
+        requires filled { IsFilled self.old }
+        requires holder { holder.0 < length self.old.symbols.items }
+        ensures filled { OnOk result (IsFilled self.new) }
+        ensures setting { self.new.setting ≡ self.old.setting }
+        ensures longer { OnOk result (length self.old.symbols.items ≤ length self.new.symbols.items) }
+        ensures table { ReadsWalk result self.old self.new (on (kind_of (node_view node.entry)) (plain_item_events scope (node_view node.entry))) holder }
+    {
+        match node.kind() {
+            Kind::Item(Item::ExportDecl { .. }) => match node.decl() {
+                Some(decl) => self.declaration(holder, scope, Some(node), decl),
+                None => Ok(()),
+            },
+            Kind::Item(_) => self.module_item(holder, node),
+            _ => self.declaration(holder, scope, None, node),
+        }
+    }
+
+    /// An item, by its number.
+    #[cycle(walk)]
+    fn item(
+        &mut self,
+        holder: SymbolId,
+        scope: Scope,
+        parent: NodeRef<'a>,
+        n: NodeId,
+    ) -> Result<(), BuildFault>
+        requires well_formed { IsWellFormed parent.tree.now.nodes.items }
+        requires inside { n < length parent.tree.now.nodes.items }
+        requires filled { IsFilled self.old }
+        requires holder { holder.0 < length self.old.symbols.items }
+        ensures filled { OnOk result (IsFilled self.new) }
+        ensures setting { self.new.setting ≡ self.old.setting }
+        ensures longer { OnOk result (length self.old.symbols.items ≤ length self.new.symbols.items) }
+        ensures table { (levels : ℕ) → length parent.entry.tree.now.nodes.items ≤ n + levels → ReadsWalk result self.old self.new (item_within parent.entry.tree.now levels scope n) holder }
+    {
+        let Some(node) = parent.node(n) else {
+            return Ok(());
+        };
+        match namespace_of(node) {
+            Some(namespace) => self.namespace(holder, scope, namespace),
+            None => self.plain_item(holder, scope, node),
+        }
+    }
+
+    /// The items of a body.
+    #[cycle(walk)]
+    pub(crate) fn items(
+        &mut self,
+        holder: SymbolId,
+        scope: Scope,
+        parent: NodeRef<'a>,
+        items: &'a [NodeId],
+    ) -> Result<(), BuildFault>
+        requires well_formed { IsWellFormed parent.tree.now.nodes.items }
+        requires above { AreAbove parent.tree.now.nodes.items parent.number items.now }
+        requires filled { IsFilled self.old }
+        requires holder { holder.0 < length self.old.symbols.items }
+        ensures filled { OnOk result (IsFilled self.new) }
+        ensures setting { self.new.setting ≡ self.old.setting }
+        ensures longer { OnOk result (length self.old.symbols.items ≤ length self.new.symbols.items) }
+        ensures table { (levels : ℕ) → length parent.entry.tree.now.nodes.items ≤ parent.entry.number + suc levels → ReadsWalk result self.old self.new (block_within parent.entry.tree.now levels scope items.now) holder }
+    {
+        for n in items {
+            self.item(holder, scope, parent, *n)?;
+        }
+        Ok(())
+    }
+}
