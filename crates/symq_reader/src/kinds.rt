@@ -8,7 +8,9 @@ ghost use Rattle.symq_reader.specs.Shapes.{kind_at, kind_shape, row_named};
 mod decls;
 mod exprs;
 mod items;
+mod members;
 mod pats;
+mod tys;
 
 use crate::faults::FormatFault;
 use crate::fields;
@@ -24,6 +26,12 @@ fn kind_named(alloc: Global, kind: &str, value: &Value) -> Result<Kind, FormatFa
     }
     if let Some(decl) = decls::decl(alloc, kind, value)? {
         return Ok(Kind::Decl(decl));
+    }
+    if let Some(member) = members::member(alloc, kind, value)? {
+        return Ok(Kind::Member(member));
+    }
+    if let Some(ty) = tys::ty(alloc, kind, value)? {
+        return Ok(Kind::Ty(ty));
     }
     if let Some(expr) = exprs::expr(alloc, kind, value)? {
         return Ok(Kind::Expr(expr));

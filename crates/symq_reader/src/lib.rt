@@ -8,6 +8,7 @@ mod kinds;
 mod nodes;
 mod numbers;
 mod withheld;
+mod words;
 
 pub use faults::FormatFault;
 pub use graph::read_graph;

@@ -4,6 +4,9 @@ use std::test::Fail;
 use symbols_tree::check::RawModuleKind;
 use symbols_tree::tree::{Expr, Item, Kind, Pat};
 
+mod every_kind;
+mod sorts;
+
 const ONE_MODULE: &str =
     r#"{"modules":[{"specifier":"file:///a.ts","kind":"esm","text":"export const a = 1;","tree":{"nodes":[{"kind":"Program","range":[0,19],"body":[1]},{"kind":"ExportDecl","range":[0,19],"decl":2},{"kind":"VarDecl","range":[7,19],"decls":[3]},{"kind":"VarDeclarator","range":[13,18],"name":4,"init":5},{"kind":"BindingIdent","range":[13,14],"sym":["a",1]},{"kind":"Num","range":[17,18],"text":"1"}]}}]}"#;
 
@@ -11,12 +14,18 @@ fn fault(alloc: Global, text: &str) -> Option<FormatFault> {
     read_graph(alloc, text.as_bytes()).err()
 }
 
-/// The fault of a graph with one module whose tree has this node alone.
-fn node_fault(alloc: Global, node: &str) -> Result<Option<FormatFault>, AllocError> {
+/// The text of a graph with one module whose tree has these nodes.
+fn graph_text(alloc: Global, nodes: &str) -> Result<String, AllocError> {
     let mut text = String::new(alloc);
     text.push_str(r#"{"modules":[{"specifier":"a","kind":"esm","text":"","tree":{"nodes":["#)?;
-    text.push_str(node)?;
+    text.push_str(nodes)?;
     text.push_str("]}}]}")?;
+    Ok(text)
+}
+
+/// The fault of a graph with one module whose tree has this node alone.
+fn node_fault(alloc: Global, node: &str) -> Result<Option<FormatFault>, AllocError> {
+    let text = graph_text(alloc, node)?;
     Ok(fault(alloc, text.as_str()))
 }
 
@@ -76,9 +85,10 @@ fn reads_what_is_of_the_form(rt: HostRuntime) -> Result<(), Fail> {
     for node in [
         r#"{"kind":"Program","range":[0,18446744073709551615]}"#,
         r#"{"kind":"VarDeclarator","range":[9,1],"name":4294967295,"init":null}"#,
-        r#"{"kind":"Function","range":[0,0],"type_params":null,"params":[1,2],"body":3}"#,
+        r#"{"kind":"Function","range":[0,0],"type_params":null,"params":[1,2],"return_type":4}"#,
         r#"{"kind":"FnDecl","range":[0,0],"ident":1,"function":1,"text":[]}"#,
         r#"{"kind":"Ident","range":[0,0],"sym":["",4294967295],"type_ann":{}}"#,
+        r#"{"kind":"BindingIdent","range":[0,0],"sym":["a",1],"type_ann":1}"#,
         r#"{"kind":"Str","range":[0,0],"value":"","declaration":2}"#,
         r#"{"kind":"ExprStmt","range":[0,0],"expr":0}"#,
         r#"{"kind":"Other","range":[0,0]}"#,
@@ -150,7 +160,8 @@ fn refuses_nodes_of_another_form(rt: HostRuntime) -> Result<(), Fail> {
         "[]",
         r#"{"range":[0,0]}"#,
         r#"{"kind":"Nothing","range":[0,0]}"#,
-        r#"{"kind":"Class","range":[0,0]}"#,
+        r#"{"kind":"ExportAll","range":[0,0],"src":"a"}"#,
+        r#"{"kind":"Plain","range":[0,0]}"#,
         r#"{"kind":"Program"}"#,
         r#"{"kind":"Program","range":[0]}"#,
         r#"{"kind":"Program","range":[0,0,0]}"#,
@@ -160,9 +171,8 @@ fn refuses_nodes_of_another_form(rt: HostRuntime) -> Result<(), Fail> {
         r#"{"kind":"ExportDecl","range":[0,0],"decl":null}"#,
         r#"{"kind":"ExprStmt","range":[0,0],"expr":4294967296}"#,
         r#"{"kind":"VarDeclarator","range":[0,0],"name":1,"init":"2"}"#,
-        r#"{"kind":"Function","range":[0,0],"type_params":1}"#,
-        r#"{"kind":"Function","range":[0,0],"return_type":1}"#,
-        r#"{"kind":"BindingIdent","range":[0,0],"sym":["a",1],"type_ann":1}"#,
+        r#"{"kind":"Class","range":[0,0],"implements":1}"#,
+        r#"{"kind":"Function","range":[0,0],"return_type":"4"}"#,
         r#"{"kind":"Ident","range":[0,0]}"#,
         r#"{"kind":"Ident","range":[0,0],"sym":["a"]}"#,
         r#"{"kind":"Ident","range":[0,0],"sym":["a",1,2]}"#,

@@ -1,24 +1,11 @@
 //! What is refused for now although it is of the form: no other part of the project handles it yet.
 
-ghost use Rattle.std.specs.Prelude.{◌≡◌, ⊤, Some, None, is_none, if◌then◌else◌};
+ghost use Rattle.std.specs.Prelude.{◌≡◌};
 ghost use Rattle.serde_json.specs.View.{view};
-ghost use Rattle.symq_reader.specs.Reading.{Gives};
-ghost use Rattle.symq_reader.specs.Fields.{field};
 ghost use Rattle.symq_reader.specs.Withheld.{is_withheld_module};
 
-use crate::faults::FormatFault;
 use crate::fields;
 use serde_json::Value;
-
-/// Refuses a field that is there.
-pub(crate) fn absent(value: &Value, key: &str) -> Result<(), FormatFault>
-    ensures { Gives (λ u. u) result (if is_none (field key.now (view value.now)) then Some tt else None) }
-{
-    match fields::field(value, key) {
-        None => Ok(()),
-        Some(_) => Err(FormatFault::BadForm),
-    }
-}
 
 /// Whether a module of this kind is a JSON module, or one that names the module of its types.
 pub(crate) fn is_withheld_module(kind: &str, value: &Value) -> bool

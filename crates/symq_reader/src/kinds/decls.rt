@@ -7,10 +7,38 @@ ghost use Rattle.symq_reader.specs.Reading.{Gives};
 ghost use Rattle.symq_reader.specs.Shapes.{row_at, decl_row, decl_shape};
 
 use crate::faults::FormatFault;
-use crate::{fields, withheld};
+use crate::fields;
 use serde_json::Value;
 use std::alloc::Global;
 use symbols_tree::tree::Decl;
+
+fn class_decl(value: &Value) -> Result<Decl, FormatFault>
+    ensures { Gives decl_shape result (row_at Name.ClassDecl (view value.now)) }
+{
+    let ident = fields::child(value, "ident")?;
+    let class = fields::child(value, "class")?;
+    Ok(Decl::ClassDecl { ident, class })
+}
+
+fn class_expr(value: &Value) -> Result<Decl, FormatFault>
+    ensures { Gives decl_shape result (row_at Name.ClassExpr (view value.now)) }
+{
+    let ident = fields::optional_child(value, "ident")?;
+    let class = fields::child(value, "class")?;
+    Ok(Decl::ClassExpr { ident, class })
+}
+
+fn class(alloc: Global, value: &Value) -> Result<Decl, FormatFault>
+    ensures { Gives decl_shape result (row_at Name.Class (view value.now)) }
+{
+    Ok(Decl::Class {
+        type_params: fields::optional_child(value, "type_params")?,
+        super_class: fields::optional_child(value, "super_class")?,
+        super_type_params: fields::optional_child(value, "super_type_params")?,
+        implements: fields::children(alloc, value, "implements")?,
+        body: fields::children(alloc, value, "body")?,
+    })
+}
 
 fn fn_decl(value: &Value) -> Result<Decl, FormatFault>
     ensures { Gives decl_shape result (row_at Name.FnDecl (view value.now)) }
@@ -20,11 +48,17 @@ fn fn_decl(value: &Value) -> Result<Decl, FormatFault>
     Ok(Decl::FnDecl { ident, function })
 }
 
+fn fn_expr(value: &Value) -> Result<Decl, FormatFault>
+    ensures { Gives decl_shape result (row_at Name.FnExpr (view value.now)) }
+{
+    let ident = fields::optional_child(value, "ident")?;
+    let function = fields::child(value, "function")?;
+    Ok(Decl::FnExpr { ident, function })
+}
+
 fn function(alloc: Global, value: &Value) -> Result<Decl, FormatFault>
     ensures { Gives decl_shape result (row_at Name.Function (view value.now)) }
 {
-    withheld::absent(value, "type_params")?;
-    withheld::absent(value, "return_type")?;
     Ok(Decl::Function {
         type_params: fields::optional_child(value, "type_params")?,
         params: fields::children(alloc, value, "params")?,
@@ -40,6 +74,13 @@ fn var_decl(alloc: Global, value: &Value) -> Result<Decl, FormatFault>
     Ok(Decl::VarDecl { decls })
 }
 
+fn using_decl(alloc: Global, value: &Value) -> Result<Decl, FormatFault>
+    ensures { Gives decl_shape result (row_at Name.UsingDecl (view value.now)) }
+{
+    let decls = fields::children(alloc, value, "decls")?;
+    Ok(Decl::UsingDecl { decls })
+}
+
 fn var_declarator(value: &Value) -> Result<Decl, FormatFault>
     ensures { Gives decl_shape result (row_at Name.VarDeclarator (view value.now)) }
 {
@@ -48,16 +89,89 @@ fn var_declarator(value: &Value) -> Result<Decl, FormatFault>
     Ok(Decl::VarDeclarator { name, init })
 }
 
+fn ts_interface_decl(alloc: Global, value: &Value) -> Result<Decl, FormatFault>
+    ensures { Gives decl_shape result (row_at Name.TsInterfaceDecl (view value.now)) }
+{
+    Ok(Decl::TsInterfaceDecl {
+        id: fields::child(value, "id")?,
+        type_params: fields::optional_child(value, "type_params")?,
+        extends: fields::children(alloc, value, "extends")?,
+        body: fields::children(alloc, value, "body")?,
+    })
+}
+
+fn ts_type_alias_decl(value: &Value) -> Result<Decl, FormatFault>
+    ensures { Gives decl_shape result (row_at Name.TsTypeAliasDecl (view value.now)) }
+{
+    Ok(Decl::TsTypeAliasDecl {
+        id: fields::child(value, "id")?,
+        type_params: fields::optional_child(value, "type_params")?,
+        type_ann: fields::child(value, "type_ann")?,
+    })
+}
+
+fn ts_enum_decl(alloc: Global, value: &Value) -> Result<Decl, FormatFault>
+    ensures { Gives decl_shape result (row_at Name.TsEnumDecl (view value.now)) }
+{
+    let id = fields::child(value, "id")?;
+    let members = fields::children(alloc, value, "members")?;
+    Ok(Decl::TsEnumDecl { id, members })
+}
+
+fn ts_enum_member(value: &Value) -> Result<Decl, FormatFault>
+    ensures { Gives decl_shape result (row_at Name.TsEnumMember (view value.now)) }
+{
+    let init = fields::optional_child(value, "init")?;
+    Ok(Decl::TsEnumMember { init })
+}
+
+fn ts_module_decl(value: &Value) -> Result<Decl, FormatFault>
+    ensures { Gives decl_shape result (row_at Name.TsModuleDecl (view value.now)) }
+{
+    Ok(Decl::TsModuleDecl {
+        id: fields::child(value, "id")?,
+        declare: fields::flag(value, "declare")?,
+        body: fields::optional_child(value, "body")?,
+    })
+}
+
+fn ts_namespace_decl(value: &Value) -> Result<Decl, FormatFault>
+    ensures { Gives decl_shape result (row_at Name.TsNamespaceDecl (view value.now)) }
+{
+    let id = fields::child(value, "id")?;
+    let body = fields::child(value, "body")?;
+    Ok(Decl::TsNamespaceDecl { id, body })
+}
+
+fn ts_module_block(alloc: Global, value: &Value) -> Result<Decl, FormatFault>
+    ensures { Gives decl_shape result (row_at Name.TsModuleBlock (view value.now)) }
+{
+    let body = fields::children(alloc, value, "body")?;
+    Ok(Decl::TsModuleBlock { body })
+}
+
 /// The declaration of a kind's text; none where no declaration has it.
 #[tactic(auto, unfolding(crate::specs::Shapes::decl_row))]
 pub(crate) fn decl(alloc: Global, kind: &str, value: &Value) -> Result<Option<Decl>, FormatFault>
     ensures { Gives (option_map decl_shape) result (decl_row kind.now (view value.now)) }
 {
     match kind {
+        "ClassDecl" => Ok(Some(class_decl(value)?)),
+        "ClassExpr" => Ok(Some(class_expr(value)?)),
+        "Class" => Ok(Some(class(alloc, value)?)),
         "FnDecl" => Ok(Some(fn_decl(value)?)),
+        "FnExpr" => Ok(Some(fn_expr(value)?)),
         "Function" => Ok(Some(function(alloc, value)?)),
         "VarDecl" => Ok(Some(var_decl(alloc, value)?)),
+        "UsingDecl" => Ok(Some(using_decl(alloc, value)?)),
         "VarDeclarator" => Ok(Some(var_declarator(value)?)),
+        "TsInterfaceDecl" => Ok(Some(ts_interface_decl(alloc, value)?)),
+        "TsTypeAliasDecl" => Ok(Some(ts_type_alias_decl(value)?)),
+        "TsEnumDecl" => Ok(Some(ts_enum_decl(alloc, value)?)),
+        "TsEnumMember" => Ok(Some(ts_enum_member(value)?)),
+        "TsModuleDecl" => Ok(Some(ts_module_decl(value)?)),
+        "TsNamespaceDecl" => Ok(Some(ts_namespace_decl(value)?)),
+        "TsModuleBlock" => Ok(Some(ts_module_block(alloc, value)?)),
         _ => Ok(None),
     }
 }

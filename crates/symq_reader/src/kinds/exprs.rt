@@ -19,6 +19,28 @@ fn ident(alloc: Global, value: &Value) -> Result<Expr, FormatFault>
     Ok(Expr::Ident { sym })
 }
 
+fn member(value: &Value) -> Result<Expr, FormatFault>
+    ensures { Gives expr_shape result (row_at Name.Member (view value.now)) }
+{
+    let obj = fields::child(value, "obj")?;
+    let prop = fields::child(value, "prop")?;
+    Ok(Expr::Member { obj, prop })
+}
+
+fn ident_name(alloc: Global, value: &Value) -> Result<Expr, FormatFault>
+    ensures { Gives expr_shape result (row_at Name.IdentName (view value.now)) }
+{
+    let name = fields::text(alloc, value, "name")?;
+    Ok(Expr::IdentName { name })
+}
+
+fn private_name(alloc: Global, value: &Value) -> Result<Expr, FormatFault>
+    ensures { Gives expr_shape result (row_at Name.PrivateName (view value.now)) }
+{
+    let name = fields::text(alloc, value, "name")?;
+    Ok(Expr::PrivateName { name })
+}
+
 fn string(alloc: Global, value: &Value) -> Result<Expr, FormatFault>
     ensures { Gives expr_shape result (row_at Name.Str (view value.now)) }
 {
@@ -33,6 +55,42 @@ fn number(alloc: Global, value: &Value) -> Result<Expr, FormatFault>
     Ok(Expr::Num { text })
 }
 
+fn big_int(alloc: Global, value: &Value) -> Result<Expr, FormatFault>
+    ensures { Gives expr_shape result (row_at Name.BigInt (view value.now)) }
+{
+    let text = fields::text(alloc, value, "text")?;
+    Ok(Expr::BigInt { text })
+}
+
+fn computed(value: &Value) -> Result<Expr, FormatFault>
+    ensures { Gives expr_shape result (row_at Name.Computed (view value.now)) }
+{
+    let expr = fields::child(value, "expr")?;
+    Ok(Expr::Computed { expr })
+}
+
+fn assign(value: &Value) -> Result<Expr, FormatFault>
+    ensures { Gives expr_shape result (row_at Name.Assign (view value.now)) }
+{
+    Ok(Expr::Assign {
+        plain: fields::flag(value, "plain")?,
+        left: fields::child(value, "left")?,
+        right: fields::child(value, "right")?,
+    })
+}
+
+fn arrow(alloc: Global, value: &Value) -> Result<Expr, FormatFault>
+    ensures { Gives expr_shape result (row_at Name.Arrow (view value.now)) }
+{
+    Ok(Expr::Arrow {
+        type_params: fields::optional_child(value, "type_params")?,
+        params: fields::children(alloc, value, "params")?,
+        return_type: fields::optional_child(value, "return_type")?,
+        is_block: fields::flag(value, "is_block")?,
+        body: fields::child(value, "body")?,
+    })
+}
+
 /// The expression of a kind's text; none where no expression has it.
 #[tactic(auto, unfolding(crate::specs::Shapes::expr_row))]
 pub(crate) fn expr(alloc: Global, kind: &str, value: &Value) -> Result<Option<Expr>, FormatFault>
@@ -40,8 +98,15 @@ pub(crate) fn expr(alloc: Global, kind: &str, value: &Value) -> Result<Option<Ex
 {
     match kind {
         "Ident" => Ok(Some(ident(alloc, value)?)),
+        "Member" => Ok(Some(member(value)?)),
+        "IdentName" => Ok(Some(ident_name(alloc, value)?)),
+        "PrivateName" => Ok(Some(private_name(alloc, value)?)),
         "Str" => Ok(Some(string(alloc, value)?)),
         "Num" => Ok(Some(number(alloc, value)?)),
+        "BigInt" => Ok(Some(big_int(alloc, value)?)),
+        "Computed" => Ok(Some(computed(value)?)),
+        "Assign" => Ok(Some(assign(value)?)),
+        "Arrow" => Ok(Some(arrow(alloc, value)?)),
         _ => Ok(None),
     }
 }

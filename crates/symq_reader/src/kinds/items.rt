@@ -19,11 +19,103 @@ fn program(alloc: Global, value: &Value) -> Result<Item, FormatFault>
     Ok(Item::Program { body })
 }
 
+fn import(alloc: Global, value: &Value) -> Result<Item, FormatFault>
+    ensures { Gives item_shape result (row_at Name.Import (view value.now)) }
+{
+    let specifiers = fields::children(alloc, value, "specifiers")?;
+    let src = fields::text(alloc, value, "src")?;
+    Ok(Item::Import { specifiers, src })
+}
+
+fn import_named(alloc: Global, value: &Value) -> Result<Item, FormatFault>
+    ensures { Gives item_shape result (row_at Name.ImportNamed (view value.now)) }
+{
+    let local = fields::child(value, "local")?;
+    let imported = fields::optional_text(alloc, value, "imported")?;
+    Ok(Item::ImportNamed { local, imported })
+}
+
+fn import_default(value: &Value) -> Result<Item, FormatFault>
+    ensures { Gives item_shape result (row_at Name.ImportDefault (view value.now)) }
+{
+    let local = fields::child(value, "local")?;
+    Ok(Item::ImportDefault { local })
+}
+
+fn import_namespace(value: &Value) -> Result<Item, FormatFault>
+    ensures { Gives item_shape result (row_at Name.ImportNamespace (view value.now)) }
+{
+    let local = fields::child(value, "local")?;
+    Ok(Item::ImportNamespace { local })
+}
+
 fn export_decl(value: &Value) -> Result<Item, FormatFault>
     ensures { Gives item_shape result (row_at Name.ExportDecl (view value.now)) }
 {
     let decl = fields::child(value, "decl")?;
     Ok(Item::ExportDecl { decl })
+}
+
+fn export_named(alloc: Global, value: &Value) -> Result<Item, FormatFault>
+    ensures { Gives item_shape result (row_at Name.ExportNamed (view value.now)) }
+{
+    let specifiers = fields::children(alloc, value, "specifiers")?;
+    let src = fields::optional_text(alloc, value, "src")?;
+    Ok(Item::ExportNamed { specifiers, src })
+}
+
+fn export_specifier(alloc: Global, value: &Value) -> Result<Item, FormatFault>
+    ensures { Gives item_shape result (row_at Name.ExportSpecifier (view value.now)) }
+{
+    let orig = fields::child(value, "orig")?;
+    let exported = fields::optional_text(alloc, value, "exported")?;
+    Ok(Item::ExportSpecifier { orig, exported })
+}
+
+fn export_namespace(alloc: Global, value: &Value) -> Result<Item, FormatFault>
+    ensures { Gives item_shape result (row_at Name.ExportNamespace (view value.now)) }
+{
+    let name = fields::text(alloc, value, "name")?;
+    Ok(Item::ExportNamespace { name })
+}
+
+fn export_default_specifier(value: &Value) -> Result<Item, FormatFault>
+    ensures { Gives item_shape result (row_at Name.ExportDefaultSpecifier (view value.now)) }
+{
+    let local = fields::child(value, "local")?;
+    Ok(Item::ExportDefaultSpecifier { local })
+}
+
+fn export_default_decl(value: &Value) -> Result<Item, FormatFault>
+    ensures { Gives item_shape result (row_at Name.ExportDefaultDecl (view value.now)) }
+{
+    let decl = fields::child(value, "decl")?;
+    Ok(Item::ExportDefaultDecl { decl })
+}
+
+fn export_default_expr(value: &Value) -> Result<Item, FormatFault>
+    ensures { Gives item_shape result (row_at Name.ExportDefaultExpr (view value.now)) }
+{
+    let expr = fields::child(value, "expr")?;
+    Ok(Item::ExportDefaultExpr { expr })
+}
+
+fn ts_export_assignment(value: &Value) -> Result<Item, FormatFault>
+    ensures { Gives item_shape result (row_at Name.TsExportAssignment (view value.now)) }
+{
+    let expr = fields::child(value, "expr")?;
+    Ok(Item::TsExportAssignment { expr })
+}
+
+fn ts_import_equals_decl(alloc: Global, value: &Value) -> Result<Item, FormatFault>
+    ensures { Gives item_shape result (row_at Name.TsImportEqualsDecl (view value.now)) }
+{
+    Ok(Item::TsImportEqualsDecl {
+        is_export: fields::flag(value, "is_export")?,
+        id: fields::child(value, "id")?,
+        entity: fields::optional_child(value, "entity")?,
+        external: fields::optional_text(alloc, value, "external")?,
+    })
 }
 
 fn expr_stmt(value: &Value) -> Result<Item, FormatFault>
@@ -40,7 +132,19 @@ pub(crate) fn item(alloc: Global, kind: &str, value: &Value) -> Result<Option<It
 {
     match kind {
         "Program" => Ok(Some(program(alloc, value)?)),
+        "Import" => Ok(Some(import(alloc, value)?)),
+        "ImportNamed" => Ok(Some(import_named(alloc, value)?)),
+        "ImportDefault" => Ok(Some(import_default(value)?)),
+        "ImportNamespace" => Ok(Some(import_namespace(value)?)),
         "ExportDecl" => Ok(Some(export_decl(value)?)),
+        "ExportNamed" => Ok(Some(export_named(alloc, value)?)),
+        "ExportSpecifier" => Ok(Some(export_specifier(alloc, value)?)),
+        "ExportNamespace" => Ok(Some(export_namespace(alloc, value)?)),
+        "ExportDefaultSpecifier" => Ok(Some(export_default_specifier(value)?)),
+        "ExportDefaultDecl" => Ok(Some(export_default_decl(value)?)),
+        "ExportDefaultExpr" => Ok(Some(export_default_expr(value)?)),
+        "TsExportAssignment" => Ok(Some(ts_export_assignment(value)?)),
+        "TsImportEqualsDecl" => Ok(Some(ts_import_equals_decl(alloc, value)?)),
         "ExprStmt" => Ok(Some(expr_stmt(value)?)),
         _ => Ok(None),
     }

@@ -7,7 +7,7 @@ ghost use Rattle.symq_reader.specs.Reading.{Gives};
 ghost use Rattle.symq_reader.specs.Shapes.{row_at, pat_row, pat_shape};
 
 use crate::faults::FormatFault;
-use crate::{fields, withheld};
+use crate::fields;
 use serde_json::Value;
 use std::alloc::Global;
 use symbols_tree::tree::Pat;
@@ -15,10 +15,71 @@ use symbols_tree::tree::Pat;
 fn binding_ident(alloc: Global, value: &Value) -> Result<Pat, FormatFault>
     ensures { Gives pat_shape result (row_at Name.BindingIdent (view value.now)) }
 {
-    withheld::absent(value, "type_ann")?;
     let sym = fields::identifier(alloc, value, "sym")?;
     let type_ann = fields::optional_child(value, "type_ann")?;
     Ok(Pat::BindingIdent { sym, type_ann })
+}
+
+fn array_pat(alloc: Global, value: &Value) -> Result<Pat, FormatFault>
+    ensures { Gives pat_shape result (row_at Name.ArrayPat (view value.now)) }
+{
+    let elems = fields::children(alloc, value, "elems")?;
+    let type_ann = fields::optional_child(value, "type_ann")?;
+    Ok(Pat::ArrayPat { elems, type_ann })
+}
+
+fn object_pat(alloc: Global, value: &Value) -> Result<Pat, FormatFault>
+    ensures { Gives pat_shape result (row_at Name.ObjectPat (view value.now)) }
+{
+    let props = fields::children(alloc, value, "props")?;
+    let type_ann = fields::optional_child(value, "type_ann")?;
+    Ok(Pat::ObjectPat { props, type_ann })
+}
+
+fn rest_pat(value: &Value) -> Result<Pat, FormatFault>
+    ensures { Gives pat_shape result (row_at Name.RestPat (view value.now)) }
+{
+    let arg = fields::child(value, "arg")?;
+    let type_ann = fields::optional_child(value, "type_ann")?;
+    Ok(Pat::RestPat { arg, type_ann })
+}
+
+fn key_value_pat_prop(value: &Value) -> Result<Pat, FormatFault>
+    ensures { Gives pat_shape result (row_at Name.KeyValuePatProp (view value.now)) }
+{
+    let key = fields::child(value, "key")?;
+    let value = fields::child(value, "value")?;
+    Ok(Pat::KeyValuePatProp { key, value })
+}
+
+fn assign_pat_prop(value: &Value) -> Result<Pat, FormatFault>
+    ensures { Gives pat_shape result (row_at Name.AssignPatProp (view value.now)) }
+{
+    let key = fields::child(value, "key")?;
+    let value = fields::optional_child(value, "value")?;
+    Ok(Pat::AssignPatProp { key, value })
+}
+
+fn assign_pat(value: &Value) -> Result<Pat, FormatFault>
+    ensures { Gives pat_shape result (row_at Name.AssignPat (view value.now)) }
+{
+    let left = fields::child(value, "left")?;
+    let right = fields::child(value, "right")?;
+    Ok(Pat::AssignPat { left, right })
+}
+
+fn expr_pat(value: &Value) -> Result<Pat, FormatFault>
+    ensures { Gives pat_shape result (row_at Name.ExprPat (view value.now)) }
+{
+    let expr = fields::child(value, "expr")?;
+    Ok(Pat::ExprPat { expr })
+}
+
+fn plain(alloc: Global, value: &Value) -> Result<Pat, FormatFault>
+    ensures { Gives pat_shape result (row_at Name.Plain (view value.now)) }
+{
+    let children = fields::children(alloc, value, "children")?;
+    Ok(Pat::Plain { children })
 }
 
 fn other(alloc: Global, value: &Value) -> Result<Pat, FormatFault>
@@ -35,6 +96,14 @@ pub(crate) fn pat(alloc: Global, kind: &str, value: &Value) -> Result<Option<Pat
 {
     match kind {
         "BindingIdent" => Ok(Some(binding_ident(alloc, value)?)),
+        "ArrayPat" => Ok(Some(array_pat(alloc, value)?)),
+        "ObjectPat" => Ok(Some(object_pat(alloc, value)?)),
+        "RestPat" => Ok(Some(rest_pat(value)?)),
+        "KeyValuePatProp" => Ok(Some(key_value_pat_prop(value)?)),
+        "AssignPatProp" => Ok(Some(assign_pat_prop(value)?)),
+        "AssignPat" => Ok(Some(assign_pat(value)?)),
+        "ExprPat" => Ok(Some(expr_pat(value)?)),
+        "Type" => Ok(Some(plain(alloc, value)?)),
         "Other" => Ok(Some(other(alloc, value)?)),
         _ => Ok(None),
     }

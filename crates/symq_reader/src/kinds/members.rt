@@ -1,0 +1,166 @@
+//! Members of classes and interfaces.
+
+ghost use Rattle.std.specs.Prelude.{option_map};
+ghost use Rattle.serde_json.specs.View.{view};
+ghost use Rattle.symbols_tree.specs.declared.tree.names.KindName.TheVariants as Name;
+ghost use Rattle.symq_reader.specs.Reading.{Gives};
+ghost use Rattle.symq_reader.specs.Shapes.{row_at, member_row, member_shape};
+
+use crate::faults::FormatFault;
+use crate::{fields, words};
+use serde_json::Value;
+use std::alloc::Global;
+use symbols_tree::tree::Member;
+
+fn constructor(alloc: Global, value: &Value) -> Result<Member, FormatFault>
+    ensures { Gives member_shape result (row_at Name.Constructor (view value.now)) }
+{
+    Ok(Member::Constructor {
+        params: fields::children(alloc, value, "params")?,
+        body: fields::optional_child(value, "body")?,
+        accessibility: words::accessibility(value, "accessibility")?,
+    })
+}
+
+fn ts_param_prop(value: &Value) -> Result<Member, FormatFault>
+    ensures { Gives member_shape result (row_at Name.TsParamProp (view value.now)) }
+{
+    Ok(Member::TsParamProp {
+        param: fields::child(value, "param")?,
+        accessibility: words::accessibility(value, "accessibility")?,
+    })
+}
+
+fn class_method(value: &Value) -> Result<Member, FormatFault>
+    ensures { Gives member_shape result (row_at Name.ClassMethod (view value.now)) }
+{
+    Ok(Member::ClassMethod {
+        key: fields::child(value, "key")?,
+        function: fields::child(value, "function")?,
+        kind: words::method_kind(value, "method_kind")?,
+        is_static: fields::flag(value, "is_static")?,
+        accessibility: words::accessibility(value, "accessibility")?,
+    })
+}
+
+fn class_prop(value: &Value) -> Result<Member, FormatFault>
+    ensures { Gives member_shape result (row_at Name.ClassProp (view value.now)) }
+{
+    Ok(Member::ClassProp {
+        key: fields::child(value, "key")?,
+        type_ann: fields::optional_child(value, "type_ann")?,
+        value: fields::optional_child(value, "value")?,
+        is_static: fields::flag(value, "is_static")?,
+        accessibility: words::accessibility(value, "accessibility")?,
+    })
+}
+
+fn auto_accessor(value: &Value) -> Result<Member, FormatFault>
+    ensures { Gives member_shape result (row_at Name.AutoAccessor (view value.now)) }
+{
+    Ok(Member::AutoAccessor {
+        key: fields::child(value, "key")?,
+        type_ann: fields::optional_child(value, "type_ann")?,
+        value: fields::optional_child(value, "value")?,
+        is_static: fields::flag(value, "is_static")?,
+        accessibility: words::accessibility(value, "accessibility")?,
+    })
+}
+
+fn ts_index_signature(alloc: Global, value: &Value) -> Result<Member, FormatFault>
+    ensures { Gives member_shape result (row_at Name.TsIndexSignature (view value.now)) }
+{
+    Ok(Member::TsIndexSignature {
+        params: fields::children(alloc, value, "params")?,
+        type_ann: fields::optional_child(value, "type_ann")?,
+        is_static: fields::flag(value, "is_static")?,
+    })
+}
+
+fn ts_call_signature_decl(alloc: Global, value: &Value) -> Result<Member, FormatFault>
+    ensures { Gives member_shape result (row_at Name.TsCallSignatureDecl (view value.now)) }
+{
+    Ok(Member::TsCallSignatureDecl {
+        type_params: fields::optional_child(value, "type_params")?,
+        params: fields::children(alloc, value, "params")?,
+        type_ann: fields::optional_child(value, "type_ann")?,
+    })
+}
+
+fn ts_construct_signature_decl(alloc: Global, value: &Value) -> Result<Member, FormatFault>
+    ensures { Gives member_shape result (row_at Name.TsConstructSignatureDecl (view value.now)) }
+{
+    Ok(Member::TsConstructSignatureDecl {
+        type_params: fields::optional_child(value, "type_params")?,
+        params: fields::children(alloc, value, "params")?,
+        type_ann: fields::optional_child(value, "type_ann")?,
+    })
+}
+
+fn ts_property_signature(value: &Value) -> Result<Member, FormatFault>
+    ensures { Gives member_shape result (row_at Name.TsPropertySignature (view value.now)) }
+{
+    Ok(Member::TsPropertySignature {
+        key: fields::child(value, "key")?,
+        computed: fields::flag(value, "computed")?,
+        type_ann: fields::optional_child(value, "type_ann")?,
+    })
+}
+
+fn ts_getter_signature(value: &Value) -> Result<Member, FormatFault>
+    ensures { Gives member_shape result (row_at Name.TsGetterSignature (view value.now)) }
+{
+    Ok(Member::TsGetterSignature {
+        key: fields::child(value, "key")?,
+        computed: fields::flag(value, "computed")?,
+        type_ann: fields::optional_child(value, "type_ann")?,
+    })
+}
+
+fn ts_setter_signature(value: &Value) -> Result<Member, FormatFault>
+    ensures { Gives member_shape result (row_at Name.TsSetterSignature (view value.now)) }
+{
+    Ok(Member::TsSetterSignature {
+        key: fields::child(value, "key")?,
+        computed: fields::flag(value, "computed")?,
+        param: fields::child(value, "param")?,
+    })
+}
+
+fn ts_method_signature(alloc: Global, value: &Value) -> Result<Member, FormatFault>
+    ensures { Gives member_shape result (row_at Name.TsMethodSignature (view value.now)) }
+{
+    Ok(Member::TsMethodSignature {
+        key: fields::child(value, "key")?,
+        computed: fields::flag(value, "computed")?,
+        type_params: fields::optional_child(value, "type_params")?,
+        params: fields::children(alloc, value, "params")?,
+        type_ann: fields::optional_child(value, "type_ann")?,
+    })
+}
+
+/// The member of a kind's text; none where no member has it.
+#[tactic(auto, unfolding(crate::specs::Shapes::member_row))]
+pub(crate) fn member(
+    alloc: Global,
+    kind: &str,
+    value: &Value,
+) -> Result<Option<Member>, FormatFault>
+    ensures { Gives (option_map member_shape) result (member_row kind.now (view value.now)) }
+{
+    match kind {
+        "Constructor" => Ok(Some(constructor(alloc, value)?)),
+        "TsParamProp" => Ok(Some(ts_param_prop(value)?)),
+        "ClassMethod" => Ok(Some(class_method(value)?)),
+        "ClassProp" => Ok(Some(class_prop(value)?)),
+        "AutoAccessor" => Ok(Some(auto_accessor(value)?)),
+        "TsIndexSignature" => Ok(Some(ts_index_signature(alloc, value)?)),
+        "TsCallSignatureDecl" => Ok(Some(ts_call_signature_decl(alloc, value)?)),
+        "TsConstructSignatureDecl" => Ok(Some(ts_construct_signature_decl(alloc, value)?)),
+        "TsPropertySignature" => Ok(Some(ts_property_signature(value)?)),
+        "TsGetterSignature" => Ok(Some(ts_getter_signature(value)?)),
+        "TsSetterSignature" => Ok(Some(ts_setter_signature(value)?)),
+        "TsMethodSignature" => Ok(Some(ts_method_signature(alloc, value)?)),
+        _ => Ok(None),
+    }
+}

@@ -1,0 +1,58 @@
+//! The words that say what sort of member a node is.
+
+ghost use Rattle.std.specs.Prelude.{◌≡◌};
+ghost use Rattle.serde_json.specs.View.{view};
+ghost use Rattle.symq_reader.specs.Reading.{Gives};
+ghost use Rattle.symq_reader.specs.Fields.{required, optional};
+ghost use Rattle.symq_reader.specs.Words.{accessibility_named, as_accessibility, method_kind_named, as_method_kind};
+
+use crate::faults::FormatFault;
+use crate::fields;
+use serde_json::Value;
+use symbols_tree::tree::{Accessibility, MethodKind};
+
+fn accessibility_named(word: &str) -> Option<Accessibility>
+    ensures { result ≡ accessibility_named word.now }
+{
+    match word {
+        "public" => Some(Accessibility::Public),
+        "protected" => Some(Accessibility::Protected),
+        "private" => Some(Accessibility::Private),
+        _ => None,
+    }
+}
+
+fn method_kind_named(word: &str) -> Option<MethodKind>
+    ensures { result ≡ method_kind_named word.now }
+{
+    match word {
+        "method" => Some(MethodKind::Method),
+        "getter" => Some(MethodKind::Getter),
+        "setter" => Some(MethodKind::Setter),
+        _ => None,
+    }
+}
+
+/// Who may reach a member, which may be absent.
+pub(crate) fn accessibility(value: &Value, key: &str) -> Result<Option<Accessibility>, FormatFault>
+    ensures { Gives (λ a. a) result (optional as_accessibility key.now (view value.now)) }
+{
+    let Some(found) = fields::field(value, key) else {
+        return Ok(None);
+    };
+    match found.as_str().and_then(accessibility_named) {
+        Some(accessibility) => Ok(Some(accessibility)),
+        None => Err(FormatFault::BadForm),
+    }
+}
+
+/// Which sort of method it is.
+pub(crate) fn method_kind(value: &Value, key: &str) -> Result<MethodKind, FormatFault>
+    ensures { Gives (λ k. k) result (required as_method_kind key.now (view value.now)) }
+{
+    let word = fields::field(value, key).and_then(Value::as_str);
+    match word.and_then(method_kind_named) {
+        Some(kind) => Ok(kind),
+        None => Err(FormatFault::BadForm),
+    }
+}
