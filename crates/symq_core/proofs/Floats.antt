@@ -8,9 +8,9 @@ use Rattle.symbols_tree.specs.declared.ids.SymbolId.{SymbolId}
 use Rattle.symbols_tree.specs.declared.tree.arena.Tree.{Tree}
 use Rattle.symbols_tree.specs.Graph.{GraphView, ModuleView, module_of, tree_of}
 use Rattle.symbols_table.specs.Analysis.{symbol_count, tree_changes}
-use Rattle.symbols_table.specs.Changes.{exports_of}
-use Rattle.symq_core.specs.Queries.{QueryView, asks_exports}
-use Rattle.symq_core.specs.Answers.{export_data, exports_data, module_symbol, tree_answer, module_answer, found_answer, answer_data}
+use Rattle.symbols_table.specs.Changes.{Change, exports_of, mapped}
+use Rattle.symq_core.specs.Queries.{QueryView, asks_exports, asks_symbol, specifier_of}
+use Rattle.symq_core.specs.Answers.{export_data, exports_data, symbol_data, changes_answer, module_symbol, tree_answer, module_answer, found_answer, answer_data}
 
 entries : (specifier : List ℕ) (es : List (List ℕ × SymbolId)) → items_have_float (items_of (map (export_data specifier) es)) ≡ false
 entries specifier [] = refl
@@ -19,22 +19,30 @@ entries specifier (e ∷ es) = entries specifier es
 exports : (specifier : List ℕ) (es : List (List ℕ × SymbolId)) → has_float (exports_data specifier es) ≡ false
 exports specifier es = rw (entries specifier es) refl
 
+symbol : (found : Option SymbolId) → has_float (symbol_data found) ≡ false
+symbol None = refl
+symbol (Some s) = refl
+
+by_changes : (query : QueryView) (specifier : List ℕ) (changes : List Change) → has_float (changes_answer query specifier changes) ≡ false
+by_changes (asks_exports _) specifier changes = exports specifier (exports_of changes module_symbol)
+by_changes (asks_symbol _ id) specifier changes = symbol (mapped changes id)
+
 either : (test : Bool) (a b : Data) → has_float a ≡ false → has_float b ≡ false → has_float (cond test a b) ≡ false
 either true a b p q = p
 either false a b p q = q
 
-tree : (specifier : List ℕ) (t : Tree) → has_float (tree_answer specifier t) ≡ false
+tree : (query : QueryView) (specifier : List ℕ) (t : Tree) → has_float (tree_answer query specifier t) ≡ false
 unfolding tree_answer
-tree specifier t = either (nat_lt (4294967295) (symbol_count t)) _ _ refl (exports specifier (exports_of (tree_changes t) module_symbol))
+tree query specifier t = either (nat_lt (4294967295) (symbol_count t)) _ _ refl (by_changes query specifier (tree_changes t))
 
-of_module : (m : ModuleView) (t : Option Tree) → has_float (module_answer m t) ≡ false
-of_module m None = refl
-of_module m (Some t) = tree m.specifier t
+of_module : (query : QueryView) (m : ModuleView) (t : Option Tree) → has_float (module_answer query m t) ≡ false
+of_module query m None = refl
+of_module query m (Some t) = tree query m.specifier t
 
-found : (m : Option ModuleView) → has_float (found_answer m) ≡ false
-found None = refl
-found (Some m) = of_module m (tree_of m.content)
+found : (query : QueryView) (m : Option ModuleView) → has_float (found_answer query m) ≡ false
+found query None = refl
+found query (Some m) = of_module query m (tree_of m.content)
 
 pub no_float : (graph : GraphView) (query : Option QueryView) → has_float (answer_data graph query) ≡ false
 no_float graph None = refl
-no_float graph (Some (asks_exports specifier)) = found (module_of graph specifier)
+no_float graph (Some query) = found query (module_of graph (specifier_of query))

@@ -1,13 +1,13 @@
 //! The answer to a line.
 
-ghost use Rattle.std.specs.Prelude.{◌≡◌, map, string_bytes, Some, IfOk, IfSome, IsSome, option_map};
+ghost use Rattle.std.specs.Prelude.{◌≡◌, map, string_bytes, IfOk, IfSome, IsSome};
 ghost use Rattle.serde_json.specs.View.{view};
 ghost use Rattle.std.specs.Option.{option_and_then};
 ghost use Rattle.symbols_tree.specs.Graph.{tree_of};
 ghost use Rattle.symbols_table.specs.DeclViews.{exports_view};
 ghost use Rattle.symq_reader.specs.Graph.{value_of};
 ghost use Rattle.symq_core.specs.Queries.{query_view, query_of};
-ghost use Rattle.symq_core.specs.Answers.{export_data, exports_data, fault_text, fault_data, TellsExports, module_answer, exports_answer, answer_data, answer_text};
+ghost use Rattle.symq_core.specs.Answers.{export_data, exports_data, symbol_data, fault_text, fault_data, Tells, module_answer, query_answer, answer_data, answer_text};
 
 use crate::program::query::{Query, line_value, read_query};
 use indexmap::IndexMap;
@@ -56,13 +56,26 @@ fn exports_value(
     json!(in alloc; {"exports": entries, "unresolved": []})
 }
 
-/// The own exports of a module with its symbols.
-fn own_exports(alloc: Global, info: &ModuleInfo<'_>) -> Result<Value, AllocError>
-    ensures { IfOk result (λ value. TellsExports info.now (view value)) }
+/// What a name stands for.
+fn symbol_value(alloc: Global, symbol: Option<SymbolId>) -> Result<Value, AllocError>
+    ensures { IfOk result (λ value. view value ≡ symbol_data symbol) }
 {
-    match info.esm() {
-        Some(esm) => exports_value(alloc, esm.specifier(), esm.module_symbol().exports()),
-        None => Ok(Value::Null),
+    match symbol {
+        Some(symbol) => json!(in alloc; {"symbol": symbol.number()}),
+        None => json!(in alloc; {"symbol": null}),
+    }
+}
+
+/// What a query asks of a module with its symbols.
+fn info_answer(alloc: Global, info: &ModuleInfo<'_>, query: &Query<'_>) -> Result<Value, AllocError>
+    ensures { IfOk result (λ value. Tells (query_view query.now) info.now (view value)) }
+{
+    let Some(esm) = info.esm() else {
+        return Ok(Value::Null);
+    };
+    match query {
+        Query::Exports(_) => exports_value(alloc, esm.specifier(), esm.module_symbol().exports()),
+        Query::Symbol(_, id) => symbol_value(alloc, esm.symbol_id_from_swc(id)),
     }
 }
 
@@ -81,26 +94,29 @@ fn fault_value(alloc: Global, fault: &SymbolsFault) -> Result<Value, AllocError>
     json!(in alloc; {"fault": text})
 }
 
-/// The exports of a module of the graph, which is analysed anew for each query until modules are
-/// stored.
-fn module_exports(alloc: Global, graph_module: &GraphModule) -> Result<Value, AllocError>
-    ensures { IfOk result (λ value. view value ≡ module_answer graph_module.now (tree_of graph_module.now.content)) }
+/// What a query asks of a module of the graph, which is analysed anew for each query until modules
+/// are stored.
+fn module_answer(
+    alloc: Global,
+    graph_module: &GraphModule,
+    query: &Query<'_>,
+) -> Result<Value, AllocError>
+    ensures { IfOk result (λ value. view value
+        ≡ module_answer (query_view query.now) graph_module.now (tree_of graph_module.now.content)) }
 {
     match analyze(alloc, ModuleId::from_number(0), graph_module, u32::MAX) {
-        Ok(Some(info)) => own_exports(alloc, &info),
+        Ok(Some(info)) => info_answer(alloc, &info, query),
         Ok(None) => Ok(Value::Null),
         Err(fault) => fault_value(alloc, &fault),
     }
 }
 
-fn query_answer(alloc: Global, graph: &ModuleGraph, query: Query<'_>) -> Result<Value, AllocError>
-    ensures { IfOk result (λ value. view value ≡ answer_data graph.now (Some (query_view query.entry))) }
+fn query_answer(alloc: Global, graph: &ModuleGraph, query: &Query<'_>) -> Result<Value, AllocError>
+    ensures { IfOk result (λ value. view value ≡ query_answer graph.now (query_view query.now)) }
 {
-    match query {
-        Query::Exports(specifier) => match graph.get(specifier) {
-            Some(module) => module_exports(alloc, module),
-            None => Ok(Value::Null),
-        },
+    match graph.get(query.specifier()) {
+        Some(module) => module_answer(alloc, module, query),
+        None => Ok(Value::Null),
     }
 }
 
@@ -108,8 +124,12 @@ fn line_answer(alloc: Global, graph: &ModuleGraph, line: &[u8]) -> Result<Value,
     ensures { IfOk result (λ value. view value ≡ answer_data graph.now (option_and_then query_of (value_of line.now))) }
 {
     let value = line_value(alloc, line)?;
-    match value.as_ref().and_then(read_query) {
-        Some(query) => query_answer(alloc, graph, query),
+    let query = match &value {
+        Some(value) => read_query(alloc, value)?,
+        None => None,
+    };
+    match query {
+        Some(query) => query_answer(alloc, graph, &query),
         None => json!(in alloc; {"fault": "bad query"}),
     }
 }

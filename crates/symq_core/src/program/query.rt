@@ -1,18 +1,33 @@
 //! What a line asks.
 
 ghost use Rattle.std.specs.Prelude.{◌≡◌, option_map, IfOk};
-ghost use Rattle.serde_json.specs.View.{view};
+ghost use Rattle.serde_json.specs.View.{view, items_view};
+ghost use Rattle.symq_reader.specs.Fields.{as_u32};
 ghost use Rattle.symq_reader.specs.Graph.{value_of};
-ghost use Rattle.symq_core.specs.Queries.{query_view, query_of, two_texts};
+ghost use Rattle.symq_core.specs.Queries.{query_view, specifier_of, query_of, word_and_rest, exports_query, symbol_query};
 
 use serde_json::Value;
 use std::alloc::{AllocError, Global};
+use symbols_tree::tree::Id;
 
 /// What a line asks.
-#[derive(Clone, Copy)]
+#[derive(Drop)]
 pub(crate) enum Query<'a> {
     /// The exports of the module of a specifier.
     Exports(&'a str),
+    /// The symbol that a name stands for in the module of a specifier.
+    Symbol(&'a str, Id),
+}
+
+impl Query<'_> {
+    /// The specifier of the module that is asked about.
+    pub(crate) fn specifier(&self) -> &str
+        ensures { result.now ≡ specifier_of (query_view self.now) }
+    {
+        match self {
+            Query::Exports(specifier) | Query::Symbol(specifier, _) => specifier,
+        }
+    }
 }
 
 /// The value of a line; none where it is no JSON.
@@ -26,24 +41,57 @@ pub(crate) fn line_value(alloc: Global, line: &[u8]) -> Result<Option<Value>, Al
     }
 }
 
-/// The form and the specifier of a list of two texts.
-#[tactic(auto, using(crate::proofs::Pairs::too_short, crate::proofs::Pairs::too_long))]
-fn two_texts(value: &Value) -> Option<(&str, &str)>
-    ensures { option_map (λ pair. (pair.0.now, pair.1.now)) result ≡ two_texts (view value.now) }
+/// The text that a list begins with, and the items behind it.
+fn word_and_rest(value: &Value) -> Option<(&str, &[Value])>
+    ensures { option_map (λ pair. (pair.0.now, items_view pair.1.now)) result ≡ word_and_rest (view value.now) }
 {
-    let items = value.as_array()?;
-    match items.as_slice() {
-        [form, specifier] => Some((form.as_str()?, specifier.as_str()?)),
+    match value.as_array()?.as_slice() {
+        [word, rest @ ..] => Some((word.as_str()?, rest)),
+        [] => None,
+    }
+}
+
+fn scope_number(value: &Value) -> Option<u32>
+    ensures { result ≡ as_u32 (view value.now) }
+{
+    u32::try_from(value.as_u64()?).ok()
+}
+
+#[tactic(auto, using(crate::proofs::Forms::exports_short, crate::proofs::Forms::exports_long))]
+fn read_exports(items: &[Value]) -> Option<Query<'_>>
+    ensures { option_map query_view result ≡ exports_query (items_view items.now) }
+{
+    match items {
+        [specifier] => Some(Query::Exports(specifier.as_str()?)),
         _ => None,
     }
 }
 
-/// The query that a value is, if it is one.
-pub(crate) fn read_query(value: &Value) -> Option<Query<'_>>
-    ensures { option_map query_view result ≡ query_of (view value.now) }
+#[tactic(auto, using(crate::proofs::Forms::symbol_short, crate::proofs::Forms::symbol_long))]
+fn read_symbol(alloc: Global, items: &[Value]) -> Result<Option<Query<'_>>, AllocError>
+    ensures { IfOk result (λ query. option_map query_view query ≡ symbol_query (items_view items.now)) }
 {
-    match two_texts(value)? {
-        ("exports", specifier) => Some(Query::Exports(specifier)),
-        _ => None,
+    let [specifier, name, scope] = items else {
+        return Ok(None);
+    };
+    let (Some(specifier), Some(name), Some(scope)) = (
+        specifier.as_str(),
+        name.as_str(),
+        scope_number(scope),
+    ) else {
+        return Ok(None);
+    };
+    let name = String::from_str(alloc, name)?;
+    Ok(Some(Query::Symbol(specifier, Id { name, scope })))
+}
+
+/// The query that a value is, if it is one.
+pub(crate) fn read_query(alloc: Global, value: &Value) -> Result<Option<Query<'_>>, AllocError>
+    ensures { IfOk result (λ query. option_map query_view query ≡ query_of (view value.now)) }
+{
+    match word_and_rest(value) {
+        Some(("exports", rest)) => Ok(read_exports(rest)),
+        Some(("symbol", rest)) => read_symbol(alloc, rest),
+        _ => Ok(None),
     }
 }

@@ -1,5 +1,6 @@
 //! Whole runs of the engine over memory, over streams and over devices that fail.
 
+mod names;
 mod stops;
 mod symbols;
 
@@ -70,12 +71,22 @@ fn answers_each_line(rt: HostRuntime) -> Result<(), Fail> {
     answers_bad(&rt, rt.alloc(), b"no\r\nno\n", 2)
 }
 
-/// The answer to one line.
-fn answers_one(rt: &impl Abort, alloc: Global, line: &str, want: &[u8]) -> Result<(), Fail> {
-    let graph = graph_of(alloc, GRAPH)?;
+/// The answer to one line over a graph.
+fn answers_over(
+    rt: &impl Abort,
+    alloc: Global,
+    text: &[u8],
+    line: &str,
+    want: &[u8],
+) -> Result<(), Fail> {
+    let graph = graph_of(alloc, text)?;
     let written = output(alloc, &graph, line.as_bytes())?;
     assert!(rt; written.bytes.as_slice() == want);
     Ok(())
+}
+
+fn answers_one(rt: &impl Abort, alloc: Global, line: &str, want: &[u8]) -> Result<(), Fail> {
+    answers_over(rt, alloc, GRAPH, line, want)
 }
 
 #[test]
