@@ -161,8 +161,8 @@ impl<'a> SymbolNodeRef<'a> {
     /// What the declaration is called (as deno_graph): the name of its identifier or its key,
     /// before a private name `#`; a constructor, a call signature, a construct signature and an
     /// index signature have names of their own. None of a module, of an expression, of a default
-    /// class or function without a name, and of a key that is a big integer or computed from
-    /// more than a name or a literal.
+    /// class or function without a name, of a key in a class that is a big integer, and of a key
+    /// that is computed from more than a name or a literal.
     ///
     /// # Errors
     ///
