@@ -3,6 +3,7 @@
 mod names;
 mod stops;
 mod symbols;
+mod tables;
 
 ghost use Rattle.std.specs.Prelude.{◌<◌};
 ghost use Rattle.symq_core.specs.Devices.{COUNT_LIMIT};
