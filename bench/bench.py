@@ -9,11 +9,12 @@ The stages are read from whole runs, by the least processor time of some runs:
 
     read      a run on the graph with a module's specifier twice, which is refused before its trees are looked at
     check     a run without queries, less read
-    analyse   a run with one query a module, less that
+    analyse   a run with one query a module, less the run without
 
-OTHER is a program of the same lines that prints with `--bench RUNS` an object of its stages, `json_parse`,
-`ast_build` and `analysis` among them, each with `min_cpu_ms`. All is measured in this one run, and what is told is
-ratios: to OTHER (read: to json_parse and ast_build together), and from n to 2n.
+OTHER is a program that takes the same graphs and lines, without a checker, and prints with `--bench RUNS` an object
+of its stages, `json_parse`, `ast_build` and `analysis` among them, each with `min_cpu_ms`. It is measured in the same
+way and in this one run: 'of the crate' is the ratio to its whole runs (read: its run without queries), and 'of its
+stages' that to its own timers, which tell neither its start nor what it takes to let values go, and run warm.
 """
 import argparse
 import json
@@ -112,45 +113,53 @@ MADE = [
 ]
 
 
-def least(command, lines):
-    """The least processor time of some runs, in milliseconds."""
-    best = None
-    for _ in range(RUNS):
-        before = resource.getrusage(resource.RUSAGE_CHILDREN)
-        subprocess.run(command, input=lines, stdout=subprocess.DEVNULL, stderr=subprocess.DEVNULL)
-        after = resource.getrusage(resource.RUSAGE_CHILDREN)
-        time = 1000 * (after.ru_utime + after.ru_stime - before.ru_utime - before.ru_stime)
-        best = time if best is None else min(best, time)
-    return best
+def cpu_time(command, lines):
+    """The processor time of a run, in milliseconds."""
+    before = resource.getrusage(resource.RUSAGE_CHILDREN)
+    subprocess.run(command, input=lines, stdout=subprocess.DEVNULL, stderr=subprocess.DEVNULL)
+    after = resource.getrusage(resource.RUSAGE_CHILDREN)
+    return 1000 * (after.ru_utime + after.ru_stime - before.ru_utime - before.ru_stime)
 
 
-def stages(program, folder, graph):
-    path, twice = os.path.join(folder, 'graph.json'), os.path.join(folder, 'twice.json')
-    modules = graph['modules']
+def least(runs):
+    """The least processor time of each of some runs, which are taken in turn."""
+    rounds = [[cpu_time(command, lines) for command, lines in runs] for _ in range(RUNS)]
+    return [min(times) for times in zip(*rounds)]
+
+
+def write(path, graph):
     with open(path, 'w') as f:
         json.dump(graph, f, separators=(',', ':'), ensure_ascii=False)
-    with open(twice, 'w') as f:
-        external = {'specifier': modules[0]['specifier'], 'kind': 'external'}
-        json.dump(dict(graph, modules=modules + [external]), f, separators=(',', ':'), ensure_ascii=False)
+
+
+def stages(program, other, folder, graph):
+    """The times of the program's stages, those of the other's whole runs, and those by its own timers."""
+    path, twice = os.path.join(folder, 'graph.json'), os.path.join(folder, 'twice.json')
+    modules = graph['modules']
+    write(path, graph)
+    write(twice, dict(graph, modules=modules + [{'specifier': modules[0]['specifier'], 'kind': 'external'}]))
     lines = b''.join(json.dumps(['symbol', m['specifier'], '', 0]).encode() + b'\n' for m in modules)
-    read, checked, analysed = least([program, twice], b''), least([program, path], b''), least([program, path], lines)
-    return path, {'read': read, 'check': checked - read, 'analyse': analysed - checked}
-
-
-def beside(other, path):
+    runs = [([program, twice], b''), ([program, path], b''), ([program, path], lines)]
+    if not other:
+        read, checked, analysed = least(runs)
+        return {'read': read, 'check': checked - read, 'analyse': analysed - checked}, {}, {}
+    runs += [([other, path], b''), ([other, path], lines)]
+    read, checked, analysed, other_read, other_analysed = least(runs)
+    ours = {'read': read, 'check': checked - read, 'analyse': analysed - checked}
     out = json.loads(subprocess.run([other, path, '--bench', str(RUNS)], stdout=subprocess.PIPE).stdout)
     time = {stage: out[stage]['min_cpu_ms'] for stage in ('json_parse', 'ast_build', 'analysis')}
-    return {'read': time['json_parse'] + time['ast_build'], 'analyse': time['analysis']}
+    timed = {'read': time['json_parse'] + time['ast_build'], 'analyse': time['analysis']}
+    return ours, {'read': other_read, 'analyse': other_analysed - other_read}, timed
 
 
-def show(label, ours, theirs, half):
+def show(label, ours, theirs, timed, half):
     parts = []
     for stage, time in ours.items():
         text = '%s %.0f ms' % (stage, time)
         if half:
             text += ', %.2f from n' % (time / half[stage])
-        if theirs and stage in theirs:
-            text += ', %.2f of the crate' % (time / theirs[stage])
+        if stage in theirs:
+            text += ', %.2f of the crate, %.2f of its stages' % (time / theirs[stage], time / timed[stage])
         parts.append(text)
     print('%-36s %s' % (label, '; '.join(parts)), flush=True)
 
@@ -167,13 +176,13 @@ def main():
         for name, n, make in MADE:
             half = None
             for size in (n, 2 * n):
-                path, ours = stages(program, folder, make(size))
-                show('%s, %d' % (name, size), ours, beside(other, path) if other else None, half)
+                ours, theirs, timed = stages(program, other, folder, make(size))
+                show('%s, %d' % (name, size), ours, theirs, timed, half)
                 half = ours
         for file in a.graph:
             with open(file) as f:
-                path, ours = stages(program, folder, json.load(f))
-            show(os.path.basename(file), ours, beside(other, path) if other else None, None)
+                ours, theirs, timed = stages(program, other, folder, json.load(f))
+            show(os.path.basename(file), ours, theirs, timed, None)
 
 
 if __name__ == '__main__':

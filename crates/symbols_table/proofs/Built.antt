@@ -6,6 +6,7 @@ use Rattle.std.proofs.lemmas.Option.{slice_get_within, get_or_from_slice_get}
 use Rattle.indexmap.specs.IndexMap.{get}
 use Rattle.symbols_tree.specs.declared.tree.arena.Id.{Id}
 use Rattle.symbols_tree.specs.declared.tree.arena.Node.{Node}
+use Rattle.symbols_tree.specs.declared.tree.arena.SourceRange.{SourceRange}
 use Rattle.symbols_tree.specs.TreeFaults.{begins_with_program}
 use Rattle.symbols_tree.specs.declared.ids.SymbolId.{SymbolId}
 use Rattle.symbols_tree.specs.Ids.{id_view, same_id}
@@ -14,13 +15,15 @@ use Rattle.symbols_table.specs.Modules.{module_in, symbols_in, mapped_in, stars_
 use Rattle.symbols_tree.specs.declared.tree.arena.Tree.{Tree}
 use Rattle.symbols_tree.specs.NodeRefs.{list_of}
 use Rattle.symbols_tree.specs.ChildFields.{body_of}
+use Rattle.symbols_nodes.specs.NodeViews.{program}
 use Rattle.symbols_table.specs.declared.builder.table.Builder.{Builder}
 use Rattle.symbols_table.specs.declared.builder.table.BuildFault.{BuildFault}
 use Rattle.symbols_table.specs.declared.builder.table.BuildFault.TheVariants.{TooManySymbols}
 use Rattle.symbols_table.specs.declared.info.es_module.EsModuleInfo.{EsModuleInfo}
-use Rattle.symbols_table.specs.DeclViews.{Declaration}
-use Rattle.symbols_table.specs.Changes.{Change, makes, declares}
+use Rattle.symbols_table.specs.DeclViews.{Declaration, defined}
+use Rattle.symbols_table.specs.Changes.{Change, makes, declares, parents_of}
 use Rattle.symbols_table.specs.Events.{Event, changes_of, symbol_at, rows_after}
+use Rattle.symbols_table.specs.Walks.{range_in}
 use Rattle.symbols_table.specs.TreeEvents.{items_at, module_scope, root_of, root_decl}
 use Rattle.symbols_table.specs.Tables.{IsTableOf, IsSymbolOf}
 use Rattle.symbols_table.specs.Analysis.{tree_changes, symbol_count, HasTables}
@@ -40,6 +43,22 @@ pub begun_tree : (tree : Tree) (b0 b1 : Builder) (decl : Declaration) (s : Symbo
     → IsTableOf b1 (changes_of (first_row (root_decl tree) ∷ [])) × (symbol_at (first_row (root_decl tree) ∷ []) 0 ≡ Some s)
 begun_tree tree b0 b1 decl s is no_symbols no_ids no_children no_members no_stars number made =
     subst (λ (d : Declaration). IsTableOf b1 (changes_of (first_row d ∷ [])) × (symbol_at (first_row d ∷ []) 0 ≡ Some s)) is (begun_read b0 b1 decl s no_symbols no_ids no_children no_members no_stars number made)
+
+-- what is declared of the module
+pub root_decl_is : (tree : Tree) (decl : Declaration) (range : SourceRange) → range_in (root_of tree) ≡ range → decl ≡ defined (program (root_of tree)) range → decl ≡ root_decl tree
+root_decl_is tree decl range same is = is ∙ ap (λ (r : SourceRange). defined (program (root_of tree)) r) (sym same)
+
+-- the events of a body, after that of the module
+abbrev pub body_changes : Tree → List ℕ → List Change
+body_changes tree body = changes_of (rows_after (first_row (root_decl tree) ∷ []) (items_at tree (module_scope tree) body 0 1))
+
+-- the tree's body was read
+pub tree_read : (tree : Tree) (body : List ℕ) (b : Builder) → body ≡ list_of (root_of tree) body_of → IsTableOf b (body_changes tree body) → IsTableOf b (tree_changes tree)
+tree_read tree body b same is = subst (IsTableOf b) (sym (tree_changes-first tree)) (subst (λ (items : List ℕ). IsTableOf b (body_changes tree items)) same is)
+
+-- the tree's body has too many symbols
+pub tree_full : (tree : Tree) (body : List ℕ) (limit : ℕ) → body ≡ list_of (root_of tree) body_of → limit < length (parents_of (body_changes tree body)) → limit < symbol_count tree
+tree_full tree body limit same many = rw (tree_changes-first tree) (subst (λ (items : List ℕ). limit < length (parents_of (body_changes tree items))) same many)
 
 -- the tables are handed out
 pub has_tables : (b : Builder) (esm : EsModuleInfo) (changes : List Change) → symbols_in esm ≡ b.symbols.items → module_in esm ≡ b.setting.module_id → stars_in esm ≡ b.stars.items

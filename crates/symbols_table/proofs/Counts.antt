@@ -18,7 +18,8 @@ use Rattle.symbols_table.specs.TreeEvents.{tree_events}
 use Rattle.symbols_table.specs.Analysis.{tree_changes, symbol_count, HasTables}
 use Rattle.symbols_table.specs.Modules.{source_in, symbols_in}
 use Rattle.symbols_table.specs.declared.info.es_module.EsModuleInfo.{EsModuleInfo}
-use Rattle.symbols_table.specs.Laws.{declaration_count, declarations_in}
+use Rattle.symbols_table.specs.Laws.{declarations_in}
+use Rattle.symbols_table.proofs.Sums.{declaration_count}
 use Rattle.symbols_table.proofs.CountsWeights.{weights, weights_zero, same, same_yes, same_no, here, there, last_below, last_passes, last_found, weight, weight_few, weight_heavy}
 use Rattle.symbols_table.proofs.CountsEvents.{count, few_by, symbols_by}
 use Rattle.symbols_table.proofs.CountsItems.{light_tree}

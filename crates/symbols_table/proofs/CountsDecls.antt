@@ -12,7 +12,8 @@ use Rattle.symbols_table.specs.Symbols.{decls_in}
 use Rattle.symbols_table.specs.Modules.{symbols_in}
 use Rattle.symbols_table.specs.Analysis.{HasTables}
 use Rattle.symbols_table.specs.Tables.{Fits}
-use Rattle.symbols_table.specs.Laws.{declaration_count, declarations_in, sum_below}
+use Rattle.symbols_table.specs.Laws.{declarations_in}
+use Rattle.symbols_table.proofs.Sums.{declaration_count, sum_below}
 use Rattle.symbols_table.proofs.Inside.{All-head, All-tail}
 use Rattle.symbols_table.proofs.CountsWeights.{same, sum_none, sum_same, sum-plus, sum-first, sum_as}
 

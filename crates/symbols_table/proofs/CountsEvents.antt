@@ -7,7 +7,7 @@ use Rattle.symbols_tree.specs.declared.ids.SymbolId.{SymbolId}
 use Rattle.symbols_table.specs.DeclViews.{Declaration, is_definition, decl_name}
 use Rattle.symbols_table.specs.Changes.{Change, exports, has_child, maps, parent_in, parents_of, mapped, exported, has_function}
 use Rattle.symbols_table.specs.Events.{Event, begins, declare, alias, fresh, default, binds, member, expando, export, child, star, Row, nothing, new_row, found_or, known_or, member_changes, member_found, member_row, declare_row, alias_row, default_row, default_text, expando_row, with_symbol, row_of, changes_of, symbol_at, rows_after, changes_by, only, of_symbol}
-use Rattle.symbols_table.specs.Laws.{declared_in, declaration_count}
+use Rattle.symbols_table.proofs.Sums.{declared_in, declaration_count}
 use Rattle.symbols_table.proofs.Rows.{changes_of-push}
 
 -- one for an event that may declare something

@@ -4,7 +4,7 @@ use Rattle.std.specs.Option.{option_map_or}
 use Rattle.std.proofs.lemmas.Bool.{true≢false}
 use Rattle.std.proofs.lemmas.Bool.Decides.{eqb_tells}
 use Rattle.std.proofs.lemmas.Option.{same_Some, none-some}
-use Rattle.symbols_table.specs.Laws.{sum_below}
+use Rattle.symbols_table.proofs.Sums.{sum_below}
 
 -- ---- sums over lists, and over the numbers below a count
 

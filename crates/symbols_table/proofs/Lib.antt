@@ -12,6 +12,7 @@ pub mod PatternLemmas
 pub mod ItemWalks
 pub mod Built
 pub mod ModuleWalks
+pub mod Sums
 pub mod CountsWeights
 pub mod CountsEvents
 pub mod CountsFields

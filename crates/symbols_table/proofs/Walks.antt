@@ -10,11 +10,15 @@ use Rattle.symbols_table.specs.declared.builder.table.BuildFault.TheVariants.{To
 use Rattle.symbols_table.specs.DeclViews.{Declaration}
 use Rattle.symbols_table.specs.Changes.{Change, makes, declares, parents_of}
 use Rattle.symbols_table.specs.Events.{Event, Row, begins, new_row, row_of, changes_of, symbol_at, rows_after}
-use Rattle.symbols_table.specs.Walks.{Walk, none, on, followed_by, each}
+use Rattle.symbols_table.specs.Walks.{Walk, none, on, each}
 use Rattle.symbols_table.specs.Tables.{IsTableOf, IsFilled, ReadsAll, ReadsWalk}
 use Rattle.symbols_table.specs.declared.builder.table.Setting.{Setting}
 use Rattle.symbols_table.proofs.OneChange.{empty_table}
 use Rattle.symbols_table.proofs.Rows.{new_reads, changes_of-push, rows_after-step, rows_after-nil, rows_after-append, length-rows_after, symbol_at_after, parents_of_grow}
+
+-- one part, and then another under the same holder
+abbrev pub followed_by : Walk → Walk → Walk
+followed_by first next holder start = first holder start ++ next holder (start + length (first holder start))
 
 -- no event
 pub none_read : (b : Builder) (rows : List Row) → IsTableOf b (changes_of rows) → IsTableOf b (changes_of (rows_after rows []))

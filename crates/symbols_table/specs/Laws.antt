@@ -1,29 +1,13 @@
 -- Laws of every table.
-use Rattle.std.specs.Prelude.{◌≡◌, ℕ, zero, suc, ◌+◌, ◌<◌, ◌≤◌, List, length, Option, Some, None, All, slice_get}
-use Rattle.std.specs.List.{filter_map, sum_by}
+use Rattle.std.specs.Prelude.{◌≡◌, ℕ, ◌<◌, ◌≤◌, List, length, Some, All, slice_get}
+use Rattle.std.specs.List.{sum_by}
 use Rattle.symbols_tree.specs.declared.ids.SymbolId.{SymbolId}
 use Rattle.symbols_table.specs.declared.decl.symbol.Symbol.{Symbol}
 use Rattle.symbols_table.specs.declared.info.es_module.EsModuleInfo.{EsModuleInfo}
 use Rattle.symbols_table.specs.declared.info.module_info.ModuleInfo.{ModuleInfo}
-use Rattle.symbols_table.specs.DeclViews.{Declaration}
-use Rattle.symbols_table.specs.Changes.{Change, declares}
 use Rattle.symbols_table.specs.Modules.{source_in, symbols_in, esm_in}
 use Rattle.symbols_table.specs.Symbols.{parent_in, decls_in, exports_in, children_in, members_in}
 use Rattle.symbols_table.specs.Tables.{IsParentOf}
-
--- the declaration of a change
-abbrev pub declared_in : Change → Option Declaration
-declared_in (declares _ decl) = Some decl
-declared_in _ = None
-
--- how many declarations are made
-abbrev pub declaration_count : List Change → ℕ
-declaration_count changes = length (filter_map declared_in changes)
-
--- a sum over the numbers below a count
-abbrev pub sum_below : (ℕ → ℕ) → ℕ → ℕ
-sum_below f zero = 0
-sum_below f (suc n) = sum_below f n + f n
 
 -- a symbol of so many: its parent's number is smaller than its own, and only symbol 0 has none; something is declared of it; and what it exports and has as children and members are symbols of the module
 pub record IsLawfulSymbol (count : ℕ) (s : SymbolId) (symbol : Symbol) : Type 0 where

@@ -20,10 +20,6 @@ abbrev pub on : {A : Type 0} → Option A → (A → Walk) → Walk
 on None walk = none
 on (Some x) walk = walk x
 
--- one part, and then another under the same holder
-abbrev pub followed_by : Walk → Walk → Walk
-followed_by first next holder start = first holder start ++ next holder (start + length (first holder start))
-
 -- each part of a list in order
 abbrev pub each : {A : Type 0} → (A → Walk) → List A → Walk
 each walk [] holder start = []

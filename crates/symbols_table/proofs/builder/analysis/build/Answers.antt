@@ -1,20 +1,15 @@
 use Rattle.std.proofs.Common.{◌≡◌, ℕ, ◌<◌, [], ◌∷◌, List, length, refl, sym, ap, ◌∙◌, subst, arith}
-use Rattle.symbols_tree.specs.declared.tree.arena.SourceRange.{SourceRange}
 use Rattle.symbols_tree.specs.NodeRefs.{list_of}
 use Rattle.symbols_tree.specs.ChildFields.{body_of}
-use Rattle.symbols_nodes.specs.NodeViews.{program}
 use Rattle.symbols_table.specs.declared.builder.table.Setting.{Setting}
-use Rattle.symbols_table.specs.DeclViews.{decl_view, defined}
-use Rattle.symbols_table.specs.Changes.{parents_of}
-use Rattle.symbols_table.specs.Events.{changes_of, rows_after}
-use Rattle.symbols_table.specs.Walks.{range_in}
-use Rattle.symbols_table.specs.TreeEvents.{items_at, module_scope, root_of, root_decl}
-use Rattle.symbols_table.specs.Tables.{IsTableOf}
+use Rattle.symbols_table.specs.DeclViews.{decl_view}
+use Rattle.symbols_table.specs.Events.{changes_of}
+use Rattle.symbols_table.specs.TreeEvents.{root_of, root_decl}
 use Rattle.symbols_table.specs.Analysis.{tree_changes}
 use Rattle.symbols_table.specs.Levels.{AreAbove}
 use Rattle.symbols_table.proofs.Walks.{first_row}
 use Rattle.symbols_table.proofs.ItemWalks.{list_above}
-use Rattle.symbols_table.proofs.Built.{tree_changes-first, begun_tree, has_tables, is_within, too_many_at_once, err_if, has_root}
+use Rattle.symbols_table.proofs.Built.{begun_tree, root_decl_is, tree_read, tree_full, has_tables, is_within, too_many_at_once, err_if, has_root}
 use Rattle.symbols_table.proofs.Lawful.{are_lawful}
 use Rattle.symbols_table.proofs.builder.analysis.build.Goals as goal
 
@@ -27,51 +22,42 @@ items-requires-clause-above c =
 pub items-requires-clause-filled : goal.items-requires-clause-filled
 items-requires-clause-filled c =
     let tree = c.args.tree.now in
-    let range : range_in (root_of tree) ≡ c.range.result = rw c.range.ensures refl in
-    let decl : decl_view c.definition-decl.result ≡ root_decl tree = c.definition-decl.ensures ∙ ap (λ (r : SourceRange). defined (program (root_of tree)) r) (sym range) in
+    let decl = root_decl_is tree (decl_view c.definition-decl.result) c.range.result (rw c.range.ensures refl) c.definition-decl.ensures in
     let begun = begun_tree tree _ c.new_symbol.new.self (decl_view c.definition-decl.result) c.in_ok-module.module decl c.new.ensures.items c.new-2.ensures.empty c.new-3.ensures.empty c.new-4.ensures.empty c.new-5.ensures.items c.in_ok-module.ensures.numbered c.in_ok-module.ensures.table in
     (changes_of (first_row (root_decl tree) ∷ []), begun.0)
 
 pub returns-clause-tables : goal.returns-clause-tables
 returns-clause-tables c =
     let tree = c.args.tree.now in
-    let range : range_in (root_of tree) ≡ c.range.result = rw c.range.ensures refl in
-    let decl : decl_view c.definition-decl.result ≡ root_decl tree = c.definition-decl.ensures ∙ ap (λ (r : SourceRange). defined (program (root_of tree)) r) (sym range) in
+    let decl = root_decl_is tree (decl_view c.definition-decl.result) c.range.result (rw c.range.ensures refl) c.definition-decl.ensures in
     let begun = begun_tree tree _ c.new_symbol.new.self (decl_view c.definition-decl.result) c.in_ok-module.module decl c.new.ensures.items c.new-2.ensures.empty c.new-3.ensures.empty c.new-4.ensures.empty c.new-5.ensures.items c.in_ok-module.ensures.numbered c.in_ok-module.ensures.table in
     let read = c.in_ok-items.ensures.table (length tree.nodes.items) (omega arith) (first_row (root_decl tree) ∷ []) 0 begun.0 begun.1 in
-    let P : List ℕ → Type 0 = λ body. IsTableOf c.items.new.self (changes_of (rows_after (first_row (root_decl tree) ∷ []) (items_at tree (module_scope tree) body 0 1))) in
-    has_tables c.items.new.self _ (tree_changes tree) refl (sym (ap (λ (s : Setting). s.module_id) (c.in_ok-items.ensures.setting ∙ c.in_ok-module.ensures.setting))) refl (λ id. refl) (subst (IsTableOf c.items.new.self) (sym (tree_changes-first tree)) (subst P c.body.ensures read))
+    has_tables c.items.new.self _ (tree_changes tree) refl (sym (ap (λ (s : Setting). s.module_id) (c.in_ok-items.ensures.setting ∙ c.in_ok-module.ensures.setting))) refl (λ id. refl) (tree_read tree c.body.result.now c.items.new.self c.body.ensures read)
 
 pub returns-clause-laws : goal.returns-clause-laws
 returns-clause-laws c =
     let tree = c.args.tree.now in
-    let range : range_in (root_of tree) ≡ c.range.result = rw c.range.ensures refl in
-    let decl : decl_view c.definition-decl.result ≡ root_decl tree = c.definition-decl.ensures ∙ ap (λ (r : SourceRange). defined (program (root_of tree)) r) (sym range) in
+    let decl = root_decl_is tree (decl_view c.definition-decl.result) c.range.result (rw c.range.ensures refl) c.definition-decl.ensures in
     let begun = begun_tree tree _ c.new_symbol.new.self (decl_view c.definition-decl.result) c.in_ok-module.module decl c.new.ensures.items c.new-2.ensures.empty c.new-3.ensures.empty c.new-4.ensures.empty c.new-5.ensures.items c.in_ok-module.ensures.numbered c.in_ok-module.ensures.table in
     let read = c.in_ok-items.ensures.table (length tree.nodes.items) (omega arith) (first_row (root_decl tree) ∷ []) 0 begun.0 begun.1 in
-    let P : List ℕ → Type 0 = λ body. IsTableOf c.items.new.self (changes_of (rows_after (first_row (root_decl tree) ∷ []) (items_at tree (module_scope tree) body 0 1))) in
-    are_lawful c.items.new.self (tree_changes tree) (subst (IsTableOf c.items.new.self) (sym (tree_changes-first tree)) (subst P c.body.ensures read))
+    are_lawful c.items.new.self (tree_changes tree) (tree_read tree c.body.result.now c.items.new.self c.body.ensures read)
 
 pub returns-clause-within : goal.returns-clause-within
 returns-clause-within c =
     let tree = c.args.tree.now in
-    let range : range_in (root_of tree) ≡ c.range.result = rw c.range.ensures refl in
-    let decl : decl_view c.definition-decl.result ≡ root_decl tree = c.definition-decl.ensures ∙ ap (λ (r : SourceRange). defined (program (root_of tree)) r) (sym range) in
+    let decl = root_decl_is tree (decl_view c.definition-decl.result) c.range.result (rw c.range.ensures refl) c.definition-decl.ensures in
     let begun = begun_tree tree _ c.new_symbol.new.self (decl_view c.definition-decl.result) c.in_ok-module.module decl c.new.ensures.items c.new-2.ensures.empty c.new-3.ensures.empty c.new-4.ensures.empty c.new-5.ensures.items c.in_ok-module.ensures.numbered c.in_ok-module.ensures.table in
     let read = c.in_ok-items.ensures.table (length tree.nodes.items) (omega arith) (first_row (root_decl tree) ∷ []) 0 begun.0 begun.1 in
-    let P : List ℕ → Type 0 = λ body. IsTableOf c.items.new.self (changes_of (rows_after (first_row (root_decl tree) ∷ []) (items_at tree (module_scope tree) body 0 1))) in
-    is_within c.items.new.self tree c.args.limit (ap (λ (s : Setting). s.limit) (c.in_ok-items.ensures.setting ∙ c.in_ok-module.ensures.setting)) (subst (IsTableOf c.items.new.self) (sym (tree_changes-first tree)) (subst P c.body.ensures read))
+    is_within c.items.new.self tree c.args.limit (ap (λ (s : Setting). s.limit) (c.in_ok-items.ensures.setting ∙ c.in_ok-module.ensures.setting)) (tree_read tree c.body.result.now c.items.new.self c.body.ensures read)
 
 pub returns-in_err-items-clause-too_many : goal.returns-in_err-items-clause-too_many
 returns-in_err-items-clause-too_many c =
     let tree = c.args.tree.now in
-    let range : range_in (root_of tree) ≡ c.range.result = rw c.range.ensures refl in
-    let decl : decl_view c.definition-decl.result ≡ root_decl tree = c.definition-decl.ensures ∙ ap (λ (r : SourceRange). defined (program (root_of tree)) r) (sym range) in
+    let decl = root_decl_is tree (decl_view c.definition-decl.result) c.range.result (rw c.range.ensures refl) c.definition-decl.ensures in
     let begun = begun_tree tree _ c.new_symbol.new.self (decl_view c.definition-decl.result) c.in_ok-module.module decl c.new.ensures.items c.new-2.ensures.empty c.new-3.ensures.empty c.new-4.ensures.empty c.new-5.ensures.items c.in_ok-module.ensures.numbered c.in_ok-module.ensures.table in
-    let P : List ℕ → Type 0 = λ body. c.new_symbol.new.self.setting.limit < length (parents_of (changes_of (rows_after (first_row (root_decl tree) ∷ []) (items_at tree (module_scope tree) body 0 1)))) in
     err_if c.from_residual-in_err-items.result c.in_err-items.field-0.0 c.from_residual-in_err-items.ensures.1 (λ many.
-    let over = subst P c.body.ensures (c.in_err-items.ensures.table (length tree.nodes.items) (omega arith) (first_row (root_decl tree) ∷ []) 0 begun.0 begun.1 many) in
-    rw (tree_changes-first tree, ← ap (λ (s : Setting). s.limit) c.in_ok-module.ensures.setting) over)
+    let over = c.in_err-items.ensures.table (length tree.nodes.items) (omega arith) (first_row (root_decl tree) ∷ []) 0 begun.0 begun.1 many in
+    tree_full tree c.body.result.now c.args.limit c.body.ensures (rw (← ap (λ (s : Setting). s.limit) c.in_ok-module.ensures.setting) over))
 
 pub returns-in_err-module-clause-too_many : goal.returns-in_err-module-clause-too_many
 returns-in_err-module-clause-too_many c =
