@@ -1,20 +1,18 @@
 -- Calls that stand for one event, and for an event and those after it.
-use Rattle.std.proofs.Common.{◌≡◌, ℕ, Bool, ◌+◌, ◌<◌, List, [], ◌∷◌, ◌++◌, length, Option, Some, refl, sym, ◌∙◌, ap, subst, arith}
+use Rattle.std.proofs.Common.{◌≡◌, ℕ, Bool, ◌+◌, ◌<◌, List, [], ◌∷◌, ◌++◌, length, Some, sym, ◌∙◌, ap, subst, arith}
 use Rattle.std.specs.Prelude.{Result, Ok, Err, IsErrAnd}
 use Rattle.std.proofs.lemmas.List.{length_push}
 use Rattle.symbols_tree.specs.Ids.{IdView}
 use Rattle.symbols_tree.specs.declared.ids.SymbolId.{SymbolId}
 use Rattle.symbols_table.specs.declared.builder.table.Builder.{Builder}
 use Rattle.symbols_table.specs.declared.builder.table.BuildFault.{BuildFault}
-use Rattle.symbols_table.specs.declared.builder.table.BuildFault.TheVariants.{TooManySymbols}
-use Rattle.symbols_table.specs.declared.builder.table.Setting.{Setting}
 use Rattle.symbols_table.specs.Changes.{parents_of}
 use Rattle.symbols_table.specs.DeclViews.{Declaration}
 use Rattle.symbols_table.specs.Events.{Event, Row, member, member_row, declare, declare_row, row_of, changes_of, symbol_at, rows_after}
 use Rattle.symbols_table.specs.Walks.{Walk}
 use Rattle.symbols_table.specs.Tables.{IsTableOf, ReadsAll, ReadsWalk}
 use Rattle.symbols_table.proofs.Rows.{rows_after-step, rows_after-nil, rows_after-append, symbol_at-push, symbol_at_kept, symbol_at_after, parents_of_grow}
-use Rattle.symbols_table.proofs.Walks.{one_read, err_all, reads_from}
+use Rattle.symbols_table.proofs.Walks.{one_read, reads_from}
 
 module _ (rows : List Row) (event : Event) (row : Row) (reads : row_of (changes_of rows) (symbol_at rows) event ≡ row) where
   -- one event

@@ -1,5 +1,5 @@
 -- What a table holds names symbols of the table.
-use Rattle.std.proofs.Common.{◌≡◌, ℕ, ◌+◌, ◌<◌, ◌≤◌, Bool, true, false, cond, List, [], ◌∷◌, ◌++◌, suc, zero, length, get_or, Option, None, Some, refl, arith}
+use Rattle.std.proofs.Common.{ℕ, ◌<◌, Bool, true, false, cond, List, [], ◌∷◌, ◌++◌, suc, zero, length, get_or, Option, None, Some, arith}
 use Rattle.std.specs.Prelude.{All, IfSome}
 use Rattle.std.specs.List.{filter_map, last_or, cons_option, list_any, fold}
 use Rattle.std.proofs.lemmas.List.Elements.{All-push}

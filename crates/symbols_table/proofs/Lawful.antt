@@ -1,6 +1,6 @@
 -- The laws of a table hold of each builder.
-use Rattle.std.proofs.Common.{◌≡◌, ℕ, ◌<◌, List, length, get_or, Some, refl, sym, ◌∙◌, ap, subst}
-use Rattle.std.specs.Prelude.{All, slice_get}
+use Rattle.std.proofs.Common.{◌≡◌, ◌<◌, List, length, get_or, Some, subst}
+use Rattle.std.specs.Prelude.{slice_get}
 use Rattle.std.proofs.lemmas.Option.{slice_get_within, get_or_from_slice_get}
 use Rattle.symbols_tree.specs.declared.ids.SymbolId.{SymbolId}
 use Rattle.symbols_table.specs.declared.decl.symbol.Symbol.{Symbol}

@@ -1,21 +1,17 @@
 -- The names under which children and members are kept.
-use Rattle.std.proofs.Common.{◌≡◌, ℕ, ◌<◌, Bool, true, false, ◌&&◌, cond, List, [], ◌∷◌, length, get_or, Option, None, Some, refl, sym, ◌∙◌, ap, subst}
+use Rattle.std.proofs.Common.{◌≡◌, ℕ, ◌<◌, Bool, true, false, ◌&&◌, cond, List, [], ◌∷◌, length, get_or, Option, None, Some, refl}
 use Rattle.std.specs.Prelude.{slice_get, IfSome}
 use Rattle.std.specs.List.{find}
-use Rattle.std.specs.Option.{option_or, option_map, option_map_or, option_and_then}
-use Rattle.std.specs.Str.{bytes_eq}
+use Rattle.std.specs.Option.{option_or}
 use Rattle.std.specs.Cow.{cow_str_bytes}
 use Rattle.std.specs.Prelude.{All}
-use Rattle.std.specs.HashMap.{HashMap}
 use Rattle.std.proofs.lemmas.Option.{slice_get-get_or}
 use Rattle.symbols_tree.specs.declared.ids.SymbolId.{SymbolId}
 use Rattle.symbols_table.specs.declared.decl.symbol.Symbol.{Symbol}
 use Rattle.symbols_table.specs.declared.builder.names.LocalName.{LocalName}
 use Rattle.symbols_table.specs.declared.builder.table.Builder.{Builder}
-use Rattle.symbols_table.specs.DeclViews.{Declaration, decl_name}
-use Rattle.symbols_table.specs.Symbols.{decls_in}
 use Rattle.symbols_table.specs.Changes.{Change, is_same, only_if, local_name, is_named, child_named, member_named, children_of, members_of}
-use Rattle.symbols_table.specs.Tables.{Fits, IsTableOf, name_in, is_same_name, symbol_named}
+use Rattle.symbols_table.specs.Tables.{Fits, IsTableOf, name_in, is_same_name}
 use Rattle.symbols_table.proofs.Inside.{Below, All-head, All-tail, children_inside, members_inside}
 use Rattle.symbols_table.proofs.Named.{if_named}
 

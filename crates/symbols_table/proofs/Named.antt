@@ -1,20 +1,18 @@
 -- Children and members by their local names, after one change more.
-use Rattle.std.proofs.Common.{◌≡◌, ℕ, ◌<◌, ◌≤◌, ◌⊎◌, inl, inr, Bool, true, false, ◌&&◌, cond, List, [], ◌∷◌, ◌++◌, suc, zero, length, get_or, Option, None, Some, refl, sym, ◌∙◌, ap, subst, arith}
-use Rattle.std.specs.Prelude.{◌≢◌, ◌==◌, All, slice_get, IfSome}
-use Rattle.std.specs.List.{find, list_any, filter_map, fold, cons_option}
+use Rattle.std.proofs.Common.{◌≡◌, ℕ, ◌<◌, ◌⊎◌, inl, inr, Bool, true, false, ◌&&◌, List, [], ◌∷◌, ◌++◌, suc, length, get_or, Option, None, Some, refl, sym, ◌∙◌, ap, subst, arith}
+use Rattle.std.specs.Prelude.{◌≢◌, ◌==◌, All, slice_get}
+use Rattle.std.specs.List.{find, list_any}
 use Rattle.std.specs.Option.{option_or, option_map_or, option_and_then}
 use Rattle.std.specs.Str.{bytes_eq}
-use Rattle.std.proofs.lemmas.Bool.{cases_eq, cases_lt}
+use Rattle.std.proofs.lemmas.Bool.{cases_eq}
 use Rattle.std.proofs.lemmas.Bool.Decides.{nat_tests}
 use Rattle.std.proofs.lemmas.List.Folds.{find-append}
-use Rattle.std.proofs.lemmas.List.{get_or_append_left, length-append}
-use Rattle.std.proofs.lemmas.Option.{slice_get-get_or}
 use Rattle.symbols_tree.specs.declared.ids.SymbolId.{SymbolId}
-use Rattle.symbols_table.specs.DeclViews.{Declaration, decl_name, with_decl, is_overload_after, last_decl}
-use Rattle.symbols_table.specs.Changes.{Change, makes, declares, exports, has_child, has_member, maps, passes_on, is_same, only_if, decl_in, child_in, member_in, with_first, decls_of, children_of, members_of, local_name, is_named, child_named, member_named}
+use Rattle.symbols_table.specs.DeclViews.{Declaration, decl_name, is_overload_after, last_decl}
+use Rattle.symbols_table.specs.Changes.{Change, makes, declares, has_child, has_member, is_same, only_if, decl_in, child_in, member_in, with_first, decls_of, children_of, members_of, local_name, is_named, child_named, member_named}
 use Rattle.symbols_table.specs.Tables.{Fits}
 use Rattle.symbols_table.proofs.OneMore.{only_same, only_other, decls_of-out, decls_of-in, children_of-out, children_of-in, members_of-out, members_of-in}
-use Rattle.symbols_table.proofs.Inside.{Below, children_inside, members_inside}
+use Rattle.symbols_table.proofs.Inside.{children_inside, members_inside}
 
 -- tests that agree on a list find the same
 pub find_same : (p q : SymbolId → Bool) (xs : List SymbolId) → All (λ x. p x ≡ q x) xs → find p xs ≡ find q xs

@@ -1,5 +1,5 @@
 -- What events change in the tables, and the tables as filters over the list of changes.
-use Rattle.std.specs.Prelude.{ℕ, ◌==◌, Bool, true, false, if◌then◌else◌, List, [], ◌∷◌, ◌++◌, fold, slice_get, Option, None, Some}
+use Rattle.std.specs.Prelude.{ℕ, ◌==◌, Bool, false, if◌then◌else◌, List, [], ◌∷◌, ◌++◌, fold, slice_get, Option, None, Some}
 use Rattle.std.specs.List.{filter_map, last_or, list_any, find}
 use Rattle.std.specs.Map.{lookup}
 use Rattle.std.specs.Option.{option_and_then, option_map_or}

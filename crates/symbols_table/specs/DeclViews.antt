@@ -10,9 +10,7 @@ use Rattle.symbols_nodes.specs.NodeViews.{NodeView, symbol_node_view}
 use Rattle.symbols_nodes.specs.NodeNames.{node_name}
 use Rattle.symbols_nodes.specs.NodeTests.{is_function, has_body, is_method}
 use Rattle.symbols_table.specs.declared.decl.dep.FileDepName.{FileDepName}
-use Rattle.symbols_table.specs.declared.decl.dep.FileDepName.TheVariants as FileDepName
 use Rattle.symbols_table.specs.declared.decl.symbol_decl.SymbolDeclKind.{SymbolDeclKind}
-use Rattle.symbols_table.specs.declared.decl.symbol_decl.SymbolDeclKind.TheVariants as SymbolDeclKind
 use Rattle.symbols_table.specs.declared.decl.symbol_decl.SymbolDecl.{SymbolDecl}
 
 -- what an import takes of a module: all of it, or a name

@@ -4,7 +4,6 @@ use Rattle.std.specs.Option.{option_or, option_and_then}
 use Rattle.symbols_tree.specs.declared.tree.arena.Id.{Id}
 use Rattle.symbols_tree.specs.declared.tree.arena.SourceRange.{SourceRange}
 use Rattle.symbols_tree.specs.declared.tree.kinds.Kind.{Kind}
-use Rattle.symbols_tree.specs.declared.tree.kinds.Kind.TheVariants as Kind
 use Rattle.symbols_tree.specs.declared.tree.kinds.Decl.TheVariants as Decl
 use Rattle.symbols_tree.specs.NodeRefs.{TreeNode, kind_of, node_in, child_of, list_of}
 use Rattle.symbols_tree.specs.ChildFields.{decls_of, id_of, ident_of, name_of}

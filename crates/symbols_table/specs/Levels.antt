@@ -1,5 +1,5 @@
 -- Nodes below one another, and calls that stand for the first events of a part.
-use Rattle.std.specs.Prelude.{◌≡◌, ℕ, ◌<◌, List, [], ◌∷◌, length, All, Option, Some, Result, MatchResult}
+use Rattle.std.specs.Prelude.{◌≡◌, ℕ, ◌<◌, List, [], ◌∷◌, length, All, Some, Result, MatchResult}
 use Rattle.symbols_tree.specs.declared.tree.arena.Node.{Node}
 use Rattle.symbols_tree.specs.declared.tree.arena.Id.{Id}
 use Rattle.symbols_tree.specs.declared.ids.SymbolId.{SymbolId}

@@ -1,16 +1,15 @@
 -- The events of the members of classes and interfaces.
-use Rattle.std.specs.Prelude.{ℕ, ◌+◌, Bool, true, false, List, [], ◌∷◌, ◌++◌, Option, None, Some}
+use Rattle.std.specs.Prelude.{ℕ, ◌+◌, Bool, true, false, List, [], ◌∷◌, Option, None, Some}
 use Rattle.std.specs.Option.{option_map_or}
 use Rattle.symbols_tree.specs.declared.tree.arena.Tree.{Tree}
 use Rattle.symbols_tree.specs.declared.tree.kinds.Kind.{Kind}
-use Rattle.symbols_tree.specs.declared.tree.kinds.Kind.TheVariants as Kind
 use Rattle.symbols_tree.specs.declared.tree.kinds.Decl.TheVariants as Decl
 use Rattle.symbols_tree.specs.declared.tree.kinds.Member.TheVariants as Member
 use Rattle.symbols_tree.specs.NodeRefs.{TreeNode, kind_of, node_in, child_of, list_of}
 use Rattle.symbols_tree.specs.ChildFields.{body_of, class_of}
 use Rattle.symbols_nodes.specs.NodeViews.{NodeView, class_method, class_prop, auto_accessor, class_param_prop, constructor, ts_index_signature, ts_call_signature_decl, ts_construct_signature_decl, ts_property_signature, ts_getter_signature, ts_setter_signature, ts_method_signature}
 use Rattle.symbols_table.specs.DeclViews.{defined}
-use Rattle.symbols_table.specs.Events.{Event, member}
+use Rattle.symbols_table.specs.Events.{member}
 use Rattle.symbols_table.specs.Walks.{Walk, none, on, each, range_in}
 
 abbrev pub members_of_kind : TreeNode → Kind → List ℕ

@@ -1,17 +1,15 @@
 -- The events of imports and exports.
-use Rattle.std.specs.Prelude.{ℕ, ◌+◌, Bool, true, false, List, [], ◌∷◌, ◌++◌, length, Option, None, Some, unwrap_or, String, string_bytes}
-use Rattle.std.specs.Option.{option_map, option_map_or, option_and_then}
+use Rattle.std.specs.Prelude.{ℕ, ◌+◌, Bool, List, [], ◌∷◌, ◌++◌, length, Option, None, Some, unwrap_or, String, string_bytes}
+use Rattle.std.specs.Option.{option_map, option_and_then}
 use Rattle.std.specs.Global.{Global}
 use Rattle.symbols_tree.specs.declared.tree.arena.Tree.{Tree}
 use Rattle.symbols_tree.specs.declared.tree.arena.Id.{Id}
-use Rattle.symbols_tree.specs.declared.tree.arena.SourceRange.{SourceRange}
 use Rattle.symbols_tree.specs.declared.tree.kinds.Kind.{Kind}
-use Rattle.symbols_tree.specs.declared.tree.kinds.Kind.TheVariants as Kind
 use Rattle.symbols_tree.specs.declared.tree.kinds.Item.TheVariants as Item
 use Rattle.symbols_tree.specs.declared.tree.kinds.Expr.TheVariants as Expr
 use Rattle.symbols_tree.specs.NodeRefs.{TreeNode, kind_of, node_in, child_of}
-use Rattle.symbols_tree.specs.ChildFields.{local_of, orig_of, expr_of, decl_of, id_of, entity_of}
-use Rattle.symbols_tree.specs.Ids.{IdView, id_view, sym_of}
+use Rattle.symbols_tree.specs.ChildFields.{local_of, orig_of, expr_of, decl_of, id_of}
+use Rattle.symbols_tree.specs.Ids.{id_view, sym_of}
 use Rattle.symbols_nodes.specs.Expando.{Expando, expando_in}
 use Rattle.symbols_nodes.specs.NodeViews.{export_default_decl, export_default_expr, expando_property}
 use Rattle.symbols_table.specs.DeclViews.{Declaration, DepName, DeclKind, all_names, one_name, target, qualified_target, file_ref, declaration_at, defined}

@@ -1,5 +1,5 @@
 -- Modules as contracts see them.
-use Rattle.std.specs.Prelude.{◌≡◌, ℕ, List, Option, Some, None, slice_get}
+use Rattle.std.specs.Prelude.{ℕ, List, Option, Some, slice_get}
 use Rattle.std.specs.Borrow.{Bor}
 use Rattle.indexmap.specs.IndexMap.{get}
 use Rattle.symbols_tree.specs.declared.ids.ModuleId.{ModuleId}
@@ -10,9 +10,7 @@ use Rattle.symbols_tree.specs.declared.tree.arena.Tree.{Tree}
 use Rattle.symbols_table.specs.declared.decl.symbol.Symbol.{Symbol}
 use Rattle.symbols_table.specs.declared.info.es_module.EsModuleInfo.{EsModuleInfo}
 use Rattle.symbols_table.specs.declared.info.module_info.ModuleInfo.{ModuleInfo}
-use Rattle.symbols_table.specs.declared.info.module_info.ModuleInfo.TheVariants as ModuleInfo
 use Rattle.symbols_table.specs.declared.info.module_info.ModuleInfoRef.{ModuleInfoRef}
-use Rattle.symbols_table.specs.declared.info.module_info.ModuleInfoRef.TheVariants as ModuleInfoRef
 
 -- what an ECMAScript module shows
 abbrev pub module_in : EsModuleInfo → ModuleId

@@ -1,5 +1,5 @@
 -- A builder holds the tables of what was changed.
-use Rattle.std.specs.Prelude.{◌≡◌, ℕ, ◌<◌, ◌≤◌, Bool, ◌&&◌, [], ◌++◌, List, length, map, Option, None, Some, All, Result, MatchResult, slice_index_or, slice_get}
+use Rattle.std.specs.Prelude.{◌≡◌, ℕ, ◌<◌, ◌≤◌, Bool, ◌&&◌, [], ◌++◌, List, length, Option, None, Some, All, Result, MatchResult, slice_index_or, slice_get}
 use Rattle.std.specs.Borrow.{Bor}
 use Rattle.std.specs.Option.{option_and_then}
 use Rattle.std.specs.Str.{bytes_eq}

@@ -1,15 +1,14 @@
 -- The events of a tree: of its items, and of those in its namespaces.
-use Rattle.std.specs.Prelude.{ℕ, suc, zero, ◌+◌, Bool, true, false, ◌||◌, List, [], ◌∷◌, ◌++◌, length, Option, None, Some}
+use Rattle.std.specs.Prelude.{ℕ, suc, zero, ◌+◌, Bool, true, false, ◌||◌, List, ◌∷◌, length, Option, None, Some}
 use Rattle.std.specs.Option.{option_and_then}
 use Rattle.symbols_tree.specs.declared.tree.arena.Tree.{Tree}
 use Rattle.symbols_tree.specs.declared.tree.arena.Id.{Id}
 use Rattle.symbols_tree.specs.declared.tree.kinds.Kind.{Kind}
-use Rattle.symbols_tree.specs.declared.tree.kinds.Kind.TheVariants as Kind
 use Rattle.symbols_tree.specs.declared.tree.kinds.Item.TheVariants as Item
 use Rattle.symbols_tree.specs.declared.tree.kinds.Decl.TheVariants as Decl
 use Rattle.symbols_tree.specs.NodeRefs.{TreeNode, kind_of, node_in, child_of, list_of}
 use Rattle.symbols_tree.specs.ChildFields.{body_of, body_node_of, decl_of, id_of}
-use Rattle.symbols_tree.specs.Ids.{IdView, id_view}
+use Rattle.symbols_tree.specs.Ids.{id_view}
 use Rattle.symbols_nodes.specs.NodeViews.{program, ts_namespace, exported_ts_module}
 use Rattle.symbols_table.specs.declared.builder.scope.Scope.{Scope}
 use Rattle.symbols_table.specs.DeclViews.{Declaration, defined}

@@ -1,6 +1,6 @@
 -- The events of parts of a tree, one part after the other.
 use Rattle.std.specs.Prelude.{ℕ, ◌+◌, List, [], ◌∷◌, ◌++◌, length, Option, None, Some, unwrap_or}
-use Rattle.std.specs.Option.{option_map_or, option_and_then}
+use Rattle.std.specs.Option.{option_and_then}
 use Rattle.symbols_tree.specs.declared.tree.arena.Id.{Id}
 use Rattle.symbols_tree.specs.declared.tree.arena.SourceRange.{SourceRange}
 use Rattle.symbols_tree.specs.declared.tree.kinds.Kind.{Kind}

@@ -1,4 +1,4 @@
-use Rattle.std.proofs.Common.{◌≡◌, ℕ, ◌<◌, [], ◌∷◌, List, length, refl, sym, ap, ◌∙◌, subst, arith}
+use Rattle.std.proofs.Common.{[], ◌∷◌, length, refl, sym, ap, ◌∙◌, subst, arith}
 use Rattle.symbols_tree.specs.NodeRefs.{list_of}
 use Rattle.symbols_tree.specs.ChildFields.{body_of}
 use Rattle.symbols_table.specs.declared.builder.table.Setting.{Setting}

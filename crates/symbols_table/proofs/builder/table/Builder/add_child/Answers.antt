@@ -1,11 +1,10 @@
 use Rattle.std.proofs.Common.{◌≡◌, Some, None, refl, sym, ◌∙◌, ap}
 use Rattle.std.specs.Option.{option_map, option_or}
 use Rattle.std.specs.Cow.{cow_str_bytes}
-use Rattle.symbols_tree.specs.declared.ids.SymbolId.{SymbolId}
-use Rattle.symbols_table.specs.Changes.{only_if, is_same, local_name}
+use Rattle.symbols_table.specs.Changes.{is_same, local_name}
 use Rattle.symbols_table.specs.Tables.{name_in, symbol_named}
 use Rattle.symbols_table.proofs.LocalNames.{name_is, unnamed, with_name}
-use Rattle.symbols_table.proofs.OneChange.{Writes, only_child}
+use Rattle.symbols_table.proofs.OneChange.{only_child}
 use Rattle.symbols_table.proofs.builder.table.Builder.add_child.Goals as goal
 
 pub returns-in_ok-add_name-in-Some-clause-table : goal.returns-in_ok-add_name-in-Some-clause-table

@@ -1,7 +1,7 @@
 use Rattle.std.proofs.Common.{refl, ap, ◌∙◌, List, map, Bool, ◌||◌}
 use Rattle.symbols_table.specs.declared.decl.symbol_decl.SymbolDecl.{SymbolDecl}
 use Rattle.symbols_table.specs.DeclViews.{decl_view, last_decl, is_overload_after}
-use Rattle.symbols_table.proofs.OneChange.{Writes, only_decl}
+use Rattle.symbols_table.proofs.OneChange.{only_decl}
 use Rattle.symbols_table.proofs.Views.{pushed_decl}
 use Rattle.symbols_table.proofs.builder.table.Builder.add_decl.Goals as goal
 

@@ -2,7 +2,7 @@ use Rattle.std.proofs.Common.{refl, ap, ◌∙◌, ℕ, List}
 use Rattle.std.specs.Str.{bytes_eq}
 use Rattle.indexmap.specs.IndexMap.{insert_entry}
 use Rattle.symbols_table.specs.DeclViews.{exports_view}
-use Rattle.symbols_table.proofs.OneChange.{Writes, only_exports}
+use Rattle.symbols_table.proofs.OneChange.{only_exports}
 use Rattle.symbols_table.proofs.Views.{exports_view-insert}
 use Rattle.symbols_table.proofs.builder.table.Builder.add_export.Goals as goal
 

@@ -1,4 +1,4 @@
-use Rattle.std.proofs.Common.{◌≡◌, None, Some, refl, sym}
+use Rattle.std.proofs.Common.{◌≡◌, None, Some, sym}
 use Rattle.std.specs.Option.{option_and_then}
 use Rattle.symbols_tree.specs.Ids.{sym_of}
 use Rattle.symbols_tree.specs.NodeRefs.{node_view, node_in, kind_of}

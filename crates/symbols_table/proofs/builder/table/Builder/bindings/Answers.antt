@@ -1,6 +1,6 @@
-use Rattle.std.proofs.Common.{ℕ, List, length, take, drop, suc, subst}
+use Rattle.std.proofs.Common.{ℕ, List, take, drop, suc, subst}
 use Rattle.symbols_table.specs.Walks.{each}
-use Rattle.symbols_table.specs.DeclarationEvents.{binding_at, declarator_at}
+use Rattle.symbols_table.specs.DeclarationEvents.{binding_at}
 use Rattle.symbols_table.specs.VariablesViews.{variables_view}
 use Rattle.symbols_tree.specs.NodeRefs.{node_view}
 use Rattle.symbols_table.specs.Tables.{ReadsWalk}

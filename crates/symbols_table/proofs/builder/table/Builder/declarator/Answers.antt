@@ -1,4 +1,4 @@
-use Rattle.std.proofs.Common.{None, Some, sym}
+use Rattle.std.proofs.Common.{Some, sym}
 use Rattle.symbols_tree.specs.ChildFields.{name_of}
 use Rattle.symbols_tree.specs.NodeRefs.{node_view, node_in, child_of}
 use Rattle.symbols_table.proofs.Walks.{on_none, on_some}

@@ -1,10 +1,10 @@
-use Rattle.std.proofs.Common.{◌≡◌, Some, [], ◌∷◌, ◌++◌, ℕ, ◌+◌, List, length, refl, ◌∙◌, ap, subst}
+use Rattle.std.proofs.Common.{◌≡◌, Some, [], ◌∷◌, ◌++◌, ℕ, List, length, refl, ◌∙◌, ap, subst}
 use Rattle.symbols_tree.specs.NodeRefs.{node_view}
 use Rattle.symbols_table.specs.declared.builder.table.Setting.{Setting}
 use Rattle.symbols_table.specs.DeclViews.{decl_view}
 use Rattle.symbols_table.specs.DeclarationEvents.{own_name}
 use Rattle.symbols_table.specs.Events.{default, default_row, row_of, changes_of, symbol_at, rows_after}
-use Rattle.symbols_table.specs.MemberEvents.{member_at, members_in}
+use Rattle.symbols_table.specs.MemberEvents.{member_at}
 use Rattle.symbols_table.specs.ModuleEvents.{binds_if}
 use Rattle.symbols_table.specs.Tables.{ReadsAll}
 use Rattle.symbols_table.specs.Walks.{each}

@@ -1,4 +1,4 @@
-use Rattle.std.proofs.Common.{◌≡◌, Some, None, Bool, true, false, ◌∙◌, ◌++◌, List, [], ◌∷◌, subst, sym, append_assoc}
+use Rattle.std.proofs.Common.{◌≡◌, Some, Bool, true, false, ◌∙◌, ◌++◌, List, [], ◌∷◌, subst, sym, append_assoc}
 use Rattle.std.specs.Prelude.{if◌then◌else◌}
 use Rattle.symbols_tree.specs.declared.ids.SymbolId.{SymbolId}
 use Rattle.symbols_table.specs.DeclViews.{decl_view, is_definition}

@@ -1,4 +1,4 @@
-use Rattle.std.proofs.Common.{refl, ap, ◌∙◌, [], arith}
+use Rattle.std.proofs.Common.{refl, ◌∙◌, [], arith}
 use Rattle.symbols_table.specs.DeclViews.{decl_view}
 use Rattle.symbols_table.proofs.OneChange.{made}
 use Rattle.symbols_table.proofs.Views.{pushed_decl}

@@ -1,5 +1,5 @@
-use Rattle.std.proofs.Common.{◌≡◌, ℕ, [], None, Some, refl, sym, length, arith, rules}
-use Rattle.symbols_tree.specs.NodeRefs.{node_view, node_in}
+use Rattle.std.proofs.Common.{◌≡◌, [], Some, refl, sym, length, arith, rules}
+use Rattle.symbols_tree.specs.NodeRefs.{node_in}
 use Rattle.symbols_table.specs.MemberEvents.{param_at}
 use Rattle.symbols_table.proofs.Walks.{on_none, none_read}
 use Rattle.symbols_table.proofs.builder.table.Builder.param.Goals as goal

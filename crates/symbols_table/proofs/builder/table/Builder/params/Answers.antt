@@ -1,4 +1,4 @@
-use Rattle.std.proofs.Common.{ℕ, List, length, take, drop, suc, subst}
+use Rattle.std.proofs.Common.{ℕ, List, take, drop, suc, subst}
 use Rattle.symbols_table.specs.Walks.{each}
 use Rattle.symbols_table.specs.MemberEvents.{param_at}
 use Rattle.symbols_table.specs.Tables.{ReadsWalk}

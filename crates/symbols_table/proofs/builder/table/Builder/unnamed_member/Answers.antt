@@ -1,8 +1,6 @@
-use Rattle.std.proofs.Common.{Some, None, Bool, true, false, ◌∙◌, [], ◌∷◌, subst}
-use Rattle.std.specs.Cow.{cow_str_bytes}
-use Rattle.symbols_table.specs.DeclViews.{decl_view, is_definition}
-use Rattle.symbols_table.specs.Changes.{exports, has_child}
-use Rattle.symbols_table.specs.Events.{new_row, member_changes, default_text}
+use Rattle.std.proofs.Common.{Some, None, true, false, ◌∙◌}
+use Rattle.symbols_table.specs.DeclViews.{decl_view}
+use Rattle.symbols_table.specs.Events.{new_row, member_changes}
 use Rattle.symbols_table.proofs.Rows.{new_reads, past_limit, err_reads}
 use Rattle.symbols_table.proofs.builder.table.Builder.unnamed_member.Goals as goal
 

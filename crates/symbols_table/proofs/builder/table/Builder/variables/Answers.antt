@@ -1,8 +1,7 @@
-use Rattle.std.proofs.Common.{ℕ, List, length, take, drop, suc, subst, ◌∙◌}
+use Rattle.std.proofs.Common.{ℕ, List, take, drop, suc, subst, ◌∙◌}
 use Rattle.symbols_table.specs.Walks.{each}
-use Rattle.symbols_table.specs.DeclarationEvents.{binding_at, declarator_at}
+use Rattle.symbols_table.specs.DeclarationEvents.{declarator_at}
 use Rattle.symbols_table.specs.VariablesViews.{variables_view}
-use Rattle.symbols_tree.specs.NodeRefs.{node_view}
 use Rattle.symbols_table.specs.Tables.{ReadsWalk}
 use Rattle.symbols_table.proofs.Walks.{take_item, split_item, each_none, each_next, each_fault}
 use Rattle.symbols_table.proofs.builder.table.Builder.variables.Goals as goal

@@ -1,7 +1,6 @@
 use Rattle.std.proofs.Common.{take}
-use Rattle.symbols_tree.specs.NodeRefs.{node_view}
 use Rattle.symbols_table.specs.Walks.{each}
-use Rattle.symbols_table.specs.DeclarationEvents.{binding_at, declarator_at}
+use Rattle.symbols_table.specs.DeclarationEvents.{declarator_at}
 use Rattle.symbols_table.specs.VariablesViews.{variables_view}
 use Rattle.symbols_table.proofs.Walks.{IsWalked}
 use Rattle.symbols_table.proofs.builder.table.Builder.variables.Given as goal
