@@ -5,7 +5,6 @@ use Rattle.std.specs.List.{list_all}
 use Rattle.std.specs.Str.{chars}
 use Rattle.unicode_ident.specs.Ident.{is_xid_start, is_xid_continue}
 use Rattle.symbols_tree.specs.declared.tree.kinds.Kind.{Kind}
-use Rattle.symbols_tree.specs.declared.tree.kinds.Kind.TheVariants as Kind
 use Rattle.symbols_tree.specs.declared.tree.kinds.Expr.TheVariants as Expr
 use Rattle.symbols_tree.specs.ChildFields.{left_of, obj_of, prop_of, right_of, expr_of}
 use Rattle.symbols_tree.specs.NodeRefs.{TreeNode, kind_of, child_of}

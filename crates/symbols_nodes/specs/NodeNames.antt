@@ -1,8 +1,7 @@
 -- What the node of a declaration is called.
-use Rattle.std.specs.Prelude.{ℕ, List, [], ◌∷◌, Option, Some, None, string_bytes, codes}
+use Rattle.std.specs.Prelude.{ℕ, List, ◌∷◌, Option, Some, None, string_bytes, codes}
 use Rattle.std.specs.Option.{option_map, option_and_then}
 use Rattle.symbols_tree.specs.declared.tree.kinds.Kind.{Kind}
-use Rattle.symbols_tree.specs.declared.tree.kinds.Kind.TheVariants as Kind
 use Rattle.symbols_tree.specs.declared.tree.kinds.Decl.TheVariants as Decl
 use Rattle.symbols_tree.specs.declared.tree.kinds.Expr.TheVariants as Expr
 use Rattle.symbols_tree.specs.declared.tree.kinds.Pat.TheVariants as Pat
@@ -10,7 +9,7 @@ use Rattle.symbols_tree.specs.ChildFields.{decl_of, ident_of, id_of, key_of, exp
 use Rattle.symbols_tree.specs.Ids.{sym_of}
 use Rattle.symbols_tree.specs.NodeRefs.{TreeNode, kind_of, child_of}
 use Rattle.symbols_nodes.specs.Expando.{Expando, expando_in}
-use Rattle.symbols_nodes.specs.NodeViews.{ExportDeclView, NodeView, exported_class, exported_fn, exported_var, exported_ts_enum, exported_ts_interface, exported_ts_module, exported_ts_type_alias, program, export_decl, export_default_decl, export_default_expr, class_decl, fn_decl, ts_enum, ts_interface, ts_namespace, ts_type_alias, var, using_var, auto_accessor, class_method, class_prop, class_param_prop, constructor, expando_property, ts_index_signature, ts_call_signature_decl, ts_construct_signature_decl, ts_property_signature, ts_getter_signature, ts_setter_signature, ts_method_signature}
+use Rattle.symbols_nodes.specs.NodeViews.{ExportDeclView, NodeView, exported_class, exported_fn, exported_var, exported_ts_enum, exported_ts_interface, exported_ts_module, exported_ts_type_alias, export_decl, export_default_decl, class_decl, fn_decl, ts_enum, ts_interface, ts_namespace, ts_type_alias, var, using_var, auto_accessor, class_method, class_prop, class_param_prop, constructor, expando_property, ts_index_signature, ts_call_signature_decl, ts_construct_signature_decl, ts_property_signature, ts_getter_signature, ts_setter_signature, ts_method_signature}
 
 -- the text of a name or of a literal
 abbrev pub text_of : Kind → Option (List ℕ)

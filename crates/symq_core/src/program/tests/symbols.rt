@@ -29,18 +29,6 @@ const EXPORTS: &[u8] = br#"{"modules":[{"specifier":"m","kind":"esm",
     {"specifier":"p","kind":"esm","text":"export"},
     {"specifier":"x","kind":"external"}]}"#;
 
-/// The module `m` of the text `function f(); function f() {}`.
-const OVERLOADS: &[u8] = br#"{"modules":[{"specifier":"m","kind":"esm",
-    "text":"function f(); function f() {}","tree":{"nodes":[
-    {"kind":"Program","range":[0,29],"body":[1,4]},
-    {"kind":"FnDecl","range":[0,13],"ident":2,"function":3},
-    {"kind":"Ident","range":[9,10],"sym":["f",1]},
-    {"kind":"Function","range":[0,13]},
-    {"kind":"FnDecl","range":[14,29],"ident":5,"function":6},
-    {"kind":"Ident","range":[23,24],"sym":["f",1]},
-    {"kind":"Function","range":[14,29],"body":7},
-    {"kind":"Other","range":[27,29]}]}}]}"#;
-
 /// The symbols of a module of the graph.
 fn symbols_of<'a>(
     alloc: Global,
@@ -52,63 +40,6 @@ fn symbols_of<'a>(
         Some(module) => analyze(alloc, ModuleId::from_number(0), module, limit),
         None => Err(SymbolsFault::UnknownModule),
     }
-}
-
-/// The exported names in order, each with its symbol's number.
-fn export_list(alloc: Global, module: &Symbol<'_>) -> Result<String, AllocError> {
-    let mut text = String::new(alloc);
-    for (name, symbol) in module.exports() {
-        let number = symbol.number();
-        let entry = format!(in alloc; "{name} {number};")?;
-        text.push_str(entry.as_str())?;
-    }
-    Ok(text)
-}
-
-/// Whether the module `m` exports these names with these numbers.
-fn exports(alloc: Global, graph: &ModuleGraph, want: &str) -> Result<bool, SymbolsFault> {
-    match symbols_of(alloc, graph, "m", u32::MAX)? {
-        Some(info) => {
-            let listed = export_list(alloc, info.as_ref().module_symbol())?;
-            Ok(listed.as_str() == want)
-        }
-        None => Ok(false),
-    }
-}
-
-#[test]
-fn numbers_exports_in_order(rt: HostRuntime) -> Result<(), Fail> {
-    let graph = graph_of(rt.alloc(), EXPORTS)?;
-    assert!(rt; exports(rt.alloc(), &graph, "f 1;a 2;b 3;")?);
-    Ok(())
-}
-
-/// The flag of a declaration of symbol 1.
-fn flag_at(info: &ModuleInfo<'_>, place: usize) -> Option<bool> {
-    let symbol = info.esm()?.symbol(SymbolId::from_number(1))?;
-    symbol.decls().get(place).map(SymbolDecl::has_overloads)
-}
-
-/// Whether a declaration of symbol 1 of the module `m` has an overload before it; none where it
-/// has no such declaration.
-fn overload_flag(
-    alloc: Global,
-    graph: &ModuleGraph,
-    place: usize,
-) -> Result<Option<bool>, SymbolsFault> {
-    match symbols_of(alloc, graph, "m", u32::MAX)? {
-        Some(info) => Ok(flag_at(&info, place)),
-        None => Err(SymbolsFault::UnknownModule),
-    }
-}
-
-#[test]
-fn flags_overloads(rt: HostRuntime) -> Result<(), Fail> {
-    let graph = graph_of(rt.alloc(), OVERLOADS)?;
-    assert!(rt; overload_flag(rt.alloc(), &graph, 0)? == Some(false));
-    assert!(rt; overload_flag(rt.alloc(), &graph, 1)? == Some(true));
-    assert!(rt; overload_flag(rt.alloc(), &graph, 2)?.is_none());
-    Ok(())
 }
 
 /// The module that has too many symbols, if it has.

@@ -1,4 +1,4 @@
-use Rattle.std.proofs.Common.{◌≡◌, ℕ, List, [], ◌∷◌, Option, Some, None, Bool, true, ◌&&◌, refl, ap, sym, ◌∙◌, rules, tests, subst}
+use Rattle.std.proofs.Common.{◌≡◌, ℕ, List, [], ◌∷◌, Option, Some, Bool, true, ◌&&◌, ap, sym, ◌∙◌, rules, tests, subst}
 use Rattle.std.specs.Iterator.{AlwaysYields}
 use Rattle.std.specs.List.{list_all}
 use Rattle.std.specs.Str.{chars}
