@@ -2,7 +2,6 @@
 
 mod names;
 mod stops;
-mod symbols;
 mod tables;
 
 ghost use Rattle.std.specs.Prelude.{◌<◌};
