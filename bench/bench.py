@@ -1,24 +1,30 @@
 #!/usr/bin/env python3
-"""Times the stages of the program on made graphs, with their growth from n to 2n.
+"""Measures the stages of the program on made graphs, with their growth from n to 2n.
 
     python3 bench/bench.py PROGRAM                     the program alone
     python3 bench/bench.py PROGRAM --beside OTHER      beside a build of the Rust crate
     python3 bench/bench.py PROGRAM --graph GRAPH ..    on graphs of files, too
+    python3 bench/bench.py PROGRAM --count             instructions in place of times, on graphs of a tenth of the size
 
-The stages are read from whole runs, by the least processor time of some runs:
+The stages are read from whole runs, by the least processor time of some runs, taken in turn:
 
     read      a run on the graph with a module's specifier twice, which is refused before its trees are looked at
     check     a run without queries, less read
-    analyse   a run with one query a module, less the run without
+    analyse   a run with eleven queries a module, less one with one, by ten: each query analyses its module anew
 
-OTHER is a program that takes the same graphs and lines, without a checker, and prints with `--bench RUNS` an object
-of its stages, `json_parse`, `ast_build` and `analysis` among them, each with `min_cpu_ms`. It is measured in the same
-way and in this one run: 'of the crate' is the ratio to its whole runs (read: its run without queries), and 'of its
-stages' that to its own timers, which tell neither its start nor what it takes to let values go, and run warm.
+OTHER is a program that takes the same graphs and lines, has no checker, and prints with `--bench RUNS` an object of
+its stages, `json_parse`, `ast_build` and `analysis` among them, each with `min_cpu_ms`. It is measured in the same run
+of this script. Reading is compared with its whole run without queries ('of the crate'), which like ours starts, reads
+the file, and lets all go at its end; 'of its timers' is to json_parse and ast_build, which leave that out and run warm.
+Analysing is compared with its timer.
+
+With --count the figures are instructions as valgrind's callgrind counts them, in millions: they tell growth without the
+noise of a machine, and nothing of memory's speed.
 """
 import argparse
 import json
 import os
+import re
 import resource
 import subprocess
 import sys
@@ -121,8 +127,17 @@ def cpu_time(command, lines):
     return 1000 * (after.ru_utime + after.ru_stime - before.ru_utime - before.ru_stime)
 
 
-def least(runs):
-    """The least processor time of each of some runs, which are taken in turn."""
+def instructions(command, lines):
+    """The instructions of a run, in millions."""
+    counter = ['valgrind', '--tool=callgrind', '--callgrind-out-file=/dev/null']
+    p = subprocess.run(counter + command, input=lines, stdout=subprocess.DEVNULL, stderr=subprocess.PIPE)
+    return int(re.search(rb'Collected : (\d+)', p.stderr)[1]) / 1e6
+
+
+def least(runs, count):
+    """The least measure of each of some runs, which are taken in turn."""
+    if count:
+        return [instructions(command, lines) for command, lines in runs]
     rounds = [[cpu_time(command, lines) for command, lines in runs] for _ in range(RUNS)]
     return [min(times) for times in zip(*rounds)]
 
@@ -132,57 +147,70 @@ def write(path, graph):
         json.dump(graph, f, separators=(',', ':'), ensure_ascii=False)
 
 
-def stages(program, other, folder, graph):
-    """The times of the program's stages, those of the other's whole runs, and those by its own timers."""
+def queries(modules, times):
+    return times * b''.join(json.dumps(['symbol', m['specifier'], '', 0]).encode() + b'\n' for m in modules)
+
+
+def timers(other, path):
+    """The other program's reading and analysing by its own timers."""
+    out = json.loads(subprocess.run([other, path, '--bench', '3'], stdout=subprocess.PIPE).stdout)
+    time = {stage: out[stage]['min_cpu_ms'] for stage in ('json_parse', 'ast_build', 'analysis')}
+    return time['json_parse'] + time['ast_build'], time['analysis']
+
+
+def stages(a, folder, graph):
+    """The measures of the program's stages, and for a stage those of the other program, each with a name."""
     path, twice = os.path.join(folder, 'graph.json'), os.path.join(folder, 'twice.json')
     modules = graph['modules']
     write(path, graph)
     write(twice, dict(graph, modules=modules + [{'specifier': modules[0]['specifier'], 'kind': 'external'}]))
-    lines = b''.join(json.dumps(['symbol', m['specifier'], '', 0]).encode() + b'\n' for m in modules)
-    runs = [([program, twice], b''), ([program, path], b''), ([program, path], lines)]
-    if not other:
-        read, checked, analysed = least(runs)
-        return {'read': read, 'check': checked - read, 'analyse': analysed - checked}, {}, {}
-    runs += [([other, path], b''), ([other, path], lines)]
-    read, checked, analysed, other_read, other_analysed = least(runs)
-    ours = {'read': read, 'check': checked - read, 'analyse': analysed - checked}
-    out = json.loads(subprocess.run([other, path, '--bench', str(RUNS)], stdout=subprocess.PIPE).stdout)
-    time = {stage: out[stage]['min_cpu_ms'] for stage in ('json_parse', 'ast_build', 'analysis')}
-    timed = {'read': time['json_parse'] + time['ast_build'], 'analyse': time['analysis']}
-    return ours, {'read': other_read, 'analyse': other_analysed - other_read}, timed
+    runs = [([a.program, twice], b'')] + [([a.program, path], queries(modules, times)) for times in (0, 1, 11)]
+    if a.beside:
+        runs.append(([a.beside, path], b''))
+    read, checked, once, eleven, *others = least(runs, a.count)
+    ours = {'read': read, 'check': checked - read, 'analyse': (eleven - once) / 10}
+    theirs = {stage: [] for stage in ours}
+    if others:
+        theirs['read'].append(('of the crate', others[0]))
+    if others and not a.count:
+        reading, analysing = timers(a.beside, path)
+        theirs['read'].append(('of its timers', reading))
+        theirs['analyse'].append(('of the crate', analysing))
+    return ours, theirs
 
 
-def show(label, ours, theirs, timed, half):
+def show(label, unit, ours, theirs, half):
     parts = []
-    for stage, time in ours.items():
-        text = '%s %.0f ms' % (stage, time)
+    for stage, measure in ours.items():
+        text = '%s %.1f %s' % (stage, measure, unit)
         if half:
-            text += ', %.2f from n' % (time / half[stage])
-        if stage in theirs:
-            text += ', %.2f of the crate, %.2f of its stages' % (time / theirs[stage], time / timed[stage])
+            text += ', %.2f from n' % (measure / half[stage])
+        for name, other in theirs[stage]:
+            text += ', %.2f %s' % (measure / other, name)
         parts.append(text)
     print('%-36s %s' % (label, '; '.join(parts)), flush=True)
 
 
 def main():
     p = argparse.ArgumentParser(description=__doc__, formatter_class=argparse.RawDescriptionHelpFormatter)
-    p.add_argument('program')
-    p.add_argument('--beside', metavar='OTHER')
+    p.add_argument('program', type=os.path.abspath)
+    p.add_argument('--beside', metavar='OTHER', type=os.path.abspath)
     p.add_argument('--graph', nargs='*', default=[])
+    p.add_argument('--count', action='store_true')
     a = p.parse_args()
-    program = os.path.abspath(a.program)
-    other = a.beside and os.path.abspath(a.beside)
+    unit = 'million' if a.count else 'ms'
     with tempfile.TemporaryDirectory() as folder:
         for name, n, make in MADE:
             half = None
+            n = n // 10 if a.count else n
             for size in (n, 2 * n):
-                ours, theirs, timed = stages(program, other, folder, make(size))
-                show('%s, %d' % (name, size), ours, theirs, timed, half)
+                ours, theirs = stages(a, folder, make(size))
+                show('%s, %d' % (name, size), unit, ours, theirs, half)
                 half = ours
         for file in a.graph:
             with open(file) as f:
-                ours, theirs, timed = stages(program, other, folder, json.load(f))
-            show(os.path.basename(file), ours, theirs, timed, None)
+                ours, theirs = stages(a, folder, json.load(f))
+            show(os.path.basename(file), unit, ours, theirs, None)
 
 
 if __name__ == '__main__':
