@@ -45,18 +45,32 @@ fn bad_answers(alloc: Global, count: usize) -> Result<Vec<u8>, AllocError> {
     Ok(text)
 }
 
-/// What is written for an input.
-fn output(alloc: Global, graph: &ModuleGraph, input: &[u8]) -> Result<MemoryOutput, EngineFault> {
+/// Serves over the graph of a text. The graph lives here alone: what a function lets go is proved
+/// anew for each way out of it.
+fn serve_over<R: Input, W: Output>(
+    alloc: Global,
+    text: &[u8],
+    reader: &mut R,
+    writer: &mut W,
+) -> Result<Result<(), EngineFault>, Stop>
+    requires reads_countable { R.failures reader.old < COUNT_LIMIT }
+    requires writes_countable { W.failures writer.old < COUNT_LIMIT }
+{
+    let graph = graph_of(alloc, text)?;
+    Ok(serve(alloc, &graph, reader, writer))
+}
+
+/// What is written for an input, over the graph of a text.
+fn output(alloc: Global, text: &[u8], input: &[u8]) -> Result<MemoryOutput, Fail> {
     let mut reader = MemoryInput { rest: input };
     let mut writer = MemoryOutput::new(alloc);
-    serve(alloc, graph, &mut reader, &mut writer)?;
+    serve_over(alloc, text, &mut reader, &mut writer)??;
     Ok(writer)
 }
 
 /// The lines of the input are no queries, and so many.
 fn answers_bad(rt: &impl Abort, alloc: Global, input: &[u8], count: usize) -> Result<(), Fail> {
-    let graph = graph_of(alloc, GRAPH)?;
-    let written = output(alloc, &graph, input)?;
+    let written = output(alloc, GRAPH, input)?;
     let want = bad_answers(alloc, count)?;
     assert!(rt; written.bytes.as_slice() == want.as_slice());
     Ok(())
@@ -79,8 +93,7 @@ fn answers_over(
     line: &str,
     want: &[u8],
 ) -> Result<(), Fail> {
-    let graph = graph_of(alloc, text)?;
-    let written = output(alloc, &graph, line.as_bytes())?;
+    let written = output(alloc, text, line.as_bytes())?;
     assert!(rt; written.bytes.as_slice() == want);
     Ok(())
 }
@@ -143,7 +156,6 @@ impl Input for Piecewise<'_> {
 fn answers_two(rt: &impl Abort, alloc: Global, most: usize) -> Result<(), Fail>
     requires { 0 < most }
 {
-    let graph = graph_of(alloc, GRAPH)?;
     let mut reader = Piecewise {
         rest: b"no\nno\nno",
         most,
@@ -151,7 +163,7 @@ fn answers_two(rt: &impl Abort, alloc: Global, most: usize) -> Result<(), Fail>
         failed: 0,
     };
     let mut writer = MemoryOutput::new(alloc);
-    let served = serve(alloc, &graph, &mut reader, &mut writer);
+    let served = serve_over(alloc, GRAPH, &mut reader, &mut writer)?;
     assert!(rt; served == Err(EngineFault::InputFailed) && reader.failed == 1);
     let want = bad_answers(alloc, 2)?;
     assert!(rt; writer.bytes.as_slice() == want.as_slice());
@@ -192,7 +204,6 @@ impl Output for Full {
 
 /// A write fails behind one answer and three bytes of the next: these are written.
 fn writes_a_beginning(rt: &impl Abort, alloc: Global, fails: bool) -> Result<(), Fail> {
-    let graph = graph_of(alloc, GRAPH)?;
     let mut reader = MemoryInput { rest: b"no\nno\n" };
     let mut writer = Full {
         taken: Vec::new(alloc),
@@ -200,7 +211,7 @@ fn writes_a_beginning(rt: &impl Abort, alloc: Global, fails: bool) -> Result<(),
         fails,
         failed: 0,
     };
-    let served = serve(alloc, &graph, &mut reader, &mut writer);
+    let served = serve_over(alloc, GRAPH, &mut reader, &mut writer)?;
     assert!(rt; served == Err(EngineFault::OutputFailed) && writer.failed == 1);
     assert!(rt; writer.taken.as_slice() == b"{\"fault\":\"bad query\"}\n{\"f".as_slice());
     Ok(())
@@ -225,7 +236,6 @@ fn long_lines(alloc: Global) -> Result<Vec<u8>, AllocError> {
 fn answers_four(rt: &impl Abort, alloc: Global, text: &[u8], most: usize) -> Result<(), Fail>
     requires { 0 < most }
 {
-    let graph = graph_of(alloc, GRAPH)?;
     let mut reader = Piecewise {
         rest: text,
         most,
@@ -233,7 +243,7 @@ fn answers_four(rt: &impl Abort, alloc: Global, text: &[u8], most: usize) -> Res
         failed: 0,
     };
     let mut writer = MemoryOutput::new(alloc);
-    serve(alloc, &graph, &mut reader, &mut writer)?;
+    serve_over(alloc, GRAPH, &mut reader, &mut writer)??;
     let want = bad_answers(alloc, 4)?;
     assert!(rt; writer.bytes.as_slice() == want.as_slice());
     Ok(())
@@ -255,11 +265,10 @@ fn writes_more_answers_than_a_block(rt: HostRuntime) -> Result<(), Fail> {
 
 #[test]
 fn answers_over_streams(rt: HostRuntime) -> Result<(), Fail> {
-    let graph = graph_of(rt.alloc(), GRAPH)?;
     let mut bytes: Vec<u8> = Vec::new(rt.alloc());
     let mut reader = ReaderInput::new(b"no\nno".as_slice());
     let mut writer = WriterOutput::new(&mut bytes);
-    serve(rt.alloc(), &graph, &mut reader, &mut writer)?;
+    serve_over(rt.alloc(), GRAPH, &mut reader, &mut writer)??;
     drop(writer);
     let want = bad_answers(rt.alloc(), 2)?;
     assert!(rt; bytes.as_slice() == want.as_slice());

@@ -11,7 +11,8 @@ use std::process::Abort;
 use std::test::Fail;
 use symbols_table::analyze;
 use symbols_table::decl::{FileDep, FileDepName, Symbol, SymbolDecl, SymbolDeclKind};
-use symbols_table::info::EsModuleInfo;
+use symbols_table::info::{EsModuleInfo, ModuleInfo};
+use symbols_tree::check::ModuleGraph;
 use symbols_tree::ids::{ModuleId, SymbolId};
 use symbols_tree::tree::{Id, SourceRange};
 
@@ -148,13 +149,27 @@ fn table_of(alloc: Global, module: &EsModuleInfo<'_>) -> Result<String, AllocErr
     Ok(text)
 }
 
-/// The module `m` of the graph has this table.
-fn tells(rt: &impl Abort, alloc: Global, graph: &[u8], want: &str) -> Result<(), Fail> {
-    let graph = graph_of(alloc, graph)?;
+fn esm_table(alloc: Global, info: &ModuleInfo<'_>) -> Result<String, Fail> {
+    let module = info.esm().ok_or("no tables")?;
+    Ok(table_of(alloc, module)?)
+}
+
+/// The table of the module `m` of a graph.
+fn table_in(alloc: Global, graph: &ModuleGraph) -> Result<String, Fail> {
     let module = graph.get("m").ok_or("no module")?;
     let info = analyze(alloc, ModuleId::from_number(0), module, u32::MAX)?;
-    let info = info.ok_or("no symbols")?;
-    let table = table_of(alloc, info.esm().ok_or("no tables")?)?;
+    esm_table(alloc, &info.ok_or("no symbols")?)
+}
+
+/// The table of the module `m` of a graph's text.
+fn table_over(alloc: Global, text: &[u8]) -> Result<String, Fail> {
+    let graph = graph_of(alloc, text)?;
+    table_in(alloc, &graph)
+}
+
+/// The module `m` of the graph has this table.
+fn tells(rt: &impl Abort, alloc: Global, graph: &[u8], want: &str) -> Result<(), Fail> {
+    let table = table_over(alloc, graph)?;
     assert_eq!(rt; table.as_str(), want);
     Ok(())
 }
