@@ -4,8 +4,8 @@ cd "$(dirname "$0")/.." || exit 1
 out=$(mktemp) || exit 1
 trap 'rm -f "$out"' EXIT
 
-# One check a processor, where each has 4 GB: the most that one took is 3. By its own estimate, which is more than twice
-# as much, rt leaves processors idle.
+# One check a processor, where each has 4 GB: the most that was seen of one is 3. By its own estimate of memory, up to
+# 6.3 GB for a crate here, rt leaves processors idle.
 if [ -z "${RT_JOBS:-}" ] && [ -r /proc/meminfo ]; then
     processors=$(nproc)
     RT_JOBS=$(awk -v most="$processors" '/^MemAvailable:/ { n = int($2 / 4000000); print n < 1 ? 1 : n < most ? n : most }' /proc/meminfo)
