@@ -8,6 +8,3 @@ mod symbol_node;
 
 pub use refs::{ExpandoPropertyRef, ExportDeclRef, SymbolNodeRef};
 pub use symbol_node::SymbolNode;
-
-#[cfg(test)]
-mod tests;

@@ -12,6 +12,3 @@ mod scope;
 mod table;
 
 pub use analysis::analyze;
-
-#[cfg(test)]
-mod tests;

@@ -82,6 +82,3 @@ impl UniqueSymbolId {
         }
     }
 }
-
-#[cfg(test)]
-mod tests;

@@ -18,6 +18,3 @@ pub use memory::{MemoryInput, MemoryOutput};
 pub use stop::Stop;
 pub use streams::{ReaderInput, WriterOutput};
 pub use symq_reader::{FormatFault, read_graph};
-
-#[cfg(test)]
-mod tests;

@@ -12,6 +12,3 @@ mod words;
 
 pub use faults::FormatFault;
 pub use graph::read_graph;
-
-#[cfg(test)]
-mod tests;

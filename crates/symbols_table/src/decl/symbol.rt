@@ -97,6 +97,3 @@ impl<'a> Symbol<'a> {
         &self.members
     }
 }
-
-#[cfg(test)]
-mod tests;

@@ -88,6 +88,3 @@ impl ModuleGraph {
         table.get(text).map(String::as_str)
     }
 }
-
-#[cfg(test)]
-mod tests;

@@ -125,6 +125,3 @@ pub(crate) fn first_tree_fault(
     }
     Ok(None)
 }
-
-#[cfg(test)]
-mod tests;

@@ -1,10 +1,11 @@
 //! Small graphs, accepted and refused.
 
-use super::ModuleGraph;
-use crate::check::{GraphModule, RawGraph, RawModule, RawModuleKind, RawResolution};
-use crate::tree::{Item, Kind, Node, SourceRange, Tree};
 use std::alloc::{AllocError, Global};
 use std::test::Fail;
+use symbols_tree::check::{
+    GraphModule, ModuleGraph, RawGraph, RawModule, RawModuleKind, RawResolution,
+};
+use symbols_tree::tree::{Item, Kind, Node, SourceRange, Tree};
 
 fn text(alloc: Global, text: &str) -> Result<String, AllocError> {
     String::from_str(alloc, text)

@@ -1,8 +1,8 @@
 //! Nodes of declarations.
 
-use super::{ExportDeclRef, SymbolNode, SymbolNodeRef};
 use std::alloc::{AllocError, Global};
 use std::test::Fail;
+use symbols_nodes::nodes::{ExportDeclRef, SymbolNode, SymbolNodeRef};
 use symbols_tree::tree::{Decl, Kind, Node, NodeId, NodeRef, SourceRange, Tree};
 
 /// A node that is a function whose rest is the next node.

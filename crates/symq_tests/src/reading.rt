@@ -1,8 +1,8 @@
-use super::*;
 use std::alloc::{AllocError, Global};
 use std::test::Fail;
 use symbols_tree::check::RawModuleKind;
 use symbols_tree::tree::{Expr, Item, Kind, Pat};
+use symq_reader::{FormatFault, read_graph};
 
 mod every_kind;
 mod sorts;

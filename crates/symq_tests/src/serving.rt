@@ -7,11 +7,14 @@ mod tables;
 ghost use Rattle.std.specs.Prelude.{◌<◌};
 ghost use Rattle.symq_core.specs.Devices.{COUNT_LIMIT};
 
-use super::*;
 use std::alloc::{AllocError, Global};
 use std::process::Abort;
 use std::test::Fail;
 use symbols_tree::check::ModuleGraph;
+use symq_core::program::{
+    DeviceFault, EngineFault, Input, MemoryInput, MemoryOutput, Output, ReaderInput, Stop,
+    WriterOutput, read_graph, serve,
+};
 
 /// The answer to each line that is no query.
 const BAD: &[u8] = b"{\"fault\":\"bad query\"}\n";

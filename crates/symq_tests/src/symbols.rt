@@ -1,6 +1,6 @@
 //! Symbols without a module.
 
-use super::Symbol;
+use symbols_table::decl::Symbol;
 use symbols_tree::ids::{ModuleId, SymbolId};
 
 #[test]

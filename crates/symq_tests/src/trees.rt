@@ -1,8 +1,9 @@
 //! Trees by the children of their nodes: good ones, and one for each fault.
 
-use super::*;
-use crate::tree::Pat;
+use std::alloc::{AllocError, Global};
 use std::test::Fail;
+use symbols_tree::check::{GraphFault, ModuleGraph, RawGraph, RawModule, RawModuleKind, TreeFault};
+use symbols_tree::tree::{Item, Kind, Node, NodeId, Pat, SourceRange, Tree};
 
 /// A node with children: a program, or else one of no kind of its own.
 fn node(alloc: Global, is_program: bool, numbers: &[u32], end: usize) -> Result<Node, AllocError> {
@@ -21,12 +22,35 @@ fn node(alloc: Global, is_program: bool, numbers: &[u32], end: usize) -> Result<
     })
 }
 
-fn fault_of(alloc: Global, nodes: Vec<Node>) -> Result<Option<TreeFault>, AllocError> {
+/// A graph of one module, whose text is `aé` and whose tree has these nodes.
+fn graph(alloc: Global, nodes: Vec<Node>) -> Result<RawGraph, AllocError> {
     let tree = Tree {
         declaration: false,
         nodes,
     };
-    first_tree_fault(alloc, &tree, "aé")
+    let mut modules = Vec::new(alloc);
+    modules.push(RawModule {
+        specifier: String::from_str(alloc, "m")?,
+        kind: RawModuleKind::Esm {
+            text: String::from_str(alloc, "aé")?,
+            tree: Some(tree),
+            types: None,
+        },
+    })?;
+    Ok(RawGraph {
+        modules,
+        redirects: Vec::new(alloc),
+        resolutions: Vec::new(alloc),
+    })
+}
+
+fn fault_of(alloc: Global, nodes: Vec<Node>) -> Result<Option<TreeFault>, Fail> {
+    let graph = graph(alloc, nodes)?;
+    match &ModuleGraph::new(alloc, graph) {
+        Ok(_) => Ok(None),
+        Err(GraphFault::Tree(_, fault)) => Ok(Some(*fault)),
+        Err(_) => Err(Fail::new(format_args!("no fault of a tree"))),
+    }
 }
 
 #[test]

@@ -1,10 +1,10 @@
 //! Small modules, analysed.
 
-use super::analyze;
-use crate::decl::Symbol;
-use crate::info::{ModuleInfo, SymbolsFault};
 use std::alloc::{AllocError, Global};
 use std::test::Fail;
+use symbols_table::analyze;
+use symbols_table::decl::Symbol;
+use symbols_table::info::{ModuleInfo, SymbolsFault};
 use symbols_tree::check::{GraphFault, ModuleGraph, RawGraph, RawModule, RawModuleKind};
 use symbols_tree::ids::{ModuleId, SymbolId};
 use symbols_tree::tree::{Decl, Expr, Id, Item, Kind, Node, NodeId, Pat, SourceRange, Tree};

@@ -1,11 +1,11 @@
 //! The status and the line of each way to stop.
 
-use crate::program::{EngineFault, FormatFault, Stop};
 use std::alloc::{AllocError, Global};
 use std::process::Abort;
 use std::test::Fail;
 use symbols_tree::check::{GraphFault, TreeFault};
 use symbols_tree::tree::NodeId;
+use symq_core::program::{EngineFault, FormatFault, Stop};
 
 fn stops(
     rt: &impl Abort,

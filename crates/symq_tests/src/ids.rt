@@ -1,7 +1,7 @@
 //! Numbers and their texts.
 
-use super::{ModuleId, SymbolId, UniqueSymbolId};
 use std::test::Fail;
+use symbols_tree::ids::{ModuleId, SymbolId, UniqueSymbolId};
 
 #[test]
 fn keeps_the_number(rt: HostRuntime) {

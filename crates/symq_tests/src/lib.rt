@@ -1,0 +1,20 @@
+//! Tests of the libraries' public calls. A crate with tests is proved twice, with and without them, so they stand in one
+//! of their own.
+#![tactic(auto)]
+
+#[cfg(test)]
+mod analysis;
+#[cfg(test)]
+mod graphs;
+#[cfg(test)]
+mod ids;
+#[cfg(test)]
+mod nodes;
+#[cfg(test)]
+mod reading;
+#[cfg(test)]
+mod serving;
+#[cfg(test)]
+mod symbols;
+#[cfg(test)]
+mod trees;
