@@ -1,103 +1,200 @@
 #!/usr/bin/env python3
-"""Runs the stored cases of tests/cases on the program, and compares status, lines and standard error.
+"""Runs the stored cases on the programs: compares status, standard output and standard error.
 
-    python3 tools/run_cases.py             builds the program once, without a proof, and runs it
-    python3 tools/run_cases.py PROGRAM     runs a program that is built already
+    python3 tools/run_cases.py                     builds the programs without a proof, and runs them
+    python3 tools/run_cases.py --proved            runs the proved programs, crates/NAME/out/NAME
+    python3 tools/run_cases.py SYMQ SYMQ_TABLES    runs the programs at these paths
 
-A case is a folder: graph.json (the graph's text), queries (standard input), lines (standard output),
-and where they are not 0, nothing and the graph: status, stderr, args (one word a line).
-The last line is 'N passed, M failed'.
+There are three sorts of cases, in three folders of tests/:
+
+    cases/NAME/     a run of symq: graph.json (the graph's text), queries (standard input) and lines (standard output)
+    tables/NAME/    a run of symq_tables: graph.json and tables (standard output)
+    forms/NAME      a run of symq without queries for each line that isn't empty and begins with no '#':
+                    STATUS, tab, STANDARD ERROR (one line, or nothing), tab, TEXT OF THE GRAPH
+
+A folder also has, where they are not 0, nothing and the graph: status, stderr, args (one word a line). A file that is
+absent is empty. The last line is 'N passed, M failed', where a sort of which there is no case counts as a failure.
 """
 import os
 import re
 import subprocess
 import sys
 import tempfile
+from concurrent.futures import ThreadPoolExecutor
+from typing import NamedTuple, Optional
 
-HERE = os.path.dirname(os.path.abspath(__file__))
-CASES = os.path.join(HERE, '..', 'tests', 'cases')
-CRATE = os.path.join(HERE, '..', 'crates', 'symq')
-
-
-class Case:
-    def __init__(self, name):
-        self.name = name
-        self.folder = os.path.join(CASES, name)
-        self.queries = self.read('queries', b'')
-        self.lines = self.read('lines', b'')
-        self.stderr = self.read('stderr', b'')
-        self.status = int(self.read('status', b'0'))
-        words = self.read('args', None)
-        self.args = None if words is None else words.decode().split('\n')[:-1]
-
-    def path(self, name):
-        return os.path.join(self.folder, name)
-
-    def read(self, name, default):
-        if not os.path.exists(self.path(name)):
-            return default
-        with open(self.path(name), 'rb') as f:
-            return f.read()
+ROOT = os.path.join(os.path.dirname(os.path.abspath(__file__)), '..')
+TESTS = os.path.join(ROOT, 'tests')
+PROGRAMS = ('symq', 'symq_tables')
+SECONDS = 120
 
 
-def run_program(program, case):
-    """What is wrong with a run of a program that is built already; nothing where all is right."""
-    args = [case.path('graph.json')] if case.args is None else case.args
-    with tempfile.TemporaryDirectory() as folder:
-        p = subprocess.run([program] + args, input=case.queries, cwd=folder,
-                           stdout=subprocess.PIPE, stderr=subprocess.PIPE)
-    got = (p.returncode, p.stdout, p.stderr)
-    want = (case.status, case.lines, case.stderr)
-    return '' if got == want else 'got %r, want %r' % (got, want)
+class Outcome(NamedTuple):
+    status: int
+    output: bytes
+    error: bytes
+
+
+class Case(NamedTuple):
+    name: str
+    program: str
+    graph: Optional[bytes]
+    words: Optional[list]
+    given: bytes
+    want: Outcome
+
+
+def read(folder, name, default=b''):
+    path = os.path.join(folder, name)
+    if not os.path.exists(path):
+        return default
+    with open(path, 'rb') as file:
+        return file.read()
 
 
 def write(folder, name, content):
-    with open(os.path.join(folder, name), 'wb') as f:
-        f.write(content)
+    with open(os.path.join(folder, name), 'wb') as file:
+        file.write(content)
 
 
-def try_cases(cases):
-    """Builds the program once and runs all cases on it. A case with a status has its text on
-    standard error, which is printed under its name; the others are compared with their lines."""
-    with tempfile.TemporaryDirectory() as folder:
-        command = ['rt', 'try', '--cases', folder]
-        for case in cases:
-            write(folder, case.name, case.queries)
-            if case.args is None:
-                write(folder, case.name + '.args', (case.name + '.json\n').encode())
-                command += ['--data', '%s.json=%s' % (case.name, case.path('graph.json'))]
-            elif case.args:
-                write(folder, case.name + '.args', ''.join(a + '\n' for a in case.args).encode())
-            if not case.status:
-                write(folder, case.name + '.stdout', case.lines)
-        out = subprocess.run(command, cwd=CRATE, stdout=subprocess.PIPE, stderr=subprocess.STDOUT).stdout
-    wrong = {}
-    for case in cases:
-        found = re.search(rb'^case=%s run=(\S+) status=(\d+)(.*)$' % re.escape(case.name.encode()), out, re.M)
+def folder_cases(sort, name, program, output):
+    """The case of a folder, whose wanted standard output stands in the file `output`."""
+    folder = os.path.join(TESTS, sort, name)
+    words = read(folder, 'args', None)
+    if words is not None:
+        words = words.decode().splitlines()
+    want = Outcome(int(read(folder, 'status', b'0')), read(folder, output), read(folder, 'stderr'))
+    graph = read(folder, 'graph.json', None)
+    return [Case(sort + '/' + name, program, graph, words, read(folder, 'queries'), want)]
+
+
+def form_cases(sort, name):
+    """A case for each line of a file."""
+    cases = []
+    for number, line in enumerate(read(os.path.join(TESTS, sort), name).split(b'\n'), 1):
+        if line and not line.startswith(b'#'):
+            status, error, graph = line.split(b'\t', 2)
+            want = Outcome(int(status), b'', error + b'\n' if error else b'')
+            cases.append(Case('%s/%s:%d' % (sort, name, number), 'symq', graph, None, b'', want))
+    return cases
+
+
+SORTS = {
+    'cases': lambda sort, name: folder_cases(sort, name, 'symq', 'lines'),
+    'tables': lambda sort, name: folder_cases(sort, name, 'symq_tables', 'tables'),
+    'forms': form_cases,
+}
+
+
+def all_cases():
+    """The cases, and what is wrong with the folders themselves."""
+    cases, wrong = [], {}
+    for sort, load in SORTS.items():
+        folder = os.path.join(TESTS, sort)
+        names = sorted(os.listdir(folder)) if os.path.isdir(folder) else []
+        found = [case for name in names for case in load(sort, name)]
         if not found:
-            wrong[case.name] = 'no run: ' + out.decode('utf-8', 'replace')[-400:]
-        elif found.group(1) != b'ended' or int(found.group(2)) != case.status:
-            wrong[case.name] = found.group(0).decode()
-        elif not case.status and b'output=expected' not in found.group(3):
-            wrong[case.name] = found.group(0).decode()
-        elif case.status and b'\n== %s\n%s' % (case.name.encode(), case.stderr) not in b'\n' + out:
-            wrong[case.name] = 'want on standard error: %r' % case.stderr
-    return wrong
+            wrong['tests/' + sort] = 'no case is there'
+        cases += found
+    return cases, wrong
 
 
-def main():
-    cases = [Case(name) for name in sorted(os.listdir(CASES))]
-    if len(sys.argv) > 1:
-        program = os.path.abspath(sys.argv[1])
-        wrong = {c.name: run_program(program, c) for c in cases}
-        wrong = {name: text for name, text in wrong.items() if text}
+def show(outcome):
+    return 'status %d\n  standard output %r\n  standard error  %r' % outcome
+
+
+def difference(case, got):
+    """What is wrong with an outcome; nothing where all is right."""
+    return '' if got == case.want else 'got %s\nwant %s' % (show(got), show(case.want))
+
+
+def run_program(path, case):
+    """What is wrong with the run of a program that is built."""
+    with tempfile.TemporaryDirectory() as folder:
+        if case.graph is not None:
+            write(folder, 'graph.json', case.graph)
+        words = ['graph.json'] if case.words is None else case.words
+        try:
+            run = subprocess.run([path] + words, input=case.given, cwd=folder, timeout=SECONDS,
+                                 stdout=subprocess.PIPE, stderr=subprocess.PIPE)
+        except (OSError, subprocess.TimeoutExpired) as error:
+            return str(error)
+    return difference(case, Outcome(run.returncode, run.stdout, run.stderr))
+
+
+def run_programs(paths, cases):
+    """What is wrong with the runs of the programs at these paths, case by case."""
+    with ThreadPoolExecutor(os.cpu_count()) as pool:
+        return list(pool.map(lambda case: run_program(paths[case.program], case), cases))
+
+
+def write_trial(folder, key, case):
+    """The files from which `rt try --cases` runs a case: its standard input and its words, and the graph apart."""
+    graph = os.path.join(folder, key + '.json')
+    if case.graph is not None:
+        write(folder, key + '.json', case.graph)
+    words = [graph] if case.words is None else case.words
+    trials = os.path.join(folder, 'trials')
+    write(trials, key, case.given)
+    write(trials, key + '.args', ''.join(word + '\n' for word in words).encode())
+
+
+def trial_outcomes(output, report):
+    """The outcomes of the runs of `rt try --cases` by their keys. It prints what a run wrote to standard output below
+    the run's line '== KEY', and what it wrote to standard error above the line 'case=KEY' of its report; a last line
+    without an end gets one."""
+    outputs = re.split(rb'^== (\d{5})\n', output, flags=re.M)
+    outputs = dict(zip(outputs[1::2], outputs[2::2]))
+    errors = re.split(rb'^case=(\d{5}) run=(\S+) status=(\d+).*\n', report, flags=re.M)
+    ends = zip(errors[0::4], errors[1::4], errors[2::4], errors[3::4])
+    return {key: Outcome(int(status), outputs.get(key), error)
+            for error, key, run, status in ends if run == b'ended'}
+
+
+def try_program(program, cases):
+    """What is wrong with the runs of an unproved build of a program, case by case."""
+    with tempfile.TemporaryDirectory() as folder:
+        trials = os.path.join(folder, 'trials')
+        os.mkdir(trials)
+        keys = [b'%05d' % number for number in range(len(cases))]
+        for key, case in zip(keys, cases):
+            write_trial(folder, key.decode(), case)
+        try:
+            run = subprocess.run(['rt', 'try', '--cases', trials], cwd=os.path.join(ROOT, 'crates', program),
+                                 stdout=subprocess.PIPE, stderr=subprocess.PIPE)
+        except OSError as error:
+            return [str(error)] * len(cases)
+    found = trial_outcomes(run.stdout, run.stderr)
+    last_words = 'no run; the last words of rt try: ' + run.stderr.decode('utf-8', 'replace')[-400:]
+    return [difference(case, found[key]) if key in found else last_words for key, case in zip(keys, cases)]
+
+
+def try_programs(cases):
+    """What is wrong with the runs of unproved builds of the programs, case by case."""
+    shares = [[case for case in cases if case.program == program] for program in PROGRAMS]
+    with ThreadPoolExecutor(len(PROGRAMS)) as pool:
+        found = list(pool.map(try_program, PROGRAMS, shares))
+    texts = {case.name: text for share, part in zip(shares, found) for case, text in zip(share, part)}
+    return [texts[case.name] for case in cases]
+
+
+def main(words):
+    cases, wrong = all_cases()
+    if words == ['--proved']:
+        words = [os.path.join(ROOT, 'crates', program, 'out', program) for program in PROGRAMS]
+    if not words:
+        found = try_programs(cases)
+    elif len(words) == len(PROGRAMS):
+        found = run_programs({program: os.path.abspath(word) for program, word in zip(PROGRAMS, words)}, cases)
     else:
-        wrong = try_cases(cases)
+        print(__doc__)
+        return 2
+    wrong.update({case.name: text for case, text in zip(cases, found) if text})
     for name in sorted(wrong):
         print('%s: %s' % (name, wrong[name]))
-    print('%d passed, %d failed' % (len(cases) - len(wrong), len(wrong)))
+    print('%d passed, %d failed' % (found.count(''), len(wrong)))
     return 1 if wrong else 0
 
 
 if __name__ == '__main__':
-    sys.exit(main())
+    sys.exit(main(sys.argv[1:]))

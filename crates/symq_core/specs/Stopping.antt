@@ -1,5 +1,6 @@
 -- The exit status of the program, by why it stops.
 use Rattle.std.specs.Prelude.{ℕ}
+use Rattle.std.specs.Bool.{⊤}
 use Rattle.symbols_tree.specs.declared.check.faults.GraphFault.{GraphFault}
 use Rattle.symbols_tree.specs.declared.check.faults.GraphFault.TheVariants as graph
 use Rattle.symq_reader.specs.declared.faults.FormatFault.{FormatFault}
@@ -27,3 +28,9 @@ status_of Stop.NotRead = 3
 status_of (Stop.Format fault) = format_status fault
 status_of (Stop.Graph fault) = graph_status fault
 status_of (Stop.Engine fault) = engine_status fault
+
+-- a stop before a graph is there to be checked: of the words, of the file or of its text
+abbrev pub IsStartStop : Stop → Type 0
+IsStartStop (Stop.Graph _) = ⊥
+IsStartStop (Stop.Engine _) = ⊥
+IsStartStop _ = ⊤

@@ -8,6 +8,7 @@ mod lines;
 mod memory;
 mod query;
 mod sending;
+mod start;
 mod stop;
 mod streams;
 
@@ -15,6 +16,7 @@ pub use device::{DeviceFault, Input, Output};
 pub use engine::serve;
 pub use fault::EngineFault;
 pub use memory::{MemoryInput, MemoryOutput};
+pub use start::read_graph_file;
 pub use stop::Stop;
 pub use streams::{ReaderInput, WriterOutput};
 pub use symq_reader::{FormatFault, read_graph};

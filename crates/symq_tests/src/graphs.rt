@@ -1,9 +1,11 @@
-//! Small graphs, accepted and refused.
+//! Small graphs: what they hold and what they resolve.
 
 use std::alloc::{AllocError, Global};
+use std::process::Abort;
 use std::test::Fail;
 use symbols_tree::check::{
-    GraphModule, ModuleGraph, RawGraph, RawModule, RawModuleKind, RawResolution,
+    GraphFault, GraphModule, ModuleGraph, RawGraph, RawModule, RawModuleKind, RawResolution,
+    TreeFault,
 };
 use symbols_tree::tree::{Item, Kind, Node, SourceRange, Tree};
 
@@ -11,68 +13,103 @@ fn text(alloc: Global, text: &str) -> Result<String, AllocError> {
     String::from_str(alloc, text)
 }
 
-/// A graph of external modules, redirects, and resolutions as referrer, text and specifier.
-fn graph(
+fn resolution(
     alloc: Global,
-    specifiers: &[&str],
-    redirects: &[(&str, &str)],
-    resolutions: &[(&str, &str, &str)],
-) -> Result<RawGraph, AllocError> {
-    let mut raw = RawGraph {
-        modules: Vec::new(alloc),
-        redirects: Vec::new(alloc),
-        resolutions: Vec::new(alloc),
-    };
-    for specifier in specifiers {
-        raw.modules.push(RawModule {
-            specifier: text(alloc, *specifier)?,
-            kind: RawModuleKind::External,
-        })?;
-    }
-    for (source, target) in redirects {
-        raw.redirects
-            .push((text(alloc, *source)?, text(alloc, *target)?))?;
-    }
-    for (referrer, asked, specifier) in resolutions {
-        raw.resolutions.push(RawResolution {
-            referrer: text(alloc, *referrer)?,
-            text: text(alloc, *asked)?,
-            specifier: text(alloc, *specifier)?,
-        })?;
-    }
-    Ok(raw)
-}
-
-/// An ECMAScript module of no text: with a tree of an empty program, or of no nodes at all.
-fn script(alloc: Global, specifier: &str, has_program: bool) -> Result<RawModule, AllocError> {
-    let mut nodes = Vec::new(alloc);
-    if has_program {
-        nodes.push(Node {
-            kind: Kind::Item(Item::Program {
-                body: Vec::new(alloc),
-            }),
-            range: SourceRange { start: 0, end: 0 },
-        })?;
-    }
-    Ok(RawModule {
-        specifier: text(alloc, specifier)?,
-        kind: RawModuleKind::Esm {
-            text: String::new(alloc),
-            tree: Some(Tree {
-                declaration: false,
-                nodes,
-            }),
-            types: Some(text(alloc, "types")?),
-        },
+    referrer: &str,
+    asked: &str,
+    specifier: &str,
+) -> Result<RawResolution, AllocError> {
+    let referrer = text(alloc, referrer)?;
+    let asked = text(alloc, asked)?;
+    let specifier = text(alloc, specifier)?;
+    Ok(RawResolution {
+        referrer,
+        text: asked,
+        specifier,
     })
 }
 
-/// What a graph is refused for, in words.
-fn refusal(alloc: Global, raw: RawGraph) -> Result<String, AllocError> {
-    match ModuleGraph::new(alloc, raw) {
-        Ok(_) => text(alloc, "accepted"),
-        Err(fault) => fault.to_string(alloc),
+fn resolutions(
+    alloc: Global,
+    rows: &[(&str, &str, &str)],
+) -> Result<Vec<RawResolution>, AllocError> {
+    let mut resolutions = Vec::new(alloc);
+    for (referrer, asked, specifier) in rows {
+        resolutions.push(resolution(alloc, *referrer, *asked, *specifier)?)?;
     }
+    Ok(resolutions)
+}
+
+/// A graph of these resolutions, where `r` is redirected to `a`.
+fn resolving(alloc: Global, rows: &[(&str, &str, &str)]) -> Result<ModuleGraph, GraphFault> {
+    let mut redirects = Vec::new(alloc);
+    redirects.push((text(alloc, "r")?, text(alloc, "a")?))?;
+    let raw = RawGraph {
+        modules: Vec::new(alloc),
+        redirects,
+        resolutions: resolutions(alloc, rows)?,
+    };
+    ModuleGraph::new(alloc, raw)
+}
+
+fn resolves(rt: &impl Abort, graph: &ModuleGraph) {
+    for (referrer, asked, want) in [
+        ("a", "t", "b"),
+        ("b", "t", "c"),
+        ("a", "u", "gone"),
+        ("absent", "t", "a"),
+        ("b", "u", "none"),
+        ("r", "t", "none"),
+    ] {
+        let found = graph.resolve_dependency(asked, referrer).unwrap_or("none");
+        assert_eq!(rt; found, want, "{referrer} {asked}");
+    }
+}
+
+#[test]
+fn resolves_by_referrer_and_text(rt: HostRuntime) -> Result<(), Fail> {
+    let rows = [
+        ("a", "t", "b"),
+        ("b", "t", "c"),
+        ("a", "u", "gone"),
+        ("absent", "t", "a"),
+    ];
+    let graph = resolving(rt.alloc(), &rows)?;
+    resolves(&rt, &graph);
+    Ok(())
+}
+
+/// An ECMAScript module of no text, with a tree of an empty program.
+fn script(alloc: Global) -> Result<RawModuleKind, AllocError> {
+    let types = text(alloc, "types")?;
+    let mut nodes = Vec::new(alloc);
+    nodes.push(Node {
+        kind: Kind::Item(Item::Program {
+            body: Vec::new(alloc),
+        }),
+        range: SourceRange { start: 0, end: 0 },
+    })?;
+    Ok(RawModuleKind::Esm {
+        text: String::new(alloc),
+        tree: Some(Tree {
+            declaration: false,
+            nodes,
+        }),
+        types: Some(types),
+    })
+}
+
+/// The graph of the one module `m` of this kind.
+fn graph(alloc: Global, kind: RawModuleKind) -> Result<ModuleGraph, GraphFault> {
+    let specifier = text(alloc, "m")?;
+    let mut modules = Vec::new(alloc);
+    modules.push(RawModule { specifier, kind })?;
+    let raw = RawGraph {
+        modules,
+        redirects: Vec::new(alloc),
+        resolutions: Vec::new(alloc),
+    };
+    ModuleGraph::new(alloc, raw)
 }
 
 /// The text of a module, whether it has a tree, the module of its types, and whether it is JSON.
@@ -85,102 +122,48 @@ fn shown(module: &GraphModule) -> (&str, bool, Option<&str>, bool) {
     )
 }
 
-#[test]
-fn follows_one_redirect(rt: HostRuntime) -> Result<(), Fail> {
-    let alloc = rt.alloc();
-    let redirects = [("r", "a"), ("b", "c"), ("x", "gone")];
-    let raw = graph(alloc, &["a", "b", "c"], &redirects, &[])?;
-    let graph = ModuleGraph::new(alloc, raw)?;
-
-    for (specifier, want) in [("a", "a"), ("r", "a"), ("b", "c"), ("x", "none")] {
-        let found = graph.get(specifier).map_or("none", GraphModule::specifier);
-        assert_eq!(rt; found, want, "{specifier}");
-    }
-    Ok(())
-}
-
-#[test]
-fn resolves_by_referrer_and_text(rt: HostRuntime) -> Result<(), Fail> {
-    let alloc = rt.alloc();
-    let rows = [
-        ("a", "t", "b"),
-        ("b", "t", "c"),
-        ("a", "u", "gone"),
-        ("absent", "t", "a"),
-    ];
-    let raw = graph(alloc, &["a", "b"], &[("r", "a")], &rows)?;
-    let graph = ModuleGraph::new(alloc, raw)?;
-
-    for (referrer, asked, want) in [
-        ("a", "t", "b"),
-        ("b", "t", "c"),
-        ("a", "u", "gone"),
-        ("absent", "t", "a"),
-        ("b", "u", "none"),
-        ("r", "t", "none"),
-    ] {
-        let found = graph.resolve_dependency(asked, referrer).unwrap_or("none");
-        assert_eq!(rt; found, want, "{referrer} {asked}");
-    }
+fn shows(
+    rt: &impl Abort,
+    alloc: Global,
+    kind: RawModuleKind,
+    want: (&str, bool, Option<&str>, bool),
+) -> Result<(), GraphFault> {
+    let graph = graph(alloc, kind)?;
+    assert_eq!(rt; graph.get("m").map(shown), Some(want));
     Ok(())
 }
 
 #[test]
 fn shows_what_a_module_is(rt: HostRuntime) -> Result<(), Fail> {
     let alloc = rt.alloc();
-    let mut raw = graph(alloc, &["outside"], &[], &[])?;
-    raw.modules.push(script(alloc, "script", true)?)?;
-    raw.modules.push(RawModule {
-        specifier: text(alloc, "data")?,
-        kind: RawModuleKind::Json {
-            text: text(alloc, "[]")?,
-        },
-    })?;
-    let graph = ModuleGraph::new(alloc, raw)?;
-
-    for (specifier, want) in [
-        ("outside", ("", false, None, false)),
-        ("script", ("", true, Some("types"), false)),
-        ("data", ("[]", false, None, true)),
-    ] {
-        assert_eq!(rt; graph.get(specifier).map(shown), Some(want), "{specifier}");
-    }
+    let external = RawModuleKind::External;
+    shows(&rt, alloc, external, ("", false, None, false))?;
+    shows(&rt, alloc, script(alloc)?, ("", true, Some("types"), false))?;
+    let text = text(alloc, "[]")?;
+    let json = RawModuleKind::Json { text };
+    shows(&rt, alloc, json, ("[]", false, None, true))?;
     Ok(())
 }
 
-#[test]
-fn refuses_the_first_entry(rt: HostRuntime) -> Result<(), Fail> {
-    let alloc = rt.alloc();
-    let rows = [("a", "t", "x"), ("b", "t", "x"), ("a", "t", "y")];
-
-    let raw = graph(alloc, &["a", "b", "b", "a"], &[("r", "r")], &rows)?;
-    let specifier = refusal(alloc, raw)?;
-    let raw = graph(alloc, &["a"], &[("r", "r"), ("s", "a"), ("s", "b")], &rows)?;
-    let redirect = refusal(alloc, raw)?;
-    let raw = graph(alloc, &["a"], &[("s", "a"), ("t", "s"), ("r", "r")], &rows)?;
-    let chain = refusal(alloc, raw)?;
-    let raw = graph(alloc, &["a"], &[("s", "a")], &rows)?;
-    let resolution = refusal(alloc, raw)?;
-
-    for (found, want) in [
-        (specifier, "duplicate specifier b"),
-        (redirect, "duplicate redirect s"),
-        (chain, "redirect to redirect t"),
-        (resolution, "duplicate resolution a t"),
-    ] {
-        assert_eq!(rt; found.as_str(), want);
-    }
+fn says(rt: &impl Abort, alloc: Global, fault: GraphFault, want: &str) -> Result<(), AllocError> {
+    let found = fault.to_string(alloc)?;
+    assert_eq!(rt; found.as_str(), want);
     Ok(())
 }
 
+/// What a fault says. No program says it in these words.
 #[test]
-fn refuses_the_first_bad_tree(rt: HostRuntime) -> Result<(), Fail> {
+fn says_what_is_refused(rt: HostRuntime) -> Result<(), Fail> {
     let alloc = rt.alloc();
-    let mut raw = graph(alloc, &["a"], &[("s", "absent")], &[])?;
-    for (specifier, has_program) in [("good", true), ("bad", false), ("worse", false)] {
-        raw.modules.push(script(alloc, specifier, has_program)?)?;
-    }
-    let found = refusal(alloc, raw)?;
-    assert_eq!(rt; found.as_str(), "tree of bad: no program");
+    let b = GraphFault::DuplicateSpecifier(text(alloc, "b")?);
+    says(&rt, alloc, b, "duplicate specifier b")?;
+    let s = GraphFault::DuplicateRedirect(text(alloc, "s")?);
+    says(&rt, alloc, s, "duplicate redirect s")?;
+    let t = GraphFault::RedirectToRedirect(text(alloc, "t")?);
+    says(&rt, alloc, t, "redirect to redirect t")?;
+    let a = GraphFault::DuplicateResolution(text(alloc, "a")?, text(alloc, "t")?);
+    says(&rt, alloc, a, "duplicate resolution a t")?;
+    let bad = GraphFault::Tree(text(alloc, "bad")?, TreeFault::NoProgram);
+    says(&rt, alloc, bad, "tree of bad: no program")?;
     Ok(())
 }

@@ -1,5 +1,5 @@
-//! Tests of the libraries' public calls. A crate with tests is proved twice, with and without them, so they stand in one
-//! of their own.
+//! Tests of the libraries' public calls, where no run of a program shows what they give. A crate with tests is proved
+//! twice, with and without them, so they stand in one of their own.
 #![tactic(auto)]
 
 #[cfg(test)]
@@ -15,6 +15,6 @@ mod reading;
 #[cfg(test)]
 mod serving;
 #[cfg(test)]
-mod symbols;
+mod stops;
 #[cfg(test)]
-mod trees;
+mod symbols;

@@ -1,8 +1,5 @@
-//! Whole runs of the engine over memory, over streams and over devices that fail.
-
-mod names;
-mod stops;
-mod tables;
+//! Whole runs of the engine over memory, over streams and over devices that fail. The graph is empty, and no line is a
+//! query: what a query gives is told by runs of the program.
 
 ghost use Rattle.std.specs.Prelude.{◌<◌};
 ghost use Rattle.symq_core.specs.Devices.{COUNT_LIMIT};
@@ -19,23 +16,8 @@ use symq_core::program::{
 /// The answer to each line that is no query.
 const BAD: &[u8] = b"{\"fault\":\"bad query\"}\n";
 
-/// The answer where the module `m` is asked for.
-const OWN: &[u8] =
-    b"{\"exports\":[{\"chain\":[],\"module\":\"m\",\"name\":\"a\",\"symbol\":1}],\"unresolved\":[]}\n";
-
-/// A graph of the module `m`, which is the text `export var a;`, of the redirect `r` to it, and of
-/// `x`, which is external.
-const GRAPH: &[u8] =
-    br#"{"modules":[{"specifier":"m","kind":"esm","text":"export var a;","tree":{"nodes":[
-    {"kind":"Program","range":[0,13],"body":[1]},
-    {"kind":"ExportDecl","range":[0,13],"decl":2},
-    {"kind":"VarDecl","range":[7,13],"decls":[3]},
-    {"kind":"VarDeclarator","range":[11,12],"name":4},
-    {"kind":"BindingIdent","range":[11,12],"sym":["a",2]}]}},
-    {"specifier":"x","kind":"external"}],"redirects":[["r","m"]]}"#;
-
-fn graph_of(alloc: Global, text: &[u8]) -> Result<ModuleGraph, Stop> {
-    let raw = read_graph(alloc, text).map_err(Stop::Format)?;
+fn empty_graph(alloc: Global) -> Result<ModuleGraph, Stop> {
+    let raw = read_graph(alloc, b"{}").map_err(Stop::Format)?;
     ModuleGraph::new(alloc, raw).map_err(Stop::Graph)
 }
 
@@ -48,81 +30,28 @@ fn bad_answers(alloc: Global, count: usize) -> Result<Vec<u8>, AllocError> {
     Ok(text)
 }
 
-/// Serves over the graph of a text. The graph lives here alone: what a function lets go is proved
-/// anew for each way out of it.
+/// Serves over the empty graph, which lives here alone: what a function lets go is proved anew for
+/// each way out of it.
 fn serve_over<R: Input, W: Output>(
     alloc: Global,
-    text: &[u8],
     reader: &mut R,
     writer: &mut W,
 ) -> Result<Result<(), EngineFault>, Stop>
     requires reads_countable { R.failures reader.old < COUNT_LIMIT }
     requires writes_countable { W.failures writer.old < COUNT_LIMIT }
 {
-    let graph = graph_of(alloc, text)?;
+    let graph = empty_graph(alloc)?;
     Ok(serve(alloc, &graph, reader, writer))
-}
-
-/// What is written for an input, over the graph of a text.
-fn output(alloc: Global, text: &[u8], input: &[u8]) -> Result<MemoryOutput, Fail> {
-    let mut reader = MemoryInput { rest: input };
-    let mut writer = MemoryOutput::new(alloc);
-    serve_over(alloc, text, &mut reader, &mut writer)??;
-    Ok(writer)
 }
 
 /// The lines of the input are no queries, and so many.
 fn answers_bad(rt: &impl Abort, alloc: Global, input: &[u8], count: usize) -> Result<(), Fail> {
-    let written = output(alloc, GRAPH, input)?;
+    let mut reader = MemoryInput { rest: input };
+    let mut writer = MemoryOutput::new(alloc);
+    serve_over(alloc, &mut reader, &mut writer)??;
     let want = bad_answers(alloc, count)?;
-    assert!(rt; written.bytes.as_slice() == want.as_slice());
+    assert!(rt; writer.bytes.as_slice() == want.as_slice());
     Ok(())
-}
-
-#[test]
-fn answers_each_line(rt: HostRuntime) -> Result<(), Fail> {
-    answers_bad(&rt, rt.alloc(), b"", 0)?;
-    answers_bad(&rt, rt.alloc(), b"\n", 1)?;
-    answers_bad(&rt, rt.alloc(), b"no\n", 1)?;
-    answers_bad(&rt, rt.alloc(), b"no\n\nno", 3)?;
-    answers_bad(&rt, rt.alloc(), b"no\r\nno\n", 2)
-}
-
-/// The answer to one line over a graph.
-fn answers_over(
-    rt: &impl Abort,
-    alloc: Global,
-    text: &[u8],
-    line: &str,
-    want: &[u8],
-) -> Result<(), Fail> {
-    let written = output(alloc, text, line.as_bytes())?;
-    assert!(rt; written.bytes.as_slice() == want);
-    Ok(())
-}
-
-fn answers_one(rt: &impl Abort, alloc: Global, line: &str, want: &[u8]) -> Result<(), Fail> {
-    answers_over(rt, alloc, GRAPH, line, want)
-}
-
-#[test]
-fn answers_with_exports(rt: HostRuntime) -> Result<(), Fail> {
-    answers_one(&rt, rt.alloc(), r#"["exports","m"]"#, OWN)?;
-    answers_one(&rt, rt.alloc(), r#" [ "exports" , "r" ] "#, OWN)
-}
-
-#[test]
-fn answers_null_without_symbols(rt: HostRuntime) -> Result<(), Fail> {
-    answers_one(&rt, rt.alloc(), r#"["exports","x"]"#, b"null\n")?;
-    answers_one(&rt, rt.alloc(), r#"["exports","y"]"#, b"null\n")
-}
-
-#[test]
-fn answers_other_forms_with_a_fault(rt: HostRuntime) -> Result<(), Fail> {
-    answers_one(&rt, rt.alloc(), r#"["exports"]"#, BAD)?;
-    answers_one(&rt, rt.alloc(), r#"["exports","m","m"]"#, BAD)?;
-    answers_one(&rt, rt.alloc(), r#"["exports",0]"#, BAD)?;
-    answers_one(&rt, rt.alloc(), r#"["export","m"]"#, BAD)
 }
 
 /// Gives its bytes, at most some at a time, and then ends or fails.
@@ -166,7 +95,7 @@ fn answers_two(rt: &impl Abort, alloc: Global, most: usize) -> Result<(), Fail>
         failed: 0,
     };
     let mut writer = MemoryOutput::new(alloc);
-    let served = serve_over(alloc, GRAPH, &mut reader, &mut writer)?;
+    let served = serve_over(alloc, &mut reader, &mut writer)?;
     assert!(rt; served == Err(EngineFault::InputFailed) && reader.failed == 1);
     let want = bad_answers(alloc, 2)?;
     assert!(rt; writer.bytes.as_slice() == want.as_slice());
@@ -214,7 +143,7 @@ fn writes_a_beginning(rt: &impl Abort, alloc: Global, fails: bool) -> Result<(),
         fails,
         failed: 0,
     };
-    let served = serve_over(alloc, GRAPH, &mut reader, &mut writer)?;
+    let served = serve_over(alloc, &mut reader, &mut writer)?;
     assert!(rt; served == Err(EngineFault::OutputFailed) && writer.failed == 1);
     assert!(rt; writer.taken.as_slice() == b"{\"fault\":\"bad query\"}\n{\"f".as_slice());
     Ok(())
@@ -246,7 +175,7 @@ fn answers_four(rt: &impl Abort, alloc: Global, text: &[u8], most: usize) -> Res
         failed: 0,
     };
     let mut writer = MemoryOutput::new(alloc);
-    serve_over(alloc, GRAPH, &mut reader, &mut writer)??;
+    serve_over(alloc, &mut reader, &mut writer)??;
     let want = bad_answers(alloc, 4)?;
     assert!(rt; writer.bytes.as_slice() == want.as_slice());
     Ok(())
@@ -271,7 +200,7 @@ fn answers_over_streams(rt: HostRuntime) -> Result<(), Fail> {
     let mut bytes: Vec<u8> = Vec::new(rt.alloc());
     let mut reader = ReaderInput::new(b"no\nno".as_slice());
     let mut writer = WriterOutput::new(&mut bytes);
-    serve_over(rt.alloc(), GRAPH, &mut reader, &mut writer)??;
+    serve_over(rt.alloc(), &mut reader, &mut writer)??;
     drop(writer);
     let want = bad_answers(rt.alloc(), 2)?;
     assert!(rt; bytes.as_slice() == want.as_slice());

@@ -1,0 +1,105 @@
+//! A declaration of a symbol, on a line of its own.
+
+use crate::nodes::{form_name, push_nodes};
+use std::alloc::{AllocError, Global};
+use symbols_nodes::nodes::SymbolNodeRef;
+use symbols_table::decl::{FileDep, FileDepName, SymbolDecl, SymbolDeclKind};
+use symbols_tree::tree::{Id, SourceRange};
+
+fn push_target(text: &mut String, id: &Id) -> Result<(), AllocError> {
+    let name = id.name.as_str();
+    let scope = id.scope;
+    write!(text, "target {name:?} of scope {scope}")
+}
+
+fn push_qualified_target(text: &mut String, id: &Id, parts: &[&str]) -> Result<(), AllocError> {
+    let name = id.name.as_str();
+    let scope = id.scope;
+    write!(text, "qualified target {name:?} of scope {scope}, then")?;
+    for part in parts {
+        write!(text, " {part:?}")?;
+    }
+    Ok(())
+}
+
+fn push_file_ref(text: &mut String, dep: FileDep<'_>) -> Result<(), AllocError> {
+    let specifier = dep.specifier;
+    match dep.name {
+        FileDepName::Star => write!(text, "file * from {specifier:?}"),
+        FileDepName::Name(name) => write!(text, "file {name:?} from {specifier:?}"),
+    }
+}
+
+fn push_name(alloc: Global, text: &mut String, decl: &SymbolDecl<'_>) -> Result<(), AllocError> {
+    match decl.maybe_name(alloc)? {
+        Some(name) => write!(text, " {name:?}"),
+        None => Ok(()),
+    }
+}
+
+/// A definition: its form and its name, if it has one.
+fn push_definition(
+    alloc: Global,
+    text: &mut String,
+    decl: &SymbolDecl<'_>,
+) -> Result<(), AllocError> {
+    text.push_str("definition")?;
+    if let Some(node) = decl.maybe_node() {
+        let form = form_name(node);
+        write!(text, " {form}")?;
+    }
+    push_name(alloc, text, decl)
+}
+
+fn push_kind(alloc: Global, text: &mut String, decl: &SymbolDecl<'_>) -> Result<(), AllocError> {
+    match &decl.kind {
+        SymbolDeclKind::Target(id) => push_target(text, id),
+        SymbolDeclKind::QualifiedTarget(id, parts) => push_qualified_target(text, id, parts),
+        SymbolDeclKind::FileRef(dep) => push_file_ref(text, *dep),
+        SymbolDeclKind::Definition(_) => push_definition(alloc, text, decl),
+    }
+}
+
+fn push_range(text: &mut String, range: SourceRange) -> Result<(), AllocError> {
+    let start = range.start;
+    let end = range.end;
+    write!(text, " at {start}..{end}")
+}
+
+fn push_test(text: &mut String, word: &str, holds: bool) -> Result<(), AllocError> {
+    if holds {
+        write!(text, ", {word}")
+    } else {
+        Ok(())
+    }
+}
+
+/// The words of the tests that hold of a declaration.
+fn push_tests(text: &mut String, decl: &SymbolDecl<'_>) -> Result<(), AllocError> {
+    let is_method = decl.maybe_node().is_some_and(|node| node.is_method());
+    push_test(text, "function", decl.is_function())?;
+    push_test(text, "method", is_method)?;
+    push_test(text, "body", decl.has_body())?;
+    push_test(text, "overloads", decl.has_overloads())
+}
+
+fn push_nodes_of(text: &mut String, node: Option<SymbolNodeRef<'_>>) -> Result<(), AllocError> {
+    match node {
+        Some(node) => push_nodes(text, node),
+        None => Ok(()),
+    }
+}
+
+/// What a declaration is, where it stands, the tests that hold of it, and its nodes.
+pub(crate) fn push_declaration(
+    alloc: Global,
+    text: &mut String,
+    decl: &SymbolDecl<'_>,
+) -> Result<(), AllocError> {
+    text.push_str("    ")?;
+    push_kind(alloc, text, decl)?;
+    push_range(text, decl.range)?;
+    push_tests(text, decl)?;
+    push_nodes_of(text, decl.maybe_node())?;
+    text.push('\n')
+}

@@ -1,0 +1,77 @@
+//! The tables of the modules, one after the other, on standard output.
+
+use crate::names::push_names;
+use crate::tables::push_symbols;
+use std::alloc::{AllocError, Global};
+use std::io;
+use std::io::Write;
+use symbols_table::analyze;
+use symbols_table::info::{EsModuleInfo, SymbolsFault};
+use symbols_tree::check::{GraphModule, ModuleGraph};
+use symbols_tree::ids::ModuleId;
+use symq_core::program::EngineFault;
+
+/// The specifier, the symbols and the names of a module.
+fn push_module(
+    alloc: Global,
+    text: &mut String,
+    module: &EsModuleInfo<'_>,
+) -> Result<(), AllocError> {
+    let specifier = module.specifier();
+    write!(text, "module {specifier:?}\n")?;
+    push_symbols(alloc, text, module)?;
+    push_names(alloc, text, module)
+}
+
+/// That a module's symbols were not found, for a reason that is no want of memory.
+fn push_fault(
+    text: &mut String,
+    module: &GraphModule,
+    fault: &SymbolsFault,
+) -> Result<(), AllocError> {
+    let specifier = module.specifier();
+    write!(text, "module {specifier:?}\n  {fault}\n")
+}
+
+/// What is told of a module: nothing where it has no symbols.
+fn module_text(alloc: Global, module: &GraphModule) -> Result<String, AllocError> {
+    let mut text = String::new(alloc);
+    match analyze(alloc, ModuleId::from_number(0), module, u32::MAX) {
+        Ok(Some(info)) => {
+            if let Some(esm) = info.esm() {
+                push_module(alloc, &mut text, esm)?;
+            }
+        }
+        Ok(None) => {}
+        Err(SymbolsFault::OutOfMemory) => return Err(AllocError),
+        Err(fault) => push_fault(&mut text, module, &fault)?,
+    }
+    Ok(text)
+}
+
+/// The module of a specifier. A module that a redirect hides is none: no look-up reaches it.
+fn own_module<'a>(graph: &'a ModuleGraph, specifier: &str) -> Option<&'a GraphModule> {
+    let module = graph.get(specifier)?;
+    if module.specifier() == specifier {
+        Some(module)
+    } else {
+        None
+    }
+}
+
+/// Prints the tables of the modules of these specifiers, in this order.
+pub(crate) fn print_tables<R: AllocGlobal + Print>(
+    rt: &R,
+    graph: &ModuleGraph,
+    specifiers: &[String],
+) -> Result<(), EngineFault> {
+    let mut output = io::writer(rt);
+    for specifier in specifiers {
+        if let Some(module) = own_module(graph, specifier.as_str()) {
+            let text = module_text(rt.alloc(), module)?;
+            let written = output.write_all(text.as_bytes());
+            written.map_err(|_| EngineFault::OutputFailed)?;
+        }
+    }
+    Ok(())
+}
