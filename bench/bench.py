@@ -1,27 +1,35 @@
 #!/usr/bin/env python3
-"""Measures the stages of the program on made graphs, with their growth from n to 2n.
+"""Counts and times the stages of the program on made graphs, with their growth from n to 2n.
 
     python3 bench/bench.py PROGRAM                     the program alone
-    python3 bench/bench.py PROGRAM --beside OTHER      beside a build of the Rust crate
+    python3 bench/bench.py PROGRAM --beside OTHER      beside another program, a build of the Rust crate
+    python3 bench/bench.py PROGRAM --only counts       counts alone; --only times: times alone
     python3 bench/bench.py PROGRAM --graph GRAPH ..    on graphs of files, too
-    python3 bench/bench.py PROGRAM --count             instructions in place of times, on graphs of a tenth of the size
 
-Each figure is the least processor time of some runs. Those on graphs of n and 2n, and those of both programs, are taken
-in turn, so that a slow minute of the machine falls on each:
+It prints a table with a row for each graph and stage. In counts the stages are
 
-    read      a whole run on the graph with a module's specifier twice, which is refused before its trees are looked at
-    check     the time within ModuleGraph::new, which gdb stops at: a run is too long to be told from one without
-    analyse   a run with eleven queries a module, less one with one, by ten: each query analyses its module anew
+    read      a run on the graph with a module's specifier twice, which is refused before its trees are looked at
+    check     a run without queries, less read
+    analyse   a run with a query for each module, less one without queries
 
-OTHER is a program that takes the same graphs and lines, has no checker, and prints with `--bench RUNS` an object of
-its stages, `json_parse`, `ast_build` and `analysis` among them, each with `min_cpu_ms`. It is measured in the same run
-of this script. Reading is compared with its whole run without queries ('of the crate'), which like ours starts, reads
-the file, and lets all go at its end; 'of its timers' is to json_parse and ast_build, which leave that out. Analysing is
-compared with its timer, which leaves out the query, the answer and letting go, and is run once where it takes over ten
-seconds.
+and what is counted of a run:
 
-With --count the figures are instructions as valgrind's callgrind counts them, in millions: they tell growth without the
-noise of a machine, and nothing of memory's speed. There check is a run without queries, less read.
+    instructions   in millions, by valgrind's cachegrind, which is some 25 times slower than the program:
+                   so a made graph has a tenth of the stated size there
+    pages          of 4096 bytes, that were touched for the first time (minor faults, the least of three runs); not
+                   taken of the other program's analyse
+
+'growth' is the figure of 2n by that of n. 'of other' is by the figure of the other program, for n and for 2n: its read
+is its whole run without queries, which like ours starts, reads the file, makes the graph and lets all go; its analyse
+is taken like ours; it has no checker. A dash stands where the count to divide by is below 100, or the time below 1 ms.
+
+ms is processor time, of n, the least of some runs; those of both programs and of n and 2n are taken in turn, so that a
+slow minute of the machine falls on each, and one of over ten seconds is taken once. A time illustrates and shows
+nothing: it varies with what else the machine does. Its analyse is a run with eleven queries a module less one with one,
+by ten, beside the timer 'analysis' that OTHER prints (below); check is too short for a difference of times.
+
+OTHER takes the same graphs and lines, and prints with `--bench RUNS` a JSON object of its stages, in which
+`analysis` has `min_cpu_ms`, the least processor time of analysing all modules.
 """
 import argparse
 import json
@@ -33,24 +41,11 @@ import sys
 import tempfile
 from functools import partial
 
-# the runs of each command for reading, for analysing and for checking
-ROUNDS = [25, 5, 5]
+# the runs of each command: for the pages, for the times of reading and for those of analysing
+PAGES, READS, ANALYSES = 3, 15, 3
 
-# stops at the checker's start and at its end, and prints the processor time between
-STOPS = '''
-import gdb
-
-def time():
-    with open('/proc/%d/schedstat' % gdb.selected_inferior().pid) as f:
-        return int(f.read().split()[0])
-
-gdb.execute("break 'symbols_tree::check::graph::ModuleGraph::new'")
-gdb.execute('run')
-start = time()
-gdb.execute('finish')
-print('nanoseconds', time() - start)
-gdb.execute('kill')
-'''
+COLUMNS = ['graph', 'stage', 'million instructions', 'growth', 'of other', 'pages', 'growth', 'of other']
+COLUMNS += ['ms', 'of other']
 
 
 class Tree:
@@ -139,43 +134,15 @@ MADE = [
 ]
 
 
-def cpu_time(command, lines):
-    """The processor time of a run, in milliseconds."""
-    before = resource.getrusage(resource.RUSAGE_CHILDREN)
-    subprocess.run(command, input=lines, stdout=subprocess.DEVNULL, stderr=subprocess.DEVNULL)
-    after = resource.getrusage(resource.RUSAGE_CHILDREN)
-    return [1000 * (after.ru_utime + after.ru_stime - before.ru_utime - before.ru_stime)]
+class Files:
+    """A graph's files in a folder, and lines that ask each of its modules something."""
 
-
-def instructions(command, lines):
-    """The instructions of a run, in millions."""
-    counter = ['valgrind', '--tool=callgrind', '--callgrind-out-file=/dev/null']
-    p = subprocess.run(counter + command, input=lines, stdout=subprocess.DEVNULL, stderr=subprocess.PIPE)
-    return [int(re.search(rb'Collected : (\d+)', p.stderr)[1]) / 1e6]
-
-
-def check_time(script, program, path):
-    """The processor time within the checker, in milliseconds."""
-    command = ['gdb', '-q', '-batch', '-x', script, '--args', program, path]
-    out = subprocess.run(command, stdin=subprocess.DEVNULL, stdout=subprocess.PIPE).stdout
-    return [int(re.search(rb'nanoseconds (\d+)', out)[1]) / 1e6]
-
-
-def timers(other, path):
-    """The other program's reading and analysing by its own timers."""
-    out = json.loads(subprocess.run([other, path, '--bench', '1'], stdout=subprocess.PIPE).stdout)
-    time = {stage: out[stage]['min_cpu_ms'] for stage in ('json_parse', 'ast_build', 'analysis')}
-    return [time['json_parse'] + time['ast_build'], time['analysis']]
-
-
-def least(measures, rounds):
-    """The least of each measure, which are taken in turn; one whose last figure is over ten seconds is taken once."""
-    found = [[] for _ in measures]
-    for _ in range(rounds):
-        for measure, figures in zip(measures, found):
-            if not figures or figures[0][-1] < 10000:
-                figures.append(measure())
-    return [[min(it) for it in zip(*figures)] for figures in found]
+    def __init__(self, folder, graph):
+        modules = graph['modules']
+        self.path, self.refused = (os.path.join(folder, name) for name in ('graph.json', 'refused.json'))
+        write(self.path, graph)
+        write(self.refused, dict(graph, modules=modules + [{'specifier': modules[0]['specifier'], 'kind': 'external'}]))
+        self.queries = b''.join(json.dumps(['symbol', m['specifier'], '', 0]).encode() + b'\n' for m in modules)
 
 
 def write(path, graph):
@@ -183,64 +150,105 @@ def write(path, graph):
         json.dump(graph, f, separators=(',', ':'), ensure_ascii=False)
 
 
-def queries(modules, times):
-    return times * b''.join(json.dumps(['symbol', m['specifier'], '', 0]).encode() + b'\n' for m in modules)
+def usage(command, lines):
+    """The processor time of a run in milliseconds, and the pages that it touched."""
+    before = resource.getrusage(resource.RUSAGE_CHILDREN)
+    subprocess.run(command, input=lines, stdout=subprocess.DEVNULL, stderr=subprocess.DEVNULL)
+    after = resource.getrusage(resource.RUSAGE_CHILDREN)
+    time = after.ru_utime + after.ru_stime - before.ru_utime - before.ru_stime
+    return 1000 * time, after.ru_minflt - before.ru_minflt
 
 
-def checking(a, folder, paths, rounds):
-    """For each graph the figure of its checking; with --count that of a run without queries."""
-    if a.count:
-        return [it for [it] in least([partial(instructions, [a.program, path], b'') for path in paths], rounds)]
-    script = os.path.join(folder, 'stops.py')
-    with open(script, 'w') as f:
-        f.write(STOPS)
-    return [it for [it] in least([partial(check_time, script, a.program, path) for path in paths], rounds)]
+def cpu_time(command, lines=b''):
+    return usage(command, lines)[0]
 
 
-def stages(a, folder, graphs):
-    """For each graph the program's figures by stage, and the other program's by stage, each with a name."""
-    cost, rounds = (instructions, [1, 1, 1]) if a.count else (cpu_time, ROUNDS)
-    paths, reading, analysing, others = [], [], [], []
-    for i, graph in enumerate(graphs):
-        path, twice = (os.path.join(folder, '%s%d.json' % (name, i)) for name in ('graph', 'twice'))
-        modules = graph['modules']
-        write(path, graph)
-        write(twice, dict(graph, modules=modules + [{'specifier': modules[0]['specifier'], 'kind': 'external'}]))
-        paths.append(path)
-        reading.append(partial(cost, [a.program, twice], b''))
-        analysing += [partial(cost, [a.program, path], queries(modules, times)) for times in (1, 11)]
-        if a.beside:
-            others.append(partial(cost, [a.beside, path], b''))
-    reads = [it for [it] in least(reading + others, rounds[0])]
-    timing = [partial(timers, a.beside, path) for path in paths] if a.beside and not a.count else []
-    analyses = least(analysing + timing, rounds[1])
-    checks = checking(a, folder, paths, rounds[2])
-    found = []
-    for i in range(len(paths)):
-        [once], [eleven] = analyses[2 * i : 2 * i + 2]
-        check = checks[i] - reads[i] if a.count else checks[i]
-        ours = {'read': reads[i], 'check': check, 'analyse': (eleven - once) / 10}
-        theirs = {stage: [] for stage in ours}
-        if others:
-            theirs['read'].append(('of the crate', reads[len(paths) + i]))
-        if timing:
-            of_reading, of_analysing = analyses[2 * len(paths) + i]
-            theirs['read'].append(('of its timers', of_reading))
-            theirs['analyse'].append(('of the crate', of_analysing))
-        found.append((ours, theirs))
+def pages(command, lines=b''):
+    return min(usage(command, lines)[1] for _ in range(PAGES))
+
+
+def instructions(command, lines=b''):
+    counter = ['valgrind', '--tool=cachegrind', '--cache-sim=no', '--cachegrind-out-file=/dev/null']
+    p = subprocess.run(counter + command, input=lines, stdout=subprocess.DEVNULL, stderr=subprocess.PIPE)
+    return int(re.search(rb'I +refs: +([\d,]+)', p.stderr)[1].replace(b',', b''))
+
+
+def counts(count, program, other, files):
+    """By stage, the program's count and the other's."""
+    read = count([program, files.refused])
+    idle = count([program, files.path])
+    found = {'read': [read], 'check': [idle - read], 'analyse': [count([program, files.path], files.queries) - idle]}
+    if other:
+        idle = count([other, files.path])
+        found['read'].append(idle)
+        if count is instructions:
+            found['analyse'].append(count([other, files.path], files.queries) - idle)
     return found
 
 
-def show(label, unit, ours, theirs, half):
-    parts = []
-    for stage, measure in ours.items():
-        text = '%s %.1f %s' % (stage, measure, unit)
-        if half:
-            text += ', %.2f from n' % (measure / half[stage])
-        for name, other in theirs[stage]:
-            text += ', %.2f %s' % (measure / other, name)
-        parts.append(text)
-    print('%-36s %s' % (label, '; '.join(parts)), flush=True)
+def timer(other, path):
+    """The other program's analysing by its own timer."""
+    out = subprocess.run([other, path, '--bench', '1'], stdout=subprocess.PIPE).stdout
+    return json.loads(out)['analysis']['min_cpu_ms']
+
+
+def least(measures, rounds):
+    """The least of each measure, which are taken in turn; one of over ten seconds is taken once."""
+    found = [[] for _ in measures]
+    for _ in range(rounds):
+        for measure, figures in zip(measures, found):
+            if not figures or figures[0] < 10000:
+                figures.append(measure())
+    return [min(figures) for figures in found]
+
+
+def times(program, other, sizes):
+    """For each size, by stage, the program's time and the other's."""
+    reads, asks = [], []
+    for files in sizes:
+        reads.append(partial(cpu_time, [program, files.refused]))
+        asks += [partial(cpu_time, [program, files.path], files.queries * n) for n in (1, 11)]
+        if other:
+            reads.append(partial(cpu_time, [other, files.path]))
+            asks.append(partial(timer, other, files.path))
+    reads, asks = least(reads, READS), least(asks, ANALYSES)
+    found = []
+    for i in range(len(sizes)):
+        read = reads[i * len(reads) // len(sizes) :][: len(reads) // len(sizes)]
+        one, eleven, *theirs = asks[i * len(asks) // len(sizes) :][: len(asks) // len(sizes)]
+        found.append({'read': read, 'check': [], 'analyse': [(eleven - one) / 10] + theirs})
+    return found
+
+
+def cells(form, stage, sizes, least_divisor=100):
+    """The program's figure for n, its growth, and its parts of the other's; empty texts where there is none."""
+    def part(figure, divisor):
+        return '%.2f' % (figure / divisor) if divisor >= least_divisor else '-'
+
+    figures = [it[stage] for it in sizes]
+    if not figures or not figures[0]:
+        return ['', '', '']
+    growth = part(figures[1][0], figures[0][0]) if len(figures) > 1 else ''
+    of_other = '; '.join(part(ours, theirs[0]) for ours, *theirs in figures if theirs)
+    return [form(figures[0][0]), growth, of_other]
+
+
+def measure(a, name, makers, small):
+    """Prints the rows of a graph of some sizes; `small` has smaller ones to count instructions on."""
+    with tempfile.TemporaryDirectory() as top:
+        def files(make):
+            return Files(tempfile.mkdtemp(dir=top), make())
+        sizes = [files(make) for make in makers]
+        executed, touched, timed = [], [], []
+        if a.only != 'times':
+            executed = [counts(instructions, a.program, a.beside, files(make)) for make in small]
+            touched = [counts(pages, a.program, a.beside, it) for it in sizes]
+        if a.only != 'counts':
+            timed = times(a.program, a.beside, sizes)
+    for stage in ('read', 'check', 'analyse'):
+        row = [name, stage] + cells(lambda n: '%.1f' % (n / 1e6), stage, executed) + cells(str, stage, touched)
+        time, _, of_other = cells('{:.1f}'.format, stage, timed, 1)
+        print('| %s |' % ' | '.join(row + [time, of_other]), flush=True)
 
 
 def main():
@@ -248,20 +256,16 @@ def main():
     p.add_argument('program', type=os.path.abspath)
     p.add_argument('--beside', metavar='OTHER', type=os.path.abspath)
     p.add_argument('--graph', nargs='*', default=[])
-    p.add_argument('--count', action='store_true')
+    p.add_argument('--only', choices=['counts', 'times'])
     a = p.parse_args()
-    unit = 'million' if a.count else 'ms'
-    with tempfile.TemporaryDirectory() as folder:
-        for name, n, make in MADE:
-            sizes = [n // 10, n // 5] if a.count else [n, 2 * n]
-            half = None
-            for size, (ours, theirs) in zip(sizes, stages(a, folder, [make(size) for size in sizes])):
-                show('%s, %d' % (name, size), unit, ours, theirs, half)
-                half = ours
-        for file in a.graph:
-            with open(file) as f:
-                [(ours, theirs)] = stages(a, folder, [json.load(f)])
-            show(os.path.basename(file), unit, ours, theirs, None)
+    print('| %s |\n|%s' % (' | '.join(COLUMNS), '---|' * len(COLUMNS)))
+    for name, n, make in MADE:
+        sizes = [partial(make, it) for it in (n, 2 * n)]
+        measure(a, '%s, %d' % (name, n), sizes, [partial(make, it) for it in (n // 10, n // 5)])
+    for file in a.graph:
+        with open(file) as f:
+            graph = json.load(f)
+        measure(a, os.path.basename(file), [lambda: graph], [lambda: graph])
 
 
 if __name__ == '__main__':
