@@ -3,59 +3,140 @@
 
     python3 tools/gate.py
 
-A part that fails ends it, since the next ones stand on it. Behind the parts a line says what each took, on the clock and
-of the processors; the last line is 'N passed, M failed'.
+`rt ci` proves the crates from the lowest on. The wrong bodies of a crate are tried while it goes on, as soon as the
+libraries below the crate are proved, over copies of what it built of them. The cases come last. Behind all a line for
+each part says what it took, on the clock and of the processors; the last line is 'N passed, M failed'.
 """
 import os
 import re
-import resource
+import shutil
 import subprocess
 import sys
+import tempfile
+import threading
 import time
+from concurrent.futures import ThreadPoolExecutor
+
+from wrong_bodies import TOP, Crate, libraries_below, libraries_of
 
 HERE = os.path.dirname(os.path.abspath(__file__))
 
-PARTS = [
-    ('proofs, tests in Rust and the programs', ['rt', 'ci']),
-    ('tests of the wrong bodies\' tool', [sys.executable, os.path.join(HERE, 'test_wrong_bodies.py')]),
-    ('wrong bodies', [sys.executable, os.path.join(HERE, 'wrong_bodies.py')]),
-    ('cases', [sys.executable, os.path.join(HERE, 'run_cases.py'), '--proved']),
-]
-
-def processor_time():
-    used = resource.getrusage(resource.RUSAGE_CHILDREN)
-    return used.ru_utime + used.ru_stime
+PRINTING = threading.Lock()
 
 
-def counted(command):
-    """Runs a command, whose lines are passed on, and returns what its last line counts; another last line is a failure."""
-    last = ''
-    how = {'stdout': subprocess.PIPE, 'stderr': subprocess.STDOUT, 'text': True, 'errors': 'replace'}
-    with subprocess.Popen(command, **how) as started:
+class Proofs:
+    """What `rt ci` has proved so far, and copies of the libraries that it built."""
+
+    def __init__(self, folder):
+        self.folder, self.proved, self.ended = folder, set(), False
+        self.changed = threading.Condition()
+
+    def read(self, line):
+        found = re.fullmatch(r'rt: (\w+) proved\s*', line)
+        if found:
+            built = os.path.join(TOP, 'crates', found[1], 'out', 'rlib', found[1] + '.rlib')
+            if os.path.isdir(built):
+                shutil.copytree(built, os.path.join(self.folder, os.path.basename(built)))
+            with self.changed:
+                self.proved.add(found[1])
+                self.changed.notify_all()
+
+    def end(self):
+        with self.changed:
+            self.ended = True
+            self.changed.notify_all()
+
+    def has(self, names):
+        """Waits until these crates are proved, or nothing more will be, and returns whether they are."""
+        with self.changed:
+            self.changed.wait_for(lambda: self.ended or self.proved.issuperset(names))
+            return self.proved.issuperset(names)
+
+
+class Part:
+    """A command of the gate: what its last line counted, and what it took, in minutes."""
+
+    def __init__(self, name):
+        self.name, self.passed, self.failed, self.clock, self.processors = name, 0, 1, 0.0, 0.0
+
+    def run(self, command, read=None):
+        """Runs the command, whose lines are passed on as they come where someone reads them, and else at its end."""
+        began, lines = time.time(), []
+        how = {'stdout': subprocess.PIPE, 'stderr': subprocess.STDOUT, 'text': True, 'errors': 'replace'}
+        started = subprocess.Popen(command, cwd=TOP, **how)
         for line in started.stdout:
-            print(line, end='', flush=True)
-            last = line
-    found = re.fullmatch(r'(\d+) passed, (\d+) failed\s*', last)
-    if not found:
-        return 0, 1
-    passed, failed = int(found[1]), int(found[2])
-    return passed, failed or int(started.returncode != 0 or passed == 0)
+            lines.append(line)
+            if read:
+                read(line)
+                with PRINTING:
+                    print(line, end='', flush=True)
+        _, status, used = os.wait4(started.pid, 0)
+        started.returncode = os.waitstatus_to_exitcode(status)
+        if not read:
+            with PRINTING:
+                print(''.join(lines), end='', flush=True)
+        self.clock, self.processors = (time.time() - began) / 60, (used.ru_utime + used.ru_stime) / 60
+        self.count(lines[-1] if lines else '', started.returncode)
+        return self
+
+    def count(self, last, status):
+        """Takes the counts of a last line; another last line, or none that passed, is a failure."""
+        found = re.fullmatch(r'(\d+) passed, (\d+) failed\s*', last)
+        if found:
+            self.passed, self.failed = int(found[1]), int(found[2])
+            self.failed = self.failed or int(status != 0 or not self.passed)
+
+
+def tool(name, *words):
+    return [sys.executable, os.path.join(HERE, name), *words]
+
+
+def proofs_part(proofs):
+    part = Part('proofs, tests in Rust and programs (rt ci)')
+    try:
+        return part.run(['rt', 'ci'], proofs.read)
+    finally:
+        proofs.end()
+
+
+def wrong_bodies_part(name, libraries, proofs, lanes):
+    """Tries the wrong bodies of a crate, once the libraries below it are proved."""
+    part = Part('wrong bodies: ' + name)
+    if not proofs.has(libraries_below(name, libraries)):
+        return part
+    with lanes:
+        return part.run(tool('wrong_bodies.py', '--libraries', proofs.folder, name))
+
+
+def tests_part(lanes):
+    with lanes:
+        return Part('tests of tools/wrong_bodies.py').run(tool('test_wrong_bodies.py'))
+
+
+def all_parts():
+    """Runs the parts: `rt ci` with half of the processors, and wrong bodies on all but one beside it, since the proofs
+    are for the most part a chain."""
+    processors, libraries = len(os.sched_getaffinity(0)), libraries_of(TOP)
+    os.environ.setdefault('RT_JOBS', str(max(1, processors // 2)))
+    lanes = threading.Semaphore(max(2, processors - 1))
+    names = [name for name in libraries if Crate(TOP, name, libraries).names()]
+    with tempfile.TemporaryDirectory(prefix='gate-') as folder, ThreadPoolExecutor(len(names) + 2) as pool:
+        proofs = Proofs(folder)
+        tasks = [pool.submit(proofs_part, proofs), pool.submit(tests_part, lanes)]
+        tasks += [pool.submit(wrong_bodies_part, name, libraries, proofs, lanes) for name in names]
+        parts = [it.result() for it in tasks]
+    return parts + [Part('cases').run(tool('run_cases.py', '--proved'))]
 
 
 def main():
-    os.chdir(os.path.dirname(HERE))
-    passed = failed = 0
-    took = []
-    for name, command in PARTS:
-        clock, processors = time.time(), processor_time()
-        more, wrong = counted(command)
-        passed, failed = passed + more, failed + wrong
-        took.append((name, (time.time() - clock) / 60, (processor_time() - processors) / 60))
-        if wrong:
-            break
-    for name, clock, processors in took:
-        print('%s: %.1f minutes, %.1f of the processors' % (name, clock, processors))
-    print('%d passed, %d failed' % (passed, failed))
+    began, parts = time.time(), all_parts()
+    for part in parts:
+        word = ', FAILED' if part.failed else ''
+        print('%s: %.1f minutes, %.1f of the processors%s' % (part.name, part.clock, part.processors, word))
+    took = (time.time() - began) / 60, sum(it.processors for it in parts)
+    print('all: %.1f minutes, %.1f of the processors' % took)
+    failed = sum(it.failed for it in parts)
+    print('%d passed, %d failed' % (sum(it.passed for it in parts), failed))
     return 1 if failed else 0
 
 

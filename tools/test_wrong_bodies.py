@@ -69,7 +69,8 @@ def lay(folder, source):
 def verdicts_on(source, names):
     with tempfile.TemporaryDirectory() as folder:
         crate = lay(folder, source)
-        verdicts, wrong, _ = try_crate(crate, names or crate.names(), wrong_bodies.kit())
+        words = wrong_bodies.words_of(crate, wrong_bodies.kit(), None)
+        verdicts, wrong, _ = try_crate(crate, names or crate.names(), words)
     return {name: it.how for name, it in verdicts.items()}, wrong
 
 

@@ -4,6 +4,7 @@
     python3 tools/wrong_bodies.py                       the edits of every crate, crates side by side
     python3 tools/wrong_bodies.py CRATE ..              those of some crates
     python3 tools/wrong_bodies.py CRATE/EDIT ..         some edits
+    python3 tools/wrong_bodies.py --libraries FOLDER .. over the built libraries of a folder, NAME.rlib
 
 An edit is a file crates/CRATE/wrong/EDIT.edit with a line 'file: src/FILE.rt' and pairs of lines 'old: TEXT' and
 'new: TEXT'. Each old text stands in that file exactly once, where the earlier pairs are made already, and all that an
@@ -23,8 +24,8 @@ calls, whose functions share a proof. An edit is
 and only the first passes. Before the edits each crate has a check without any: the functions that they change must all
 be proved there, so that an edit is refused for what it changes, and not for the way it is tried.
 
-The libraries below a crate must be built (`rt ci` leaves them in out/, `rt check` of the crate too). A line an edit, with
-what refused it; the last line is 'N passed, M failed'.
+The libraries below a crate must be built: where no folder is named, those in their out/, as `rt check` of the crate
+leaves them. A line an edit, with what refused it; the last line is 'N passed, M failed'.
 """
 import os
 import re
@@ -50,7 +51,7 @@ IMPL = re.compile(r'impl(?:<.*?>)? (?:(?P<trait>\w.*) for )?(?P<type>\w+)')
 CYCLE = re.compile(r' *#\[cycle\((\w+)\)\]')
 # errors in a proof file that only say that the edit took away what the file names
 GONE = re.compile(r'has no field|is not in scope|has no `|was not admitted|is no name')
-TRIES = {'refused': True, 'let through': False, 'not reached': False, 'undecided': False}
+PASSES = {'refused': True, 'let through': False, 'not reached': False, 'undecided': False}
 
 
 @dataclass(frozen=True)
@@ -226,8 +227,8 @@ def libraries_below(name, libraries):
     return found
 
 
-def words_of(crate, kit_folder):
-    """The words of a check of the crate."""
+def words_of(crate, kit_folder, built):
+    """The words of a check of the crate, over the built libraries of a folder, or those in their out/."""
     own = libraries_below(crate.name, crate.libraries)
     below = [it for it in crate.libraries[crate.name] if it not in crate.libraries]
     words = [os.path.join(kit_folder, 'bin', 'rattle'), 'check', '--crate-name', crate.name, 'src/lib.rt']
@@ -235,7 +236,7 @@ def words_of(crate, kit_folder):
         words += ['--extern', '%s=%s/rlibs/%s.rlib' % (name, kit_folder, name)]
     words += ['-L', 'dependency=%s/rlibs' % kit_folder]
     for name in own:
-        folder = os.path.join(crate.top, 'crates', name, 'out', 'rlib')
+        folder = built or os.path.join(crate.top, 'crates', name, 'out', 'rlib')
         if not os.path.isdir(os.path.join(folder, name + '.rlib')):
             sys.exit('%s: its library %s is not built: run `rt check` in crates/%s first' % (crate.name, name, crate.name))
         if name in crate.libraries[crate.name]:
@@ -255,9 +256,9 @@ def hole(crate, function):
 class Room:
     """A copy of a crate in which edits are tried. What checks keep stays from batch to batch."""
 
-    def __init__(self, crate, kit_folder, folder):
+    def __init__(self, crate, words, folder):
         self.crate, self.folder = crate, folder
-        self.words = [*words_of(crate, kit_folder), '--incremental', os.path.join(folder, 'kept')]
+        self.words = [*words, '--incremental', os.path.join(folder, 'kept')]
         self.checks = 0
 
     def has_holes(self, function):
@@ -324,7 +325,8 @@ def goals_of(said, crate, function):
     own = re.compile(r'(?:\./)?(?:%s)/(?:fn/.*/)?[+\w]+\.antt:' % '|'.join(map(re.escape, folders)))
     at, name = os.path.split(function.proofs())
     own_recursion = '%s/+%s/' % (at, name)
-    for line in said.split('\n'):
+    # (a message goes on in lines that are indented)
+    for line in re.split(r'\n(?!\s)', said):
         status = re.match(r'fn (\S+): (.*)', line)
         is_own = own.match(line) or line.removeprefix('./').startswith(own_recursion)
         if line.startswith('note: src/') and 'it is not proved that' in line:
@@ -408,11 +410,11 @@ def read_edits(crate, names):
     return edits, bad
 
 
-def try_crate(crate, names, kit_folder):
-    """Tries edits of a crate: the verdict on each by its name, what is wrong without an edit, and the number of checks."""
+def try_crate(crate, names, words):
+    """Tries edits of a crate by checks of these words: the verdict on each by its name, what is wrong without an edit, and the number of checks."""
     edits, verdicts = read_edits(crate, names)
     with tempfile.TemporaryDirectory(prefix='wrong-bodies-') as folder:
-        room = Room(crate, kit_folder, folder)
+        room = Room(crate, words, folder)
         functions = list({it.function.unit(): it.function for it in edits}.values())
         wrong = proved_without(room, functions) if edits else []
         if not wrong:
@@ -430,11 +432,11 @@ def lanes():
 def report(crate, verdicts, wrong, checks, began):
     """Prints a crate's lines, and returns how many edits were refused, and how many lines tell of a failure."""
     for name, verdict in sorted(verdicts.items()):
-        word = '' if TRIES[verdict.how] else 'FAILED: '
+        word = '' if PASSES[verdict.how] else 'FAILED: '
         print('%s/%s: %s%s: %s' % (crate.name, name, word, verdict.how, verdict.why[:300]))
     for line in wrong:
         print('%s: FAILED: %s' % (crate.name, line[:300]))
-    refused = sum(TRIES[it.how] for it in verdicts.values())
+    refused = sum(PASSES[it.how] for it in verdicts.values())
     print('%s: %d of %d edits refused, by %d checks in %d s' % (crate.name, refused, len(verdicts), checks, time.time() - began), flush=True)
     return refused, len(verdicts) - refused + len(wrong)
 
@@ -451,13 +453,13 @@ def wanted(top, words):
     return sorted((it for it in found.values() if it[1]), key=lambda it: -len(it[1]))
 
 
-def run(top, words):
+def run(top, words, built):
     """Tries the edits that the words name, and returns how many were refused, and how many failures there were."""
     crates, kit_folder, printing, counts = wanted(top, words), kit(), threading.Lock(), []
 
     def work(crate, names):
         began = time.time()
-        verdicts, wrong, checks = try_crate(crate, names, kit_folder)
+        verdicts, wrong, checks = try_crate(crate, names, words_of(crate, kit_folder, built))
         with printing:
             counts.append(report(crate, verdicts, wrong, checks, began))
 
@@ -468,7 +470,9 @@ def run(top, words):
 
 
 def main():
-    passed, failed = run(TOP, sys.argv[1:])
+    words = sys.argv[1:]
+    built = os.path.abspath(words[1]) if words[:1] == ['--libraries'] and words[1:] else None
+    passed, failed = run(TOP, words[2:] if built else words, built)
     if not passed and not failed:
         print('no edit was found')
         failed = 1
