@@ -100,29 +100,36 @@ def proofs_part(proofs):
 
 
 def wrong_bodies_part(name, libraries, proofs, lanes):
-    """Tries the wrong bodies of a crate, once the libraries below it are proved."""
+    """Tries the wrong bodies of a crate, once the libraries below it are proved; the proofs go first."""
     part = Part('wrong bodies: ' + name)
     if not proofs.has(libraries_below(name, libraries)):
         return part
-    with lanes:
-        return part.run(tool('wrong_bodies.py', '--libraries', proofs.folder, name))
+    return part.run(['nice', '-n', '5', *tool('wrong_bodies.py', '--libraries', proofs.folder, '--lanes', lanes, name)])
 
 
-def tests_part(lanes):
-    with lanes:
-        return Part('tests of tools/wrong_bodies.py').run(tool('test_wrong_bodies.py'))
+def tests_part():
+    return Part('tests of tools/wrong_bodies.py').run(tool('test_wrong_bodies.py'))
+
+
+def laid(folder, name, files=0):
+    """A folder in the folder, with so many empty files: one for each check of wrong bodies that may run at once."""
+    path = os.path.join(folder, name)
+    os.mkdir(path)
+    for n in range(files):
+        with open(os.path.join(path, str(n)), 'w', encoding='utf-8'):
+            pass
+    return path
 
 
 def all_parts():
-    """Runs the parts: `rt ci` with half of the processors, and wrong bodies on all but one beside it, since the proofs
-    are for the most part a chain."""
+    """Runs the parts: `rt ci` with half of the processors, and checks of wrong bodies on all but one beside it, since the
+    proofs are for the most part a chain."""
     processors, libraries = len(os.sched_getaffinity(0)), libraries_of(TOP)
     os.environ.setdefault('RT_JOBS', str(max(1, processors // 2)))
-    lanes = threading.Semaphore(max(2, processors - 1))
     names = [name for name in libraries if Crate(TOP, name, libraries).names()]
     with tempfile.TemporaryDirectory(prefix='gate-') as folder, ThreadPoolExecutor(len(names) + 2) as pool:
-        proofs = Proofs(folder)
-        tasks = [pool.submit(proofs_part, proofs), pool.submit(tests_part, lanes)]
+        proofs, lanes = Proofs(laid(folder, 'built')), laid(folder, 'lanes', max(2, processors - 1))
+        tasks = [pool.submit(proofs_part, proofs), pool.submit(tests_part)]
         tasks += [pool.submit(wrong_bodies_part, name, libraries, proofs, lanes) for name in names]
         parts = [it.result() for it in tasks]
     return parts + [Part('cases').run(tool('run_cases.py', '--proved'))]

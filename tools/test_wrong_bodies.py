@@ -10,7 +10,7 @@ import sys
 import tempfile
 
 import wrong_bodies
-from wrong_bodies import Crate, libraries_of, try_crate
+from wrong_bodies import Crate, Lanes, libraries_of, try_crate
 
 SOURCE = '''//! A small crate.
 #![tactic(auto)]
@@ -33,6 +33,19 @@ pub fn second(x: u8) -> u8
     next(next(x))
 }
 
+/// A number below ten.
+pub struct Digit {
+    value: u8,
+    ghost few: { value ≤ 9 },
+}
+
+/// A number as a digit.
+pub fn as_digit(x: u8) -> Digit
+    requires { x ≤ 9 }
+{
+    Digit { value: x }
+}
+
 /// Says nothing of its result.
 pub fn any(x: u8) -> u8 {
     x
@@ -48,6 +61,7 @@ EDITS = [
     ('in_two_steps', [('next(next(x))', 'next(y)'), ('next(y)', 'let y = x; next(y)')], 'refused'),
     ('a_name_that_is_not_there', [('next(next(x))', 'next(next(y))')], 'not reached'),
     ('of_a_function_without_a_promise', [('u8 {', 'u8 { let x = 0;')], 'let through'),
+    ('against_a_law_of_its_type', [('Digit { value: x }', 'Digit { value: 10 }')], 'refused'),
     ('another_text', [('next(next(z))', 'next(z)')], 'not reached'),
     ('a_text_that_stands_twice', [('requires', 'ensures')], 'not reached'),
     ('two_functions', [('    x + 1', '    x + 2'), ('next(next(x))', 'next(x)')], 'not reached'),
@@ -70,7 +84,7 @@ def verdicts_on(source, names):
     with tempfile.TemporaryDirectory() as folder:
         crate = lay(folder, source)
         words = wrong_bodies.words_of(crate, wrong_bodies.kit(), None)
-        verdicts, wrong, _ = try_crate(crate, names or crate.names(), words)
+        verdicts, wrong, _ = try_crate(crate, names or crate.names(), words, Lanes())
     return {name: it.how for name, it in verdicts.items()}, wrong
 
 

@@ -5,6 +5,7 @@
     python3 tools/wrong_bodies.py CRATE ..              those of some crates
     python3 tools/wrong_bodies.py CRATE/EDIT ..         some edits
     python3 tools/wrong_bodies.py --libraries FOLDER .. over the built libraries of a folder, NAME.rlib
+    python3 tools/wrong_bodies.py --lanes FOLDER ..     as many checks at once, with others', as the folder has files
 
 An edit is a file crates/CRATE/wrong/EDIT.edit with a line 'file: src/FILE.rt' and pairs of lines 'old: TEXT' and
 'new: TEXT'. Each old text stands in that file exactly once, where the earlier pairs are made already, and all that an
@@ -27,6 +28,7 @@ be proved there, so that an edit is refused for what it changes, and not for the
 The libraries below a crate must be built: where no folder is named, those in their out/, as `rt check` of the crate
 leaves them. A line an edit, with what refused it; the last line is 'N passed, M failed'.
 """
+import fcntl
 import os
 import re
 import resource
@@ -37,6 +39,7 @@ import tempfile
 import threading
 import time
 from concurrent.futures import ThreadPoolExecutor
+from contextlib import contextmanager
 from dataclasses import dataclass
 
 HERE = os.path.dirname(os.path.abspath(__file__))
@@ -253,13 +256,52 @@ def hole(crate, function):
     return 'use %s.{statement}\n\npub %s : {M : Type 1} → statement M\n%s = ?\n' % (statement, name, name)
 
 
-class Room:
-    """A copy of a crate in which edits are tried. What checks keep stays from batch to batch."""
+class Lanes:
+    """How many checks run at once: as many as a folder has files, each the lock of a lane, also with other processes;
+    where no folder is named, one a processor, as far as memory holds."""
 
-    def __init__(self, crate, words, folder):
-        self.crate, self.folder = crate, folder
+    def __init__(self, folder=None):
+        self.locks = [os.path.join(folder, it) for it in sorted(os.listdir(folder))] if folder else []
+        self.own = threading.Semaphore(len(self.locks) or lanes_here())
+
+    @contextmanager
+    def taken(self):
+        with self.own:
+            lock = self.lock()
+            try:
+                yield
+            finally:
+                if lock:
+                    lock.close()
+
+    def lock(self):
+        """A file that is locked until it is closed; none where lanes aren't shared."""
+        while self.locks:
+            for path in self.locks:
+                file = open(path, encoding='utf-8')
+                try:
+                    fcntl.flock(file, fcntl.LOCK_EX | fcntl.LOCK_NB)
+                    return file
+                except OSError:
+                    file.close()
+            time.sleep(0.2)
+        return None
+
+
+class Room:
+    """A copy of a crate in which edits are tried. What checks keep stays from check to check."""
+
+    def __init__(self, crate, words, folder, lanes):
+        self.crate, self.own_words, self.folder, self.lanes = crate, words, folder, lanes
         self.words = [*words, '--incremental', os.path.join(folder, 'kept')]
         self.checks = 0
+
+    def beside(self, name):
+        """A room of its own, with what the checks in this one kept so far."""
+        room = Room(self.crate, self.own_words, os.path.join(self.folder, name), self.lanes)
+        if os.path.isdir(os.path.join(self.folder, 'kept')):
+            shutil.copytree(os.path.join(self.folder, 'kept'), os.path.join(room.folder, 'kept'))
+        return room
 
     def has_holes(self, function):
         """Whether a hole may stand for the proof: not in a recursion, whose proof is one for all its calls, and not in
@@ -292,7 +334,8 @@ class Room:
         only = [word for it in asked for word in ('--only', it.name())]
         how = {'cwd': room, 'stdin': subprocess.DEVNULL, 'stdout': subprocess.PIPE, 'stderr': subprocess.STDOUT}
         self.checks += 1
-        return subprocess.run([*self.words, *only], text=True, errors='replace', **how).stdout
+        with self.lanes.taken():
+            return subprocess.run([*self.words, *only], text=True, errors='replace', **how).stdout
 
 
 def reached_prover(said):
@@ -329,7 +372,7 @@ def goals_of(said, crate, function):
     for line in re.split(r'\n(?!\s)', said):
         status = re.match(r'fn (\S+): (.*)', line)
         is_own = own.match(line) or line.removeprefix('./').startswith(own_recursion)
-        if line.startswith('note: src/') and 'it is not proved that' in line:
+        if line.startswith('note: src/') and ('it is not proved that' in line or 'found no proof (' in line):
             notes.append(line)
         elif is_own and ': error: ' in line and not GONE.search(line):
             found.append(line)
@@ -381,9 +424,13 @@ def tried(room, batch):
 
 
 def tried_all(room, edits):
-    found = {}
-    for batch in batches_of(edits):
-        found.update(tried(room, batch))
+    """The verdict on each edit: the batches side by side, each in a room of its own."""
+    batches, found = batches_of(edits), {}
+    rooms = [room.beside('batch-%d' % n) for n in range(len(batches))]
+    with ThreadPoolExecutor(max(1, len(batches))) as pool:
+        for verdicts in pool.map(tried, rooms, batches):
+            found.update(verdicts)
+    room.checks += sum(it.checks for it in rooms)
     for edit, verdict in found.items():
         if verdict.how == 'undecided':
             found[edit] = tried(room, [edit])[edit]
@@ -410,11 +457,11 @@ def read_edits(crate, names):
     return edits, bad
 
 
-def try_crate(crate, names, words):
+def try_crate(crate, names, words, lanes):
     """Tries edits of a crate by checks of these words: the verdict on each by its name, what is wrong without an edit, and the number of checks."""
     edits, verdicts = read_edits(crate, names)
     with tempfile.TemporaryDirectory(prefix='wrong-bodies-') as folder:
-        room = Room(crate, words, folder)
+        room = Room(crate, words, folder, lanes)
         functions = list({it.function.unit(): it.function for it in edits}.values())
         wrong = proved_without(room, functions) if edits else []
         if not wrong:
@@ -422,8 +469,8 @@ def try_crate(crate, names, words):
     return verdicts, wrong, room.checks
 
 
-def lanes():
-    """How many crates are tried at once: one a processor, as far as memory holds."""
+def lanes_here():
+    """One lane a processor, as far as memory holds."""
     with open('/proc/meminfo') as f:
         free = 1024 * int(re.search(r'^MemAvailable:\s+(\d+)', f.read(), re.M)[1])
     return max(1, min(len(os.sched_getaffinity(0)), free // MEMORY))
@@ -453,26 +500,27 @@ def wanted(top, words):
     return sorted((it for it in found.values() if it[1]), key=lambda it: -len(it[1]))
 
 
-def run(top, words, built):
+def run(top, words, built, lanes):
     """Tries the edits that the words name, and returns how many were refused, and how many failures there were."""
     crates, kit_folder, printing, counts = wanted(top, words), kit(), threading.Lock(), []
 
     def work(crate, names):
         began = time.time()
-        verdicts, wrong, checks = try_crate(crate, names, words_of(crate, kit_folder, built))
+        verdicts, wrong, checks = try_crate(crate, names, words_of(crate, kit_folder, built), lanes)
         with printing:
             counts.append(report(crate, verdicts, wrong, checks, began))
 
-    with ThreadPoolExecutor(lanes()) as pool:
+    with ThreadPoolExecutor(max(1, len(crates))) as pool:
         for task in [pool.submit(work, *it) for it in crates]:
             task.result()
     return sum(it for it, _ in counts), sum(it for _, it in counts)
 
 
 def main():
-    words = sys.argv[1:]
-    built = os.path.abspath(words[1]) if words[:1] == ['--libraries'] and words[1:] else None
-    passed, failed = run(TOP, words[2:] if built else words, built)
+    words, folders = sys.argv[1:], {}
+    while words[:1] in (['--libraries'], ['--lanes']) and words[1:]:
+        folders[words[0]], words = os.path.abspath(words[1]), words[2:]
+    passed, failed = run(TOP, words, folders.get('--libraries'), Lanes(folders.get('--lanes')))
     if not passed and not failed:
         print('no edit was found')
         failed = 1
