@@ -4,10 +4,10 @@ use Rattle.std.specs.Option.{option_map_or, option_and_then}
 use Rattle.std.specs.List.{list_all}
 use Rattle.std.specs.Str.{chars}
 use Rattle.unicode_ident.specs.Ident.{is_xid_start, is_xid_continue}
-use Rattle.symbols_tree.specs.declared.tree.kinds.Kind.{Kind}
-use Rattle.symbols_tree.specs.declared.tree.kinds.Expr.TheVariants as Expr
-use Rattle.symbols_tree.specs.ChildFields.{left_of, obj_of, prop_of, right_of, expr_of}
-use Rattle.symbols_tree.specs.NodeRefs.{TreeNode, kind_of, child_of}
+use Rattle.symbols_syntax.specs.declared.tree.kinds.Kind.{Kind}
+use Rattle.symbols_syntax.specs.declared.tree.kinds.Expr.TheVariants as Expr
+use Rattle.symbols_syntax.specs.ChildFields.{left_of, obj_of, prop_of, right_of, expr_of}
+use Rattle.symbols_syntax.specs.NodeRefs.{TreeNode, kind_of, child_of}
 
 -- `$`, `_` or a letter may start an identifier,
 abbrev pub may_start : ℕ → Bool

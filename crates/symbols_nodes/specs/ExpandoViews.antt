@@ -1,5 +1,5 @@
 -- Properties that are assigned to a function, as contracts see them.
-use Rattle.symbols_tree.specs.NodeRefs.{TreeNode, node_view}
+use Rattle.symbols_syntax.specs.NodeRefs.{TreeNode, node_view}
 use Rattle.symbols_nodes.specs.declared.nodes.refs.ExpandoPropertyRef.{ExpandoPropertyRef}
 use Rattle.symbols_nodes.specs.declared.nodes.expando.Parts.{Parts}
 use Rattle.symbols_nodes.specs.Expando.{Expando}

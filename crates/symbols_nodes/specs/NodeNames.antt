@@ -1,27 +1,27 @@
 -- What the node of a declaration is called.
 use Rattle.std.specs.Prelude.{ℕ, List, ◌∷◌, Option, Some, None, string_bytes, codes}
 use Rattle.std.specs.Option.{option_map, option_and_then}
-use Rattle.symbols_tree.specs.declared.tree.kinds.Kind.{Kind}
-use Rattle.symbols_tree.specs.declared.tree.kinds.Decl.TheVariants as Decl
-use Rattle.symbols_tree.specs.declared.tree.kinds.Expr.TheVariants as Expr
-use Rattle.symbols_tree.specs.declared.tree.kinds.Pat.TheVariants as Pat
-use Rattle.symbols_tree.specs.ChildFields.{decl_of, ident_of, id_of, key_of, expr_of, param_of, left_of}
-use Rattle.symbols_tree.specs.Ids.{sym_of}
-use Rattle.symbols_tree.specs.NodeRefs.{TreeNode, kind_of, child_of}
+use Rattle.symbols_syntax.specs.declared.tree.kinds.Kind.{Kind}
+use Rattle.symbols_syntax.specs.declared.tree.kinds.Decl.TheVariants as Decl
+use Rattle.symbols_syntax.specs.declared.tree.kinds.Expr.TheVariants as Expr
+use Rattle.symbols_syntax.specs.declared.tree.kinds.Pat.TheVariants as Pat
+use Rattle.symbols_syntax.specs.ChildFields.{decl_of, ident_of, id_of, key_of, expr_of, param_of, left_of}
+use Rattle.symbols_syntax.specs.Ids.{sym_of}
+use Rattle.symbols_syntax.specs.NodeRefs.{TreeNode, kind_of, child_of}
 use Rattle.symbols_nodes.specs.Expando.{Expando, expando_in}
 use Rattle.symbols_nodes.specs.NodeViews.{ExportDeclView, NodeView, exported_class, exported_fn, exported_var, exported_ts_enum, exported_ts_interface, exported_ts_module, exported_ts_type_alias, export_decl, export_default_decl, class_decl, fn_decl, ts_enum, ts_interface, ts_namespace, ts_type_alias, var, using_var, auto_accessor, class_method, class_prop, class_param_prop, constructor, expando_property, ts_index_signature, ts_call_signature_decl, ts_construct_signature_decl, ts_property_signature, ts_getter_signature, ts_setter_signature, ts_method_signature}
 
 -- the text of a name or of a literal
-abbrev pub text_of : Kind → Option (List ℕ)
-text_of (Kind.Expr (Expr.Ident sym)) = Some (string_bytes sym.name)
-text_of (Kind.Expr (Expr.Str value)) = Some (string_bytes value)
-text_of (Kind.Expr (Expr.Num text)) = Some (string_bytes text)
-text_of (Kind.Expr (Expr.BigInt text)) = Some (string_bytes text)
-text_of _ = None
+abbrev pub ident_or_literal_text : Kind → Option (List ℕ)
+ident_or_literal_text (Kind.Expr (Expr.Ident sym)) = Some (string_bytes sym.name)
+ident_or_literal_text (Kind.Expr (Expr.Str value)) = Some (string_bytes value)
+ident_or_literal_text (Kind.Expr (Expr.Num text)) = Some (string_bytes text)
+ident_or_literal_text (Kind.Expr (Expr.BigInt text)) = Some (string_bytes text)
+ident_or_literal_text _ = None
 
 -- the text of the child of a field
 abbrev pub text_in : (Kind → Option ℕ) → TreeNode → Option (List ℕ)
-text_in field node = option_and_then text_of (option_and_then kind_of (child_of node field))
+text_in field node = option_and_then ident_or_literal_text (option_and_then kind_of (child_of node field))
 
 -- of a key: before a private name stands `#`, and a big integer is no name
 abbrev pub key_text : TreeNode → Kind → Option (List ℕ)

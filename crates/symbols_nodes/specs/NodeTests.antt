@@ -1,12 +1,12 @@
 -- What holds of the node of a declaration.
 use Rattle.std.specs.Prelude.{Bool, true, false, is_some, Option, Some}
 use Rattle.std.specs.Option.{option_and_then, option_map_or}
-use Rattle.symbols_tree.specs.NodeRefs.{TreeNode, kind_of, child_of}
-use Rattle.symbols_tree.specs.ChildFields.{function_of, body_node_of, decl_of}
-use Rattle.symbols_tree.specs.declared.tree.kinds.Kind.{Kind}
-use Rattle.symbols_tree.specs.declared.tree.kinds.Decl.TheVariants as Decl
-use Rattle.symbols_tree.specs.declared.tree.kinds.Member.TheVariants as Member
-use Rattle.symbols_tree.specs.declared.tree.kinds.MethodKind.TheVariants as MethodKind
+use Rattle.symbols_syntax.specs.NodeRefs.{TreeNode, kind_of, child_of}
+use Rattle.symbols_syntax.specs.ChildFields.{function_of, body_node_of, decl_of}
+use Rattle.symbols_syntax.specs.declared.tree.kinds.Kind.{Kind}
+use Rattle.symbols_syntax.specs.declared.tree.kinds.Decl.TheVariants as Decl
+use Rattle.symbols_syntax.specs.declared.tree.kinds.Member.TheVariants as Member
+use Rattle.symbols_syntax.specs.declared.tree.kinds.MethodKind.TheVariants as MethodKind
 use Rattle.symbols_nodes.specs.NodeViews.{ExportDeclView, NodeView, exported_class, exported_fn, exported_var, exported_ts_enum, exported_ts_interface, exported_ts_module, exported_ts_type_alias, program, export_decl, export_default_decl, class_decl, fn_decl, ts_enum, ts_interface, ts_namespace, class_method, constructor}
 
 abbrev pub is_function_kind : Kind → Bool

@@ -1,5 +1,6 @@
 -- Declarations as nodes, as contracts see them: nodes of a tree by their numbers.
-use Rattle.symbols_tree.specs.NodeRefs.{TreeNode, node_view}
+use Rattle.std.specs.Prelude.{List, [], ◌∷◌}
+use Rattle.symbols_syntax.specs.NodeRefs.{TreeNode, node_view}
 use Rattle.symbols_nodes.specs.declared.nodes.refs.ExportDeclRef.{ExportDeclRef}
 use Rattle.symbols_nodes.specs.declared.nodes.refs.SymbolNodeRef.{SymbolNodeRef}
 
@@ -75,3 +76,41 @@ symbol_node_view (SymbolNodeRef.TsPropertySignature node) = ts_property_signatur
 symbol_node_view (SymbolNodeRef.TsGetterSignature node) = ts_getter_signature (node_view node)
 symbol_node_view (SymbolNodeRef.TsSetterSignature node) = ts_setter_signature (node_view node)
 symbol_node_view (SymbolNodeRef.TsMethodSignature node) = ts_method_signature (node_view node)
+
+-- the nodes that a declaration after `export` is made of
+abbrev pub exported_nodes : ExportDeclView → List TreeNode
+exported_nodes (exported_class node) = node ∷ []
+exported_nodes (exported_fn node) = node ∷ []
+exported_nodes (exported_var decl declarator ident) = decl ∷ declarator ∷ ident ∷ []
+exported_nodes (exported_ts_enum node) = node ∷ []
+exported_nodes (exported_ts_interface node) = node ∷ []
+exported_nodes (exported_ts_module node) = node ∷ []
+exported_nodes (exported_ts_type_alias node) = node ∷ []
+
+-- the nodes that a declaration is made of
+abbrev pub nodes_of : NodeView → List TreeNode
+nodes_of (program node) = node ∷ []
+nodes_of (export_decl node decl) = node ∷ exported_nodes decl
+nodes_of (export_default_decl node) = node ∷ []
+nodes_of (export_default_expr node) = node ∷ []
+nodes_of (class_decl node) = node ∷ []
+nodes_of (fn_decl node) = node ∷ []
+nodes_of (ts_enum node) = node ∷ []
+nodes_of (ts_interface node) = node ∷ []
+nodes_of (ts_namespace node) = node ∷ []
+nodes_of (ts_type_alias node) = node ∷ []
+nodes_of (var decl declarator ident) = decl ∷ declarator ∷ ident ∷ []
+nodes_of (using_var decl declarator ident) = decl ∷ declarator ∷ ident ∷ []
+nodes_of (auto_accessor node) = node ∷ []
+nodes_of (class_method node) = node ∷ []
+nodes_of (class_prop node) = node ∷ []
+nodes_of (class_param_prop node) = node ∷ []
+nodes_of (constructor node) = node ∷ []
+nodes_of (expando_property node) = node ∷ []
+nodes_of (ts_index_signature node) = node ∷ []
+nodes_of (ts_call_signature_decl node) = node ∷ []
+nodes_of (ts_construct_signature_decl node) = node ∷ []
+nodes_of (ts_property_signature node) = node ∷ []
+nodes_of (ts_getter_signature node) = node ∷ []
+nodes_of (ts_setter_signature node) = node ∷ []
+nodes_of (ts_method_signature node) = node ∷ []

@@ -1,31 +1,31 @@
 -- A builder that has read a whole tree.
-use Rattle.std.proofs.Common.{◌≡◌, ℕ, ◌<◌, ◌≤◌, List, [], ◌∷◌, ◌++◌, length, None, Some, true, sym, ◌∙◌, ap, subst, arith}
+use Rattle.std.proofs.Common.{◌≡◌, ℕ, ◌<◌, ◌≤◌, List, [], ◌∷◌, ◌++◌, length, map, None, Some, true, sym, ◌∙◌, ap, subst, arith}
 use Rattle.std.specs.Prelude.{Result, Ok, Err, IsErrAnd, IfErr, slice_get}
-use Rattle.std.specs.Borrow.{Bor}
+use Rattle.std.specs.Map.{lookup}
 use Rattle.std.proofs.lemmas.Option.{slice_get_within, get_or_from_slice_get}
-use Rattle.indexmap.specs.IndexMap.{get}
-use Rattle.symbols_tree.specs.declared.tree.arena.Id.{Id}
-use Rattle.symbols_tree.specs.declared.tree.arena.Node.{Node}
-use Rattle.symbols_tree.specs.declared.tree.arena.SourceRange.{SourceRange}
-use Rattle.symbols_tree.specs.TreeFaults.{begins_with_program}
-use Rattle.symbols_tree.specs.declared.ids.SymbolId.{SymbolId}
-use Rattle.symbols_tree.specs.Ids.{id_view, same_id}
+use Rattle.symbols_syntax.specs.declared.tree.arena.Node.{Node}
+use Rattle.symbols_syntax.specs.declared.tree.arena.SourceRange.{SourceRange}
+use Rattle.symbols_syntax.specs.TreeFaults.{begins_with_program}
+use Rattle.symbols_syntax.specs.declared.ids.SymbolId.{SymbolId}
+use Rattle.symbols_syntax.specs.Ids.{IdView, same_id}
 use Rattle.symbols_table.specs.declared.decl.symbol.Symbol.{Symbol}
 use Rattle.symbols_table.specs.Modules.{module_in, symbols_in, mapped_in, stars_in}
-use Rattle.symbols_tree.specs.declared.tree.arena.Tree.{Tree}
-use Rattle.symbols_tree.specs.NodeRefs.{list_of}
-use Rattle.symbols_tree.specs.ChildFields.{body_of}
+use Rattle.symbols_syntax.specs.declared.tree.arena.Tree.{Tree}
+use Rattle.symbols_syntax.specs.NodeRefs.{list_of}
+use Rattle.symbols_syntax.specs.ChildFields.{body_of}
 use Rattle.symbols_nodes.specs.NodeViews.{program}
 use Rattle.symbols_table.specs.declared.builder.table.Builder.{Builder}
 use Rattle.symbols_table.specs.declared.builder.table.BuildFault.{BuildFault}
 use Rattle.symbols_table.specs.declared.builder.table.BuildFault.TheVariants.{TooManySymbols}
 use Rattle.symbols_table.specs.declared.info.es_module.EsModuleInfo.{EsModuleInfo}
 use Rattle.symbols_table.specs.DeclViews.{Declaration, defined}
-use Rattle.symbols_table.specs.Changes.{Change, makes, declares, parents_of}
+use Rattle.symbols_table.specs.Changes.{Change, makes, declares, parents_after}
 use Rattle.symbols_table.specs.Events.{Event, changes_of, symbol_at, rows_after}
 use Rattle.symbols_table.specs.Walks.{range_in}
 use Rattle.symbols_table.specs.TreeEvents.{items_at, module_scope, root_of, root_decl}
-use Rattle.symbols_table.specs.Tables.{IsTableOf, IsSymbolOf}
+use Rattle.symbols_table.specs.Symbols.{IsSymbolOf}
+use Rattle.symbols_table.specs.ModuleViews.{ids_view, star_view}
+use Rattle.symbols_table.specs.Tables.{IsTableOf}
 use Rattle.symbols_table.specs.Analysis.{tree_changes, symbol_count, HasTables}
 use Rattle.symbols_table.proofs.Walks.{first_row, first_step, begun_read, begun_fault}
 
@@ -57,12 +57,12 @@ pub tree_read : (tree : Tree) (body : List ℕ) (b : Builder) → body ≡ list_
 tree_read tree body b same is = subst (IsTableOf b) (sym (tree_changes-first tree)) (subst (λ (items : List ℕ). IsTableOf b (body_changes tree items)) same is)
 
 -- the tree's body has too many symbols
-pub tree_full : (tree : Tree) (body : List ℕ) (limit : ℕ) → body ≡ list_of (root_of tree) body_of → limit < length (parents_of (body_changes tree body)) → limit < symbol_count tree
-tree_full tree body limit same many = rw (tree_changes-first tree) (subst (λ (items : List ℕ). limit < length (parents_of (body_changes tree items))) same many)
+pub tree_full : (tree : Tree) (body : List ℕ) (limit : ℕ) → body ≡ list_of (root_of tree) body_of → limit < length (parents_after (body_changes tree body)) → limit < symbol_count tree
+tree_full tree body limit same many = rw (tree_changes-first tree) (subst (λ (items : List ℕ). limit < length (parents_after (body_changes tree items))) same many)
 
 -- the tables are handed out
-pub has_tables : (b : Builder) (esm : EsModuleInfo) (changes : List Change) → symbols_in esm ≡ b.symbols.items → module_in esm ≡ b.setting.module_id → stars_in esm ≡ b.stars.items
-    → ((id : Bor Id) → mapped_in esm id ≡ get (λ (x y : Bor Id). same_id (id_view x.now) (id_view y.now)) b.ids id) → IsTableOf b changes → HasTables esm changes
+pub has_tables : (b : Builder) (esm : EsModuleInfo) (changes : List Change) → symbols_in esm ≡ b.symbols.items → module_in esm ≡ b.setting.module_id → stars_in esm ≡ map star_view b.stars.items
+    → ((id : IdView) → mapped_in esm id ≡ lookup (same_id id) (ids_view b.ids.entries)) → IsTableOf b changes → HasTables esm changes
 has_tables b esm changes symbols_same module_same stars_same ids_same is = record {
   count = ap length symbols_same ∙ is.count;
   symbols = rw module_same (λ s symbol at.

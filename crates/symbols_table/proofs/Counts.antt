@@ -7,18 +7,21 @@ use Rattle.std.proofs.lemmas.Bool.Decides.{eqb_tells}
 use Rattle.std.proofs.lemmas.List.{get_or_default}
 use Rattle.std.proofs.lemmas.Map.Views.{Contains-from_any}
 use Rattle.std.proofs.lemmas.Option.{slice_get_past, none-some}
-use Rattle.symbols_tree.specs.declared.tree.arena.Node.{Node}
-use Rattle.symbols_tree.specs.declared.tree.arena.Tree.{Tree}
-use Rattle.symbols_tree.specs.declared.tree.kinds.Kind.{Kind}
-use Rattle.symbols_tree.specs.declared.check.faults.TreeFault.TheVariants.{SharedChild}
-use Rattle.symbols_tree.specs.Nodes.{kind_at, children, children_of}
-use Rattle.symbols_tree.specs.TreeFaults.{is_program, begins_with_program, IsFaultless}
-use Rattle.symbols_tree.specs.WellFormed.{IsWellFormed}
+use Rattle.symbols_syntax.specs.declared.tree.arena.Node.{Node}
+use Rattle.symbols_syntax.specs.declared.tree.arena.Tree.{Tree}
+use Rattle.symbols_syntax.specs.declared.tree.kinds.Kind.{Kind}
+use Rattle.symbols_syntax.specs.declared.graph.faults.TreeFault.TheVariants.{SharedChild}
+use Rattle.symbols_syntax.specs.Nodes.{kind_at, children, child_numbers}
+use Rattle.symbols_syntax.specs.TreeFaults.{is_program, begins_with_program, IsFaultless}
+use Rattle.symbols_syntax.specs.WellFormed.{IsWellFormed}
 use Rattle.symbols_table.specs.TreeEvents.{tree_events}
-use Rattle.symbols_table.specs.Analysis.{tree_changes, symbol_count, HasTables}
-use Rattle.symbols_table.specs.Modules.{source_in, symbols_in}
-use Rattle.symbols_table.specs.declared.info.es_module.EsModuleInfo.{EsModuleInfo}
-use Rattle.symbols_table.specs.Laws.{declarations_in}
+use Rattle.symbols_table.specs.Analysis.{tree_changes, symbol_count}
+use Rattle.symbols_table.specs.Symbols.{decls_in}
+use Rattle.symbols_table.specs.Changes.{decls_after}
+use Rattle.symbols_table.specs.declared.decl.symbol.Symbol.{Symbol}
+use Rattle.symbols_syntax.specs.declared.ids.SymbolId.{SymbolId}
+use Rattle.std.specs.Prelude.{slice_get}
+use Rattle.symbols_table.specs.Laws.{AreFewIn}
 use Rattle.symbols_table.proofs.Sums.{declaration_count}
 use Rattle.symbols_table.proofs.CountsWeights.{weights, weights_zero, same, same_yes, same_no, here, there, last_below, last_passes, last_found, weight, weight_few, weight_heavy}
 use Rattle.symbols_table.proofs.CountsEvents.{count, few_by, symbols_by}
@@ -72,7 +75,7 @@ once text nodes n none m = once_where_apart (children nodes n) (λ i inside k. n
 
 -- ---- what the nodes of a checked tree weigh
 
-children_are : (nodes : List Node) (n : ℕ) (kind : Kind) → kind_at nodes n ≡ Some kind → children nodes n ≡ children_of kind
+children_are : (nodes : List Node) (n : ℕ) (kind : Kind) → kind_at nodes n ≡ Some kind → children nodes n ≡ child_numbers kind
 unfolding children
 children_are nodes n kind is = rw is refl
 
@@ -84,7 +87,7 @@ inside_where_kind nodes n kind is =
 abbrev pub node_weight : List Node → ℕ → ℕ
 node_weight nodes n = weight (parent_of nodes) (length nodes) n
 
-pub node_weighs : (text : List ℕ) (nodes : List Node) → IsFaultless text nodes → IsWellFormed nodes → (n : ℕ) (kind : Kind) → kind_at nodes n ≡ Some kind → suc (weights (node_weight nodes) (children_of kind)) ≤ node_weight nodes n
+pub node_weighs : (text : List ℕ) (nodes : List Node) → IsFaultless text nodes → IsWellFormed nodes → (n : ℕ) (kind : Kind) → kind_at nodes n ≡ Some kind → suc (weights (node_weight nodes) (child_numbers kind)) ≤ node_weight nodes n
 node_weighs text nodes none formed n kind is =
     let inside = inside_where_kind nodes n kind is in
     rw (← children_are nodes n kind is) (weight_heavy (parent_of nodes) (parent_lower nodes) (length nodes) n (children nodes n) inside (λ c child. parent_is nodes n c formed inside child) (once text nodes n none))
@@ -110,9 +113,10 @@ few_symbols tree text none formed = omega (arith, symbols_by (tree_events tree),
 pub few_declarations : (tree : Tree) (text : List ℕ) → IsFaultless text tree.nodes.items → IsWellFormed tree.nodes.items → declaration_count (tree_changes tree) ≤ length tree.nodes.items
 few_declarations tree text none formed = omega (arith, (few_by (tree_events tree)).declarations, few_events tree text none formed)
 
--- the same of a module with the tables of its tree
-pub few_in_module : (esm : EsModuleInfo) (text : List ℕ) → HasTables esm (tree_changes (source_in esm)) → IsFaultless text (source_in esm).nodes.items → IsWellFormed (source_in esm).nodes.items
-    → (length (symbols_in esm) ≤ length (source_in esm).nodes.items) × (declarations_in esm ≤ length (source_in esm).nodes.items)
-few_in_module esm text tables none formed =
-    let tree = source_in esm in
-    (omega (arith, tables.count, few_symbols tree text none formed), omega (arith, module_declarations esm (tree_changes tree) tables (sound_by (tree_events tree)), few_declarations tree text none formed))
+-- the same of symbols that hold what a tree changes
+pub are_few : (tree : Tree) (text : List ℕ) (symbols : List Symbol) → IsFaultless text tree.nodes.items → IsWellFormed tree.nodes.items → length symbols ≡ symbol_count tree
+    → ((s : SymbolId) (symbol : Symbol) → slice_get symbols s.0 ≡ Some symbol → decls_in symbol ≡ decls_after (tree_changes tree) s) → AreFewIn tree symbols
+are_few tree text symbols none formed counted held = record {
+  few_symbols = omega (arith, counted, few_symbols tree text none formed);
+  few_declarations = omega (arith, module_declarations symbols (tree_changes tree) counted held (sound_by (tree_events tree)), few_declarations tree text none formed);
+}

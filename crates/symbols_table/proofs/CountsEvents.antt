@@ -3,9 +3,9 @@ use Rattle.std.proofs.Common.{◌≡◌, ℕ, ◌+◌, ◌≤◌, Bool, true, fa
 use Rattle.std.specs.List.{filter_map}
 use Rattle.std.proofs.lemmas.List.{length-append}
 use Rattle.std.proofs.lemmas.List.Elements.{filter_map-append}
-use Rattle.symbols_tree.specs.declared.ids.SymbolId.{SymbolId}
+use Rattle.symbols_syntax.specs.declared.ids.SymbolId.{SymbolId}
 use Rattle.symbols_table.specs.DeclViews.{Declaration, is_definition, decl_name}
-use Rattle.symbols_table.specs.Changes.{Change, exports, has_child, maps, parent_in, parents_of, mapped, exported, has_function}
+use Rattle.symbols_table.specs.Changes.{Change, exports, has_child, maps, parent_by, parents_after, mapped_after, exported, has_function}
 use Rattle.symbols_table.specs.Events.{Event, begins, declare, alias, fresh, default, binds, member, expando, export, child, star, Row, nothing, new_row, found_or, known_or, member_changes, member_found, member_row, declare_row, alias_row, default_row, default_text, expando_row, with_symbol, row_of, changes_of, symbol_at, rows_after, changes_by, only, of_symbol}
 use Rattle.symbols_table.proofs.Sums.{declared_in, declaration_count}
 use Rattle.symbols_table.proofs.Rows.{changes_of-push}
@@ -28,7 +28,7 @@ count-append (e ∷ es) fs = omega (arith, count-append es fs)
 
 -- so many symbols and so many declarations at most
 pub record IsFew (changes : List Change) (n : ℕ) : Type 0 where
-  pub symbols : length (filter_map parent_in changes) ≤ n
+  pub symbols : length (filter_map parent_by changes) ≤ n
   pub declarations : declaration_count changes ≤ n
 
 few_no_symbol : (n : ℕ) → IsFew nothing.changes n
@@ -36,7 +36,7 @@ few_no_symbol n = record { symbols = omega arith; declarations = omega arith }
 
 few_new : (before : List Change) (parent : Option SymbolId) (decl : Declaration) (more : SymbolId → List Change) → ((s : SymbolId) → IsFew (more s) 0) → IsFew (new_row before parent decl more).changes 1
 few_new before parent decl more quiet =
-    let none = quiet (record { 0 = length (parents_of before) }) in
+    let none = quiet (record { 0 = length (parents_after before) }) in
     record { symbols = omega (arith, none.symbols); declarations = omega (arith, none.declarations) }
 
 few_found : (found : Option SymbolId) (decl : Declaration) (row : Row) → IsFew row.changes 1 → IsFew (found_or found decl row).changes 1
@@ -82,14 +82,14 @@ few_expando before (Some s) decl = few_function (has_function before s) (member_
 few_row : (before : List Change) (at : ℕ → Option SymbolId) (event : Event) → IsFew (row_of before at event).changes (declaring event)
 few_row before at (begins decl) = few_new before None decl (λ _. []) (λ s. record { symbols = omega arith; declarations = omega arith })
 few_row before at (declare holder id decl) =
-    few_with 1 (at holder) (λ h. declare_row before h id decl) (λ h. few_found (mapped before id) decl (new_row before (Some h) decl (λ s. maps id s ∷ [])) (few_new before (Some h) decl (λ s. maps id s ∷ []) (λ s. record { symbols = omega arith; declarations = omega arith })))
+    few_with 1 (at holder) (λ h. declare_row before h id decl) (λ h. few_found (mapped_after before id) decl (new_row before (Some h) decl (λ s. maps id s ∷ [])) (few_new before (Some h) decl (λ s. maps id s ∷ []) (λ s. record { symbols = omega arith; declarations = omega arith })))
 few_row before at (alias holder id decl) =
-    few_with 1 (at holder) (λ h. alias_row before h id decl) (λ h. few_known (mapped before id) (new_row before (Some h) decl (λ s. maps id s ∷ [])) (few_new before (Some h) decl (λ s. maps id s ∷ []) (λ s. record { symbols = omega arith; declarations = omega arith })))
+    few_with 1 (at holder) (λ h. alias_row before h id decl) (λ h. few_known (mapped_after before id) (new_row before (Some h) decl (λ s. maps id s ∷ [])) (few_new before (Some h) decl (λ s. maps id s ∷ []) (λ s. record { symbols = omega arith; declarations = omega arith })))
 few_row before at (fresh holder decl) = few_with 1 (at holder) (λ h. new_row before (Some h) decl (λ _. [])) (λ h. few_new before (Some h) decl (λ _. []) (λ s. record { symbols = omega arith; declarations = omega arith }))
 few_row before at (default holder decl) = few_with 1 (at holder) (λ h. default_row before h decl) (λ h. few_default before h decl)
 few_row before at (binds id of) = few_with 0 (at of) (λ s. of_symbol s (maps id s ∷ [])) (λ s. record { symbols = omega arith; declarations = omega arith })
 few_row before at (member holder decl is_static) = few_with 1 (at holder) (λ h. member_row before h decl is_static) (λ h. few_member before h decl is_static)
-few_row before at (expando id decl) = few_expando before (mapped before id) decl
+few_row before at (expando id decl) = few_expando before (mapped_after before id) decl
 few_row before at (export holder name of) =
     few_with 0 (at holder) (λ h. with_symbol (at of) (λ s. only (exports h name s ∷ []))) (λ h. few_with 0 (at of) (λ s. only (exports h name s ∷ [])) (λ s. record { symbols = omega arith; declarations = omega arith }))
 few_row before at (child holder of) =
@@ -98,7 +98,7 @@ few_row before at (star node) = record { symbols = omega arith; declarations = o
 
 few-append : (before more : List Change) (n k : ℕ) → IsFew before n → IsFew more k → IsFew (before ++ more) (n + k)
 few-append before more n k few rest = record {
-  symbols = rw (filter_map-append parent_in before more) (omega (arith, few.symbols, rest.symbols, length-append (filter_map parent_in before) (filter_map parent_in more)));
+  symbols = rw (filter_map-append parent_by before more) (omega (arith, few.symbols, rest.symbols, length-append (filter_map parent_by before) (filter_map parent_by more)));
   declarations = rw (filter_map-append declared_in before more) (omega (arith, few.declarations, rest.declarations, length-append (filter_map declared_in before) (filter_map declared_in more)));
 }
 
@@ -118,6 +118,6 @@ pub few_by : (events : List Event) → IsFew (changes_by events) (count events)
 unfolding changes_of
 few_by events = few_as (changes_by events) (0 + count events) (count events) (omega arith) (few_after [] events 0 (record { symbols = omega arith; declarations = omega arith }))
 
-pub symbols_by : (events : List Event) → length (parents_of (changes_by events)) ≤ count events
-unfolding parents_of
+pub symbols_by : (events : List Event) → length (parents_after (changes_by events)) ≤ count events
+unfolding parents_after
 symbols_by events = (few_by events).symbols

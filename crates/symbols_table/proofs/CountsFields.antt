@@ -1,13 +1,13 @@
 -- Each field weighs no more than the children of its kind.
 use Rattle.std.proofs.Common.{ℕ, ◌≤◌, List, [], ◌∷◌, ◌++◌, option_to_list, arith}
-use Rattle.symbols_tree.specs.declared.tree.kinds.Kind.{Kind}
-use Rattle.symbols_tree.specs.declared.tree.kinds.Item.TheVariants as Item
-use Rattle.symbols_tree.specs.declared.tree.kinds.Decl.TheVariants as Decl
-use Rattle.symbols_tree.specs.declared.tree.kinds.Member.TheVariants as Member
-use Rattle.symbols_tree.specs.declared.tree.kinds.Pat.TheVariants as Pat
-use Rattle.symbols_tree.specs.declared.tree.kinds.Expr.TheVariants as Expr
-use Rattle.symbols_tree.specs.Nodes.{children_of}
-use Rattle.symbols_tree.specs.ChildFields.{body_of, name_of, class_of, body_node_of, decl_of}
+use Rattle.symbols_syntax.specs.declared.tree.kinds.Kind.{Kind}
+use Rattle.symbols_syntax.specs.declared.tree.kinds.Item.TheVariants as Item
+use Rattle.symbols_syntax.specs.declared.tree.kinds.Decl.TheVariants as Decl
+use Rattle.symbols_syntax.specs.declared.tree.kinds.Member.TheVariants as Member
+use Rattle.symbols_syntax.specs.declared.tree.kinds.Pat.TheVariants as Pat
+use Rattle.symbols_syntax.specs.declared.tree.kinds.Expr.TheVariants as Expr
+use Rattle.symbols_syntax.specs.Nodes.{child_numbers}
+use Rattle.symbols_syntax.specs.ChildFields.{body_of, name_of, class_of, body_node_of, decl_of}
 use Rattle.symbols_table.specs.Patterns.{pattern_parts}
 use Rattle.symbols_table.proofs.CountsWeights.{weights, weights-append}
 
@@ -19,7 +19,7 @@ module _ (w : ℕ → ℕ) where
   w_after : (xs ys zs : List ℕ) → weights w zs ≤ weights w ys → weights w zs ≤ weights w (xs ++ ys)
   w_after xs ys zs le = omega (arith, weights-append w xs ys, le)
 
-  pub body_weighs : (kind : Kind) → weights w (body_of kind) ≤ weights w (children_of kind)
+  pub body_weighs : (kind : Kind) → weights w (body_of kind) ≤ weights w (child_numbers kind)
   body_weighs (Kind.Item (Item.Program body)) = w_first body.items []
   body_weighs (Kind.Decl (Decl.Class type_params super_class super_type_params implements body)) =
       w_after (option_to_list type_params) _ body.items
@@ -31,16 +31,16 @@ module _ (w : ℕ → ℕ) where
   body_weighs (Kind.Decl (Decl.TsModuleBlock body)) = w_first body.items []
   body_weighs _ = omega arith
 
-  pub name_weighs : (kind : Kind) → weights w (option_to_list (name_of kind)) ≤ weights w (children_of kind)
+  pub name_weighs : (kind : Kind) → weights w (option_to_list (name_of kind)) ≤ weights w (child_numbers kind)
   name_weighs (Kind.Decl (Decl.VarDeclarator name init)) = w_first (name ∷ []) _
   name_weighs _ = omega arith
 
-  pub class_weighs : (kind : Kind) → weights w (option_to_list (class_of kind)) ≤ weights w (children_of kind)
+  pub class_weighs : (kind : Kind) → weights w (option_to_list (class_of kind)) ≤ weights w (child_numbers kind)
   class_weighs (Kind.Decl (Decl.ClassDecl ident class)) = omega arith
   class_weighs (Kind.Decl (Decl.ClassExpr ident class)) = w_after (option_to_list ident) _ (class ∷ []) (w_first (class ∷ []) [])
   class_weighs _ = omega arith
 
-  pub body_node_weighs : (kind : Kind) → weights w (option_to_list (body_node_of kind)) ≤ weights w (children_of kind)
+  pub body_node_weighs : (kind : Kind) → weights w (option_to_list (body_node_of kind)) ≤ weights w (child_numbers kind)
   body_node_weighs (Kind.Decl (Decl.Function type_params params return_type body)) =
       w_after (option_to_list type_params) _ (option_to_list body)
       (w_after params.items _ (option_to_list body) (w_after (option_to_list return_type) _ (option_to_list body) (w_first (option_to_list body) [])))
@@ -51,12 +51,12 @@ module _ (w : ℕ → ℕ) where
       w_after (option_to_list type_params) _ (body ∷ []) (w_after params.items _ (body ∷ []) (w_after (option_to_list return_type) _ (body ∷ []) (w_first (body ∷ []) [])))
   body_node_weighs _ = omega arith
 
-  pub decl_weighs : (kind : Kind) → weights w (option_to_list (decl_of kind)) ≤ weights w (children_of kind)
+  pub decl_weighs : (kind : Kind) → weights w (option_to_list (decl_of kind)) ≤ weights w (child_numbers kind)
   decl_weighs (Kind.Item (Item.ExportDecl decl)) = w_first (decl ∷ []) []
   decl_weighs (Kind.Item (Item.ExportDefaultDecl decl)) = w_first (decl ∷ []) []
   decl_weighs _ = omega arith
 
-  pub parts_weigh : (kind : Kind) → weights w (pattern_parts kind) ≤ weights w (children_of kind)
+  pub parts_weigh : (kind : Kind) → weights w (pattern_parts kind) ≤ weights w (child_numbers kind)
   parts_weigh (Kind.Pat (Pat.ArrayPat elems _)) = w_first elems.items _
   parts_weigh (Kind.Pat (Pat.ObjectPat props _)) = w_first props.items _
   parts_weigh (Kind.Pat (Pat.RestPat arg _)) = w_first (arg ∷ []) _

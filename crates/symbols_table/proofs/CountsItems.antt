@@ -3,22 +3,22 @@ use Rattle.std.proofs.Common.{◌≡◌, ℕ, zero, suc, ◌+◌, ◌≤◌, Boo
 use Rattle.std.specs.Prelude.{String, string_bytes, unwrap_or}
 use Rattle.std.specs.Global.{Global}
 use Rattle.std.specs.Option.{option_and_then}
-use Rattle.symbols_tree.specs.declared.tree.arena.Tree.{Tree}
-use Rattle.symbols_tree.specs.declared.tree.arena.Id.{Id}
-use Rattle.symbols_tree.specs.declared.tree.kinds.Kind.{Kind}
-use Rattle.symbols_tree.specs.declared.tree.kinds.Item.TheVariants as Item
-use Rattle.symbols_tree.specs.declared.tree.kinds.Decl.TheVariants as Decl
-use Rattle.symbols_tree.specs.declared.tree.kinds.Expr.TheVariants as Expr
-use Rattle.symbols_tree.specs.Nodes.{children_of}
-use Rattle.symbols_tree.specs.NodeRefs.{TreeNode, kind_of, node_in, child_of}
-use Rattle.symbols_tree.specs.ChildFields.{body_of, body_node_of, decl_of, expr_of, orig_of, local_of, id_of}
-use Rattle.symbols_tree.specs.Ids.{id_view, sym_of}
+use Rattle.symbols_syntax.specs.declared.tree.arena.Tree.{Tree}
+use Rattle.symbols_syntax.specs.declared.tree.arena.Id.{Id}
+use Rattle.symbols_syntax.specs.declared.tree.kinds.Kind.{Kind}
+use Rattle.symbols_syntax.specs.declared.tree.kinds.Item.TheVariants as Item
+use Rattle.symbols_syntax.specs.declared.tree.kinds.Decl.TheVariants as Decl
+use Rattle.symbols_syntax.specs.declared.tree.kinds.Expr.TheVariants as Expr
+use Rattle.symbols_syntax.specs.Nodes.{child_numbers}
+use Rattle.symbols_syntax.specs.NodeRefs.{TreeNode, kind_of, node_in, child_of}
+use Rattle.symbols_syntax.specs.ChildFields.{body_of, body_node_of, decl_of, expr_of, orig_of, local_of, id_of}
+use Rattle.symbols_syntax.specs.Ids.{id_view, sym_of}
 use Rattle.symbols_nodes.specs.Expando.{Expando, expando_in}
 use Rattle.symbols_nodes.specs.NodeViews.{exported_ts_module}
 use Rattle.symbols_table.specs.declared.builder.scope.Scope.{Scope}
 use Rattle.symbols_table.specs.DeclViews.{DeclKind, defined, declaration_at, file_ref, all_names}
 use Rattle.symbols_table.specs.Walks.{Walk, on, each, range_in, sym_in}
-use Rattle.symbols_table.specs.MemberEvents.{member_at, members_in}
+use Rattle.symbols_table.specs.MemberEvents.{member_at, member_nodes}
 use Rattle.symbols_table.specs.DeclarationEvents.{declared_as, whole_range, is_exported, declared, own_name, declaration_events}
 use Rattle.symbols_table.specs.ModuleEvents.{import_name, imported, import_events, import_at, named_export, orig_name, orig_kind, specifier_events, export_events, export_at, binds_if, default_decl_events, default_at, default_expr, assignment_events, alias_kind, alias_events, import_equals_events, expando_events, module_events}
 use Rattle.symbols_table.specs.TreeEvents.{Namespace, plain_namespace, exported_namespace, namespace_of, declares_items, inner_scope, Block, part_events, body_events, body_within, body_at, namespace_events, exported_events, plain_item_events, item_or, item_events, item_within, block_within, module_scope, tree_events}
@@ -62,34 +62,34 @@ count_binds : (id : Option Id) (of : ℕ) → count (binds_if id of) ≡ 0
 count_binds None of = refl
 count_binds (Some id) of = refl
 
-module _ (tree : Tree) (w : ℕ → ℕ) (weighs : (n : ℕ) (kind : Kind) → kinds tree n ≡ Some kind → suc (weights w (children_of kind)) ≤ w n) where
+module _ (tree : Tree) (w : ℕ → ℕ) (weighs : (n : ℕ) (kind : Kind) → kinds tree n ≡ Some kind → suc (weights w (child_numbers kind)) ≤ w n) where
   light_import_at : (src : List ℕ) (n : ℕ) → IsLight (import_at src tree n) (w n)
   light_import_at src n = light_kind tree n (import_events src) (w n) (λ kind is. light_up (import_events src (node_at tree n) kind) 1 (w n) (omega (arith, weighs n kind is)) (light_import src (node_at tree n) kind))
 
   light_export_at : (src : Option (List ℕ)) (n : ℕ) → IsLight (export_at src tree n) (w n)
   light_export_at src n = light_kind tree n (export_events src) (w n) (λ kind is. light_up (export_events src (node_at tree n) kind) 1 (w n) (omega (arith, weighs n kind is)) (light_exported src (node_at tree n) kind))
 
-  light_members_of : (c : ℕ) → IsLight (each (member_at tree) (members_in (node_at tree c))) (w c)
+  light_members_of : (c : ℕ) → IsLight (each (member_at tree) (member_nodes (node_at tree c))) (w c)
   light_members_of c = by (kinds tree c) refl
     where
-      by : (o : Option Kind) → kinds tree c ≡ o → IsLight (each (member_at tree) (members_in (node_at tree c))) (w c)
+      by : (o : Option Kind) → kinds tree c ≡ o → IsLight (each (member_at tree) (member_nodes (node_at tree c))) (w c)
       by None is = rw is (light_none (w c))
-      by (Some kind) is = light_up (each (member_at tree) (members_in (node_at tree c))) (weights w (children_of kind)) (w c) (omega (arith, weighs c kind is)) (light_members tree w weighs c kind is)
+      by (Some kind) is = light_up (each (member_at tree) (member_nodes (node_at tree c))) (weights w (child_numbers kind)) (w c) (omega (arith, weighs c kind is)) (light_members tree w weighs c kind is)
 
   -- a default declaration, with its members
   light_default : (node : TreeNode) (c : ℕ) → IsLight (default_decl_events node (node_at tree c)) (suc (w c))
   light_default node c = λ holder start.
       let bound = binds_if (own_name (node_at tree c)) start in
       let after = start + 1 + length bound in
-      omega (arith, light_members_of c start after, count_binds (own_name (node_at tree c)) start, count-append bound (each (member_at tree) (members_in (node_at tree c)) start after))
+      omega (arith, light_members_of c start after, count_binds (own_name (node_at tree c)) start, count-append bound (each (member_at tree) (member_nodes (node_at tree c)) start after))
 
   light_module : (n : ℕ) (kind : Kind) → kinds tree n ≡ Some kind → IsLight (module_events (node_at tree n) kind) (w n)
   light_module n kind is = by kind is (weighs n kind is)
     where
-      some : (kind : Kind) → suc (weights w (children_of kind)) ≤ w n → 1 ≤ w n
+      some : (kind : Kind) → suc (weights w (child_numbers kind)) ≤ w n → 1 ≤ w n
       some kind heavy = omega arith
 
-      by : (kind : Kind) → kinds tree n ≡ Some kind → suc (weights w (children_of kind)) ≤ w n → IsLight (module_events (node_at tree n) kind) (w n)
+      by : (kind : Kind) → kinds tree n ≡ Some kind → suc (weights w (child_numbers kind)) ≤ w n → IsLight (module_events (node_at tree n) kind) (w n)
       by (Kind.Item (Item.Import specifiers src)) is heavy =
           light_up (each (import_at (string_bytes src) tree) specifiers.items) (weights w specifiers.items) (w n) (omega (arith, heavy, weights-append w specifiers.items [])) (light_each (import_at (string_bytes src) tree) w specifiers.items (light_import_at (string_bytes src)))
       by (Kind.Item (Item.ExportNamed specifiers src)) is heavy =
@@ -135,7 +135,7 @@ module _ (tree : Tree) (w : ℕ → ℕ) (weighs : (n : ℕ) (kind : Kind) → k
         inner : ℕ → Walk
         inner = body_within block (node_at tree whole) ambient levels
 
-        by : (kind : Kind) → suc (weights w (children_of kind)) ≤ w n → ((m : ℕ) → IsLight (inner m) (w m)) → IsLight (body_events inner block (node_at tree whole) ambient (node_at tree n) kind) (w n)
+        by : (kind : Kind) → suc (weights w (child_numbers kind)) ≤ w n → ((m : ℕ) → IsLight (inner m) (w m)) → IsLight (body_events inner block (node_at tree whole) ambient (node_at tree n) kind) (w n)
         by (Kind.Decl (Decl.TsModuleBlock items)) heavy rest = light_up (block (inner_scope ambient) items.items) (weights w items.items) (w n) (omega (arith, heavy, weights-append w items.items [])) (light (inner_scope ambient) items.items)
         by (Kind.Decl (Decl.TsNamespaceDecl id body)) heavy rest =
             light_on (sym_in id_of (node_at tree n)) (part_events (node_at tree whole) (node_at tree n) (inner body)) (w n) (λ id at holder start. omega (arith, heavy, rest body start (start + 3)))
@@ -144,7 +144,7 @@ module _ (tree : Tree) (w : ℕ → ℕ) (weighs : (n : ℕ) (kind : Kind) → k
     light_namespace : (scope : Scope) (exported : Option TreeNode) (n : ℕ) (kind : Kind) → kinds tree n ≡ Some kind → IsLight (namespace_events block scope (record { exported = exported; decl = node_at tree n }) kind) (w n)
     light_namespace scope exported n kind is =
         let ambient = scope.ambient || declares_items kind in
-        let parts = weights w (children_of kind) in
+        let parts = weights w (child_numbers kind) in
         let body : Walk = on (child_of (node_at tree n) body_node_of) (body_at block (node_at tree n) ambient) in
         let light_parts : IsLight body parts = light_child tree n kind body_node_of (body_at block (node_at tree n) ambient) parts is (λ c field.
         light_up (body_at block (node_at tree n) ambient (node_at tree c)) (w c) parts (omega (arith, rw field at (body_node_weighs w kind))) (light_body n ambient (length tree.nodes.items) c)) in

@@ -4,22 +4,22 @@ use Rattle.std.specs.List.{flat_map}
 use Rattle.std.specs.Option.{option_map_or, option_and_then}
 use Rattle.std.proofs.lemmas.List.{length-append}
 use Rattle.std.proofs.lemmas.Option.{same_Some, none-some}
-use Rattle.symbols_tree.specs.declared.tree.arena.Tree.{Tree}
-use Rattle.symbols_tree.specs.declared.tree.arena.Id.{Id}
-use Rattle.symbols_tree.specs.declared.tree.kinds.Kind.{Kind}
-use Rattle.symbols_tree.specs.declared.tree.kinds.Decl.TheVariants as Decl
-use Rattle.symbols_tree.specs.declared.tree.kinds.Member.TheVariants as Member
-use Rattle.symbols_tree.specs.declared.tree.kinds.Pat.TheVariants as Pat
-use Rattle.symbols_tree.specs.Nodes.{kind_at, children_of}
-use Rattle.symbols_tree.specs.NodeRefs.{TreeNode, kind_of, node_in, child_of, list_of}
-use Rattle.symbols_tree.specs.ChildFields.{body_of, class_of, decls_of, name_of}
-use Rattle.symbols_tree.specs.Ids.{IdView, id_view, sym_of}
+use Rattle.symbols_syntax.specs.declared.tree.arena.Tree.{Tree}
+use Rattle.symbols_syntax.specs.declared.tree.arena.Id.{Id}
+use Rattle.symbols_syntax.specs.declared.tree.kinds.Kind.{Kind}
+use Rattle.symbols_syntax.specs.declared.tree.kinds.Decl.TheVariants as Decl
+use Rattle.symbols_syntax.specs.declared.tree.kinds.Member.TheVariants as Member
+use Rattle.symbols_syntax.specs.declared.tree.kinds.Pat.TheVariants as Pat
+use Rattle.symbols_syntax.specs.Nodes.{kind_at, child_numbers}
+use Rattle.symbols_syntax.specs.NodeRefs.{TreeNode, kind_of, node_in, child_of, list_of}
+use Rattle.symbols_syntax.specs.ChildFields.{body_of, class_of, decls_of, name_of}
+use Rattle.symbols_syntax.specs.Ids.{IdView, id_view, sym_of}
 use Rattle.symbols_nodes.specs.NodeViews.{NodeView, ExportDeclView}
 use Rattle.symbols_table.specs.declared.builder.scope.Scope.{Scope}
 use Rattle.symbols_table.specs.DeclViews.{Declaration, defined}
 use Rattle.symbols_table.specs.Walks.{Walk, none, on, each, range_in}
 use Rattle.symbols_table.specs.Patterns.{leaves_of, leaves_within, leaves_below, pattern_parts}
-use Rattle.symbols_table.specs.MemberEvents.{members_of_kind, members_in, one_member, param_events, param_at, simple_member, member_events, member_at}
+use Rattle.symbols_table.specs.MemberEvents.{members_of_kind, member_nodes, one_member, param_events, param_at, simple_member, member_events, member_at}
 use Rattle.symbols_table.specs.DeclarationEvents.{declared_as, whole_range, is_exported, variable_form, export_if, added, declared, Variables, binding_events, binding_at, declarator_events, declarator_at, variables_events, named_form, own_name, named_events, declaration_events}
 use Rattle.symbols_table.proofs.CountsWeights.{weights, weights-append}
 use Rattle.symbols_table.proofs.CountsFields.{body_weighs, name_weighs, class_weighs, parts_weigh}
@@ -95,7 +95,7 @@ light_declared test id decl inner k light = λ holder start.
 
 -- ---- the parts of a tree whose nodes each weigh one and their children at least
 
-module _ (tree : Tree) (w : ℕ → ℕ) (weighs : (n : ℕ) (kind : Kind) → kinds tree n ≡ Some kind → suc (weights w (children_of kind)) ≤ w n) where
+module _ (tree : Tree) (w : ℕ → ℕ) (weighs : (n : ℕ) (kind : Kind) → kinds tree n ≡ Some kind → suc (weights w (child_numbers kind)) ≤ w n) where
   light_param : (n : ℕ) → IsLight (param_at tree n) (w n)
   light_param n = light_kind tree n param_events (w n) (λ kind is. by kind (omega (arith, weighs n kind is)))
     where
@@ -106,7 +106,7 @@ module _ (tree : Tree) (w : ℕ → ℕ) (weighs : (n : ℕ) (kind : Kind) → k
   pub light_member : (n : ℕ) → IsLight (member_at tree n) (w n)
   light_member n = light_kind tree n member_events (w n) (λ kind is. by kind (weighs n kind is))
     where
-      by : (kind : Kind) → suc (weights w (children_of kind)) ≤ w n → IsLight (member_events (node_at tree n) kind) (w n)
+      by : (kind : Kind) → suc (weights w (child_numbers kind)) ≤ w n → IsLight (member_events (node_at tree n) kind) (w n)
       by (Kind.Member (Member.Constructor params body _)) heavy = λ holder start.
           omega (arith, light_each (param_at tree) w params.items light_param holder (start + 1), weights-append w params.items (option_to_list body ++ []))
       by kind heavy = light_on (simple_member (node_at tree n) kind) (λ (m : NodeView × Bool). one_member m.0 (node_at tree n) m.1) (w n) (λ m is holder start. omega arith)
@@ -127,17 +127,17 @@ module _ (tree : Tree) (w : ℕ → ℕ) (weighs : (n : ℕ) (kind : Kind) → k
       by true = omega (arith, body_of_node c)
       by false = omega arith
 
-  members_weigh : (n : ℕ) (kind : Kind) → kinds tree n ≡ Some kind → weights w (members_in (node_at tree n)) ≤ weights w (children_of kind)
+  members_weigh : (n : ℕ) (kind : Kind) → kinds tree n ≡ Some kind → weights w (member_nodes (node_at tree n)) ≤ weights w (child_numbers kind)
   members_weigh n kind is = rw is (by kind is)
     where
-      by : (kind : Kind) → kinds tree n ≡ Some kind → weights w (members_of_kind (node_at tree n) kind) ≤ weights w (children_of kind)
+      by : (kind : Kind) → kinds tree n ≡ Some kind → weights w (members_of_kind (node_at tree n) kind) ≤ weights w (child_numbers kind)
       by (Kind.Decl (Decl.TsInterfaceDecl id type_params extends body)) is = rw is (body_weighs w (Kind.Decl (Decl.TsInterfaceDecl id type_params extends body)))
       by kind is = rw is (omega (arith, class_weighs w kind, body_of_child (class_of kind)))
 
   -- the members of a class or an interface, with one event for itself
-  pub light_members : (n : ℕ) (kind : Kind) → kinds tree n ≡ Some kind → IsLight (each (member_at tree) (members_in (node_at tree n))) (weights w (children_of kind))
+  pub light_members : (n : ℕ) (kind : Kind) → kinds tree n ≡ Some kind → IsLight (each (member_at tree) (member_nodes (node_at tree n))) (weights w (child_numbers kind))
   light_members n kind is =
-      light_up (each (member_at tree) (members_in (node_at tree n))) (weights w (members_in (node_at tree n))) (weights w (children_of kind)) (members_weigh n kind is) (light_each (member_at tree) w (members_in (node_at tree n)) light_member)
+      light_up (each (member_at tree) (member_nodes (node_at tree n))) (weights w (member_nodes (node_at tree n))) (weights w (child_numbers kind)) (members_weigh n kind is) (light_each (member_at tree) w (member_nodes (node_at tree n)) light_member)
 
   -- ---- variables
 
@@ -150,7 +150,7 @@ module _ (tree : Tree) (w : ℕ → ℕ) (weighs : (n : ℕ) (kind : Kind) → k
   leaves_weigh zero n = omega arith
   leaves_weigh (suc levels) n = by (kinds tree n) refl (leaves_weigh levels)
     where
-      below : (kind : Kind) → suc (weights w (children_of kind)) ≤ w n → ((x : ℕ) → length (leaves_within tree levels x) ≤ w x) → length (leaves_below (leaves_within tree levels) n kind) ≤ w n
+      below : (kind : Kind) → suc (weights w (child_numbers kind)) ≤ w n → ((x : ℕ) → length (leaves_within tree levels x) ≤ w x) → length (leaves_below (leaves_within tree levels) n kind) ≤ w n
       below (Kind.Pat (Pat.BindingIdent _ _)) heavy rest = omega arith
       below kind heavy rest = omega (arith, parts_weigh w kind, flat_weighs (leaves_within tree levels) (pattern_parts kind) rest)
 
@@ -170,7 +170,7 @@ module _ (tree : Tree) (w : ℕ → ℕ) (weighs : (n : ℕ) (kind : Kind) → k
     light_declarator : (n : ℕ) → IsLight (declarator_at variables n) (w n)
     light_declarator n = light_node tree (Some n) (declarator_events variables) (w n) (λ c here. rw (← same_Some n c here) (light_field tree n name_of (bindings n) (w n) (λ kind p is field.
         let leaves = leaves_of tree p in
-        let name : w p ≤ weights w (children_of kind) = omega (arith, rw field at (name_weighs w kind)) in
+        let name : w p ≤ weights w (child_numbers kind) = omega (arith, rw field at (name_weighs w kind)) in
         light_up (bindings n (node_at tree p)) (length leaves) (w n) (omega (arith, name, weighs n kind is, leaves_weigh (length tree.nodes.items) p)) (light_ones (binding_at variables (node_at tree n)) leaves (light_binding (node_at tree n))))))
       where
         bindings : ℕ → TreeNode → Walk
@@ -182,11 +182,11 @@ module _ (tree : Tree) (w : ℕ → ℕ) (weighs : (n : ℕ) (kind : Kind) → k
   -- ---- what has a name of its own
 
   light_named : (scope : Scope) (exported : Option TreeNode) (n : ℕ) (kind : Kind) (form : ExportDeclView) → kinds tree n ≡ Some kind → IsLight (named_events scope exported (node_at tree n) form) (w n)
-  light_named scope exported n kind form is = light_on (own_name (node_at tree n)) walk (w n) (λ id at. light_up (walk id) (suc (weights w (children_of kind))) (w n) (weighs n kind is)
-      (light_declared (is_exported scope exported) (id_view id) (defined (declared_as exported form) (whole_range exported (node_at tree n))) members (weights w (children_of kind)) (light_members n kind is)))
+  light_named scope exported n kind form is = light_on (own_name (node_at tree n)) walk (w n) (λ id at. light_up (walk id) (suc (weights w (child_numbers kind))) (w n) (weighs n kind is)
+      (light_declared (is_exported scope exported) (id_view id) (defined (declared_as exported form) (whole_range exported (node_at tree n))) members (weights w (child_numbers kind)) (light_members n kind is)))
     where
       members : Walk
-      members = each (member_at tree) (members_in (node_at tree n))
+      members = each (member_at tree) (member_nodes (node_at tree n))
 
       walk : Id → Walk
       walk id = declared (is_exported scope exported) (id_view id) (defined (declared_as exported form) (whole_range exported (node_at tree n))) members

@@ -5,15 +5,15 @@ use Rattle.std.specs.List.{filter_map}
 use Rattle.std.specs.Option.{option_or}
 use Rattle.std.proofs.lemmas.List.{map-append}
 use Rattle.std.proofs.lemmas.List.Elements.{All-nil, All-cons, All-append, All-weaker}
-use Rattle.symbols_tree.specs.declared.ids.SymbolId.{SymbolId}
-use Rattle.symbols_tree.specs.Ids.{IdView}
+use Rattle.symbols_syntax.specs.declared.ids.SymbolId.{SymbolId}
+use Rattle.symbols_syntax.specs.Ids.{IdView}
 use Rattle.symbols_table.specs.DeclViews.{Declaration, is_definition, decl_name}
-use Rattle.symbols_table.specs.Changes.{Change, makes, declares, exports, has_child, has_member, maps, passes_on, parent_in, parents_of, mapped, exported, child_named, has_function}
+use Rattle.symbols_table.specs.Changes.{Change, makes, declares, exports, has_child, has_member, maps, passes_on, parent_by, parents_after, mapped_after, exported, child_named, has_function}
 use Rattle.symbols_table.specs.Events.{Event, begins, declare, alias, fresh, default, binds, member, expando, export, child, star, Row, nothing, only, of_symbol, next_symbol, new_row, found_or, known_or, member_changes, member_found, member_row, declare_row, alias_row, default_row, default_text, expando_row, with_symbol, row_of, changes_of, symbol_at, rows_after, changes_by}
 use Rattle.symbols_table.specs.Tables.{Fits}
 use Rattle.symbols_table.proofs.Inside.{Below, mapped_inside, exported_inside}
 use Rattle.symbols_table.proofs.LocalNames.{child_inside, member_inside}
-use Rattle.symbols_table.proofs.Rows.{changes_of-push, length-parents_of-append}
+use Rattle.symbols_table.proofs.Rows.{changes_of-push, length-parents_after-append}
 
 -- ---- more symbols
 
@@ -37,7 +37,7 @@ all_one k change h = All-cons (Fits k) change [] h (All-nil (Fits k))
 
 -- its changes and its symbol fit, counting the symbols that it makes
 abbrev pub RowFits : ℕ → Row → Type 0
-RowFits n row = (k : ℕ) → n + length (filter_map parent_in row.changes) ≤ k → All (Fits k) row.changes × IfSome row.symbol (Below k)
+RowFits n row = (k : ℕ) → n + length (filter_map parent_by row.changes) ≤ k → All (Fits k) row.changes × IfSome row.symbol (Below k)
 
 row_nothing : (n : ℕ) → RowFits n nothing
 row_nothing n = λ k le. (All-nil (Fits k), tt)
@@ -67,7 +67,7 @@ member_fits k holder true None s h l = all_one k (has_child holder s) (h, l)
 member_fits k holder true (Some name) s h l = All-cons (Fits k) (exports holder name s) (has_child holder s ∷ []) (h, l) (all_one k (has_child holder s) (h, l))
 member_fits k holder false name s h l = all_one k (has_member holder s) (h, l)
 
-module _ (before : List Change) (n : ℕ) (is : n ≡ length (parents_of before)) (sound : All (Fits n) before) where
+module _ (before : List Change) (n : ℕ) (is : n ≡ length (parents_after before)) (sound : All (Fits n) before) where
   row_new : (parent : Option SymbolId) (decl : Declaration) (more : SymbolId → List Change) → ((k : ℕ) (s : SymbolId) → n < k → s.0 < k → All (Fits k) (more s)) → RowFits n (new_row before parent decl more)
   row_new parent decl more fits = λ k le.
       let s = next_symbol before in
@@ -107,15 +107,15 @@ module _ (before : List Change) (n : ℕ) (is : n ≡ length (parents_of before)
   row_fits : (at : ℕ → Option SymbolId) → ((place : ℕ) → IfSome (at place) (Below n)) → (event : Event) → RowFits n (row_of before at event)
   row_fits at inside (begins decl) = row_new None decl (λ _. []) (λ k s room below. All-nil (Fits k))
   row_fits at inside (declare holder id decl) =
-      row_with n (at holder) (λ h. declare_row before h id decl) (inside holder) (λ h l. row_found n (mapped before id) decl (new_row before (Some h) decl (λ s. maps id s ∷ [])) (mapped_inside n before id sound) (row_mapped h id decl))
+      row_with n (at holder) (λ h. declare_row before h id decl) (inside holder) (λ h l. row_found n (mapped_after before id) decl (new_row before (Some h) decl (λ s. maps id s ∷ [])) (mapped_inside n before id sound) (row_mapped h id decl))
   row_fits at inside (alias holder id decl) =
-      row_with n (at holder) (λ h. alias_row before h id decl) (inside holder) (λ h l. row_known n (mapped before id) (new_row before (Some h) decl (λ s. maps id s ∷ [])) (mapped_inside n before id sound) (row_mapped h id decl))
+      row_with n (at holder) (λ h. alias_row before h id decl) (inside holder) (λ h l. row_known n (mapped_after before id) (new_row before (Some h) decl (λ s. maps id s ∷ [])) (mapped_inside n before id sound) (row_mapped h id decl))
   row_fits at inside (fresh holder decl) =
       row_with n (at holder) (λ h. new_row before (Some h) decl (λ _. [])) (inside holder) (λ h l. row_new (Some h) decl (λ _. []) (λ k s room below. All-nil (Fits k)))
   row_fits at inside (default holder decl) = row_with n (at holder) (λ h. default_row before h decl) (inside holder) (λ h l. row_default h decl l)
   row_fits at inside (binds id of) = row_with n (at of) (λ s. of_symbol s (maps id s ∷ [])) (inside of) (λ s l k le. (all_one k (maps id s) (omega arith), omega arith))
   row_fits at inside (member holder decl is_static) = row_with n (at holder) (λ h. member_row before h decl is_static) (inside holder) (λ h l. row_member h decl is_static l)
-  row_fits at inside (expando id decl) = row_expando (mapped before id) decl (mapped_inside n before id sound)
+  row_fits at inside (expando id decl) = row_expando (mapped_after before id) decl (mapped_inside n before id sound)
   row_fits at inside (export holder name of) =
       row_with n (at holder) (λ h. with_symbol (at of) (λ s. only (exports h name s ∷ []))) (inside holder) (λ h l.
       row_with n (at of) (λ s. only (exports h name s ∷ [])) (inside of) (λ s m k le. (all_one k (exports h name s) (omega arith, omega arith), tt)))
@@ -127,7 +127,7 @@ module _ (before : List Change) (n : ℕ) (is : n ≡ length (parents_of before)
 -- ---- all rows
 
 abbrev symbols : List Row → ℕ
-symbols rows = length (parents_of (changes_of rows))
+symbols rows = length (parents_after (changes_of rows))
 
 record AreSound (rows : List Row) : Type 0 where
   fits : All (Fits (symbols rows)) (changes_of rows)
@@ -148,7 +148,7 @@ next_sound rows event sound =
     let row = row_of (changes_of rows) (symbol_at rows) event in
     let n = symbols rows in
     let k = symbols (rows ++ row ∷ []) in
-    let more : k ≡ n + length (filter_map parent_in row.changes) = rw (changes_of-push rows row) (length-parents_of-append (changes_of rows) row.changes) in
+    let more : k ≡ n + length (filter_map parent_by row.changes) = rw (changes_of-push rows row) (length-parents_after-append (changes_of rows) row.changes) in
     let le : n ≤ k = omega arith in
     let new = row_fits (changes_of rows) n refl sound.fits (symbol_at rows) sound.inside event k (omega arith) in
     let old = All-weaker (Fits n) (Fits k) (fits_up n k le) (changes_of rows) sound.fits in
@@ -168,5 +168,5 @@ unfolding changes_of symbol_at
 none_sound = record { fits = All-nil (Fits (symbols [])); inside = λ place. tt }
 
 -- the changes of events fit the symbols that they make
-pub sound_by : (events : List Event) → All (Fits (length (parents_of (changes_by events)))) (changes_by events)
+pub sound_by : (events : List Event) → All (Fits (length (parents_after (changes_by events)))) (changes_by events)
 sound_by events = (all_sound [] events none_sound).fits

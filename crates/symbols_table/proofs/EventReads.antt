@@ -2,16 +2,16 @@
 use Rattle.std.proofs.Common.{◌≡◌, ℕ, Bool, ◌+◌, ◌<◌, List, [], ◌∷◌, ◌++◌, length, Some, sym, ◌∙◌, ap, subst, arith}
 use Rattle.std.specs.Prelude.{Result, Ok, Err, IsErrAnd}
 use Rattle.std.proofs.lemmas.List.{length_push}
-use Rattle.symbols_tree.specs.Ids.{IdView}
-use Rattle.symbols_tree.specs.declared.ids.SymbolId.{SymbolId}
+use Rattle.symbols_syntax.specs.Ids.{IdView}
+use Rattle.symbols_syntax.specs.declared.ids.SymbolId.{SymbolId}
 use Rattle.symbols_table.specs.declared.builder.table.Builder.{Builder}
 use Rattle.symbols_table.specs.declared.builder.table.BuildFault.{BuildFault}
-use Rattle.symbols_table.specs.Changes.{parents_of}
+use Rattle.symbols_table.specs.Changes.{parents_after}
 use Rattle.symbols_table.specs.DeclViews.{Declaration}
 use Rattle.symbols_table.specs.Events.{Event, Row, member, member_row, declare, declare_row, row_of, changes_of, symbol_at, rows_after}
 use Rattle.symbols_table.specs.Walks.{Walk}
 use Rattle.symbols_table.specs.Tables.{IsTableOf, ReadsAll, ReadsWalk}
-use Rattle.symbols_table.proofs.Rows.{rows_after-step, rows_after-nil, rows_after-append, symbol_at-push, symbol_at_kept, symbol_at_after, parents_of_grow}
+use Rattle.symbols_table.proofs.Rows.{rows_after-step, rows_after-nil, rows_after-append, symbol_at-push, symbol_at_kept, symbol_at_after, parents_after_grow}
 use Rattle.symbols_table.proofs.Walks.{one_read, reads_from}
 
 module _ (rows : List Row) (event : Event) (row : Row) (reads : row_of (changes_of rows) (symbol_at rows) event ≡ row) where
@@ -43,8 +43,8 @@ module _ (rows : List Row) (event : Event) (row : Row) (reads : row_of (changes_
   inner_fault A {B} (Ok x) limit now next new walk s rest fault same is of h reads_inner = absurd h
   inner_fault A {B} (Err e) limit now next new walk s rest fault same is of h reads_inner = λ many.
       let inner = walk (length rows) (length rows + 1) in
-      let here : now.setting.limit < length (parents_of (changes_of (rows_after (rows ++ row ∷ []) inner))) = inner_read {A = A} (Err fault) now next walk s is of reads_inner (sym h ∙ many) in
-      rw (around_rows inner rest) (omega (arith, same, here, parents_of_grow (rows_after (rows ++ row ∷ []) inner) rest))
+      let here : now.setting.limit < length (parents_after (changes_of (rows_after (rows ++ row ∷ []) inner))) = inner_read {A = A} (Err fault) now next walk s is of reads_inner (sym h ∙ many) in
+      rw (around_rows inner rest) (omega (arith, same, here, parents_after_grow (rows_after (rows ++ row ∷ []) inner) rest))
 
   -- the symbols of the holder and of the event, after what is under its symbol
   pub holder_after : (inner : List Event) (h : ℕ) (holder : SymbolId) → symbol_at rows h ≡ Some holder → symbol_at (rows_after (rows ++ row ∷ []) inner) h ≡ Some holder

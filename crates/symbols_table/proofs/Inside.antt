@@ -6,9 +6,9 @@ use Rattle.std.proofs.lemmas.List.Elements.{All-push}
 use Rattle.std.specs.Str.{bytes_eq}
 use Rattle.std.proofs.lemmas.Map.Entries.{All-lookup}
 use Rattle.indexmap.specs.IndexMap.{insert_entry, insert_all}
-use Rattle.symbols_tree.specs.declared.ids.SymbolId.{SymbolId}
-use Rattle.symbols_tree.specs.Ids.{IdView, same_id}
-use Rattle.symbols_table.specs.Changes.{Change, makes, declares, exports, has_child, has_member, maps, passes_on, only_if, is_same, with_first, child_in, member_in, setting_in, mapping_in, exports_of, exported, children_of, members_of, mapped}
+use Rattle.symbols_syntax.specs.declared.ids.SymbolId.{SymbolId}
+use Rattle.symbols_syntax.specs.Ids.{IdView, same_id}
+use Rattle.symbols_table.specs.Changes.{Change, makes, declares, exports, has_child, has_member, maps, passes_on, only_if, is_same, with_first, child_by, member_by, setting_by, mapping_by, exports_after, exported, children_after, members_after, mapped_after}
 use Rattle.symbols_table.specs.Tables.{Fits}
 
 pub All-head : {X : Type 0} (P : X → Type 0) (x : X) (xs : List X) → All P (x ∷ xs) → P x
@@ -28,7 +28,7 @@ All-tail P x xs all = λ k d lt. all (suc k) d (omega arith)
 abbrev pub Below : ℕ → SymbolId → Type 0
 Below count s = s.0 < count
 
-mapping_inside : (count : ℕ) (id : IdView) (change : Change) → Fits count change → IfSome (mapping_in id change) (Below count)
+mapping_inside : (count : ℕ) (id : IdView) (change : Change) → Fits count change → IfSome (mapping_by id change) (Below count)
 mapping_inside count id (makes _) h = tt
 mapping_inside count id (declares _ _) h = tt
 mapping_inside count id (exports _ _ _) h = tt
@@ -41,18 +41,18 @@ mapping_inside count id (maps other x) h = by (same_id other id)
     by true = h
     by false = tt
 
-last_inside : (count : ℕ) (id : IdView) (o : Option SymbolId) (changes : List Change) → IfSome o (Below count) → All (Fits count) changes → IfSome (last_or o (filter_map (mapping_in id) changes)) (Below count)
+last_inside : (count : ℕ) (id : IdView) (o : Option SymbolId) (changes : List Change) → IfSome o (Below count) → All (Fits count) changes → IfSome (last_or o (filter_map (mapping_by id) changes)) (Below count)
 last_inside count id o [] h all = h
 last_inside count id o (change ∷ changes) h all =
-    by (λ p q. last_inside count id p changes q (All-tail (Fits count) change changes all)) (mapping_in id change) (mapping_inside count id change (All-head (Fits count) change changes all))
+    by (λ p q. last_inside count id p changes q (All-tail (Fits count) change changes all)) (mapping_by id change) (mapping_inside count id change (All-head (Fits count) change changes all))
   where
-    by : ((p : Option SymbolId) → IfSome p (Below count) → IfSome (last_or p (filter_map (mapping_in id) changes)) (Below count))
-        → (found : Option SymbolId) → IfSome found (Below count) → IfSome (last_or o (cons_option found (filter_map (mapping_in id) changes))) (Below count)
+    by : ((p : Option SymbolId) → IfSome p (Below count) → IfSome (last_or p (filter_map (mapping_by id) changes)) (Below count))
+        → (found : Option SymbolId) → IfSome found (Below count) → IfSome (last_or o (cons_option found (filter_map (mapping_by id) changes))) (Below count)
     by rest None q = rest o h
     by rest (Some x) q = rest (Some x) q
 
-pub mapped_inside : (count : ℕ) (changes : List Change) (id : IdView) → All (Fits count) changes → IfSome (mapped changes id) (Below count)
-unfolding mapped
+pub mapped_inside : (count : ℕ) (changes : List Change) (id : IdView) → All (Fits count) changes → IfSome (mapped_after changes id) (Below count)
+unfolding mapped_after
 mapped_inside count changes id all = last_inside count id None changes tt all
 
 -- what a filter takes lies inside where each of what it takes does
@@ -74,7 +74,7 @@ firsts_inside count done (x ∷ xs) before all =
     by true = before
     by false = All-push (Below count) done x before (All-head (Below count) x xs all)
 
-child_fits : (count : ℕ) (s : SymbolId) (change : Change) → Fits count change → IfSome (child_in s change) (Below count)
+child_fits : (count : ℕ) (s : SymbolId) (change : Change) → Fits count change → IfSome (child_by s change) (Below count)
 child_fits count s (makes _) h = tt
 child_fits count s (declares _ _) h = tt
 child_fits count s (exports _ _ _) h = tt
@@ -87,7 +87,7 @@ child_fits count s (has_member _ _) h = tt
 child_fits count s (maps _ _) h = tt
 child_fits count s (passes_on _) h = tt
 
-member_fits : (count : ℕ) (s : SymbolId) (change : Change) → Fits count change → IfSome (member_in s change) (Below count)
+member_fits : (count : ℕ) (s : SymbolId) (change : Change) → Fits count change → IfSome (member_by s change) (Below count)
 member_fits count s (makes _) h = tt
 member_fits count s (declares _ _) h = tt
 member_fits count s (exports _ _ _) h = tt
@@ -100,19 +100,19 @@ member_fits count s (has_member t x) h = by (is_same t s)
 member_fits count s (maps _ _) h = tt
 member_fits count s (passes_on _) h = tt
 
-pub children_inside : (count : ℕ) (changes : List Change) (s : SymbolId) → All (Fits count) changes → All (Below count) (children_of changes s)
-unfolding children_of
-children_inside count changes s all = firsts_inside count [] (filter_map (child_in s) changes) (λ k d lt. absurd (omega (arith, lt))) (filtered_inside count (child_in s) (child_fits count s) changes all)
+pub children_inside : (count : ℕ) (changes : List Change) (s : SymbolId) → All (Fits count) changes → All (Below count) (children_after changes s)
+unfolding children_after
+children_inside count changes s all = firsts_inside count [] (filter_map (child_by s) changes) (λ k d lt. absurd (omega (arith, lt))) (filtered_inside count (child_by s) (child_fits count s) changes all)
 
-pub members_inside : (count : ℕ) (changes : List Change) (s : SymbolId) → All (Fits count) changes → All (Below count) (members_of changes s)
-unfolding members_of
-members_inside count changes s all = firsts_inside count [] (filter_map (member_in s) changes) (λ k d lt. absurd (omega (arith, lt))) (filtered_inside count (member_in s) (member_fits count s) changes all)
+pub members_inside : (count : ℕ) (changes : List Change) (s : SymbolId) → All (Fits count) changes → All (Below count) (members_after changes s)
+unfolding members_after
+members_inside count changes s all = firsts_inside count [] (filter_map (member_by s) changes) (λ k d lt. absurd (omega (arith, lt))) (filtered_inside count (member_by s) (member_fits count s) changes all)
 
 -- the symbols of exports
 abbrev pub ExportsBelow : ℕ → List ℕ × SymbolId → Type 0
 ExportsBelow count entry = entry.1.0 < count
 
-setting_fits : (count : ℕ) (s : SymbolId) (change : Change) → Fits count change → IfSome (setting_in s change) (ExportsBelow count)
+setting_fits : (count : ℕ) (s : SymbolId) (change : Change) → Fits count change → IfSome (setting_by s change) (ExportsBelow count)
 setting_fits count s (makes _) h = tt
 setting_fits count s (declares _ _) h = tt
 setting_fits count s (exports t name x) h = by (is_same t s)
@@ -125,14 +125,14 @@ setting_fits count s (has_member _ _) h = tt
 setting_fits count s (maps _ _) h = tt
 setting_fits count s (passes_on _) h = tt
 
-settings_inside : (count : ℕ) (s : SymbolId) (changes : List Change) → All (Fits count) changes → All (ExportsBelow count) (filter_map (setting_in s) changes)
+settings_inside : (count : ℕ) (s : SymbolId) (changes : List Change) → All (Fits count) changes → All (ExportsBelow count) (filter_map (setting_by s) changes)
 settings_inside count s [] all = λ k d lt. absurd (omega (arith, lt))
 settings_inside count s (change ∷ changes) all =
-    by (setting_in s change) (setting_fits count s change (All-head (Fits count) change changes all)) (settings_inside count s changes (All-tail (Fits count) change changes all))
+    by (setting_by s change) (setting_fits count s change (All-head (Fits count) change changes all)) (settings_inside count s changes (All-tail (Fits count) change changes all))
   where
-    by : (found : Option (List ℕ × SymbolId)) → IfSome found (ExportsBelow count) → All (ExportsBelow count) (filter_map (setting_in s) changes) → All (ExportsBelow count) (cons_option found (filter_map (setting_in s) changes))
+    by : (found : Option (List ℕ × SymbolId)) → IfSome found (ExportsBelow count) → All (ExportsBelow count) (filter_map (setting_by s) changes) → All (ExportsBelow count) (cons_option found (filter_map (setting_by s) changes))
     by None p rest = rest
-    by (Some x) p rest = All-cons (ExportsBelow count) x (filter_map (setting_in s) changes) p rest
+    by (Some x) p rest = All-cons (ExportsBelow count) x (filter_map (setting_by s) changes) p rest
 
 entry_inside : (count : ℕ) (es : List (List ℕ × SymbolId)) (name : List ℕ) (x : SymbolId) → All (ExportsBelow count) es → x.0 < count → All (ExportsBelow count) (insert_entry bytes_eq es name x)
 entry_inside count [] name x all lt = All-cons (ExportsBelow count) (name, x) [] lt all
@@ -148,9 +148,9 @@ entries_inside count done [] before all = before
 entries_inside count done (x ∷ xs) before all =
     entries_inside count (insert_entry bytes_eq done x.0 x.1) xs (entry_inside count done x.0 x.1 before (All-head (ExportsBelow count) x xs all)) (All-tail (ExportsBelow count) x xs all)
 
-pub exports_inside : (count : ℕ) (changes : List Change) (s : SymbolId) → All (Fits count) changes → All (ExportsBelow count) (exports_of changes s)
-unfolding exports_of
-exports_inside count changes s all = entries_inside count [] (filter_map (setting_in s) changes) (λ k d lt. absurd (omega (arith, lt))) (settings_inside count s changes all)
+pub exports_inside : (count : ℕ) (changes : List Change) (s : SymbolId) → All (Fits count) changes → All (ExportsBelow count) (exports_after changes s)
+unfolding exports_after
+exports_inside count changes s all = entries_inside count [] (filter_map (setting_by s) changes) (λ k d lt. absurd (omega (arith, lt))) (settings_inside count s changes all)
 
 pub exported_inside : (count : ℕ) (changes : List Change) (s : SymbolId) (name : List ℕ) → All (Fits count) changes → IfSome (exported changes s name) (Below count)
-exported_inside count changes s name all = All-lookup (Below count) (λ key. bytes_eq name key) (exports_of changes s) (exports_inside count changes s all)
+exported_inside count changes s name all = All-lookup (Below count) (λ key. bytes_eq name key) (exports_after changes s) (exports_inside count changes s all)

@@ -5,33 +5,33 @@ use Rattle.std.specs.Option.{option_map_or, option_and_then, option_to_list}
 use Rattle.std.proofs.lemmas.List.{length_push, get_or_default}
 use Rattle.std.proofs.lemmas.List.Elements.{Contains-append_left, Contains-append_right}
 use Rattle.std.proofs.lemmas.Bool.{lt-ltb}
-use Rattle.symbols_tree.specs.declared.tree.arena.Id.{Id}
-use Rattle.symbols_tree.specs.declared.tree.arena.Tree.{Tree}
-use Rattle.symbols_tree.specs.declared.tree.kinds.Kind.{Kind}
-use Rattle.symbols_tree.specs.declared.tree.kinds.Item.TheVariants as Item
-use Rattle.symbols_tree.specs.declared.tree.kinds.Decl.TheVariants as Decl
-use Rattle.symbols_tree.specs.declared.tree.kinds.Member.TheVariants as Member
-use Rattle.symbols_tree.specs.declared.tree.kinds.Expr.TheVariants as Expr
-use Rattle.symbols_tree.specs.declared.ids.SymbolId.{SymbolId}
-use Rattle.symbols_tree.specs.Nodes.{children, children_of}
-use Rattle.symbols_tree.specs.NodeRefs.{TreeNode, kind_of, node_in, child_of, list_of}
-use Rattle.symbols_tree.specs.ChildFields.{body_of, body_node_of, decl_of, id_of}
-use Rattle.symbols_tree.specs.WellFormed.{IsWellFormed}
-use Rattle.symbols_tree.specs.Ids.{IdView, id_view}
+use Rattle.symbols_syntax.specs.declared.tree.arena.Id.{Id}
+use Rattle.symbols_syntax.specs.declared.tree.arena.Tree.{Tree}
+use Rattle.symbols_syntax.specs.declared.tree.kinds.Kind.{Kind}
+use Rattle.symbols_syntax.specs.declared.tree.kinds.Item.TheVariants as Item
+use Rattle.symbols_syntax.specs.declared.tree.kinds.Decl.TheVariants as Decl
+use Rattle.symbols_syntax.specs.declared.tree.kinds.Member.TheVariants as Member
+use Rattle.symbols_syntax.specs.declared.tree.kinds.Expr.TheVariants as Expr
+use Rattle.symbols_syntax.specs.declared.ids.SymbolId.{SymbolId}
+use Rattle.symbols_syntax.specs.Nodes.{children, child_numbers}
+use Rattle.symbols_syntax.specs.NodeRefs.{TreeNode, kind_of, node_in, child_of, list_of}
+use Rattle.symbols_syntax.specs.ChildFields.{body_of, body_node_of, decl_of, id_of}
+use Rattle.symbols_syntax.specs.WellFormed.{IsWellFormed}
+use Rattle.symbols_syntax.specs.Ids.{IdView, id_view}
 use Rattle.symbols_nodes.specs.NodeViews.{ts_namespace, exported_ts_module}
 use Rattle.symbols_table.specs.declared.builder.scope.Scope.{Scope}
 use Rattle.symbols_table.specs.declared.builder.table.Builder.{Builder}
 use Rattle.symbols_table.specs.declared.builder.table.BuildFault.{BuildFault}
 use Rattle.symbols_table.specs.declared.builder.table.BuildFault.TheVariants.{TooManySymbols}
 use Rattle.symbols_table.specs.DeclViews.{Declaration, defined}
-use Rattle.symbols_table.specs.Changes.{Change, exports, has_child, parents_of}
+use Rattle.symbols_table.specs.Changes.{Change, exports, has_child, parents_after}
 use Rattle.symbols_table.specs.Events.{Event, Row, only, declare, export, child, declare_row, row_of, changes_of, symbol_at, rows_after}
 use Rattle.symbols_table.specs.Walks.{Walk, none, on, range_in, sym_in}
 use Rattle.symbols_table.specs.DeclarationEvents.{declared_as, whole_range, is_exported, added, declared}
-use Rattle.symbols_table.specs.TreeEvents.{declares_items, body_at, Namespace, plain_namespace, exported_namespace, namespace_of, Block, part_events, body_events, body_within, namespace_events, plain_item_events, item_or, item_events, item_within, block_within}
-use Rattle.symbols_table.specs.Levels.{AreAbove, ReadsPart, part_first}
+use Rattle.symbols_table.specs.TreeEvents.{declares_items, body_at, Namespace, plain_namespace, exported_namespace, namespace_of, Block, part_events, body_events, body_within, namespace_events, plain_item_events, item_or, item_events, item_within, block_within, part_first}
+use Rattle.symbols_table.specs.Levels.{AreAbove, ReadsPart}
 use Rattle.symbols_table.specs.Tables.{IsTableOf, ReadsAll, ReadsWalk}
-use Rattle.symbols_table.proofs.Rows.{rows_after-step, rows_after-nil, rows_after-append, length-rows_after, symbol_at_kept, symbol_at-push, symbol_at_after, parents_of_grow}
+use Rattle.symbols_table.proofs.Rows.{rows_after-step, rows_after-nil, rows_after-append, length-rows_after, symbol_at_kept, symbol_at-push, symbol_at_after, parents_after_grow}
 use Rattle.symbols_table.proofs.Walks.{one_read, none_read, reads_from, err_all, on_none, on_some, on_reads, read_as}
 use Rattle.symbols_table.proofs.PatternLemmas.{IsFound, is_found, is_above}
 
@@ -72,13 +72,13 @@ part_read whole node id decl rows h holder s b1 b2 b3 is at read exported added 
     subst (λ (d : Declaration). IsPartRead b3 s rows (part_declares id d h (length rows))) is read3
 
 pub part_fault : (r : Result SymbolId BuildFault) (whole node : TreeNode) (id : Id) (decl : Declaration) (rows : List Row) (h : ℕ) (holder : SymbolId) (limit : ℕ) (new : Builder) (fault : BuildFault) → decl ≡ defined (ts_namespace whole) (range_in node) → symbol_at rows h ≡ Some holder
-    → IsErrAnd r (λ e. e ≡ fault) → (fault ≡ TooManySymbols → limit < length (parents_of (changes_of rows ++ (declare_row (changes_of rows) holder (id_view id) decl).changes))) → ReadsPart r limit new rows (part_first whole node id h (length rows))
+    → IsErrAnd r (λ e. e ≡ fault) → (fault ≡ TooManySymbols → limit < length (parents_after (changes_of rows ++ (declare_row (changes_of rows) holder (id_view id) decl).changes))) → ReadsPart r limit new rows (part_first whole node id h (length rows))
 part_fault (Ok x) whole node id decl rows h holder limit new fault is at same read = absurd same
 part_fault (Err e) whole node id decl rows h holder limit new fault is at same read =
     let first : row_of (changes_of rows) (symbol_at rows) (declare h (id_view id) decl) ≡ declare_row (changes_of rows) holder (id_view id) decl = rw at refl in
     let r : Result SymbolId BuildFault = Err e in
     let all = err_all r limit new rows (declare h (id_view id) decl) (declare_row (changes_of rows) holder (id_view id) decl) (export h (id_view id).name (length rows) ∷ child h (length rows) ∷ []) fault first same read in
-    subst (λ (d : Declaration). e ≡ TooManySymbols → limit < length (parents_of (changes_of (rows_after rows (part_declares id d h (length rows)))))) is all
+    subst (λ (d : Declaration). e ≡ TooManySymbols → limit < length (parents_after (changes_of (rows_after rows (part_declares id d h (length rows)))))) is all
 
 -- the same of a call that goes on in the part
 pub later_read : {A : Type 0} (r : Result A BuildFault) (whole node : TreeNode) (id : Id) (inner : Walk) (rows : List Row) (h : ℕ) (s : SymbolId) (limit : ℕ) (b1 b2 : Builder) → b1.setting.limit ≡ limit → IsPartRead b1 s rows (part_first whole node id h (length rows)) → ReadsWalk r b1 b2 inner s
@@ -91,13 +91,13 @@ later_read r whole node id inner rows h s limit b1 b2 same read reads =
     reads_from r limit b1.setting.limit b2 (rows_after rows (part_events whole node inner id h (length rows))) (rows_after rows1 (inner (length rows) (length rows1))) same all (reads rows1 (length rows) read.0 read.1)
 
 pub later_fault : {A : Type 0} (r : Result A BuildFault) (whole node : TreeNode) (id : Id) (inner : Walk) (rows : List Row) (h : ℕ) (limit : ℕ) (new : Builder) (fault : BuildFault) → IsErrAnd r (λ e. e ≡ fault)
-    → (fault ≡ TooManySymbols → limit < length (parents_of (changes_of (rows_after rows (part_first whole node id h (length rows)))))) → ReadsAll r limit new (rows_after rows (part_events whole node inner id h (length rows)))
+    → (fault ≡ TooManySymbols → limit < length (parents_after (changes_of (rows_after rows (part_first whole node id h (length rows)))))) → ReadsAll r limit new (rows_after rows (part_events whole node inner id h (length rows)))
 later_fault (Ok x) whole node id inner rows h limit new fault same read = absurd same
 later_fault (Err e) whole node id inner rows h limit new fault same read = λ many.
     let first = part_first whole node id h (length rows) in
     let rest = inner (length rows) (length rows + 3) in
-    let here : limit < length (parents_of (changes_of (rows_after rows first))) = read (sym same ∙ many) in
-    let there : limit < length (parents_of (changes_of (rows_after rows (first ++ rest)))) = rw (rows_after-append rows first rest) (omega (arith, here, parents_of_grow (rows_after rows first) rest)) in
+    let here : limit < length (parents_after (changes_of (rows_after rows first))) = read (sym same ∙ many) in
+    let there : limit < length (parents_after (changes_of (rows_after rows (first ++ rest)))) = rw (rows_after-append rows first rest) (omega (arith, here, parents_after_grow (rows_after rows first) rest)) in
     there
 
 -- ---- a name that is declared with what is under it
@@ -117,7 +117,7 @@ declared_split test id decl inner rows h holder at =
 
 -- a fault at its first event
 pub declared_fault : {A : Type 0} (r : Result A BuildFault) (test : Bool) (id : IdView) (decl : Declaration) (inner : Walk) (rows : List Row) (h : ℕ) (holder : SymbolId) (limit : ℕ) (new : Builder) (fault : BuildFault) → symbol_at rows h ≡ Some holder → IsErrAnd r (λ e. e ≡ fault)
-    → (fault ≡ TooManySymbols → limit < length (parents_of (changes_of rows ++ (declare_row (changes_of rows) holder id decl).changes))) → ReadsAll r limit new (rows_after rows (declared test id decl inner h (length rows)))
+    → (fault ≡ TooManySymbols → limit < length (parents_after (changes_of rows ++ (declare_row (changes_of rows) holder id decl).changes))) → ReadsAll r limit new (rows_after rows (declared test id decl inner h (length rows)))
 declared_fault r test id decl inner rows h holder limit new fault at same read =
     let first : row_of (changes_of rows) (symbol_at rows) (declare h id decl) ≡ declare_row (changes_of rows) holder id decl = rw at refl in
     err_all r limit new rows (declare h id decl) (declare_row (changes_of rows) holder id decl) (inner (length rows) (length rows + 1) ++ added test h id.name (length rows)) fault first same read
@@ -132,8 +132,8 @@ declared_inner_fault A (Err e) test id decl inner rows h holder s limit b1 b2 ne
     let rows1 = declared_rows rows holder id decl in
     let under = rows_after rows1 (inner (length rows) (length rows1)) in
     let of : symbol_at rows1 (length rows) ≡ Some s = symbol_at-push rows row ∙ read.0 in
-    let here : b1.setting.limit < length (parents_of (changes_of under)) = reads rows1 (length rows) (one_read b1 rows row read.1) of (sym same ∙ many) in
-    rw (declared_split test id decl inner rows h holder at) (omega (arith, here, setting, parents_of_grow under (added test h id.name (length rows))))
+    let here : b1.setting.limit < length (parents_after (changes_of under)) = reads rows1 (length rows) (one_read b1 rows row read.1) of (sym same ∙ many) in
+    rw (declared_split test id decl inner rows h holder at) (omega (arith, here, setting, parents_after_grow under (added test h id.name (length rows))))
 
 -- it is read, and then added to its holder
 pub declared_read : {A : Type 0} (r : Result A BuildFault) (test : Bool) (id : IdView) (decl : Declaration) (inner : Walk) (rows : List Row) (h : ℕ) (holder s : SymbolId) (limit : ℕ) (b1 b2 b3 : Builder) → b2.setting.limit ≡ limit → symbol_at rows h ≡ Some holder
@@ -154,32 +154,32 @@ declared_read r test id decl inner rows h holder s limit b1 b2 b3 setting at rea
 
 -- ---- children
 
--- a child that was found lies above its parent, in the same tree
+-- a child that was found has a higher number than its parent, in the same tree
 pub record IsChild (node found : TreeNode) : Type 0 where
   pub same_tree : found.tree ≡ node.tree
   pub above : node.number < found.number
   pub inside : found.number < length node.tree.nodes.items
 
--- a child lies above its parent
-is_child : (node : TreeNode) (kind : Kind) (c : ℕ) → IsWellFormed node.tree.nodes.items → node.number < length node.tree.nodes.items → kind_of node ≡ Some kind → Contains (children_of kind) c → (node.number < c) × (c < length node.tree.nodes.items)
+-- a child has a higher number than its parent
+is_child : (node : TreeNode) (kind : Kind) (c : ℕ) → IsWellFormed node.tree.nodes.items → node.number < length node.tree.nodes.items → kind_of node ≡ Some kind → Contains (child_numbers kind) c → (node.number < c) × (c < length node.tree.nodes.items)
 unfolding children
 is_child node kind c formed inside is holds =
     let here : Contains (children node.tree.nodes.items node.number) c = rw is holds in
     formed.ordered node.number c inside here
 
-child_at : (node found : TreeNode) (kind : Kind) (o : Option ℕ) → IsWellFormed node.tree.nodes.items → node.number < length node.tree.nodes.items → kind_of node ≡ Some kind → ((n : ℕ) → o ≡ Some n → Contains (children_of kind) n) → Some found ≡ node_in node.tree o → IsChild node found
+child_at : (node found : TreeNode) (kind : Kind) (o : Option ℕ) → IsWellFormed node.tree.nodes.items → node.number < length node.tree.nodes.items → kind_of node ≡ Some kind → ((n : ℕ) → o ≡ Some n → Contains (child_numbers kind) n) → Some found ≡ node_in node.tree o → IsChild node found
 child_at node found kind None formed inside is holds e = absurd (let f : ⊥ = cc in f)
 child_at node found kind (Some n) formed inside is holds e =
     let at = is_found node.tree n found e in
     let above : node.number < n = is_above node kind n formed inside is (holds n refl) in
     record { same_tree = at.same_tree; above = rw at.number_is above; inside = rw at.number_is at.inside }
 
-child_of_kind : (node found : TreeNode) (field : Kind → Option ℕ) (kinds : Option Kind) → kind_of node ≡ kinds → IsWellFormed node.tree.nodes.items → node.number < length node.tree.nodes.items → ((kind : Kind) (n : ℕ) → field kind ≡ Some n → Contains (children_of kind) n)
+child_of_kind : (node found : TreeNode) (field : Kind → Option ℕ) (kinds : Option Kind) → kind_of node ≡ kinds → IsWellFormed node.tree.nodes.items → node.number < length node.tree.nodes.items → ((kind : Kind) (n : ℕ) → field kind ≡ Some n → Contains (child_numbers kind) n)
     → Some found ≡ node_in node.tree (option_and_then field kinds) → IsChild node found
 child_of_kind node found field None is formed inside holds e = absurd (let f : ⊥ = cc in f)
 child_of_kind node found field (Some kind) is formed inside holds e = child_at node found kind (field kind) formed inside is (holds kind) e
 
-pub child_found : (node found : TreeNode) (field : Kind → Option ℕ) → IsWellFormed node.tree.nodes.items → node.number < length node.tree.nodes.items → ((kind : Kind) (n : ℕ) → field kind ≡ Some n → Contains (children_of kind) n) → Some found ≡ child_of node field → IsChild node found
+pub child_found : (node found : TreeNode) (field : Kind → Option ℕ) → IsWellFormed node.tree.nodes.items → node.number < length node.tree.nodes.items → ((kind : Kind) (n : ℕ) → field kind ≡ Some n → Contains (child_numbers kind) n) → Some found ≡ child_of node field → IsChild node found
 child_found node found field formed inside holds e = child_of_kind node found field (kind_of node) refl formed inside holds e
 
 one_has : (n m : ℕ) → Some m ≡ Some n → Contains (m ∷ []) n
@@ -189,7 +189,7 @@ optional_has : (n : ℕ) (o : Option ℕ) → o ≡ Some n → Contains (option_
 optional_has n None e = absurd (let f : ⊥ = cc in f)
 optional_has n (Some m) e = one_has n m e
 
-pub bodies_are_children : (kind : Kind) (n : ℕ) → body_node_of kind ≡ Some n → Contains (children_of kind) n
+pub bodies_are_children : (kind : Kind) (n : ℕ) → body_node_of kind ≡ Some n → Contains (child_numbers kind) n
 bodies_are_children (Kind.Decl (Decl.Function type_params params return_type body)) n e =
     Contains-append_right (option_to_list type_params) (params.items ++ (option_to_list return_type ++ (option_to_list body ++ []))) n (Contains-append_right params.items (option_to_list return_type ++ (option_to_list body ++ [])) n (Contains-append_right (option_to_list return_type) (option_to_list body ++ []) n (optional_has n body e)))
 bodies_are_children (Kind.Decl (Decl.TsModuleDecl id is_declared body)) n e = Contains-append_right (id ∷ []) (option_to_list body ++ []) n (optional_has n body e)
@@ -199,12 +199,12 @@ bodies_are_children (Kind.Expr (Expr.Arrow type_params params return_type is_blo
     Contains-append_right (option_to_list type_params) (params.items ++ (option_to_list return_type ++ (body ∷ []))) n (Contains-append_right params.items (option_to_list return_type ++ (body ∷ [])) n (Contains-append_right (option_to_list return_type) (body ∷ []) n (one_has n body e)))
 bodies_are_children kind n e = absurd (let f : ⊥ = cc in f)
 
-pub decls_are_children : (kind : Kind) (n : ℕ) → decl_of kind ≡ Some n → Contains (children_of kind) n
+pub decls_are_children : (kind : Kind) (n : ℕ) → decl_of kind ≡ Some n → Contains (child_numbers kind) n
 decls_are_children (Kind.Item (Item.ExportDecl decl)) n e = one_has n decl e
 decls_are_children (Kind.Item (Item.ExportDefaultDecl decl)) n e = one_has n decl e
 decls_are_children kind n e = absurd (let f : ⊥ = cc in f)
 
-pub items_are_children : (kind : Kind) (n : ℕ) → Contains (body_of kind) n → Contains (children_of kind) n
+pub items_are_children : (kind : Kind) (n : ℕ) → Contains (body_of kind) n → Contains (child_numbers kind) n
 items_are_children (Kind.Item (Item.Program body)) n has = Contains-append_left body.items [] n has
 items_are_children (Kind.Decl (Decl.Class type_params super_class super_type_params implements body)) n has =
     let rest1 = body.items ++ [] in
@@ -219,11 +219,11 @@ items_are_children (Kind.Decl (Decl.TsInterfaceDecl id type_params extends body)
 items_are_children (Kind.Decl (Decl.TsModuleBlock body)) n has = Contains-append_left body.items [] n has
 items_are_children kind n has = absurd (omega (arith, has.1))
 
--- the rest of a dotted name lies above its part
+-- the rest of a dotted name has a higher number than its part
 pub rest_above : (node : TreeNode) (id body : ℕ) → IsWellFormed node.tree.nodes.items → node.number < length node.tree.nodes.items → kind_of node ≡ Some (Kind.Decl (Decl.TsNamespaceDecl id body)) → (node.number < body) × (body < length node.tree.nodes.items)
 rest_above node id body formed inside is = is_child node (Kind.Decl (Decl.TsNamespaceDecl id body)) body formed inside is (bodies_are_children (Kind.Decl (Decl.TsNamespaceDecl id body)) body refl)
 
--- the items of a body lie above it
+-- the items of a body have higher numbers than it
 pub items_above : (node : TreeNode) (kind : Kind) → IsWellFormed node.tree.nodes.items → node.number < length node.tree.nodes.items → kind_of node ≡ Some kind → AreAbove node.tree.nodes.items node.number (body_of kind)
 unfolding children
 items_above node kind formed inside is = λ k d below.
@@ -280,7 +280,7 @@ namespace_reads r old new holder tree left scope node found same e reads =
     let there = subst (λ (t : Tree). ReadsWalk r old new (on (kind_of found.decl) (namespace_events (block_within t left) scope found)) holder) same reads in
     read_as r old new (on (kind_of found.decl) (namespace_events (block_within tree left) scope found)) holder (on (kind_of node) (item_events (block_within tree left) scope node)) (namespace_same (block_within tree left) scope node found (kind_of node) e) there
 
--- a namespace lies where the item does, or above it
+-- a namespace has the number of the item, or a higher one
 pub record IsAtItem (node : TreeNode) (found : Namespace) : Type 0 where
   pub same_tree : found.decl.tree ≡ node.tree
   pub from : node.number ≤ found.decl.number

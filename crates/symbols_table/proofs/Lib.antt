@@ -5,9 +5,9 @@ pub mod LocalNames
 pub mod OneChange
 pub mod Rows
 pub mod Views
+pub mod Keeping
 pub mod Walks
 pub mod EventReads
-pub mod Lawful
 pub mod PatternLemmas
 pub mod ItemWalks
 pub mod Built
@@ -21,3 +21,7 @@ pub mod CountsItems
 pub mod Counts
 pub mod CountsDecls
 pub mod CountsSound
+pub mod OwnEvents
+pub mod OwnChanges
+pub mod ExportLaws
+pub mod Lawful

@@ -6,12 +6,13 @@ use Rattle.std.specs.Option.{option_or}
 use Rattle.std.specs.Cow.{cow_str_bytes}
 use Rattle.std.specs.Prelude.{All}
 use Rattle.std.proofs.lemmas.Option.{slice_get-get_or}
-use Rattle.symbols_tree.specs.declared.ids.SymbolId.{SymbolId}
+use Rattle.symbols_syntax.specs.declared.ids.SymbolId.{SymbolId}
 use Rattle.symbols_table.specs.declared.decl.symbol.Symbol.{Symbol}
 use Rattle.symbols_table.specs.declared.builder.names.LocalName.{LocalName}
 use Rattle.symbols_table.specs.declared.builder.table.Builder.{Builder}
-use Rattle.symbols_table.specs.Changes.{Change, is_same, only_if, local_name, is_named, child_named, member_named, children_of, members_of}
-use Rattle.symbols_table.specs.Tables.{Fits, IsTableOf, name_in, is_same_name}
+use Rattle.symbols_table.specs.Changes.{Change, is_same, only_if, local_name, is_named, child_named, member_named, children_after, members_after}
+use Rattle.symbols_table.specs.Tables.{Fits, IsTableOf, name_in}
+use Rattle.symbols_table.specs.LocalNames.{is_entry_of}
 use Rattle.symbols_table.proofs.Inside.{Below, All-head, All-tail, children_inside, members_inside}
 use Rattle.symbols_table.proofs.Named.{if_named}
 
@@ -29,13 +30,13 @@ and_none : (b : Bool) (x : SymbolId) → None ≡ only_if (b && false) x
 and_none true x = refl
 and_none false x = refl
 
--- a symbol without a name is found by none
-pub unnamed : (changes : List Change) (x : SymbolId) (name : List ℕ) (same : Bool) (o : Option SymbolId) → local_name changes x ≡ None → o ≡ option_or o (if_named changes name same x)
-unnamed changes x name same o none = rw (none, ← and_none same x) (none_else o)
+-- a symbol without a name has no entry
+pub no_entry : (holder x : SymbolId) (q : LocalName) (o : Option SymbolId) → o ≡ option_or o (only_if (is_entry_of holder None q) x)
+no_entry holder x q o = rw (← and_none (is_same holder q.holder) x) (none_else o)
 
--- a symbol with a name is found by that
-pub with_name : (changes : List Change) (key q : LocalName) (x : SymbolId) → local_name changes x ≡ Some (cow_str_bytes key.name) → only_if (is_same_name key q) x ≡ if_named changes (cow_str_bytes q.name) (is_same key.holder q.holder) x
-with_name changes key q x name = rw name refl
+-- the entry of a symbol is that of its local name
+pub own_entry : (changes : List Change) (holder x : SymbolId) (own : Option (List ℕ)) (q : LocalName) → own ≡ local_name changes x → only_if (is_entry_of holder own q) x ≡ if_named changes (cow_str_bytes q.name) (is_same holder q.holder) x
+own_entry changes holder x own q e = rw e refl
 
 -- what is found by name is a symbol of the table
 found_inside : (count : ℕ) (p : SymbolId → Bool) (xs : List SymbolId) → All (Below count) xs → IfSome (find p xs) (Below count)
@@ -47,7 +48,7 @@ found_inside count p (x ∷ xs) all = by (found_inside count p xs (All-tail (Bel
     by rest here false = rest
 
 pub child_inside : (count : ℕ) (changes : List Change) (s : SymbolId) (name : List ℕ) → All (Fits count) changes → IfSome (child_named changes s name) (Below count)
-child_inside count changes s name all = found_inside count (is_named changes name) (children_of changes s) (children_inside count changes s all)
+child_inside count changes s name all = found_inside count (is_named changes name) (children_after changes s) (children_inside count changes s all)
 
 pub member_inside : (count : ℕ) (changes : List Change) (s : SymbolId) (name : List ℕ) → All (Fits count) changes → IfSome (member_named changes s name) (Below count)
-member_inside count changes s name all = found_inside count (is_named changes name) (members_of changes s) (members_inside count changes s all)
+member_inside count changes s name all = found_inside count (is_named changes name) (members_after changes s) (members_inside count changes s all)

@@ -6,15 +6,15 @@ use Rattle.std.specs.Global.{Global}
 use Rattle.std.proofs.lemmas.Bool.{cases_lt, lt-ltb}
 use Rattle.std.proofs.lemmas.Option.{slice_get_past}
 use Rattle.std.proofs.lemmas.List.{append-nil, length_push}
-use Rattle.symbols_tree.specs.declared.tree.arena.Tree.{Tree}
-use Rattle.symbols_tree.specs.declared.tree.arena.Id.{Id}
-use Rattle.symbols_tree.specs.declared.tree.kinds.Kind.{Kind}
-use Rattle.symbols_tree.specs.declared.tree.kinds.Item.{Item}
-use Rattle.symbols_tree.specs.declared.ids.SymbolId.{SymbolId}
-use Rattle.symbols_tree.specs.declared.tree.arena.SourceRange.{SourceRange}
-use Rattle.symbols_tree.specs.NodeRefs.{TreeNode, kind_of, range_of, node_in}
-use Rattle.symbols_tree.specs.ChildFields.{local_of, id_of}
-use Rattle.symbols_tree.specs.Ids.{id_view, sym_of}
+use Rattle.symbols_syntax.specs.declared.tree.arena.Tree.{Tree}
+use Rattle.symbols_syntax.specs.declared.tree.arena.Id.{Id}
+use Rattle.symbols_syntax.specs.declared.tree.kinds.Kind.{Kind}
+use Rattle.symbols_syntax.specs.declared.tree.kinds.Item.{Item}
+use Rattle.symbols_syntax.specs.declared.ids.SymbolId.{SymbolId}
+use Rattle.symbols_syntax.specs.declared.tree.arena.SourceRange.{SourceRange}
+use Rattle.symbols_syntax.specs.NodeRefs.{TreeNode, kind_of, range_of, node_in}
+use Rattle.symbols_syntax.specs.ChildFields.{local_of, id_of}
+use Rattle.symbols_syntax.specs.Ids.{id_view, sym_of}
 use Rattle.symbols_nodes.specs.Expando.{Expando, expando_in}
 use Rattle.symbols_nodes.specs.NodeViews.{expando_property, export_default_decl}
 use Rattle.symbols_table.specs.declared.builder.table.Builder.{Builder}
@@ -22,10 +22,10 @@ use Rattle.symbols_table.specs.declared.builder.table.BuildFault.{BuildFault}
 use Rattle.symbols_table.specs.declared.builder.table.BuildFault.TheVariants.{OutOfMemory, TooManySymbols}
 use Rattle.symbols_table.specs.DeclViews.{Declaration, DepName, DeclKind, declaration_at, defined, file_ref, qualified_target}
 use Rattle.symbols_table.specs.Patterns.{Entity, entity_within}
-use Rattle.symbols_table.specs.Changes.{makes, declares, maps, parents_of}
+use Rattle.symbols_table.specs.Changes.{makes, declares, maps, parents_after}
 use Rattle.symbols_table.specs.Events.{Event, Row, declare, alias, default, expando, binds, of_symbol, new_row, row_of, changes_of, symbol_at, rows_after}
 use Rattle.symbols_table.specs.Walks.{Walk, on, each, range_in, sym_in}
-use Rattle.symbols_table.specs.MemberEvents.{member_at, members_in}
+use Rattle.symbols_table.specs.MemberEvents.{member_at, member_nodes}
 use Rattle.symbols_table.specs.DeclarationEvents.{own_name, export_if}
 use Rattle.symbols_table.specs.ModuleEvents.{import_name, imported, import_events, import_at, binds_if, default_decl_events, expando_events, alias_kind, alias_events, import_equals_events, module_events}
 use Rattle.symbols_table.specs.Tables.{IsTableOf, ReadsOnly, ReadsAll}
@@ -44,7 +44,7 @@ event_read b rows event row reads is = rw (rows_after-step rows event [] row rea
 abbrev pub fresh_row : List Row → SymbolId → Declaration → Row
 fresh_row rows holder decl = new_row (changes_of rows) (Some holder) decl (λ _. [])
 
-pub fresh_read : (b : Builder) (rows : List Row) (holder : SymbolId) (decl : Declaration) (s : SymbolId) → s.0 ≡ length (parents_of (changes_of rows))
+pub fresh_read : (b : Builder) (rows : List Row) (holder : SymbolId) (decl : Declaration) (s : SymbolId) → s.0 ≡ length (parents_after (changes_of rows))
     → IsTableOf b ((changes_of rows ++ makes (Some holder) ∷ []) ++ declares s decl ∷ [])
     → (symbol_at (rows ++ fresh_row rows holder decl ∷ []) (length rows) ≡ Some s) × IsTableOf b (changes_of (rows ++ fresh_row rows holder decl ∷ []))
 fresh_read b rows holder decl s number is =
@@ -58,7 +58,7 @@ pub event_as : (b : Builder) (rows : List Row) (events : List Event) (event : Ev
 event_as b rows events event row e reads is = rw e (event_read b rows event row reads is)
 
 pub err_as : {A : Type 0} (r : Result A BuildFault) (limit : ℕ) (new : Builder) (rows : List Row) (events : List Event) (event : Event) (row : Row) (more : List Event) (fault : BuildFault) → events ≡ event ∷ more
-    → row_of (changes_of rows) (symbol_at rows) event ≡ row → IsErrAnd r (λ e. e ≡ fault) → (fault ≡ TooManySymbols → limit < length (parents_of (changes_of rows ++ row.changes))) → ReadsAll r limit new (rows_after rows events)
+    → row_of (changes_of rows) (symbol_at rows) event ≡ row → IsErrAnd r (λ e. e ≡ fault) → (fault ≡ TooManySymbols → limit < length (parents_after (changes_of rows ++ row.changes))) → ReadsAll r limit new (rows_after rows events)
 err_as r limit new rows events event row more fault e reads h full = rw e (err_all r limit new rows event row more fault reads h full)
 
 -- ---- what is there or isn't
@@ -163,18 +163,18 @@ bound b rows found id s symbol is_named at is =
     rw is_named (event_read b rows (binds (id_view id) s) row reads is)
 
 pub default_decl_as : (node decl : TreeNode) (range : SourceRange) (d : Declaration) (h start : ℕ) → range_of node ≡ Some range → d ≡ defined (export_default_decl node) range
-    → default_decl_events node decl h start ≡ default h d ∷ (binds_if (own_name decl) start ++ each (member_at decl.tree) (members_in decl) start (start + 1 + length (binds_if (own_name decl) start)))
+    → default_decl_events node decl h start ≡ default h d ∷ (binds_if (own_name decl) start ++ each (member_at decl.tree) (member_nodes decl) start (start + 1 + length (binds_if (own_name decl) start)))
 default_decl_as node decl range d h start place is_decl =
     let e : d ≡ defined (export_default_decl node) (range_in node) = is_decl ∙ rw (stands node range place) refl in
     let names = binds_if (own_name decl) start in
-    ap (λ (x : Declaration). default h x ∷ (names ++ each (member_at decl.tree) (members_in decl) start (start + 1 + length names))) (sym e)
+    ap (λ (x : Declaration). default h x ∷ (names ++ each (member_at decl.tree) (member_nodes decl) start (start + 1 + length names))) (sym e)
 
 pub default_decl_rows : (rows : List Row) (node decl : TreeNode) (range : SourceRange) (d : Declaration) (row : Row) (h : ℕ) → range_of node ≡ Some range → d ≡ defined (export_default_decl node) range → row_of (changes_of rows) (symbol_at rows) (default h d) ≡ row
     → rows_after rows (default_decl_events node decl h (length rows))
-    ≡ rows_after (rows_after (rows ++ row ∷ []) (binds_if (own_name decl) (length rows))) (each (member_at decl.tree) (members_in decl) (length rows) (length (rows_after (rows ++ row ∷ []) (binds_if (own_name decl) (length rows)))))
+    ≡ rows_after (rows_after (rows ++ row ∷ []) (binds_if (own_name decl) (length rows))) (each (member_at decl.tree) (member_nodes decl) (length rows) (length (rows_after (rows ++ row ∷ []) (binds_if (own_name decl) (length rows)))))
 default_decl_rows rows node decl range d row h place is_decl reads =
     ap (λ (events : List Event). rows_after rows events) (default_decl_as node decl range d h (length rows) place is_decl)
-    ∙ rows_of_three rows (default h d) row (binds_if (own_name decl) (length rows)) (each (member_at decl.tree) (members_in decl)) (length rows) reads
+    ∙ rows_of_three rows (default h d) row (binds_if (own_name decl) (length rows)) (each (member_at decl.tree) (member_nodes decl)) (length rows) reads
 
 -- ---- `import a = ..`
 

@@ -7,11 +7,11 @@ use Rattle.std.specs.Str.{bytes_eq}
 use Rattle.std.proofs.lemmas.Bool.{cases_eq}
 use Rattle.std.proofs.lemmas.Bool.Decides.{nat_tests}
 use Rattle.std.proofs.lemmas.List.Folds.{find-append}
-use Rattle.symbols_tree.specs.declared.ids.SymbolId.{SymbolId}
+use Rattle.symbols_syntax.specs.declared.ids.SymbolId.{SymbolId}
 use Rattle.symbols_table.specs.DeclViews.{Declaration, decl_name, is_overload_after, last_decl}
-use Rattle.symbols_table.specs.Changes.{Change, makes, declares, has_child, has_member, is_same, only_if, decl_in, child_in, member_in, with_first, decls_of, children_of, members_of, local_name, is_named, child_named, member_named}
+use Rattle.symbols_table.specs.Changes.{Change, makes, declares, has_child, has_member, is_same, only_if, decl_by, child_by, member_by, with_first, decls_after, children_after, members_after, local_name, is_named, child_named, member_named}
 use Rattle.symbols_table.specs.Tables.{Fits}
-use Rattle.symbols_table.proofs.OneMore.{only_same, only_other, decls_of-out, decls_of-in, children_of-out, children_of-in, members_of-out, members_of-in}
+use Rattle.symbols_table.proofs.OneMore.{only_same, only_other, decls_after-out, decls_after-in, children_after-out, children_after-in, members_after-out, members_after-in}
 use Rattle.symbols_table.proofs.Inside.{children_inside, members_inside}
 
 -- tests that agree on a list find the same
@@ -57,11 +57,11 @@ find_with_first p xs x = by (list_any (is_same x) xs) refl (p x) refl
     by false e false f = rw (e, find-append p xs (x ∷ []), f) refl
 
 -- local names stay where no declaration is added
-pub name_out : (changes : List Change) (change : Change) (s : SymbolId) → decl_in s change ≡ None → local_name (changes ++ change ∷ []) s ≡ local_name changes s
-name_out changes change s out = rw (decls_of-out changes change s out) refl
+pub name_out : (changes : List Change) (change : Change) (s : SymbolId) → decl_by s change ≡ None → local_name (changes ++ change ∷ []) s ≡ local_name changes s
+name_out changes change s out = rw (decls_after-out changes change s out) refl
 
 -- and where one is added after others
-name_more : (changes : List Change) (t s : SymbolId) (x : Declaration) → 0 < length (decls_of changes t) → local_name (changes ++ declares t x ∷ []) s ≡ local_name changes s
+name_more : (changes : List Change) (t s : SymbolId) (x : Declaration) → 0 < length (decls_after changes t) → local_name (changes ++ declares t x ∷ []) s ≡ local_name changes s
 name_more changes t s x some = by (cases_eq s.0 t.0)
   where
     first_kept : (ds : List Declaration) (d : Declaration) → 0 < length ds → slice_get (ds ++ d ∷ []) 0 ≡ slice_get ds 0
@@ -71,7 +71,7 @@ name_more changes t s x some = by (cases_eq s.0 t.0)
     by : (s.0 ≡ t.0) ⊎ (s.0 ≢ t.0) → local_name (changes ++ declares t x ∷ []) s ≡ local_name changes s
     by (inl same) =
         let P : ℕ → Type 0 = λ n. local_name (changes ++ declares t x ∷ []) (record { 0 = n }) ≡ local_name changes (record { 0 = n }) in
-        subst P (sym same) (rw (decls_of-in changes (declares t x) t x (only_same t x)) (ap (option_and_then decl_name) (first_kept (decls_of changes t) (record x { has_overloads = is_overload_after (last_decl (decls_of changes t)) x }) some)))
+        subst P (sym same) (rw (decls_after-in changes (declares t x) t x (only_same t x)) (ap (option_and_then decl_name) (first_kept (decls_after changes t) (record x { has_overloads = is_overload_after (last_decl (decls_after changes t)) x }) some)))
     by (inr other) = name_out changes (declares t x) s (only_other t s x other)
 
 -- what is found by name after changes that keep the names of these
@@ -82,22 +82,22 @@ kept_named before after name xs kept =
 -- no change of children, members or first declarations
 pub record IsQuiet (changes : List Change) (change : Change) : Type 0 where
   pub names : (s : SymbolId) → local_name (changes ++ change ∷ []) s ≡ local_name changes s
-  pub child : (s : SymbolId) → child_in s change ≡ None
-  pub member : (s : SymbolId) → member_in s change ≡ None
+  pub child : (s : SymbolId) → child_by s change ≡ None
+  pub member : (s : SymbolId) → member_by s change ≡ None
 
 pub child_quiet : (changes : List Change) (change : Change) → IsQuiet changes change → (h : SymbolId) (name : List ℕ) → child_named (changes ++ change ∷ []) h name ≡ child_named changes h name
 child_quiet changes change quiet h name =
-    rw (children_of-out changes change h (quiet.child h)) (kept_named changes (changes ++ change ∷ []) name (children_of changes h) (λ k d lt. quiet.names (get_or (children_of changes h) k d)))
+    rw (children_after-out changes change h (quiet.child h)) (kept_named changes (changes ++ change ∷ []) name (children_after changes h) (λ k d lt. quiet.names (get_or (children_after changes h) k d)))
 
 pub member_quiet : (changes : List Change) (change : Change) → IsQuiet changes change → (h : SymbolId) (name : List ℕ) → member_named (changes ++ change ∷ []) h name ≡ member_named changes h name
 member_quiet changes change quiet h name =
-    rw (members_of-out changes change h (quiet.member h)) (kept_named changes (changes ++ change ∷ []) name (members_of changes h) (λ k d lt. quiet.names (get_or (members_of changes h) k d)))
+    rw (members_after-out changes change h (quiet.member h)) (kept_named changes (changes ++ change ∷ []) name (members_after changes h) (λ k d lt. quiet.names (get_or (members_after changes h) k d)))
 
 -- no declaration, no child and no member
-pub quiet : (changes : List Change) (change : Change) → ((s : SymbolId) → decl_in s change ≡ None) → ((s : SymbolId) → child_in s change ≡ None) → ((s : SymbolId) → member_in s change ≡ None) → IsQuiet changes change
+pub quiet : (changes : List Change) (change : Change) → ((s : SymbolId) → decl_by s change ≡ None) → ((s : SymbolId) → child_by s change ≡ None) → ((s : SymbolId) → member_by s change ≡ None) → IsQuiet changes change
 quiet changes change no_decl no_child no_member = record { names = λ s. name_out changes change s (no_decl s); child = no_child; member = no_member }
 
-pub quiet_decl : (changes : List Change) (t : SymbolId) (x : Declaration) → 0 < length (decls_of changes t) → IsQuiet changes (declares t x)
+pub quiet_decl : (changes : List Change) (t : SymbolId) (x : Declaration) → 0 < length (decls_after changes t) → IsQuiet changes (declares t x)
 quiet_decl changes t x some = record { names = λ s. name_more changes t s x some; child = λ s. refl; member = λ s. refl }
 
 abbrev pub if_named : List Change → List ℕ → Bool → SymbolId → Option SymbolId
@@ -117,12 +117,12 @@ child_added changes t x h name = by (cases_eq h.0 t.0)
     by : (h.0 ≡ t.0) ⊎ (h.0 ≢ t.0) → child_named (changes ++ has_child t x ∷ []) h name ≡ option_or (child_named changes h name) (if_named changes name (is_same t h) x)
     by (inl same) =
         let test : (t.0 == h.0) ≡ true = grind (arith, nat_tests) in
-        let P : ℕ → Type 0 = λ n. children_of (changes ++ has_child t x ∷ []) (record { 0 = n }) ≡ with_first (children_of changes (record { 0 = n })) x in
-        let more : children_of (changes ++ has_child t x ∷ []) h ≡ with_first (children_of changes h) x = subst P (sym same) (children_of-in changes (has_child t x) t x (only_same t x)) in
-        rw (test, more) (names (with_first (children_of changes h) x) ∙ find_with_first (is_named changes name) (children_of changes h) x)
+        let P : ℕ → Type 0 = λ n. children_after (changes ++ has_child t x ∷ []) (record { 0 = n }) ≡ with_first (children_after changes (record { 0 = n })) x in
+        let more : children_after (changes ++ has_child t x ∷ []) h ≡ with_first (children_after changes h) x = subst P (sym same) (children_after-in changes (has_child t x) t x (only_same t x)) in
+        rw (test, more) (names (with_first (children_after changes h) x) ∙ find_with_first (is_named changes name) (children_after changes h) x)
     by (inr other) =
         let test : (t.0 == h.0) ≡ false = grind (arith, nat_tests) in
-        rw (test, children_of-out changes (has_child t x) h (only_other t h x other)) (names (children_of changes h) ∙ none_else (find (is_named changes name) (children_of changes h)))
+        rw (test, children_after-out changes (has_child t x) h (only_other t h x other)) (names (children_after changes h) ∙ none_else (find (is_named changes name) (children_after changes h)))
 
 -- and so is a member more
 pub member_added : (changes : List Change) (t x h : SymbolId) (name : List ℕ) → member_named (changes ++ has_member t x ∷ []) h name ≡ option_or (member_named changes h name) (if_named changes name (is_same t h) x)
@@ -134,12 +134,12 @@ member_added changes t x h name = by (cases_eq h.0 t.0)
     by : (h.0 ≡ t.0) ⊎ (h.0 ≢ t.0) → member_named (changes ++ has_member t x ∷ []) h name ≡ option_or (member_named changes h name) (if_named changes name (is_same t h) x)
     by (inl same) =
         let test : (t.0 == h.0) ≡ true = grind (arith, nat_tests) in
-        let P : ℕ → Type 0 = λ n. members_of (changes ++ has_member t x ∷ []) (record { 0 = n }) ≡ with_first (members_of changes (record { 0 = n })) x in
-        let more : members_of (changes ++ has_member t x ∷ []) h ≡ with_first (members_of changes h) x = subst P (sym same) (members_of-in changes (has_member t x) t x (only_same t x)) in
-        rw (test, more) (names (with_first (members_of changes h) x) ∙ find_with_first (is_named changes name) (members_of changes h) x)
+        let P : ℕ → Type 0 = λ n. members_after (changes ++ has_member t x ∷ []) (record { 0 = n }) ≡ with_first (members_after changes (record { 0 = n })) x in
+        let more : members_after (changes ++ has_member t x ∷ []) h ≡ with_first (members_after changes h) x = subst P (sym same) (members_after-in changes (has_member t x) t x (only_same t x)) in
+        rw (test, more) (names (with_first (members_after changes h) x) ∙ find_with_first (is_named changes name) (members_after changes h) x)
     by (inr other) =
         let test : (t.0 == h.0) ≡ false = grind (arith, nat_tests) in
-        rw (test, members_of-out changes (has_member t x) h (only_other t h x other)) (names (members_of changes h) ∙ none_else (find (is_named changes name) (members_of changes h)))
+        rw (test, members_after-out changes (has_member t x) h (only_other t h x other)) (names (members_after changes h) ∙ none_else (find (is_named changes name) (members_after changes h)))
 
 -- a new symbol is no child and no member so far
 module _ (changes : List Change) (count : ℕ) (sound : All (Fits count) changes) (parent : Option SymbolId) (t : SymbolId) (x : Declaration) (number : t.0 ≡ count) where
@@ -151,10 +151,10 @@ module _ (changes : List Change) (count : ℕ) (sound : All (Fits count) changes
 
   pub child_made : (h : SymbolId) (name : List ℕ) → child_named after h name ≡ child_named changes h name
   child_made h name =
-      let same : children_of after h ≡ children_of changes h = children_of-out (changes ++ makes parent ∷ []) (declares t x) h refl ∙ children_of-out changes (makes parent) h refl in
-      rw same (kept_named changes after name (children_of changes h) (λ k d lt. below_kept (get_or (children_of changes h) k d) (children_inside count changes h sound k d lt)))
+      let same : children_after after h ≡ children_after changes h = children_after-out (changes ++ makes parent ∷ []) (declares t x) h refl ∙ children_after-out changes (makes parent) h refl in
+      rw same (kept_named changes after name (children_after changes h) (λ k d lt. below_kept (get_or (children_after changes h) k d) (children_inside count changes h sound k d lt)))
 
   pub member_made : (h : SymbolId) (name : List ℕ) → member_named after h name ≡ member_named changes h name
   member_made h name =
-      let same : members_of after h ≡ members_of changes h = members_of-out (changes ++ makes parent ∷ []) (declares t x) h refl ∙ members_of-out changes (makes parent) h refl in
-      rw same (kept_named changes after name (members_of changes h) (λ k d lt. below_kept (get_or (members_of changes h) k d) (members_inside count changes h sound k d lt)))
+      let same : members_after after h ≡ members_after changes h = members_after-out (changes ++ makes parent ∷ []) (declares t x) h refl ∙ members_after-out changes (makes parent) h refl in
+      rw same (kept_named changes after name (members_after changes h) (λ k d lt. below_kept (get_or (members_after changes h) k d) (members_inside count changes h sound k d lt)))

@@ -1,31 +1,32 @@
 -- A builder whose table has one change more.
-use Rattle.std.proofs.Common.{◌≡◌, ℕ, ◌<◌, ◌+◌, ◌≤◌, ◌⊎◌, inl, inr, Bool, true, false, ◌||◌, cond, List, [], ◌∷◌, ◌++◌, length, get_or, set, map, Option, None, Some, refl, sym, ◌∙◌, ap, subst, arith}
+use Rattle.std.proofs.Common.{◌≡◌, ℕ, ◌<◌, ◌+◌, ◌≤◌, ◌⊎◌, inl, inr, cond, List, [], ◌∷◌, ◌++◌, length, get_or, set, map, Option, None, Some, refl, sym, ◌∙◌, ap, subst, arith}
 use Rattle.std.specs.Prelude.{◌≢◌, All, slice_get}
 use Rattle.std.specs.Borrow.{Bor}
 use Rattle.std.specs.Map.{lookup}
 use Rattle.std.specs.Str.{bytes_eq}
 use Rattle.std.specs.Cow.{cow_str_bytes}
-use Rattle.std.specs.List.{list_any}
 use Rattle.std.specs.Option.{option_or}
-use Rattle.std.proofs.lemmas.List.Folds.{list_any-append}
 use Rattle.std.proofs.lemmas.Bool.{cases_eq, cases_lt}
-use Rattle.std.proofs.lemmas.List.{length-append, length-set, length_push, get_or-set_same, get_or-set_other, get_or_append_left, get_or_push, get_or_default}
+use Rattle.std.proofs.lemmas.List.{map-append, length-append, length-set, length_push, get_or-set_same, get_or-set_other, get_or_append_left, get_or_push, get_or_default}
 use Rattle.std.proofs.lemmas.List.Elements.{All-push}
 use Rattle.std.proofs.lemmas.Option.{slice_get-get_or, slice_get_within, get_or_from_slice_get}
-use Rattle.indexmap.specs.IndexMap.{get, insert_entry}
-use Rattle.symbols_tree.specs.declared.tree.arena.Id.{Id}
-use Rattle.symbols_tree.specs.declared.ids.ModuleId.{ModuleId}
-use Rattle.symbols_tree.specs.declared.ids.SymbolId.{SymbolId}
-use Rattle.symbols_tree.specs.Ids.{IdView, id_view, same_id}
+use Rattle.indexmap.specs.IndexMap.{insert_entry}
+use Rattle.symbols_syntax.specs.declared.tree.arena.Id.{Id}
+use Rattle.symbols_syntax.specs.declared.ids.ModuleId.{ModuleId}
+use Rattle.symbols_syntax.specs.declared.ids.SymbolId.{SymbolId}
+use Rattle.symbols_syntax.specs.Ids.{IdView, same_id}
 use Rattle.symbols_table.specs.declared.decl.symbol.Symbol.{Symbol}
-use Rattle.symbols_nodes.specs.NodeTests.{is_function}
 use Rattle.symbols_table.specs.declared.builder.names.LocalName.{LocalName}
 use Rattle.symbols_table.specs.declared.builder.table.Builder.{Builder}
-use Rattle.symbols_table.specs.DeclViews.{Declaration, decl_view, exports_view, with_decl, is_overload_after, last_decl, node_test}
-use Rattle.symbols_table.specs.Changes.{Change, makes, declares, exports, has_child, has_member, maps, passes_on, is_same, star_in, stars_of, child_named, member_named, has_function, parent_in, decl_in, setting_in, child_in, member_in, mapping_in, parents_of, decls_of, exports_of, children_of, members_of, mapped, with_first}
-use Rattle.symbols_table.specs.Tables.{Fits, IsSymbolOf, IsBare, IsParentOf, IsTableOf, is_same_name, symbol_named}
+use Rattle.symbols_table.specs.DeclViews.{Declaration, decl_view, exports_view, with_decl, is_overload_after, last_decl}
+use Rattle.symbols_table.specs.Changes.{Change, Star, makes, declares, exports, has_child, has_member, maps, passes_on, is_same, star_by, stars_after, child_named, member_named, parent_by, decl_by, setting_by, child_by, member_by, mapping_by, parents_after, decls_after, exports_after, children_after, members_after, mapped_after, with_first}
+use Rattle.symbols_table.specs.declared.info.star.StarStatement.{StarStatement}
+use Rattle.symbols_table.specs.ModuleViews.{ids_view, star_view}
+use Rattle.symbols_table.specs.Symbols.{IsSymbolOf}
+use Rattle.symbols_table.specs.Laws.{IsParentOf}
+use Rattle.symbols_table.specs.Tables.{Fits, IsBare, IsTableOf, is_same_name, symbol_named}
 use Rattle.symbols_table.proofs.Named.{IsQuiet, quiet, quiet_decl, child_quiet, member_quiet, kept_named, name_out, if_named, child_added, member_added, child_made, member_made}
-use Rattle.symbols_table.proofs.OneMore.{only_same, only_other, parents_of-out, parents_of-in, decls_of-out, decls_of-in, exports_of-out, exports_of-in, children_of-out, children_of-in, members_of-out, members_of-in, stars_of-out, stars_of-in, mapped-out, mapped-maps}
+use Rattle.symbols_table.proofs.OneMore.{only_same, only_other, parents_after-out, parents_after-in, decls_after-out, decls_after-in, exports_after-out, exports_after-in, children_after-out, children_after-in, members_after-out, members_after-in, stars_after-out, stars_after-in, mapped_after-out, mapped_after-maps}
 
 -- an element stays where one more is pushed, and the pushed one comes last
 slice_get-push : {X : Type 0} (xs : List X) (y : X) (i : ℕ) (x : X) → slice_get xs i ≡ Some x → slice_get (xs ++ y ∷ []) i ≡ Some x
@@ -56,51 +57,37 @@ fits_more count changes all = λ k d lt. fits_one_more count (get_or changes k d
 
 -- the change says nothing of the symbol
 pub record Spares (change : Change) (s : SymbolId) : Type 0 where
-  pub decl : decl_in s change ≡ None
-  pub setting : setting_in s change ≡ None
-  pub child : child_in s change ≡ None
-  pub member : member_in s change ≡ None
+  pub decl : decl_by s change ≡ None
+  pub setting : setting_by s change ≡ None
+  pub child : child_by s change ≡ None
+  pub member : member_by s change ≡ None
 
--- whether a declaration is a function, after one change more
-functions-out : (changes : List Change) (change : Change) (s : SymbolId) → decl_in s change ≡ None → has_function (changes ++ change ∷ []) s ≡ has_function changes s
-functions-out changes change s out = rw (decls_of-out changes change s out) refl
-
-functions-in : (changes : List Change) (s : SymbolId) (x : Declaration) → has_function (changes ++ declares s x ∷ []) s ≡ (has_function changes s || node_test is_function x)
-functions-in changes s x =
-    rw (decls_of-in changes (declares s x) s x (only_same s x))
-    (list_any-append (node_test is_function) (decls_of changes s) ((record x { has_overloads = is_overload_after (last_decl (decls_of changes s)) x }) ∷ []) ∙ ap (λ (b : Bool). has_function changes s || b) (or_none (node_test is_function x)))
-  where
-    or_none : (b : Bool) → (b || false) ≡ b
-    or_none true = refl
-    or_none false = refl
-
-symbol_kept : (module_id : ModuleId) (changes : List Change) (change : Change) (s : SymbolId) (symbol : Symbol) → parent_in change ≡ None → Spares change s → IsSymbolOf module_id changes s symbol → IsSymbolOf module_id (changes ++ change ∷ []) s symbol
+symbol_kept : (module_id : ModuleId) (changes : List Change) (change : Change) (s : SymbolId) (symbol : Symbol) → parent_by change ≡ None → Spares change s → IsSymbolOf module_id changes s symbol → IsSymbolOf module_id (changes ++ change ∷ []) s symbol
 symbol_kept module_id changes change s symbol silent spares is = record {
   number = is.number;
   of_module = is.of_module;
-  parent = rw (parents_of-out changes change silent) is.parent;
-  decls = rw (decls_of-out changes change s spares.decl) is.decls;
-  exports = rw (exports_of-out changes change s spares.setting) is.exports;
-  children = rw (children_of-out changes change s spares.child) is.children;
-  members = rw (members_of-out changes change s spares.member) is.members;
-  functions = is.functions ∙ sym (functions-out changes change s spares.decl);
+  parent = rw (parents_after-out changes change silent) is.parent;
+  decls = rw (decls_after-out changes change s spares.decl) is.decls;
+  exports = rw (exports_after-out changes change s spares.setting) is.exports;
+  children = rw (children_after-out changes change s spares.child) is.children;
+  members = rw (members_after-out changes change s spares.member) is.members;
 }
 
 bare_kept : (changes : List Change) (change : Change) (s : SymbolId) → Spares change s → IsBare changes s → IsBare (changes ++ change ∷ []) s
 bare_kept changes change s spares is = record {
-  decls = rw (decls_of-out changes change s spares.decl) is.decls;
-  exports = rw (exports_of-out changes change s spares.setting) is.exports;
-  children = rw (children_of-out changes change s spares.child) is.children;
-  members = rw (members_of-out changes change s spares.member) is.members;
+  decls = rw (decls_after-out changes change s spares.decl) is.decls;
+  exports = rw (exports_after-out changes change s spares.setting) is.exports;
+  children = rw (children_after-out changes change s spares.child) is.children;
+  members = rw (members_after-out changes change s spares.member) is.members;
 }
 
 -- declarations are only added
-decls_of-grow : (changes : List Change) (s : SymbolId) (change : Change) → length (decls_of changes s) ≤ length (decls_of (changes ++ change ∷ []) s)
-decls_of-grow changes s change = by (decl_in s change) refl
+decls_after-grow : (changes : List Change) (s : SymbolId) (change : Change) → length (decls_after changes s) ≤ length (decls_after (changes ++ change ∷ []) s)
+decls_after-grow changes s change = by (decl_by s change) refl
   where
-    by : (o : Option Declaration) → decl_in s change ≡ o → length (decls_of changes s) ≤ length (decls_of (changes ++ change ∷ []) s)
-    by None is = rw (decls_of-out changes change s is) (omega arith)
-    by (Some decl) is = rw (decls_of-in changes change s decl is, length-append (decls_of changes s) ((record decl { has_overloads = is_overload_after (last_decl (decls_of changes s)) decl }) ∷ [])) (omega arith)
+    by : (o : Option Declaration) → decl_by s change ≡ o → length (decls_after changes s) ≤ length (decls_after (changes ++ change ∷ []) s)
+    by None is = rw (decls_after-out changes change s is) (omega arith)
+    by (Some decl) is = rw (decls_after-in changes change s decl is, length-append (decls_after changes s) ((record decl { has_overloads = is_overload_after (last_decl (decls_after changes s)) decl }) ∷ [])) (omega arith)
 
 -- the symbol t is written, and nothing else
 pub record Writes (b after : Builder) (t : SymbolId) (old new : Symbol) : Type 0 where
@@ -119,23 +106,23 @@ module _ {b after : Builder} {t : SymbolId} {old new : Symbol} (w : Writes b aft
   was h = subst (IsSymbolOf b.setting.module_id changes t) (read_back b.symbols.items t.0 old new w.below w.read) h
 
   -- a change of the symbol t alone
-  written : (change : Change) → parent_in change ≡ None → ((id : IdView) → mapping_in id change ≡ None) → ((s : SymbolId) → s.0 ≢ t.0 → Spares change s)
-      → Fits (length b.symbols.items) change → star_in change ≡ None
+  written : (change : Change) → parent_by change ≡ None → ((id : IdView) → mapping_by id change ≡ None) → ((s : SymbolId) → s.0 ≢ t.0 → Spares change s)
+      → Fits (length b.symbols.items) change → star_by change ≡ None
       → ((q : LocalName) → symbol_named after.child_names q ≡ child_named (changes ++ change ∷ []) q.holder (cow_str_bytes q.name))
       → ((q : LocalName) → symbol_named after.member_names q ≡ member_named (changes ++ change ∷ []) q.holder (cow_str_bytes q.name))
       → (IsSymbolOf b.setting.module_id changes t old → IsSymbolOf b.setting.module_id (changes ++ change ∷ []) t new) → IsTableOf after (changes ++ change ∷ [])
   written change silent unmapped spares fits no_star children_named members_named changed = record {
-    count = rw (parents_of-out changes change silent) (len ∙ is.count);
+    count = rw (parents_after-out changes change silent) (len ∙ is.count);
     symbols = rw w.setting (λ s d lt. by s d (rw len at lt) (cases_eq s.0 t.0));
     others = λ s le. let past : length b.symbols.items ≤ s.0 = omega (arith, len) in bare_kept changes change s (spares s (λ same. absurd (omega (arith, w.below)))) (is.others s past);
-    ids = λ id. rw (w.ids, mapped-out changes change (id_view id.now) (unmapped (id_view id.now))) (is.ids id);
+    ids = λ id. rw (w.ids, mapped_after-out changes change id (unmapped id)) (is.ids id);
     child_names = children_named;
     member_names = members_named;
-    stars = rw (w.stars, stars_of-out changes change no_star) is.stars;
+    stars = rw (w.stars, stars_after-out changes change no_star) is.stars;
     few = rw (w.setting, len) is.few;
     sound = rw len (All-push (Fits (length b.symbols.items)) changes change is.sound fits);
-    parents = rw (parents_of-out changes change silent) is.parents;
-    declared = λ s lt. let short : s.0 < length b.symbols.items = omega (arith, len) in omega (arith, is.declared s short, decls_of-grow changes s change);
+    parents = rw (parents_after-out changes change silent) is.parents;
+    declared = λ s lt. let short : s.0 < length b.symbols.items = omega (arith, len) in omega (arith, is.declared s short, decls_after-grow changes s change);
   }
     where
       len : length after.symbols.items ≡ length b.symbols.items
@@ -151,13 +138,13 @@ module _ {b after : Builder} {t : SymbolId} {old new : Symbol} (w : Writes b aft
           let at : get_or after.symbols.items s.0 d ≡ get_or b.symbols.items s.0 d = rw w.set_to (get_or-set_other b.symbols.items t.0 s.0 new d other) in
           rw at (symbol_kept b.setting.module_id changes change s (get_or b.symbols.items s.0 d) silent (spares s other) (is.symbols s d lt))
 
-  same_parent : (change : Change) → parent_in change ≡ None → IsSymbolOf b.setting.module_id changes t old → slice_get (parents_of (changes ++ change ∷ [])) t.0 ≡ Some new.parent_id
-  same_parent change silent h = rw (parents_of-out changes change silent, w.parent) h.parent
+  same_parent : (change : Change) → parent_by change ≡ None → IsSymbolOf b.setting.module_id changes t old → slice_get (parents_after (changes ++ change ∷ [])) t.0 ≡ Some new.parent_id
+  same_parent change silent h = rw (parents_after-out changes change silent, w.parent) h.parent
 
   pub only_exports : (name : List ℕ) (x : SymbolId) → x.0 < length b.symbols.items → exports_view new.exports.entries ≡ insert_entry bytes_eq (exports_view old.exports.entries) name x
-      → new.decls ≡ old.decls → new.child_ids ≡ old.child_ids → new.members ≡ old.members → new.has_function ≡ old.has_function → after.child_names ≡ b.child_names → after.member_names ≡ b.member_names
+      → new.decls ≡ old.decls → new.child_ids ≡ old.child_ids → new.members ≡ old.members → after.child_names ≡ b.child_names → after.member_names ≡ b.member_names
       → IsTableOf after (changes ++ exports t name x ∷ [])
-  only_exports name x lt e d c m f cn mn =
+  only_exports name x lt e d c m cn mn =
       let still = quiet changes (exports t name x) (λ s. refl) (λ s. refl) (λ s. refl) in
       written (exports t name x) refl (λ id. refl) (λ s other. record { decl = refl; setting = only_other t s (name, x) other; child = refl; member = refl }) (w.below, lt) refl
       (λ q. rw cn (is.child_names q ∙ sym (child_quiet changes (exports t name x) still q.holder (cow_str_bytes q.name))))
@@ -168,63 +155,60 @@ module _ {b after : Builder} {t : SymbolId} {old new : Symbol} (w : Writes b aft
         number = w.number ∙ h.number;
         of_module = w.module_number ∙ h.of_module;
         parent = same_parent (exports t name x) refl h;
-        decls = rw (d, decls_of-out changes (exports t name x) t refl) h.decls;
-        exports = e ∙ (ap (λ es. insert_entry bytes_eq es name x) h.exports ∙ sym (exports_of-in changes (exports t name x) t name x (only_same t (name, x))));
-        children = rw (c, children_of-out changes (exports t name x) t refl) h.children;
-        members = rw (m, members_of-out changes (exports t name x) t refl) h.members;
-        functions = f ∙ (h.functions ∙ sym (functions-out changes (exports t name x) t refl));
+        decls = rw (d, decls_after-out changes (exports t name x) t refl) h.decls;
+        exports = e ∙ (ap (λ es. insert_entry bytes_eq es name x) h.exports ∙ sym (exports_after-in changes (exports t name x) t name x (only_same t (name, x))));
+        children = rw (c, children_after-out changes (exports t name x) t refl) h.children;
+        members = rw (m, members_after-out changes (exports t name x) t refl) h.members;
       }
 
   pub only_child : (x : SymbolId) → x.0 < length b.symbols.items → new.child_ids.keys ≡ with_first old.child_ids.keys x
-      → new.decls ≡ old.decls → new.exports ≡ old.exports → new.members ≡ old.members → new.has_function ≡ old.has_function → after.member_names ≡ b.member_names
+      → new.decls ≡ old.decls → new.exports ≡ old.exports → new.members ≡ old.members → after.member_names ≡ b.member_names
       → ((q : LocalName) → symbol_named after.child_names q ≡ option_or (symbol_named b.child_names q) (if_named changes (cow_str_bytes q.name) (is_same t q.holder) x))
       → IsTableOf after (changes ++ has_child t x ∷ [])
-  only_child x lt e d c m f on named = written (has_child t x) refl (λ id. refl) (λ s other. record { decl = refl; setting = refl; child = only_other t s x other; member = refl }) (w.below, lt) refl
+  only_child x lt e d c m on named = written (has_child t x) refl (λ id. refl) (λ s other. record { decl = refl; setting = refl; child = only_other t s x other; member = refl }) (w.below, lt) refl
       (λ q. named q ∙ (ap (λ (o : Option SymbolId). option_or o (if_named changes (cow_str_bytes q.name) (is_same t q.holder) x)) (is.child_names q) ∙ sym (child_added changes t x q.holder (cow_str_bytes q.name))))
       (λ q. rw on (is.member_names q ∙ sym (member_still q.holder (cow_str_bytes q.name)))) by
     where
       member_still : (h : SymbolId) (name : List ℕ) → member_named (changes ++ has_child t x ∷ []) h name ≡ member_named changes h name
-      member_still h name = rw (members_of-out changes (has_child t x) h refl) (kept_named changes (changes ++ has_child t x ∷ []) name (members_of changes h) (λ k d lt. name_out changes (has_child t x) (get_or (members_of changes h) k d) refl))
+      member_still h name = rw (members_after-out changes (has_child t x) h refl) (kept_named changes (changes ++ has_child t x ∷ []) name (members_after changes h) (λ k d lt. name_out changes (has_child t x) (get_or (members_after changes h) k d) refl))
 
       by : IsSymbolOf b.setting.module_id changes t old → IsSymbolOf b.setting.module_id (changes ++ has_child t x ∷ []) t new
       by h = record {
         number = w.number ∙ h.number;
         of_module = w.module_number ∙ h.of_module;
         parent = same_parent (has_child t x) refl h;
-        decls = rw (d, decls_of-out changes (has_child t x) t refl) h.decls;
-        exports = rw (c, exports_of-out changes (has_child t x) t refl) h.exports;
-        children = e ∙ (ap (λ es. with_first es x) h.children ∙ sym (children_of-in changes (has_child t x) t x (only_same t x)));
-        members = rw (m, members_of-out changes (has_child t x) t refl) h.members;
-        functions = f ∙ (h.functions ∙ sym (functions-out changes (has_child t x) t refl));
+        decls = rw (d, decls_after-out changes (has_child t x) t refl) h.decls;
+        exports = rw (c, exports_after-out changes (has_child t x) t refl) h.exports;
+        children = e ∙ (ap (λ es. with_first es x) h.children ∙ sym (children_after-in changes (has_child t x) t x (only_same t x)));
+        members = rw (m, members_after-out changes (has_child t x) t refl) h.members;
       }
 
   pub only_member : (x : SymbolId) → x.0 < length b.symbols.items → new.members.keys ≡ with_first old.members.keys x
-      → new.decls ≡ old.decls → new.exports ≡ old.exports → new.child_ids ≡ old.child_ids → new.has_function ≡ old.has_function → after.child_names ≡ b.child_names
+      → new.decls ≡ old.decls → new.exports ≡ old.exports → new.child_ids ≡ old.child_ids → after.child_names ≡ b.child_names
       → ((q : LocalName) → symbol_named after.member_names q ≡ option_or (symbol_named b.member_names q) (if_named changes (cow_str_bytes q.name) (is_same t q.holder) x))
       → IsTableOf after (changes ++ has_member t x ∷ [])
-  only_member x lt e d c m f on named = written (has_member t x) refl (λ id. refl) (λ s other. record { decl = refl; setting = refl; child = refl; member = only_other t s x other }) (w.below, lt) refl
+  only_member x lt e d c m on named = written (has_member t x) refl (λ id. refl) (λ s other. record { decl = refl; setting = refl; child = refl; member = only_other t s x other }) (w.below, lt) refl
       (λ q. rw on (is.child_names q ∙ sym (child_still q.holder (cow_str_bytes q.name))))
       (λ q. named q ∙ (ap (λ (o : Option SymbolId). option_or o (if_named changes (cow_str_bytes q.name) (is_same t q.holder) x)) (is.member_names q) ∙ sym (member_added changes t x q.holder (cow_str_bytes q.name)))) by
     where
       child_still : (h : SymbolId) (name : List ℕ) → child_named (changes ++ has_member t x ∷ []) h name ≡ child_named changes h name
-      child_still h name = rw (children_of-out changes (has_member t x) h refl) (kept_named changes (changes ++ has_member t x ∷ []) name (children_of changes h) (λ k d lt. name_out changes (has_member t x) (get_or (children_of changes h) k d) refl))
+      child_still h name = rw (children_after-out changes (has_member t x) h refl) (kept_named changes (changes ++ has_member t x ∷ []) name (children_after changes h) (λ k d lt. name_out changes (has_member t x) (get_or (children_after changes h) k d) refl))
 
       by : IsSymbolOf b.setting.module_id changes t old → IsSymbolOf b.setting.module_id (changes ++ has_member t x ∷ []) t new
       by h = record {
         number = w.number ∙ h.number;
         of_module = w.module_number ∙ h.of_module;
         parent = same_parent (has_member t x) refl h;
-        decls = rw (d, decls_of-out changes (has_member t x) t refl) h.decls;
-        exports = rw (c, exports_of-out changes (has_member t x) t refl) h.exports;
-        children = rw (m, children_of-out changes (has_member t x) t refl) h.children;
-        members = e ∙ (ap (λ es. with_first es x) h.members ∙ sym (members_of-in changes (has_member t x) t x (only_same t x)));
-        functions = f ∙ (h.functions ∙ sym (functions-out changes (has_member t x) t refl));
+        decls = rw (d, decls_after-out changes (has_member t x) t refl) h.decls;
+        exports = rw (c, exports_after-out changes (has_member t x) t refl) h.exports;
+        children = rw (m, children_after-out changes (has_member t x) t refl) h.children;
+        members = e ∙ (ap (λ es. with_first es x) h.members ∙ sym (members_after-in changes (has_member t x) t x (only_same t x)));
       }
 
   pub only_decl : (x : Declaration) → map decl_view new.decls.items ≡ with_decl (map decl_view old.decls.items) x
-      → new.exports ≡ old.exports → new.child_ids ≡ old.child_ids → new.members ≡ old.members → new.has_function ≡ (old.has_function || node_test is_function x) → after.child_names ≡ b.child_names → after.member_names ≡ b.member_names
+      → new.exports ≡ old.exports → new.child_ids ≡ old.child_ids → new.members ≡ old.members → after.child_names ≡ b.child_names → after.member_names ≡ b.member_names
       → IsTableOf after (changes ++ declares t x ∷ [])
-  only_decl x e d c m f cn mn =
+  only_decl x e d c m cn mn =
       let still = quiet_decl changes t x (is.declared t w.below) in
       written (declares t x) refl (λ id. refl) (λ s other. record { decl = only_other t s x other; setting = refl; child = refl; member = refl }) w.below refl
       (λ q. rw cn (is.child_names q ∙ sym (child_quiet changes (declares t x) still q.holder (cow_str_bytes q.name))))
@@ -235,11 +219,10 @@ module _ {b after : Builder} {t : SymbolId} {old new : Symbol} (w : Writes b aft
         number = w.number ∙ h.number;
         of_module = w.module_number ∙ h.of_module;
         parent = same_parent (declares t x) refl h;
-        decls = e ∙ (ap (λ ds. with_decl ds x) h.decls ∙ sym (decls_of-in changes (declares t x) t x (only_same t x)));
-        exports = rw (d, exports_of-out changes (declares t x) t refl) h.exports;
-        children = rw (c, children_of-out changes (declares t x) t refl) h.children;
-        members = rw (m, members_of-out changes (declares t x) t refl) h.members;
-        functions = f ∙ (ap (λ (p : Bool). p || node_test is_function x) h.functions ∙ sym (functions-in changes t x));
+        decls = e ∙ (ap (λ ds. with_decl ds x) h.decls ∙ sym (decls_after-in changes (declares t x) t x (only_same t x)));
+        exports = rw (d, exports_after-out changes (declares t x) t refl) h.exports;
+        children = rw (c, children_after-out changes (declares t x) t refl) h.children;
+        members = rw (m, members_after-out changes (declares t x) t refl) h.members;
       }
 
 silent_spares : (id : IdView) (x s : SymbolId) → Spares (maps id x) s
@@ -247,47 +230,47 @@ silent_spares id x s = record { decl = refl; setting = refl; child = refl; membe
 
 pub only_maps : (b after : Builder) (changes : List Change) (id : IdView) (x : SymbolId) → x.0 < length b.symbols.items
     → after.symbols ≡ b.symbols → after.setting ≡ b.setting → after.child_names ≡ b.child_names → after.member_names ≡ b.member_names → after.stars ≡ b.stars
-    → ((q : Bor Id) → get (λ (x y : Bor Id). same_id (id_view x.now) (id_view y.now)) after.ids q ≡ cond (same_id id (id_view q.now)) (Some x) (get (λ (x y : Bor Id). same_id (id_view x.now) (id_view y.now)) b.ids q))
+    → ((q : IdView) → lookup (same_id q) (ids_view after.ids.entries) ≡ cond (same_id id q) (Some x) (lookup (same_id q) (ids_view b.ids.entries)))
     → IsTableOf b changes → IsTableOf after (changes ++ maps id x ∷ [])
 only_maps b after changes id x lt same setting_same cn mn stars_same updated is = record {
-  count = rw (same, parents_of-out changes (maps id x) refl) is.count;
+  count = rw (same, parents_after-out changes (maps id x) refl) is.count;
   symbols = rw (same, setting_same) (λ s d below. symbol_kept b.setting.module_id changes (maps id x) s (get_or b.symbols.items s.0 d) refl (silent_spares id x s) (is.symbols s d below));
   others = λ s le. bare_kept changes (maps id x) s (silent_spares id x s) (is.others s (rw same at le));
-  ids = λ q. updated q ∙ (ap (λ o. cond (same_id id (id_view q.now)) (Some x) o) (is.ids q) ∙ sym (mapped-maps changes (maps id x) (id_view q.now) (same_id id (id_view q.now)) x refl));
+  ids = λ q. updated q ∙ (ap (λ o. cond (same_id id q) (Some x) o) (is.ids q) ∙ sym (mapped_after-maps changes (maps id x) q (same_id id q) x refl));
   child_names = λ q. rw cn (is.child_names q ∙ sym (child_quiet changes (maps id x) still q.holder (cow_str_bytes q.name)));
   member_names = λ q. rw mn (is.member_names q ∙ sym (member_quiet changes (maps id x) still q.holder (cow_str_bytes q.name)));
-  stars = rw (stars_same, stars_of-out changes (maps id x) refl) is.stars;
+  stars = rw (stars_same, stars_after-out changes (maps id x) refl) is.stars;
   few = rw (same, setting_same) is.few;
   sound = rw same (All-push (Fits (length b.symbols.items)) changes (maps id x) is.sound lt);
-  parents = rw (parents_of-out changes (maps id x) refl) is.parents;
-  declared = rw same (λ s below. rw (decls_of-out changes (maps id x) s refl) (is.declared s below));
+  parents = rw (parents_after-out changes (maps id x) refl) is.parents;
+  declared = rw same (λ s below. rw (decls_after-out changes (maps id x) s refl) (is.declared s below));
 }
   where
     still : IsQuiet changes (maps id x)
     still = quiet changes (maps id x) (λ s. refl) (λ s. refl) (λ s. refl)
 
 -- a statement `export *` more
-pub only_star : (b after : Builder) (changes : List Change) (n : ℕ) → after.symbols ≡ b.symbols → after.setting ≡ b.setting → after.ids ≡ b.ids → after.child_names ≡ b.child_names → after.member_names ≡ b.member_names
-    → after.stars.items ≡ b.stars.items ++ n ∷ [] → IsTableOf b changes → IsTableOf after (changes ++ passes_on n ∷ [])
-only_star b after changes n same setting_same ids_same cn mn pushed is = record {
-  count = rw (same, parents_of-out changes (passes_on n) refl) is.count;
-  symbols = rw (same, setting_same) (λ s d below. symbol_kept b.setting.module_id changes (passes_on n) s (get_or b.symbols.items s.0 d) refl spares (is.symbols s d below));
-  others = λ s le. bare_kept changes (passes_on n) s spares (is.others s (rw same at le));
-  ids = λ id. rw (ids_same, mapped-out changes (passes_on n) (id_view id.now) refl) (is.ids id);
-  child_names = λ q. rw cn (is.child_names q ∙ sym (child_quiet changes (passes_on n) still q.holder (cow_str_bytes q.name)));
-  member_names = λ q. rw mn (is.member_names q ∙ sym (member_quiet changes (passes_on n) still q.holder (cow_str_bytes q.name)));
-  stars = pushed ∙ (ap (λ (ns : List ℕ). ns ++ n ∷ []) is.stars ∙ sym (stars_of-in changes (passes_on n) n refl));
+pub only_star : (b after : Builder) (changes : List Change) (star : StarStatement) → after.symbols ≡ b.symbols → after.setting ≡ b.setting → after.ids ≡ b.ids → after.child_names ≡ b.child_names → after.member_names ≡ b.member_names
+    → after.stars.items ≡ b.stars.items ++ star ∷ [] → IsTableOf b changes → IsTableOf after (changes ++ passes_on (star_view star) ∷ [])
+only_star b after changes star same setting_same ids_same cn mn pushed is = record {
+  count = rw (same, parents_after-out changes (passes_on (star_view star)) refl) is.count;
+  symbols = rw (same, setting_same) (λ s d below. symbol_kept b.setting.module_id changes (passes_on (star_view star)) s (get_or b.symbols.items s.0 d) refl spares (is.symbols s d below));
+  others = λ s le. bare_kept changes (passes_on (star_view star)) s spares (is.others s (rw same at le));
+  ids = λ id. rw (ids_same, mapped_after-out changes (passes_on (star_view star)) id refl) (is.ids id);
+  child_names = λ q. rw cn (is.child_names q ∙ sym (child_quiet changes (passes_on (star_view star)) still q.holder (cow_str_bytes q.name)));
+  member_names = λ q. rw mn (is.member_names q ∙ sym (member_quiet changes (passes_on (star_view star)) still q.holder (cow_str_bytes q.name)));
+  stars = ap (map star_view) pushed ∙ (map-append star_view b.stars.items (star ∷ []) ∙ (ap (λ (stars : List Star). stars ++ star_view star ∷ []) is.stars ∙ sym (stars_after-in changes (passes_on (star_view star)) (star_view star) refl)));
   few = rw (same, setting_same) is.few;
-  sound = rw same (All-push (Fits (length b.symbols.items)) changes (passes_on n) is.sound tt);
-  parents = rw (parents_of-out changes (passes_on n) refl) is.parents;
-  declared = rw same (λ s below. rw (decls_of-out changes (passes_on n) s refl) (is.declared s below));
+  sound = rw same (All-push (Fits (length b.symbols.items)) changes (passes_on (star_view star)) is.sound tt);
+  parents = rw (parents_after-out changes (passes_on (star_view star)) refl) is.parents;
+  declared = rw same (λ s below. rw (decls_after-out changes (passes_on (star_view star)) s refl) (is.declared s below));
 }
   where
-    spares : {s : SymbolId} → Spares (passes_on n) s
+    spares : {s : SymbolId} → Spares (passes_on (star_view star)) s
     spares {s} = record { decl = refl; setting = refl; child = refl; member = refl }
 
-    still : IsQuiet changes (passes_on n)
-    still = quiet changes (passes_on n) (λ s. refl) (λ s. refl) (λ s. refl)
+    still : IsQuiet changes (passes_on (star_view star))
+    still = quiet changes (passes_on (star_view star)) (λ s. refl) (λ s. refl) (λ s. refl)
 
 -- a new symbol with its first declaration
 module _ (b after : Builder) (changes : List Change) (parent : Option SymbolId) (x : Declaration) (t : SymbolId) (new : Symbol) where
@@ -296,31 +279,30 @@ module _ (b after : Builder) (changes : List Change) (parent : Option SymbolId) 
       (record {
         number = is.number;
         of_module = is.of_module;
-        parent = rw (parents_of-in changes (makes parent) parent refl) (slice_get-push (parents_of changes) parent s.0 symbol.parent_id is.parent);
-        decls = rw (decls_of-out changes (makes parent) s refl) is.decls;
-        exports = rw (exports_of-out changes (makes parent) s refl) is.exports;
-        children = rw (children_of-out changes (makes parent) s refl) is.children;
-        members = rw (members_of-out changes (makes parent) s refl) is.members;
-        functions = is.functions ∙ sym (functions-out changes (makes parent) s refl);
+        parent = rw (parents_after-in changes (makes parent) parent refl) (slice_get-push (parents_after changes) parent s.0 symbol.parent_id is.parent);
+        decls = rw (decls_after-out changes (makes parent) s refl) is.decls;
+        exports = rw (exports_after-out changes (makes parent) s refl) is.exports;
+        children = rw (children_after-out changes (makes parent) s refl) is.children;
+        members = rw (members_after-out changes (makes parent) s refl) is.members;
       })
 
   bare_first : (s : SymbolId) → IsBare changes s → IsBare (changes ++ makes parent ∷ []) s
   bare_first s is = bare_kept changes (makes parent) s (record { decl = refl; setting = refl; child = refl; member = refl }) is
 
   pub made : IsTableOf b changes → after.symbols.items ≡ b.symbols.items ++ new ∷ [] → t.0 ≡ length b.symbols.items → after.ids ≡ b.ids → after.child_names ≡ b.child_names → after.member_names ≡ b.member_names → after.stars ≡ b.stars → after.setting ≡ b.setting → length b.symbols.items < b.setting.limit
-      → IsParentOf t.0 parent → new.symbol_id ≡ t → new.module_id ≡ b.setting.module_id → new.parent_id ≡ parent → map decl_view new.decls.items ≡ with_decl [] x → new.exports.entries ≡ [] → new.child_ids.keys ≡ [] → new.members.keys ≡ [] → new.has_function ≡ node_test is_function x
+      → IsParentOf t.0 parent → new.symbol_id ≡ t → new.module_id ≡ b.setting.module_id → new.parent_id ≡ parent → map decl_view new.decls.items ≡ with_decl [] x → new.exports.entries ≡ [] → new.child_ids.keys ≡ [] → new.members.keys ≡ []
       → IsTableOf after ((changes ++ makes parent ∷ []) ++ declares t x ∷ [])
-  made is pushed number ids_same cn mn stars_same setting_same room lower number_is of_module_is parent_is decls_is exports_is children_is members_is functions_is = record {
-    count = rw (pushed, parents_of-out (changes ++ makes parent ∷ []) (declares t x) refl, parents_of-in changes (makes parent) parent refl, length_push b.symbols.items new, length_push (parents_of changes) parent) (ap (λ n. n + 1) is.count);
+  made is pushed number ids_same cn mn stars_same setting_same room lower number_is of_module_is parent_is decls_is exports_is children_is members_is = record {
+    count = rw (pushed, parents_after-out (changes ++ makes parent ∷ []) (declares t x) refl, parents_after-in changes (makes parent) parent refl, length_push b.symbols.items new, length_push (parents_after changes) parent) (ap (λ n. n + 1) is.count);
     symbols = rw setting_same (λ s d lt. by s d lt (cases_eq s.0 t.0));
     others = λ s le. bare_kept (changes ++ makes parent ∷ []) (declares t x) s (record { decl = only_other t s x (λ e. absurd (omega (arith, len))); setting = refl; child = refl; member = refl }) (bare_first s (is.others s (omega (arith, len))));
-    ids = λ id. rw (ids_same, mapped-out (changes ++ makes parent ∷ []) (declares t x) (id_view id.now) refl, mapped-out changes (makes parent) (id_view id.now) refl) (is.ids id);
+    ids = λ id. rw (ids_same, mapped_after-out (changes ++ makes parent ∷ []) (declares t x) id refl, mapped_after-out changes (makes parent) id refl) (is.ids id);
     child_names = λ q. rw cn (is.child_names q ∙ sym (child_made changes (length b.symbols.items) is.sound parent t x number q.holder (cow_str_bytes q.name)));
     member_names = λ q. rw mn (is.member_names q ∙ sym (member_made changes (length b.symbols.items) is.sound parent t x number q.holder (cow_str_bytes q.name)));
-    stars = rw (stars_same, stars_of-out (changes ++ makes parent ∷ []) (declares t x) refl, stars_of-out changes (makes parent) refl) is.stars;
+    stars = rw (stars_same, stars_after-out (changes ++ makes parent ∷ []) (declares t x) refl, stars_after-out changes (makes parent) refl) is.stars;
     few = rw setting_same (omega (arith, len));
     sound = rw len (All-push (Fits (length b.symbols.items + 1)) (changes ++ makes parent ∷ []) (declares t x) (All-push (Fits (length b.symbols.items + 1)) changes (makes parent) (fits_more (length b.symbols.items) changes is.sound) tt) (omega (arith, number)));
-    parents = rw (parents_of-out (changes ++ makes parent ∷ []) (declares t x) refl, parents_of-in changes (makes parent) parent refl) (λ n q at. parent_by n q (cases_lt n (length (parents_of changes))) at);
+    parents = rw (parents_after-out (changes ++ makes parent ∷ []) (declares t x) refl, parents_after-in changes (makes parent) parent refl) (λ n q at. parent_by n q (cases_lt n (length (parents_after changes))) at);
     declared = λ s below. declared_by s (cases_eq s.0 t.0) below;
   }
     where
@@ -333,12 +315,11 @@ module _ (b after : Builder) (changes : List Change) (parent : Option SymbolId) 
           record {
             number = number_is;
             of_module = of_module_is;
-            parent = rw (parents_of-out (changes ++ makes parent ∷ []) (declares t x) refl, parents_of-in changes (makes parent) parent refl, parent_is) (slice_get-push_last (parents_of changes) parent t.0 (sym is.count ∙ sym number));
-            decls = decls_is ∙ (ap (λ ds. with_decl ds x) (sym bare.decls) ∙ sym (decls_of-in (changes ++ makes parent ∷ []) (declares t x) t x (only_same t x)));
-            exports = ap exports_view exports_is ∙ (sym bare.exports ∙ sym (exports_of-out (changes ++ makes parent ∷ []) (declares t x) t refl));
-            children = children_is ∙ (sym bare.children ∙ sym (children_of-out (changes ++ makes parent ∷ []) (declares t x) t refl));
-            members = members_is ∙ (sym bare.members ∙ sym (members_of-out (changes ++ makes parent ∷ []) (declares t x) t refl));
-            functions = functions_is ∙ sym (functions-in (changes ++ makes parent ∷ []) t x ∙ ap (λ (ds : List Declaration). list_any (node_test is_function) ds || node_test is_function x) bare.decls);
+            parent = rw (parents_after-out (changes ++ makes parent ∷ []) (declares t x) refl, parents_after-in changes (makes parent) parent refl, parent_is) (slice_get-push_last (parents_after changes) parent t.0 (sym is.count ∙ sym number));
+            decls = decls_is ∙ (ap (λ ds. with_decl ds x) (sym bare.decls) ∙ sym (decls_after-in (changes ++ makes parent ∷ []) (declares t x) t x (only_same t x)));
+            exports = ap exports_view exports_is ∙ (sym bare.exports ∙ sym (exports_after-out (changes ++ makes parent ∷ []) (declares t x) t refl));
+            children = children_is ∙ (sym bare.children ∙ sym (children_after-out (changes ++ makes parent ∷ []) (declares t x) t refl));
+            members = members_is ∙ (sym bare.members ∙ sym (members_after-out (changes ++ makes parent ∷ []) (declares t x) t refl));
           }
 
       by : (s : SymbolId) (d : Symbol) → s.0 < length after.symbols.items → (s.0 ≡ t.0) ⊎ (s.0 ≢ t.0) → IsSymbolOf b.setting.module_id ((changes ++ makes parent ∷ []) ++ declares t x ∷ []) s (get_or after.symbols.items s.0 d)
@@ -351,37 +332,37 @@ module _ (b after : Builder) (changes : List Change) (parent : Option SymbolId) 
           let at : get_or after.symbols.items s.0 d ≡ get_or b.symbols.items s.0 d = rw pushed (get_or_append_left b.symbols.items (new ∷ []) d s.0 short) in
           rw at (kept_twice s (get_or b.symbols.items s.0 d) other (is.symbols s d short))
 
-      parent_by : (n : ℕ) (q : Option SymbolId) → (n < length (parents_of changes)) ⊎ (length (parents_of changes) ≤ n) → slice_get (parents_of changes ++ parent ∷ []) n ≡ Some q → IsParentOf n q
+      parent_by : (n : ℕ) (q : Option SymbolId) → (n < length (parents_after changes)) ⊎ (length (parents_after changes) ≤ n) → slice_get (parents_after changes ++ parent ∷ []) n ≡ Some q → IsParentOf n q
       parent_by n q (inl lt) at =
-          let read : get_or (parents_of changes) n q ≡ q = sym (get_or_append_left (parents_of changes) (parent ∷ []) q n lt) ∙ get_or_from_slice_get (parents_of changes ++ parent ∷ []) n q q at in
-          is.parents n q (slice_get-get_or (parents_of changes) n q lt ∙ ap Some read)
+          let read : get_or (parents_after changes) n q ≡ q = sym (get_or_append_left (parents_after changes) (parent ∷ []) q n lt) ∙ get_or_from_slice_get (parents_after changes ++ parent ∷ []) n q q at in
+          is.parents n q (slice_get-get_or (parents_after changes) n q lt ∙ ap Some read)
       parent_by n q (inr le) at =
-          let within = slice_get_within (parents_of changes ++ parent ∷ []) n q at in
-          let last : length (parents_of changes) ≡ n = omega (arith, within, length_push (parents_of changes) parent) in
+          let within = slice_get_within (parents_after changes ++ parent ∷ []) n q at in
+          let last : length (parents_after changes) ≡ n = omega (arith, within, length_push (parents_after changes) parent) in
           let same : t.0 ≡ n = omega (arith, last, number, is.count) in
-          let read : parent ≡ q = sym (get_or_push (parents_of changes) parent q n last) ∙ get_or_from_slice_get (parents_of changes ++ parent ∷ []) n q q at in
+          let read : parent ≡ q = sym (get_or_push (parents_after changes) parent q n last) ∙ get_or_from_slice_get (parents_after changes ++ parent ∷ []) n q q at in
           let P : ℕ → Type 0 = λ m. IsParentOf m q in
           subst P same (subst (IsParentOf t.0) read lower)
 
-      declared_by : (s : SymbolId) → (s.0 ≡ t.0) ⊎ (s.0 ≢ t.0) → s.0 < length after.symbols.items → 0 < length (decls_of ((changes ++ makes parent ∷ []) ++ declares t x ∷ []) s)
+      declared_by : (s : SymbolId) → (s.0 ≡ t.0) ⊎ (s.0 ≢ t.0) → s.0 < length after.symbols.items → 0 < length (decls_after ((changes ++ makes parent ∷ []) ++ declares t x ∷ []) s)
       declared_by s (inl same) below =
-          let P : ℕ → Type 0 = λ m. 0 < length (decls_of ((changes ++ makes parent ∷ []) ++ declares t x ∷ []) (record { 0 = m })) in
-          let before = decls_of (changes ++ makes parent ∷ []) t in
-          let more = decls_of-in (changes ++ makes parent ∷ []) (declares t x) t x (only_same t x) in
+          let P : ℕ → Type 0 = λ m. 0 < length (decls_after ((changes ++ makes parent ∷ []) ++ declares t x ∷ []) (record { 0 = m })) in
+          let before = decls_after (changes ++ makes parent ∷ []) t in
+          let more = decls_after-in (changes ++ makes parent ∷ []) (declares t x) t x (only_same t x) in
           subst P (sym same) (rw more (rw (length-append before ((record x { has_overloads = is_overload_after (last_decl before) x }) ∷ [])) (omega arith)))
-      declared_by s (inr other) below = rw (decls_of-out (changes ++ makes parent ∷ []) (declares t x) s (only_other t s x other), decls_of-out changes (makes parent) s refl) (is.declared s (omega (arith, len, number, other)))
+      declared_by s (inr other) below = rw (decls_after-out (changes ++ makes parent ∷ []) (declares t x) s (only_other t s x other), decls_after-out changes (makes parent) s refl) (is.declared s (omega (arith, len, number, other)))
 
 -- a builder with nothing in it
 pub empty_table : (b : Builder) → b.symbols.items ≡ [] → b.ids.entries ≡ [] → b.child_names.entries ≡ [] → b.member_names.entries ≡ [] → b.stars.items ≡ [] → IsTableOf b []
-unfolding parents_of decls_of exports_of children_of members_of stars_of mapped
+unfolding parents_after decls_after exports_after children_after members_after stars_after mapped_after
 empty_table b no_symbols no_ids no_children no_members no_stars = record {
   count = ap length no_symbols;
   symbols = λ s d lt. absurd (omega (arith, lt, ap length no_symbols));
   others = λ s le. record { decls = refl; exports = refl; children = refl; members = refl };
-  ids = λ id. ap (λ (es : List (Bor Id × SymbolId)). lookup (λ y. same_id (id_view id.now) (id_view y.now)) es) no_ids;
+  ids = λ id. ap (λ (es : List (Bor Id × SymbolId)). lookup (same_id id) (ids_view es)) no_ids;
   child_names = λ q. ap (λ (es : List (LocalName × SymbolId)). lookup (is_same_name q) es) no_children;
   member_names = λ q. ap (λ (es : List (LocalName × SymbolId)). lookup (is_same_name q) es) no_members;
-  stars = no_stars;
+  stars = ap (map star_view) no_stars;
   few = omega (arith, ap length no_symbols);
   sound = λ k d lt. absurd (omega (arith, lt));
   parents = λ n parent at. absurd (omega (arith, slice_get_within [] n parent at));

@@ -9,13 +9,13 @@ use Rattle.std.proofs.lemmas.Bool.{ltb-true, ltb-false}
 use Rattle.std.proofs.lemmas.Option.{slice_get_past}
 use Rattle.std.proofs.lemmas.List.Concat.{flat_map-append}
 use Rattle.std.proofs.lemmas.List.Elements.{Contains-append_left, Contains-append_right}
-use Rattle.symbols_tree.specs.declared.tree.arena.Tree.{Tree}
-use Rattle.symbols_tree.specs.declared.tree.kinds.Kind.{Kind}
-use Rattle.symbols_tree.specs.declared.tree.kinds.Pat.TheVariants as Pat
-use Rattle.symbols_tree.specs.declared.tree.kinds.Ty.TheVariants as Ty
-use Rattle.symbols_tree.specs.Nodes.{kind_at, children, children_of}
-use Rattle.symbols_tree.specs.NodeRefs.{TreeNode, kind_of, node_in}
-use Rattle.symbols_tree.specs.WellFormed.{IsWellFormed}
+use Rattle.symbols_syntax.specs.declared.tree.arena.Tree.{Tree}
+use Rattle.symbols_syntax.specs.declared.tree.kinds.Kind.{Kind}
+use Rattle.symbols_syntax.specs.declared.tree.kinds.Pat.TheVariants as Pat
+use Rattle.symbols_syntax.specs.declared.tree.kinds.Ty.TheVariants as Ty
+use Rattle.symbols_syntax.specs.Nodes.{kind_at, children, child_numbers}
+use Rattle.symbols_syntax.specs.NodeRefs.{TreeNode, kind_of, node_in}
+use Rattle.symbols_syntax.specs.WellFormed.{IsWellFormed}
 use Rattle.symbols_table.specs.Patterns.{is_binding, pattern_parts, leaves_below, leaves_within, Entity, entity_above, entity_within}
 
 -- ---- nodes
@@ -44,8 +44,8 @@ missing_if tree n false is found = rw (slice_get_past tree.nodes.items n (ltb-fa
 pub is_missing : (tree : Tree) (n : ℕ) → None ≡ node_in tree (Some n) → kind_at tree.nodes.items n ≡ None
 is_missing tree n found = missing_if tree n (nat_lt n (length tree.nodes.items)) refl found
 
--- a child of a node that was found lies above it
-pub is_above : (node : TreeNode) (kind : Kind) (c : ℕ) → IsWellFormed node.tree.nodes.items → node.number < length node.tree.nodes.items → kind_of node ≡ Some kind → Contains (children_of kind) c → node.number < c
+-- a child of a node that was found has a higher number
+pub is_above : (node : TreeNode) (kind : Kind) (c : ℕ) → IsWellFormed node.tree.nodes.items → node.number < length node.tree.nodes.items → kind_of node ≡ Some kind → Contains (child_numbers kind) c → node.number < c
 unfolding children
 is_above node kind c formed inside is holds =
     let here : Contains (children node.tree.nodes.items node.number) c = rw is holds in
@@ -53,7 +53,7 @@ is_above node kind c formed inside is holds =
 
 -- ---- patterns
 
-pub parts_are_children : (kind : Kind) (c : ℕ) → Contains (pattern_parts kind) c → Contains (children_of kind) c
+pub parts_are_children : (kind : Kind) (c : ℕ) → Contains (pattern_parts kind) c → Contains (child_numbers kind) c
 parts_are_children (Kind.Pat (Pat.ArrayPat elems ann)) c has = Contains-append_left elems.items (option_to_list ann ++ []) c has
 parts_are_children (Kind.Pat (Pat.ObjectPat props ann)) c has = Contains-append_left props.items (option_to_list ann ++ []) c has
 parts_are_children (Kind.Pat (Pat.RestPat arg ann)) c has = Contains-append_left (arg ∷ []) (option_to_list ann ++ []) c has
@@ -106,10 +106,10 @@ unfolding entity_within
 entity_outside tree zero n is = refl
 entity_outside tree (suc levels) n is = rw is refl
 
--- the name before a part lies above the whole
+-- the name before a part has a higher number than the whole
 pub left_above : (node : TreeNode) (kind : Kind) (left : ℕ) (right : String Global) → IsWellFormed node.tree.nodes.items → node.number < length node.tree.nodes.items → kind_of node ≡ Some kind → kind ≡ Kind.Ty (Ty.TsQualifiedName left right) → node.number < left
 left_above node kind left right formed inside is qualified =
-    let has : Contains (children_of (Kind.Ty (Ty.TsQualifiedName left right))) left = (0, omega arith, refl) in
+    let has : Contains (child_numbers (Kind.Ty (Ty.TsQualifiedName left right))) left = (0, omega arith, refl) in
     is_above node kind left formed inside is (rw qualified has)
 
 -- a name alone, a name with a part more, and what is neither

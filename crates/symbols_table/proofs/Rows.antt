@@ -6,26 +6,26 @@ use Rattle.std.proofs.lemmas.List.{append-nil, length-append, length_push, lengt
 use Rattle.std.proofs.lemmas.Bool.{cases_lt}
 use Rattle.std.proofs.lemmas.List.Concat.{flat_map-append}
 use Rattle.std.proofs.lemmas.List.Elements.{filter_map-append}
-use Rattle.symbols_tree.specs.declared.ids.SymbolId.{SymbolId}
+use Rattle.symbols_syntax.specs.declared.ids.SymbolId.{SymbolId}
 use Rattle.symbols_table.specs.declared.builder.table.Builder.{Builder}
 use Rattle.symbols_table.specs.declared.builder.table.BuildFault.{BuildFault}
 use Rattle.symbols_table.specs.declared.builder.table.BuildFault.TheVariants.{TooManySymbols}
 use Rattle.symbols_table.specs.DeclViews.{Declaration}
-use Rattle.symbols_table.specs.Changes.{Change, makes, declares, parent_in, parents_of}
+use Rattle.symbols_table.specs.Changes.{Change, makes, declares, parent_by, parents_after}
 use Rattle.symbols_table.specs.Events.{Event, Row, new_row, next_symbol, row_of, changes_of, symbol_at, rows_after}
 use Rattle.symbols_table.specs.Tables.{IsTableOf, Reads}
 
-pub length-parents_of-append : (before more : List Change) → length (parents_of (before ++ more)) ≡ length (parents_of before) + length (filter_map parent_in more)
-unfolding parents_of
-length-parents_of-append before more = rw (filter_map-append parent_in before more) (length-append (filter_map parent_in before) (filter_map parent_in more))
+pub length-parents_after-append : (before more : List Change) → length (parents_after (before ++ more)) ≡ length (parents_after before) + length (filter_map parent_by more)
+unfolding parents_after
+length-parents_after-append before more = rw (filter_map-append parent_by before more) (length-append (filter_map parent_by before) (filter_map parent_by more))
 
 -- a new symbol goes past the limit
-pub past_limit : (before : List Change) (parent : Option SymbolId) (decl : Declaration) (more : SymbolId → List Change) (limit count : ℕ) → count ≡ length (parents_of before) → limit ≤ count
-    → limit < length (parents_of (before ++ (new_row before parent decl more).changes))
-past_limit before parent decl more limit count e le = rw (length-parents_of-append before (new_row before parent decl more).changes) (omega (arith, e, le))
+pub past_limit : (before : List Change) (parent : Option SymbolId) (decl : Declaration) (more : SymbolId → List Change) (limit count : ℕ) → count ≡ length (parents_after before) → limit ≤ count
+    → limit < length (parents_after (before ++ (new_row before parent decl more).changes))
+past_limit before parent decl more limit count e le = rw (length-parents_after-append before (new_row before parent decl more).changes) (omega (arith, e, le))
 
 -- the call made the new symbol
-pub new_reads : (b : Builder) (before : List Change) (parent : Option SymbolId) (decl : Declaration) (more : SymbolId → List Change) (s : SymbolId) → s.0 ≡ length (parents_of before)
+pub new_reads : (b : Builder) (before : List Change) (parent : Option SymbolId) (decl : Declaration) (more : SymbolId → List Change) (s : SymbolId) → s.0 ≡ length (parents_after before)
     → IsTableOf b (((before ++ makes parent ∷ []) ++ declares s decl ∷ []) ++ more s) → ((new_row before parent decl more).symbol ≡ Some s) × IsTableOf b (before ++ (new_row before parent decl more).changes)
 new_reads b before parent decl more s number is =
     let next : s ≡ next_symbol before = ap (λ (n : ℕ). let t : SymbolId = record { 0 = n } in t) number in
@@ -35,7 +35,7 @@ new_reads b before parent decl more s number is =
 
 -- a fault that is passed up
 pub err_reads : {A : Type 0} (r : Result A BuildFault) (symbol : A → Option SymbolId) (limit : ℕ) (new : Builder) (before : List Change) (row : Row) (fault : BuildFault) → IsErrAnd r (λ e. e ≡ fault)
-    → (fault ≡ TooManySymbols → limit < length (parents_of (before ++ row.changes))) → Reads r symbol limit new before row
+    → (fault ≡ TooManySymbols → limit < length (parents_after (before ++ row.changes))) → Reads r symbol limit new before row
 err_reads (Ok x) symbol limit new before row fault h full = absurd h
 err_reads (Err e) symbol limit new before row fault h full = λ is. full (sym h ∙ is)
 
@@ -86,11 +86,11 @@ symbol_at_after rows (e ∷ es) place s at =
     symbol_at_after (rows ++ row_of (changes_of rows) (symbol_at rows) e ∷ []) es place s (symbol_at_kept rows (row_of (changes_of rows) (symbol_at rows) e) place s at)
 
 -- symbols are only added
-pub parents_of_grow : (rows : List Row) (events : List Event) → length (parents_of (changes_of rows)) ≤ length (parents_of (changes_of (rows_after rows events)))
+pub parents_after_grow : (rows : List Row) (events : List Event) → length (parents_after (changes_of rows)) ≤ length (parents_after (changes_of (rows_after rows events)))
 unfolding rows_after
-parents_of_grow rows [] = omega arith
-parents_of_grow rows (e ∷ es) =
+parents_after_grow rows [] = omega arith
+parents_after_grow rows (e ∷ es) =
     let row = row_of (changes_of rows) (symbol_at rows) e in
-    let rest = parents_of_grow (rows ++ row ∷ []) es in
-    let here : length (parents_of (changes_of (rows ++ row ∷ []))) ≡ length (parents_of (changes_of rows)) + length (filter_map parent_in row.changes) = rw (changes_of-push rows row) (length-parents_of-append (changes_of rows) row.changes) in
+    let rest = parents_after_grow (rows ++ row ∷ []) es in
+    let here : length (parents_after (changes_of (rows ++ row ∷ []))) ≡ length (parents_after (changes_of rows)) + length (filter_map parent_by row.changes) = rw (changes_of-push rows row) (length-parents_after-append (changes_of rows) row.changes) in
     omega (arith, rest, here)

@@ -1,12 +1,20 @@
 -- What is stored, as it is seen.
-use Rattle.std.proofs.Common.{◌≡◌, ℕ, Bool, true, false, cond, List, [], ◌∷◌, ◌++◌, map, Option, Some, refl, ap, ◌∙◌}
+use Rattle.std.proofs.Common.{◌≡◌, ◌==◌, ℕ, Bool, true, false, cond, List, [], ◌∷◌, ◌++◌, map, Option, Some, None, refl, sym, ap, ◌∙◌}
 use Rattle.std.specs.Prelude.{string_bytes, String}
+use Rattle.std.specs.Borrow.{Bor}
 use Rattle.std.specs.Str.{bytes_eq}
 use Rattle.std.specs.Map.{lookup}
 use Rattle.std.specs.Global.{Global}
 use Rattle.std.proofs.lemmas.List.{map-append}
+use Rattle.std.proofs.lemmas.Bool.{false≢true}
+use Rattle.std.proofs.lemmas.Bool.Decides.{Decides-and, Decides-like, Decides-eqb}
+use Rattle.std.proofs.lemmas.Slice.Eq.{bytes_eq-Decides}
+use Rattle.std.specs.Bool.{Decides}
 use Rattle.indexmap.specs.IndexMap.{insert_entry}
-use Rattle.symbols_tree.specs.declared.ids.SymbolId.{SymbolId}
+use Rattle.symbols_syntax.specs.declared.ids.SymbolId.{SymbolId}
+use Rattle.symbols_syntax.specs.declared.tree.arena.Id.{Id}
+use Rattle.symbols_syntax.specs.Ids.{IdView, id_view, same_id}
+use Rattle.symbols_table.specs.ModuleViews.{ids_view}
 use Rattle.symbols_table.specs.declared.decl.symbol_decl.SymbolDecl.{SymbolDecl}
 use Rattle.symbols_table.specs.DeclViews.{Declaration, decl_view, exports_view, with_decl, last_decl, is_overload_after}
 
@@ -34,3 +42,66 @@ pub pushed_decl : (before after : List SymbolDecl) (decl flagged : SymbolDecl) (
 pushed_decl before after decl flagged flag pushed seen is =
     ap (map decl_view) pushed ∙ map-append decl_view before (flagged ∷ [])
     ∙ ap (λ (x : Declaration). map decl_view before ++ x ∷ []) (seen ∙ ap (λ (b : Bool). let x : Declaration = record (decl_view decl) { has_overloads = b } in x) is)
+
+-- a name that is looked up
+pub lookup-ids_view : (id : IdView) (entries : List (Bor Id × SymbolId)) → lookup (λ (key : Bor Id). same_id id (id_view key.now)) entries ≡ lookup (same_id id) (ids_view entries)
+lookup-ids_view id [] = refl
+lookup-ids_view id (e ∷ es) = ap (λ (o : Option SymbolId). cond (same_id id (id_view e.0.now)) (Some e.1) o) (lookup-ids_view id es)
+
+-- a name that is mapped
+pub ids_view-insert : (id : Bor Id) (s : SymbolId) (entries : List (Bor Id × SymbolId))
+    → ids_view (insert_entry (λ (a b : Bor Id). same_id (id_view a.now) (id_view b.now)) entries id s) ≡ insert_entry same_id (ids_view entries) (id_view id.now) s
+ids_view-insert id s [] = refl
+ids_view-insert id s (e ∷ es) = by (ids_view-insert id s es) (same_id (id_view id.now) (id_view e.0.now))
+  where
+    by : ids_view (insert_entry (λ (a b : Bor Id). same_id (id_view a.now) (id_view b.now)) es id s) ≡ insert_entry same_id (ids_view es) (id_view id.now) s
+        → (same : Bool) → ids_view (cond same ((e.0, s) ∷ es) (e ∷ insert_entry (λ (a b : Bor Id). same_id (id_view a.now) (id_view b.now)) es id s))
+        ≡ cond same ((id_view e.0.now, s) ∷ ids_view es) ((id_view e.0.now, e.1) ∷ insert_entry same_id (ids_view es) (id_view id.now) s)
+    by rest true = refl
+    by rest false = ap (λ xs. (id_view e.0.now, e.1) ∷ xs) rest
+
+-- names are the same exactly where they are equal
+pub same_id-Decides : (a b : IdView) → Decides (same_id a b) (a ≡ b)
+same_id-Decides a b =
+    Decides-like (same_id a b) (λ (both : (a.name ≡ b.name) × (a.scope ≡ b.scope)). let join : a ≡ b = rw (both.0, both.1) refl in join) (λ e. (ap (λ (x : IdView). x.name) e, ap (λ (x : IdView). x.scope) e))
+    (Decides-and (bytes_eq a.name b.name) (a.scope == b.scope) (bytes_eq-Decides a.name b.name) (Decides-eqb a.scope b.scope))
+
+-- ---- entries whose keys a test tells apart
+
+module _ {K : Type 0} (eq : K → K → Bool) (decides : (a b : K) → Decides (eq a b) (a ≡ b)) where
+  pub eq-sym : (a b : K) → eq a b ≡ eq b a
+  eq-sym a b = by (eq a b) (eq b a) refl refl
+    where
+      by : (x y : Bool) → eq a b ≡ x → eq b a ≡ y → x ≡ y
+      by true true p q = refl
+      by false false p q = refl
+      by true false p q = sym ((decides b a).1 (sym ((decides a b).0 p))) ∙ q
+      by false true p q = sym p ∙ (decides a b).1 (sym ((decides b a).0 q))
+
+  -- after an entry is inserted, its key has its value, and each other key what it had
+  pub lookup-insert : (es : List (K × SymbolId)) (k q : K) (x : SymbolId) → lookup (eq q) (insert_entry eq es k x) ≡ cond (eq k q) (Some x) (lookup (eq q) es)
+  lookup-insert [] k q x = ap (λ (b : Bool). cond b (Some x) None) (eq-sym q k)
+  lookup-insert (e ∷ es) k q x = by (eq k e.0) refl (lookup-insert es k q x)
+    where
+      found : (b c : Bool) → b ≡ c → cond b (Some x) (lookup (eq q) es) ≡ cond c (Some x) (cond b (Some e.1) (lookup (eq q) es))
+      found true true p = refl
+      found false false p = refl
+      found true false p = absurd (false≢true (sym p))
+      found false true p = absurd (false≢true p)
+
+      kept : (b c : Bool) → (b ≡ true → c ≡ false) → cond b (Some e.1) (cond c (Some x) (lookup (eq q) es)) ≡ cond c (Some x) (cond b (Some e.1) (lookup (eq q) es))
+      kept true true apart = absurd (false≢true (sym (apart refl)))
+      kept true false apart = refl
+      kept false c apart = refl
+
+      other : eq k e.0 ≡ false → eq q e.0 ≡ true → eq k q ≡ false
+      other apart same = by (eq k q) refl
+        where
+          by : (b : Bool) → eq k q ≡ b → b ≡ false
+          by false p = refl
+          by true p = absurd (false≢true (sym apart ∙ (decides k e.0).1 ((decides k q).0 p ∙ (decides q e.0).0 same)))
+
+      by : (same : Bool) → eq k e.0 ≡ same → lookup (eq q) (insert_entry eq es k x) ≡ cond (eq k q) (Some x) (lookup (eq q) es)
+          → lookup (eq q) (cond same ((e.0, x) ∷ es) (e ∷ insert_entry eq es k x)) ≡ cond (eq k q) (Some x) (cond (eq q e.0) (Some e.1) (lookup (eq q) es))
+      by true p rest = found (eq q e.0) (eq k q) (ap (eq q) (sym ((decides k e.0).0 p)) ∙ eq-sym q k)
+      by false p rest = ap (λ (o : Option SymbolId). cond (eq q e.0) (Some e.1) o) rest ∙ kept (eq q e.0) (eq k q) (other p)

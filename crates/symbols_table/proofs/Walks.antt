@@ -3,18 +3,19 @@ use Rattle.std.proofs.Common.{◌≡◌, ℕ, suc, ◌+◌, ◌<◌, ◌≤◌, 
 use Rattle.std.specs.Prelude.{Result, Ok, Err, IsErrAnd}
 use Rattle.std.proofs.Math.Seq.{take-suc}
 use Rattle.std.proofs.lemmas.List.{append-nil, length-append, take-append-drop}
-use Rattle.symbols_tree.specs.declared.ids.SymbolId.{SymbolId}
+use Rattle.symbols_syntax.specs.declared.ids.SymbolId.{SymbolId}
 use Rattle.symbols_table.specs.declared.builder.table.Builder.{Builder}
 use Rattle.symbols_table.specs.declared.builder.table.BuildFault.{BuildFault}
 use Rattle.symbols_table.specs.declared.builder.table.BuildFault.TheVariants.{TooManySymbols}
 use Rattle.symbols_table.specs.DeclViews.{Declaration}
-use Rattle.symbols_table.specs.Changes.{Change, makes, declares, parents_of}
+use Rattle.symbols_table.specs.Changes.{Change, makes, declares, parents_after}
 use Rattle.symbols_table.specs.Events.{Event, Row, begins, new_row, row_of, changes_of, symbol_at, rows_after}
 use Rattle.symbols_table.specs.Walks.{Walk, none, on, each}
 use Rattle.symbols_table.specs.Tables.{IsTableOf, IsFilled, ReadsAll, ReadsWalk}
+use Rattle.symbols_table.specs.Keeping.{KeepsTable}
 use Rattle.symbols_table.specs.declared.builder.table.Setting.{Setting}
 use Rattle.symbols_table.proofs.OneChange.{empty_table}
-use Rattle.symbols_table.proofs.Rows.{new_reads, changes_of-push, rows_after-step, rows_after-nil, rows_after-append, length-rows_after, symbol_at_after, parents_of_grow}
+use Rattle.symbols_table.proofs.Rows.{new_reads, changes_of-push, rows_after-step, rows_after-nil, rows_after-append, length-rows_after, symbol_at_after, parents_after_grow}
 
 -- one part, and then another under the same holder
 abbrev pub followed_by : Walk → Walk → Walk
@@ -46,12 +47,12 @@ reads_from (Err fault) limit between new all rest e same is = λ many. rw (same,
 
 -- a fault at the first of several events
 pub err_all : {A : Type 0} (r : Result A BuildFault) (limit : ℕ) (new : Builder) (rows : List Row) (event : Event) (row : Row) (events : List Event) (fault : BuildFault) → row_of (changes_of rows) (symbol_at rows) event ≡ row → IsErrAnd r (λ e. e ≡ fault)
-    → (fault ≡ TooManySymbols → limit < length (parents_of (changes_of rows ++ row.changes))) → ReadsAll r limit new (rows_after rows (event ∷ events))
+    → (fault ≡ TooManySymbols → limit < length (parents_after (changes_of rows ++ row.changes))) → ReadsAll r limit new (rows_after rows (event ∷ events))
 err_all (Ok x) limit new rows event row events fault is h full = absurd h
 err_all (Err e) limit new rows event row events fault is h full = λ many.
-    let here : limit < length (parents_of (changes_of rows ++ row.changes)) = full (sym h ∙ many) in
-    let there : limit < length (parents_of (changes_of (rows ++ row ∷ []))) = rw (changes_of-push rows row) here in
-    rw (rows_after-step rows event events row is) (omega (arith, there, parents_of_grow (rows ++ row ∷ []) events))
+    let here : limit < length (parents_after (changes_of rows ++ row.changes)) = full (sym h ∙ many) in
+    let there : limit < length (parents_after (changes_of (rows ++ row ∷ []))) = rw (changes_of-push rows row) here in
+    rw (rows_after-step rows event events row is) (omega (arith, there, parents_after_grow (rows ++ row ∷ []) events))
 
 -- the events of one item more
 pub each-append : {A : Type 0} (walk : A → Walk) (h start : ℕ) (xs ys : List A) → each walk (xs ++ ys) h start ≡ followed_by (each walk xs) (each walk ys) h start
@@ -90,11 +91,11 @@ pub walked_none : (b : Builder) (holder : SymbolId) → IsFilled b → IsWalked 
 walked_none b holder filled = record { filled = filled; setting = refl; longer = omega arith; table = λ rows h is at. rw (rows_after-nil rows) is }
 
 pub walked_then : {A : Type 0} {begun now : Builder} {first : Walk} {holder : SymbolId} (w : IsWalked begun now first holder) (next : Builder) (then : Walk) (x : A)
-    → IsFilled next → next.setting ≡ now.setting → length now.symbols.items ≤ length next.symbols.items → ReadsWalk (Ok x) now next then holder → IsWalked begun next (followed_by first then) holder
-walked_then {A} {begun} {now} {first} {holder} w next then x filled setting longer reads = record {
-  filled = filled;
-  setting = setting ∙ w.setting;
-  longer = omega (arith, w.longer, longer);
+    → KeepsTable (Ok x) now next → ReadsWalk (Ok x) now next then holder → IsWalked begun next (followed_by first then) holder
+walked_then {A} {begun} {now} {first} {holder} w next then x keeps reads = record {
+  filled = keeps.filled;
+  setting = keeps.setting ∙ w.setting;
+  longer = omega (arith, w.longer, keeps.longer);
   table = λ rows h is at.
       let so_far = rows_after rows (first h (length rows)) in
       rw (rows_then rows first then h) (reads so_far h (w.table rows h is at) (symbol_at_after rows (first h (length rows)) h holder at));
@@ -113,9 +114,9 @@ pub walked_fault : (A : Type 0) {B : Type 0} {begun now : Builder} {first : Walk
 walked_fault A {B} {begun} {now} {first} {holder} w next new then rest fault (Ok x) h reads rows place is at = absurd h
 walked_fault A {B} {begun} {now} {first} {holder} w next new then rest fault (Err e) h reads rows place is at = λ many.
     let both = followed_by first then in
-    let here : begun.setting.limit < length (parents_of (changes_of (rows_after rows (both place (length rows))))) = walked_last {A = A} w (Err fault) next then reads rows place is at (sym h ∙ many) in
+    let here : begun.setting.limit < length (parents_after (changes_of (rows_after rows (both place (length rows))))) = walked_last {A = A} w (Err fault) next then reads rows place is at (sym h ∙ many) in
     let after = rest place (length rows + length (both place (length rows))) in
-    rw (rows_after-append rows (both place (length rows)) after) (omega (arith, here, parents_of_grow (rows_after rows (both place (length rows))) after))
+    rw (rows_after-append rows (both place (length rows)) after) (omega (arith, here, parents_after_grow (rows_after rows (both place (length rows))) after))
 
 -- the same as the events of a list
 pub read_as : {A : Type 0} (r : Result A BuildFault) (old new : Builder) (walk : Walk) (holder : SymbolId) (other : Walk) → ((h start : ℕ) → other h start ≡ walk h start) → ReadsWalk r old new walk holder → ReadsWalk r old new other holder
@@ -130,9 +131,9 @@ pub each_none : {A : Type 0} (b : Builder) (walk : A → Walk) (holder : SymbolI
 each_none b walk holder filled = walked_none b holder filled
 
 pub each_next : {A : Type 0} {begun now : Builder} (walk : ℕ → Walk) (items : List ℕ) {holder : SymbolId} (w : IsWalked begun now (each walk items) holder) (next : Builder) (n : ℕ) (x : A)
-    → IsFilled next → next.setting ≡ now.setting → length now.symbols.items ≤ length next.symbols.items → ReadsWalk (Ok x) now next (walk n) holder → IsWalked begun next (each walk (items ++ n ∷ [])) holder
-each_next {A} {begun} {now} walk items {holder} w next n x filled setting longer reads =
-    walked_as (followed_by (each walk items) (walk n)) (each walk (items ++ n ∷ [])) (λ h start. each-more walk h start items n) (walked_then w next (walk n) x filled setting longer reads)
+    → KeepsTable (Ok x) now next → ReadsWalk (Ok x) now next (walk n) holder → IsWalked begun next (each walk (items ++ n ∷ [])) holder
+each_next {A} {begun} {now} walk items {holder} w next n x keeps reads =
+    walked_as (followed_by (each walk items) (walk n)) (each walk (items ++ n ∷ [])) (λ h start. each-more walk h start items n) (walked_then w next (walk n) x keeps reads)
 
 pub each_fault : (A : Type 0) {B : Type 0} {begun now : Builder} (walk : ℕ → Walk) (items : List ℕ) {holder : SymbolId} (w : IsWalked begun now (each walk items) holder) (next new : Builder) (n : ℕ) (rest : List ℕ) (fault : BuildFault) (r : Result B BuildFault)
     → IsErrAnd r (λ e. e ≡ fault) → ReadsWalk {A = A} (Err fault) now next (walk n) holder → ReadsWalk r begun new (each walk ((items ++ n ∷ []) ++ rest)) holder
@@ -151,18 +152,18 @@ first_step decl events = rows_after-step [] (begins decl) events (first_row decl
 
 pub begun_read : (b0 b1 : Builder) (decl : Declaration) (s : SymbolId) → b0.symbols.items ≡ [] → b0.ids.entries ≡ [] → b0.child_names.entries ≡ [] → b0.member_names.entries ≡ [] → b0.stars.items ≡ [] → s.0 ≡ length b0.symbols.items
     → ((changes : List Change) → IsTableOf b0 changes → IsTableOf b1 ((changes ++ makes None ∷ []) ++ declares s decl ∷ [])) → IsTableOf b1 (changes_of (first_row decl ∷ [])) × (symbol_at (first_row decl ∷ []) 0 ≡ Some s)
-unfolding changes_of symbol_at parents_of
+unfolding changes_of symbol_at parents_after
 begun_read b0 b1 decl s no_symbols no_ids no_children no_members no_stars number made =
     let empty = empty_table b0 no_symbols no_ids no_children no_members no_stars in
     let read = new_reads b1 [] None decl (λ _. []) s (number ∙ ap length no_symbols) (made [] empty) in
     (read.1, read.0)
 
-first_counts : (decl : Declaration) → 1 ≤ length (parents_of (changes_of (first_row decl ∷ [])))
-unfolding changes_of parents_of
+first_counts : (decl : Declaration) → 1 ≤ length (parents_after (changes_of (first_row decl ∷ [])))
+unfolding changes_of parents_after
 first_counts decl = omega arith
 
 -- not even the module fits
-pub begun_fault : (decl : Declaration) (events : List Event) (limit count : ℕ) → count ≡ 0 → limit ≤ count → limit < length (parents_of (changes_of (rows_after [] (begins decl ∷ events))))
+pub begun_fault : (decl : Declaration) (events : List Event) (limit count : ℕ) → count ≡ 0 → limit ≤ count → limit < length (parents_after (changes_of (rows_after [] (begins decl ∷ events))))
 begun_fault decl events limit count none le =
-    let one : 1 ≤ length (parents_of (changes_of (first_row decl ∷ []))) = first_counts decl in
-    rw (first_step decl events) (omega (arith, one, parents_of_grow (first_row decl ∷ []) events))
+    let one : 1 ≤ length (parents_after (changes_of (first_row decl ∷ []))) = first_counts decl in
+    rw (first_step decl events) (omega (arith, one, parents_after_grow (first_row decl ∷ []) events))

@@ -3,9 +3,9 @@ use Rattle.std.specs.Prelude.{ℕ, Bool, true, false, ◌&&◌, if◌then◌else
 use Rattle.std.specs.Option.{option_map, option_map_or, option_and_then}
 use Rattle.std.specs.Global.{Global}
 use Rattle.std.specs.Borrow.{Bor}
-use Rattle.symbols_tree.specs.declared.tree.arena.SourceRange.{SourceRange}
-use Rattle.symbols_tree.specs.declared.ids.SymbolId.{SymbolId}
-use Rattle.symbols_tree.specs.Ids.{IdView, id_view}
+use Rattle.symbols_syntax.specs.declared.tree.arena.SourceRange.{SourceRange}
+use Rattle.symbols_syntax.specs.declared.ids.SymbolId.{SymbolId}
+use Rattle.symbols_syntax.specs.Ids.{IdView, id_view}
 use Rattle.symbols_nodes.specs.NodeViews.{NodeView, symbol_node_view}
 use Rattle.symbols_nodes.specs.NodeNames.{node_name}
 use Rattle.symbols_nodes.specs.NodeTests.{is_function, has_body, is_method}

@@ -1,20 +1,20 @@
 -- The events of declarations: variables, functions, classes, interfaces, enums and aliases.
-use Rattle.std.specs.Prelude.{ℕ, ◌+◌, Bool, true, false, ◌&&◌, ◌||◌, not, if◌then◌else◌, is_some, List, [], ◌∷◌, ◌++◌, Option, None, Some, unwrap_or}
+use Rattle.std.specs.Prelude.{ℕ, Bool, true, false, ◌&&◌, ◌||◌, not, if◌then◌else◌, is_some, List, [], ◌∷◌, ◌++◌, Option, None, Some, unwrap_or}
 use Rattle.std.specs.Option.{option_or, option_and_then}
-use Rattle.symbols_tree.specs.declared.tree.arena.Id.{Id}
-use Rattle.symbols_tree.specs.declared.tree.arena.SourceRange.{SourceRange}
-use Rattle.symbols_tree.specs.declared.tree.kinds.Kind.{Kind}
-use Rattle.symbols_tree.specs.declared.tree.kinds.Decl.TheVariants as Decl
-use Rattle.symbols_tree.specs.NodeRefs.{TreeNode, kind_of, node_in, child_of, list_of}
-use Rattle.symbols_tree.specs.ChildFields.{decls_of, id_of, ident_of, name_of}
-use Rattle.symbols_tree.specs.Ids.{IdView, id_view, sym_of}
+use Rattle.symbols_syntax.specs.declared.tree.arena.Id.{Id}
+use Rattle.symbols_syntax.specs.declared.tree.arena.SourceRange.{SourceRange}
+use Rattle.symbols_syntax.specs.declared.tree.kinds.Kind.{Kind}
+use Rattle.symbols_syntax.specs.declared.tree.kinds.Decl.TheVariants as Decl
+use Rattle.symbols_syntax.specs.NodeRefs.{TreeNode, kind_of, node_in, child_of, list_of}
+use Rattle.symbols_syntax.specs.ChildFields.{decls_of, id_of, ident_of, name_of}
+use Rattle.symbols_syntax.specs.Ids.{IdView, id_view, sym_of}
 use Rattle.symbols_nodes.specs.NodeViews.{NodeView, ExportDeclView, export_decl, class_decl, fn_decl, ts_enum, ts_interface, ts_namespace, ts_type_alias, var, using_var, exported_class, exported_fn, exported_ts_enum, exported_ts_interface, exported_ts_module, exported_ts_type_alias, exported_var}
 use Rattle.symbols_table.specs.declared.builder.scope.Scope.{Scope}
 use Rattle.symbols_table.specs.DeclViews.{Declaration, defined}
 use Rattle.symbols_table.specs.Events.{Event, declare, child, export}
-use Rattle.symbols_table.specs.Walks.{Walk, none, on, each, range_in, sym_in}
+use Rattle.symbols_table.specs.Walks.{Walk, none, on, with_next, each, range_in, sym_in}
 use Rattle.symbols_table.specs.Patterns.{leaves_of}
-use Rattle.symbols_table.specs.MemberEvents.{member_at, members_in}
+use Rattle.symbols_table.specs.MemberEvents.{member_at, member_nodes}
 
 -- the plain form of a declaration, where no `export` stands before it
 abbrev pub plain : ExportDeclView → NodeView
@@ -48,7 +48,7 @@ added test holder name of = child holder of ∷ export_if test holder name of
 
 -- a name is declared; then come the events under its symbol, and then it is added to its holder
 abbrev pub declared : Bool → IdView → Declaration → Walk → Walk
-declared test id decl inner holder start = declare holder id decl ∷ (inner start (start + 1) ++ added test holder id.name start)
+declared test id decl inner holder start = with_next (declare holder id decl ∷ []) (inner start) start ++ added test holder id.name start
 
 -- ---- variables
 
@@ -99,7 +99,7 @@ own_name node = option_or (sym_in ident_of node) (sym_in id_of node)
 abbrev pub named_events : Scope → Option TreeNode → TreeNode → ExportDeclView → Walk
 named_events scope exported node form =
     on (own_name node)
-    (λ (id : Id). declared (is_exported scope exported) (id_view id) (defined (declared_as exported form) (whole_range exported node)) (each (member_at node.tree) (members_in node)))
+    (λ (id : Id). declared (is_exported scope exported) (id_view id) (defined (declared_as exported form) (whole_range exported node)) (each (member_at node.tree) (member_nodes node)))
 
 -- of a declaration, after the `export` if one stands before it
 abbrev pub declaration_events : Scope → Option TreeNode → TreeNode → Kind → Walk

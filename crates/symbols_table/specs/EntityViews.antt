@@ -1,7 +1,7 @@
--- Dotted names as contracts see them.
+-- For inner functions and proofs alone: dotted names as contracts see them.
 use Rattle.std.specs.Prelude.{ℕ, List, map}
 use Rattle.std.specs.Borrow.{Bor}
-use Rattle.symbols_tree.specs.Ids.{id_view}
+use Rattle.symbols_syntax.specs.Ids.{id_view}
 use Rattle.symbols_table.specs.declared.builder.patterns.EntityName.{EntityName}
 use Rattle.symbols_table.specs.Patterns.{Entity}
 

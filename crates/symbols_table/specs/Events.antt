@@ -2,10 +2,10 @@
 use Rattle.std.specs.Prelude.{ℕ, Bool, true, false, if◌then◌else◌, List, [], ◌∷◌, ◌++◌, length, slice_index_or, map, Option, None, Some, codes}
 use Rattle.std.specs.List.{flat_map}
 use Rattle.std.specs.Option.{option_or}
-use Rattle.symbols_tree.specs.declared.ids.SymbolId.{SymbolId}
-use Rattle.symbols_tree.specs.Ids.{IdView}
+use Rattle.symbols_syntax.specs.declared.ids.SymbolId.{SymbolId}
+use Rattle.symbols_syntax.specs.Ids.{IdView}
 use Rattle.symbols_table.specs.DeclViews.{Declaration, decl_name, is_definition}
-use Rattle.symbols_table.specs.Changes.{Change, makes, declares, exports, has_child, has_member, maps, passes_on, parents_of, mapped, exported, child_named, member_named, has_function}
+use Rattle.symbols_table.specs.Changes.{Change, Star, makes, declares, exports, has_child, has_member, maps, passes_on, parents_after, mapped_after, exported, child_named, member_named, has_function}
 
 -- an event names earlier ones by their places: that of its holder, and, for a child, an export and a binding, that of the symbol it speaks of
 pub data Event : Type 0 where
@@ -19,7 +19,7 @@ pub data Event : Type 0 where
   expando : IdView → Declaration → Event
   export : ℕ → List ℕ → ℕ → Event
   child : ℕ → ℕ → Event
-  star : ℕ → Event
+  star : Star → Event
 
 -- what an event comes to: its symbol, if it has one, and what it changes
 pub record Row : Type 0 where
@@ -38,7 +38,7 @@ of_symbol s changes = record { symbol = Some s; changes = changes }
 
 -- a new symbol's number is the count of the symbols before
 abbrev pub next_symbol : List Change → SymbolId
-next_symbol before = record { 0 = length (parents_of before) }
+next_symbol before = record { 0 = length (parents_after before) }
 
 -- a new symbol with its first declaration, and what else changes
 abbrev pub new_row : List Change → Option SymbolId → Declaration → (SymbolId → List Change) → Row
@@ -51,7 +51,7 @@ found_or (Some s) decl row = of_symbol s (declares s decl ∷ [])
 
 -- to declare a name: its symbol where it has one, else a new symbol of the holder that the name then stands for
 abbrev pub declare_row : List Change → SymbolId → IdView → Declaration → Row
-declare_row before holder id decl = found_or (mapped before id) decl (new_row before (Some holder) decl (λ s. maps id s ∷ []))
+declare_row before holder id decl = found_or (mapped_after before id) decl (new_row before (Some holder) decl (λ s. maps id s ∷ []))
 
 -- `import a = ..`: the same, but a name that stands for a symbol gets no declaration more
 abbrev pub known_or : Option SymbolId → Row → Row
@@ -59,7 +59,7 @@ known_or None row = row
 known_or (Some s) row = of_symbol s []
 
 abbrev pub alias_row : List Change → SymbolId → IdView → Declaration → Row
-alias_row before holder id decl = known_or (mapped before id) (new_row before (Some holder) decl (λ s. maps id s ∷ []))
+alias_row before holder id decl = known_or (mapped_after before id) (new_row before (Some holder) decl (λ s. maps id s ∷ []))
 
 abbrev pub default_text : List ℕ
 default_text = codes "default"
@@ -107,10 +107,10 @@ row_of before at (fresh holder decl) = with_symbol (at holder) (λ h. new_row be
 row_of before at (default holder decl) = with_symbol (at holder) (λ h. default_row before h decl)
 row_of before at (binds id of) = with_symbol (at of) (λ s. of_symbol s (maps id s ∷ []))
 row_of before at (member holder decl is_static) = with_symbol (at holder) (λ h. member_row before h decl is_static)
-row_of before at (expando id decl) = expando_row before (mapped before id) decl
+row_of before at (expando id decl) = expando_row before (mapped_after before id) decl
 row_of before at (export holder name of) = with_symbol (at holder) (λ h. with_symbol (at of) (λ s. only (exports h name s ∷ [])))
 row_of before at (child holder of) = with_symbol (at holder) (λ h. with_symbol (at of) (λ s. only (has_child h s ∷ [])))
-row_of before at (star node) = only (passes_on node ∷ [])
+row_of before at (star statement) = only (passes_on statement ∷ [])
 
 -- what rows change, in order
 unfoldable pub changes_of : List Row → List Change

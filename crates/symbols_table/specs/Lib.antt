@@ -12,8 +12,11 @@ pub mod ModuleEvents
 pub mod TreeEvents
 pub mod NamespaceViews
 pub mod Symbols
-pub mod Tables
-pub mod Levels
+pub mod ModuleViews
+pub mod Laws
 pub mod Modules
 pub mod Analysis
-pub mod Laws
+pub mod LocalNames
+pub mod Tables
+pub mod Keeping
+pub mod Levels

@@ -1,24 +1,24 @@
 -- The events of the members of classes and interfaces.
-use Rattle.std.specs.Prelude.{ℕ, ◌+◌, Bool, true, false, List, [], ◌∷◌, Option, None, Some}
+use Rattle.std.specs.Prelude.{ℕ, Bool, true, false, List, [], ◌∷◌, Option, None, Some}
 use Rattle.std.specs.Option.{option_map_or}
-use Rattle.symbols_tree.specs.declared.tree.arena.Tree.{Tree}
-use Rattle.symbols_tree.specs.declared.tree.kinds.Kind.{Kind}
-use Rattle.symbols_tree.specs.declared.tree.kinds.Decl.TheVariants as Decl
-use Rattle.symbols_tree.specs.declared.tree.kinds.Member.TheVariants as Member
-use Rattle.symbols_tree.specs.NodeRefs.{TreeNode, kind_of, node_in, child_of, list_of}
-use Rattle.symbols_tree.specs.ChildFields.{body_of, class_of}
+use Rattle.symbols_syntax.specs.declared.tree.arena.Tree.{Tree}
+use Rattle.symbols_syntax.specs.declared.tree.kinds.Kind.{Kind}
+use Rattle.symbols_syntax.specs.declared.tree.kinds.Decl.TheVariants as Decl
+use Rattle.symbols_syntax.specs.declared.tree.kinds.Member.TheVariants as Member
+use Rattle.symbols_syntax.specs.NodeRefs.{TreeNode, kind_of, node_in, child_of, list_of}
+use Rattle.symbols_syntax.specs.ChildFields.{body_of, class_of}
 use Rattle.symbols_nodes.specs.NodeViews.{NodeView, class_method, class_prop, auto_accessor, class_param_prop, constructor, ts_index_signature, ts_call_signature_decl, ts_construct_signature_decl, ts_property_signature, ts_getter_signature, ts_setter_signature, ts_method_signature}
 use Rattle.symbols_table.specs.DeclViews.{defined}
 use Rattle.symbols_table.specs.Events.{member}
-use Rattle.symbols_table.specs.Walks.{Walk, none, on, each, range_in}
+use Rattle.symbols_table.specs.Walks.{Walk, none, on, with_next, each, range_in}
 
 abbrev pub members_of_kind : TreeNode → Kind → List ℕ
 members_of_kind node (Kind.Decl (Decl.TsInterfaceDecl _ _ _ _)) = list_of node body_of
 members_of_kind node _ = option_map_or (λ (class : TreeNode). list_of class body_of) (child_of node class_of) []
 
 -- the members of a class or an interface
-abbrev pub members_in : TreeNode → List ℕ
-members_in node = option_map_or (members_of_kind node) (kind_of node) []
+abbrev pub member_nodes : TreeNode → List ℕ
+member_nodes node = option_map_or (members_of_kind node) (kind_of node) []
 
 -- one member, where its node stands
 abbrev pub one_member : NodeView → TreeNode → Bool → Walk
@@ -34,7 +34,7 @@ param_at tree n = on (node_in tree (Some n)) (λ (node : TreeNode). on (kind_of 
 
 -- a constructor, and then its parameters
 abbrev pub constructor_events : TreeNode → List ℕ → Walk
-constructor_events node params holder start = member holder (defined (constructor node) (range_in node)) true ∷ each (param_at node.tree) params holder (start + 1)
+constructor_events node params holder start = with_next (member holder (defined (constructor node) (range_in node)) true ∷ []) (each (param_at node.tree) params holder) start
 
 -- a member as it is declared, and whether it is static; all else that stands in a class counts for nothing
 abbrev pub simple_member : TreeNode → Kind → Option (NodeView × Bool)

@@ -1,4 +1,4 @@
--- Members as contracts see them.
+-- For inner functions and proofs alone: members as contracts see them.
 use Rattle.std.specs.Prelude.{Bool}
 use Rattle.symbols_nodes.specs.NodeViews.{NodeView, symbol_node_view}
 use Rattle.symbols_table.specs.declared.builder.members.SimpleMember.{SimpleMember}

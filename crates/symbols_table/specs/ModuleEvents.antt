@@ -1,22 +1,22 @@
 -- The events of imports and exports.
-use Rattle.std.specs.Prelude.{ℕ, ◌+◌, Bool, List, [], ◌∷◌, ◌++◌, length, Option, None, Some, unwrap_or, String, string_bytes}
+use Rattle.std.specs.Prelude.{ℕ, Bool, List, [], ◌∷◌, Option, None, Some, unwrap_or, String, string_bytes}
 use Rattle.std.specs.Option.{option_map, option_and_then}
 use Rattle.std.specs.Global.{Global}
-use Rattle.symbols_tree.specs.declared.tree.arena.Tree.{Tree}
-use Rattle.symbols_tree.specs.declared.tree.arena.Id.{Id}
-use Rattle.symbols_tree.specs.declared.tree.kinds.Kind.{Kind}
-use Rattle.symbols_tree.specs.declared.tree.kinds.Item.TheVariants as Item
-use Rattle.symbols_tree.specs.declared.tree.kinds.Expr.TheVariants as Expr
-use Rattle.symbols_tree.specs.NodeRefs.{TreeNode, kind_of, node_in, child_of}
-use Rattle.symbols_tree.specs.ChildFields.{local_of, orig_of, expr_of, decl_of, id_of}
-use Rattle.symbols_tree.specs.Ids.{id_view, sym_of}
+use Rattle.symbols_syntax.specs.declared.tree.arena.Tree.{Tree}
+use Rattle.symbols_syntax.specs.declared.tree.arena.Id.{Id}
+use Rattle.symbols_syntax.specs.declared.tree.kinds.Kind.{Kind}
+use Rattle.symbols_syntax.specs.declared.tree.kinds.Item.TheVariants as Item
+use Rattle.symbols_syntax.specs.declared.tree.kinds.Expr.TheVariants as Expr
+use Rattle.symbols_syntax.specs.NodeRefs.{TreeNode, kind_of, node_in, child_of}
+use Rattle.symbols_syntax.specs.ChildFields.{local_of, orig_of, expr_of, decl_of, id_of}
+use Rattle.symbols_syntax.specs.Ids.{id_view, sym_of}
 use Rattle.symbols_nodes.specs.Expando.{Expando, expando_in}
 use Rattle.symbols_nodes.specs.NodeViews.{export_default_decl, export_default_expr, expando_property}
 use Rattle.symbols_table.specs.DeclViews.{Declaration, DepName, DeclKind, all_names, one_name, target, qualified_target, file_ref, declaration_at, defined}
 use Rattle.symbols_table.specs.Events.{Event, declare, alias, fresh, default, binds, expando, export, star, default_text}
-use Rattle.symbols_table.specs.Walks.{Walk, none, on, each, range_in, sym_in}
+use Rattle.symbols_table.specs.Walks.{Walk, none, on, with_next, each, range_in, sym_in}
 use Rattle.symbols_table.specs.Patterns.{Entity, entity_at}
-use Rattle.symbols_table.specs.MemberEvents.{member_at, members_in}
+use Rattle.symbols_table.specs.MemberEvents.{member_at, member_nodes}
 use Rattle.symbols_table.specs.DeclarationEvents.{own_name, export_if}
 
 -- ---- import { a as b }, c, * as d from "src"
@@ -81,8 +81,8 @@ binds_if (Some id) of = binds (id_view id) of ∷ []
 -- a class, a function or an interface: its name stands for the default symbol, which has its members
 abbrev pub default_decl_events : TreeNode → TreeNode → Walk
 default_decl_events node decl holder start =
-    default holder (defined (export_default_decl node) (range_in node))
-    ∷ (binds_if (own_name decl) start ++ each (member_at decl.tree) (members_in decl) start (start + 1 + length (binds_if (own_name decl) start)))
+    with_next (default holder (defined (export_default_decl node) (range_in node)) ∷ [])
+    (with_next (binds_if (own_name decl) start) (each (member_at decl.tree) (member_nodes decl) start)) start
 
 abbrev pub default_at : Declaration → Walk
 default_at decl holder start = default holder decl ∷ []
@@ -122,8 +122,8 @@ expando_events node =
 
 -- ---- export * from "src"
 
-abbrev pub star_at : TreeNode → Walk
-star_at node holder start = star node.number ∷ []
+abbrev pub star_at : TreeNode → List ℕ → Walk
+star_at node text holder start = star (record { number = node.number; text = text }) ∷ []
 
 -- ---- each of these, by its kind
 
@@ -133,7 +133,7 @@ module_events node (Kind.Item (Item.ExportNamed specifiers src)) = each (export_
 module_events node (Kind.Item (Item.ExportDefaultDecl _)) = on (child_of node decl_of) (default_decl_events node)
 module_events node (Kind.Item (Item.ExportDefaultExpr _)) = on (child_of node expr_of) (λ (expr : TreeNode). on (kind_of expr) (λ (kind : Kind). default_at (default_expr node expr kind)))
 module_events node (Kind.Item (Item.TsExportAssignment _)) = on (child_of node expr_of) (λ (expr : TreeNode). on (kind_of expr) (assignment_events expr))
-module_events node (Kind.Item (Item.ExportAll _)) = star_at node
+module_events node (Kind.Item (Item.ExportAll src)) = star_at node (string_bytes src)
 module_events node (Kind.Item (Item.TsImportEqualsDecl is_export _ entity external)) = import_equals_events node is_export entity external
 module_events node (Kind.Item (Item.ExprStmt _)) = on (child_of node expr_of) expando_events
 module_events node _ = none

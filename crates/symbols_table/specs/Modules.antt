@@ -1,16 +1,16 @@
 -- Modules as contracts see them.
-use Rattle.std.specs.Prelude.{ℕ, List, Option, Some, slice_get}
-use Rattle.std.specs.Borrow.{Bor}
-use Rattle.indexmap.specs.IndexMap.{get}
-use Rattle.symbols_tree.specs.declared.ids.ModuleId.{ModuleId}
-use Rattle.symbols_tree.specs.declared.ids.SymbolId.{SymbolId}
-use Rattle.symbols_tree.specs.declared.tree.arena.Id.{Id}
-use Rattle.symbols_tree.specs.Ids.{id_view, same_id}
-use Rattle.symbols_tree.specs.declared.tree.arena.Tree.{Tree}
+use Rattle.std.specs.Prelude.{ℕ, List, map, Option, Some, slice_get}
+use Rattle.std.specs.Map.{lookup}
+use Rattle.symbols_syntax.specs.declared.ids.ModuleId.{ModuleId}
+use Rattle.symbols_syntax.specs.declared.ids.SymbolId.{SymbolId}
+use Rattle.symbols_syntax.specs.Ids.{IdView, same_id}
+use Rattle.symbols_syntax.specs.declared.tree.arena.Tree.{Tree}
 use Rattle.symbols_table.specs.declared.decl.symbol.Symbol.{Symbol}
 use Rattle.symbols_table.specs.declared.info.es_module.EsModuleInfo.{EsModuleInfo}
 use Rattle.symbols_table.specs.declared.info.module_info.ModuleInfo.{ModuleInfo}
 use Rattle.symbols_table.specs.declared.info.module_info.ModuleInfoRef.{ModuleInfoRef}
+use Rattle.symbols_table.specs.Changes.{Star}
+use Rattle.symbols_table.specs.ModuleViews.{ids_view, star_view}
 
 -- what an ECMAScript module shows
 abbrev pub module_in : EsModuleInfo → ModuleId
@@ -25,13 +25,13 @@ source_in esm = esm.source.now
 abbrev pub symbols_in : EsModuleInfo → List Symbol
 symbols_in esm = esm.symbols.items
 
--- the statements `export *` in order, by the numbers of their nodes
-abbrev pub stars_in : EsModuleInfo → List ℕ
-stars_in esm = esm.stars.items
+-- the statements `export *` in order
+abbrev pub stars_in : EsModuleInfo → List Star
+stars_in esm = map star_view esm.stars.items
 
 -- the symbol that a name stands for
-abbrev pub mapped_in : EsModuleInfo → Bor Id → Option SymbolId
-mapped_in esm id = get (λ (x y : Bor Id). same_id (id_view x.now) (id_view y.now)) esm.ids id
+abbrev pub mapped_in : EsModuleInfo → IdView → Option SymbolId
+mapped_in esm id = lookup (same_id id) (ids_view esm.ids.entries)
 
 -- the ECMAScript module that a module is
 abbrev pub esm_in : ModuleInfo → Option EsModuleInfo

@@ -1,6 +1,6 @@
--- Namespaces as contracts see them.
+-- For inner functions and proofs alone: namespaces as contracts see them.
 use Rattle.std.specs.Option.{option_map}
-use Rattle.symbols_tree.specs.NodeRefs.{node_view}
+use Rattle.symbols_syntax.specs.NodeRefs.{node_view}
 use Rattle.symbols_table.specs.declared.builder.items.Namespace.{Namespace as Found}
 use Rattle.symbols_table.specs.TreeEvents.{Namespace}
 

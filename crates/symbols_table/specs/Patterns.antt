@@ -2,13 +2,13 @@
 use Rattle.std.specs.Prelude.{ℕ, suc, zero, Bool, true, false, List, [], ◌∷◌, ◌++◌, length, Option, None, Some, string_bytes}
 use Rattle.std.specs.Option.{option_map, option_map_or, option_and_then}
 use Rattle.std.specs.List.{flat_map}
-use Rattle.symbols_tree.specs.declared.tree.arena.Tree.{Tree}
-use Rattle.symbols_tree.specs.declared.tree.kinds.Kind.{Kind}
-use Rattle.symbols_tree.specs.declared.tree.kinds.Ty.TheVariants as Ty
-use Rattle.symbols_tree.specs.declared.tree.kinds.Expr.TheVariants as Expr
-use Rattle.symbols_tree.specs.declared.tree.kinds.Pat.TheVariants as Pat
-use Rattle.symbols_tree.specs.Nodes.{kind_at}
-use Rattle.symbols_tree.specs.Ids.{IdView, id_view}
+use Rattle.symbols_syntax.specs.declared.tree.arena.Tree.{Tree}
+use Rattle.symbols_syntax.specs.declared.tree.kinds.Kind.{Kind}
+use Rattle.symbols_syntax.specs.declared.tree.kinds.Ty.TheVariants as Ty
+use Rattle.symbols_syntax.specs.declared.tree.kinds.Expr.TheVariants as Expr
+use Rattle.symbols_syntax.specs.declared.tree.kinds.Pat.TheVariants as Pat
+use Rattle.symbols_syntax.specs.Nodes.{kind_at}
+use Rattle.symbols_syntax.specs.Ids.{IdView, id_view}
 
 -- the parts of a pattern that bind names: of a property its value, or its key where it stands alone
 abbrev pub pattern_parts : Kind → List ℕ

@@ -1,9 +1,10 @@
--- What a symbol shows.
-use Rattle.std.specs.Prelude.{ℕ, Bool, List, map, Option}
-use Rattle.symbols_tree.specs.declared.ids.ModuleId.{ModuleId}
-use Rattle.symbols_tree.specs.declared.ids.SymbolId.{SymbolId}
+-- What a symbol shows, and what it holds after changes.
+use Rattle.std.specs.Prelude.{◌≡◌, ℕ, List, map, Option, Some, slice_get}
+use Rattle.symbols_syntax.specs.declared.ids.ModuleId.{ModuleId}
+use Rattle.symbols_syntax.specs.declared.ids.SymbolId.{SymbolId}
 use Rattle.symbols_table.specs.declared.decl.symbol.Symbol.{Symbol}
 use Rattle.symbols_table.specs.DeclViews.{Declaration, decl_view, exports_view}
+use Rattle.symbols_table.specs.Changes.{Change, parents_after, decls_after, exports_after, children_after, members_after}
 
 -- its own number, and that of its module
 abbrev pub number_in : Symbol → SymbolId
@@ -27,6 +28,12 @@ children_in symbol = symbol.child_ids.keys
 abbrev pub members_in : Symbol → List SymbolId
 members_in symbol = symbol.members.keys
 
--- one of the symbol's declarations is a function
-abbrev pub has_function_in : Symbol → Bool
-has_function_in symbol = symbol.has_function
+-- the symbol is that of the number s in the module, and holds what was changed of it
+pub record IsSymbolOf (module_id : ModuleId) (changes : List Change) (s : SymbolId) (symbol : Symbol) : Type 0 where
+  pub number : number_in symbol ≡ s
+  pub of_module : module_number_in symbol ≡ module_id
+  pub parent : slice_get (parents_after changes) s.0 ≡ Some (parent_in symbol)
+  pub decls : decls_in symbol ≡ decls_after changes s
+  pub exports : exports_in symbol ≡ exports_after changes s
+  pub children : children_in symbol ≡ children_after changes s
+  pub members : members_in symbol ≡ members_after changes s

@@ -1,19 +1,19 @@
 -- The events of a tree: of its items, and of those in its namespaces.
-use Rattle.std.specs.Prelude.{ℕ, suc, zero, ◌+◌, Bool, true, false, ◌||◌, List, ◌∷◌, length, Option, None, Some}
+use Rattle.std.specs.Prelude.{ℕ, suc, zero, Bool, true, false, ◌||◌, List, [], ◌∷◌, length, Option, None, Some}
 use Rattle.std.specs.Option.{option_and_then}
-use Rattle.symbols_tree.specs.declared.tree.arena.Tree.{Tree}
-use Rattle.symbols_tree.specs.declared.tree.arena.Id.{Id}
-use Rattle.symbols_tree.specs.declared.tree.kinds.Kind.{Kind}
-use Rattle.symbols_tree.specs.declared.tree.kinds.Item.TheVariants as Item
-use Rattle.symbols_tree.specs.declared.tree.kinds.Decl.TheVariants as Decl
-use Rattle.symbols_tree.specs.NodeRefs.{TreeNode, kind_of, node_in, child_of, list_of}
-use Rattle.symbols_tree.specs.ChildFields.{body_of, body_node_of, decl_of, id_of}
-use Rattle.symbols_tree.specs.Ids.{id_view}
+use Rattle.symbols_syntax.specs.declared.tree.arena.Tree.{Tree}
+use Rattle.symbols_syntax.specs.declared.tree.arena.Id.{Id}
+use Rattle.symbols_syntax.specs.declared.tree.kinds.Kind.{Kind}
+use Rattle.symbols_syntax.specs.declared.tree.kinds.Item.TheVariants as Item
+use Rattle.symbols_syntax.specs.declared.tree.kinds.Decl.TheVariants as Decl
+use Rattle.symbols_syntax.specs.NodeRefs.{TreeNode, kind_of, node_in, child_of, list_of}
+use Rattle.symbols_syntax.specs.ChildFields.{body_of, body_node_of, decl_of, id_of}
+use Rattle.symbols_syntax.specs.Ids.{id_view}
 use Rattle.symbols_nodes.specs.NodeViews.{program, ts_namespace, exported_ts_module}
 use Rattle.symbols_table.specs.declared.builder.scope.Scope.{Scope}
 use Rattle.symbols_table.specs.DeclViews.{Declaration, defined}
 use Rattle.symbols_table.specs.Events.{Event, begins, declare, export, child}
-use Rattle.symbols_table.specs.Walks.{Walk, none, on, each, range_in, sym_in}
+use Rattle.symbols_table.specs.Walks.{Walk, none, on, with_next, each, range_in, sym_in}
 use Rattle.symbols_table.specs.DeclarationEvents.{declared_as, whole_range, is_exported, declared, declaration_events}
 use Rattle.symbols_table.specs.ModuleEvents.{module_events}
 
@@ -46,10 +46,13 @@ inner_scope ambient = record { ambient = ambient; is_module = false }
 abbrev pub Block : Type 0
 Block = Scope → List ℕ → Walk
 
--- a later part of a dotted name: declared in the part before, by the whole namespace where the part stands, and its export and its child
+-- a later part of a dotted name: declared in the part before, by the whole namespace where the part stands, and its export and its child,
+abbrev pub part_first : TreeNode → TreeNode → Id → Walk
+part_first whole node id holder start = declare holder (id_view id) (defined (ts_namespace whole) (range_in node)) ∷ export holder (id_view id).name start ∷ child holder start ∷ []
+
+-- and then what is in it
 abbrev pub part_events : TreeNode → TreeNode → Walk → Id → Walk
-part_events whole node inner id holder start =
-    declare holder (id_view id) (defined (ts_namespace whole) (range_in node)) ∷ export holder (id_view id).name start ∷ child holder start ∷ inner start (start + 3)
+part_events whole node inner id holder start = with_next (part_first whole node id holder start) (inner start) start
 
 abbrev pub body_events : (ℕ → Walk) → Block → TreeNode → Bool → TreeNode → Kind → Walk
 body_events inner block whole ambient node (Kind.Decl (Decl.TsModuleBlock items)) = block (inner_scope ambient) items.items
@@ -115,4 +118,4 @@ module_scope tree = record { ambient = tree.declaration; is_module = true }
 
 -- of a tree: the module, and then the items of its body, whose holder is the module
 abbrev pub tree_events : Tree → List Event
-tree_events tree = begins (root_decl tree) ∷ items_at tree (module_scope tree) (list_of (root_of tree) body_of) 0 1
+tree_events tree = with_next (begins (root_decl tree) ∷ []) (items_at tree (module_scope tree) (list_of (root_of tree) body_of) 0) 0

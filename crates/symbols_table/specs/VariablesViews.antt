@@ -1,6 +1,6 @@
--- Statements of variables as contracts see them.
+-- For inner functions and proofs alone: statements of variables as contracts see them.
 use Rattle.std.specs.Option.{option_map}
-use Rattle.symbols_tree.specs.NodeRefs.{node_view}
+use Rattle.symbols_syntax.specs.NodeRefs.{node_view}
 use Rattle.symbols_table.specs.declared.builder.declarations.Variables.{Variables as Statement}
 use Rattle.symbols_table.specs.DeclarationEvents.{Variables}
 

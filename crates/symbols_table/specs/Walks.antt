@@ -1,11 +1,11 @@
 -- The events of parts of a tree, one part after the other.
 use Rattle.std.specs.Prelude.{ℕ, ◌+◌, List, [], ◌∷◌, ◌++◌, length, Option, None, Some, unwrap_or}
 use Rattle.std.specs.Option.{option_and_then}
-use Rattle.symbols_tree.specs.declared.tree.arena.Id.{Id}
-use Rattle.symbols_tree.specs.declared.tree.arena.SourceRange.{SourceRange}
-use Rattle.symbols_tree.specs.declared.tree.kinds.Kind.{Kind}
-use Rattle.symbols_tree.specs.NodeRefs.{TreeNode, kind_of, range_of, child_of}
-use Rattle.symbols_tree.specs.Ids.{sym_of}
+use Rattle.symbols_syntax.specs.declared.tree.arena.Id.{Id}
+use Rattle.symbols_syntax.specs.declared.tree.arena.SourceRange.{SourceRange}
+use Rattle.symbols_syntax.specs.declared.tree.kinds.Kind.{Kind}
+use Rattle.symbols_syntax.specs.NodeRefs.{TreeNode, kind_of, range_of, child_of}
+use Rattle.symbols_syntax.specs.Ids.{sym_of}
 use Rattle.symbols_table.specs.Events.{Event}
 
 -- the events of a part, by the place of their holder and that of the first of them
@@ -20,10 +20,14 @@ abbrev pub on : {A : Type 0} → Option A → (A → Walk) → Walk
 on None walk = none
 on (Some x) walk = walk x
 
+-- events, and the next ones, which start behind them
+abbrev pub with_next : List Event → (ℕ → List Event) → ℕ → List Event
+with_next events next start = events ++ next (start + length events)
+
 -- each part of a list in order
 abbrev pub each : {A : Type 0} → (A → Walk) → List A → Walk
 each walk [] holder start = []
-each walk (x ∷ xs) holder start = walk x holder start ++ each walk xs holder (start + length (walk x holder start))
+each walk (x ∷ xs) holder start = with_next (walk x holder start) (each walk xs holder) start
 
 -- a node is where it stands; what is no node, nowhere
 abbrev pub range_in : TreeNode → SourceRange

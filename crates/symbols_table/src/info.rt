@@ -3,6 +3,7 @@
 mod es_module;
 mod fault;
 mod module_info;
+pub(crate) mod star;
 
 pub use es_module::EsModuleInfo;
 pub use fault::SymbolsFault;

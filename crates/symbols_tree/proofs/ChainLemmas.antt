@@ -8,7 +8,7 @@ use Rattle.std.specs.Str.{bytes_eq}
 use Rattle.std.proofs.lemmas.List.{length-map, get_or-map}
 use Rattle.std.proofs.lemmas.List.Folds.{list_any_more}
 use Rattle.std.proofs.lemmas.Option.{slice_get_read, slice_get_within, slice_get-map, same_Some}
-use Rattle.symbols_tree.specs.Graph.{redirect_view}
+use Rattle.symbols_syntax.specs.Graph.{redirect_view}
 use Rattle.symbols_tree.specs.GraphFaults.{sources, IsChained}
 use Rattle.symbols_tree.proofs.RepeatLemmas.{NoneBelow, none_below_more, stands-Decides}
 

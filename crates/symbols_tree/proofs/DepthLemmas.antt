@@ -4,10 +4,10 @@ use Rattle.std.specs.List.{Contains, SomeIndex}
 use Rattle.std.proofs.lemmas.Bool.Decides.{eqb_tells}
 use Rattle.std.proofs.lemmas.List.{get_or_default}
 use Rattle.std.proofs.lemmas.List.Elements.{Contains-get_or}
-use Rattle.symbols_tree.specs.declared.tree.arena.Node.{Node}
-use Rattle.symbols_tree.specs.declared.check.faults.TreeFault.TheVariants.{BadChild, SharedChild, TooDeep}
-use Rattle.symbols_tree.specs.Nodes.{children, HasAncestors, none, above}
-use Rattle.symbols_tree.specs.TreeFaults.{HasBadChild, HasSharedChild, IsTooDeep, NoneBelow}
+use Rattle.symbols_syntax.specs.declared.tree.arena.Node.{Node}
+use Rattle.symbols_syntax.specs.declared.graph.faults.TreeFault.TheVariants.{BadChild, SharedChild, TooDeep}
+use Rattle.symbols_syntax.specs.Nodes.{children, HasAncestors, none, above}
+use Rattle.symbols_syntax.specs.TreeFaults.{HasBadChild, HasSharedChild, IsTooDeep, NoneBelow}
 use Rattle.symbols_tree.specs.Depths.{HasDepths, IsMetAt, GivesDepth}
 
 -- an element stands at its index

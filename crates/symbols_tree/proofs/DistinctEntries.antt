@@ -1,11 +1,12 @@
 -- In a graph with no fault nothing is listed twice.
 use Rattle.std.proofs.Common.{◌≡◌, ℕ, List, map, sym, ap, subst, ◌∙◌}
 use Rattle.std.specs.Prelude.{string_bytes}
-use Rattle.symbols_tree.specs.declared.check.faults.GraphFault.TheVariants as fault
-use Rattle.symbols_tree.specs.declared.check.raw.RawGraph.{RawGraph}
-use Rattle.symbols_tree.specs.Graph.{ModuleView, Resolution, graph_view, module_view, redirect_view, resolution_view}
+use Rattle.symbols_syntax.specs.declared.graph.faults.GraphFault.TheVariants as fault
+use Rattle.symbols_syntax.specs.declared.graph.raw.RawGraph.{RawGraph}
+use Rattle.symbols_syntax.specs.Graph.{ModuleView, Resolution, graph_view, module_view, redirect_view, resolution_view}
 use Rattle.symbols_tree.specs.GraphFaults.{IsFaultlessGraph, specifiers, sources, asked}
-use Rattle.symbols_tree.specs.Repeats.{HasNoRepeat, IsRepeat}
+use Rattle.symbols_tree.specs.Repeats.{IsRepeat}
+use Rattle.symbols_tree.specs.CheckSteps.{HasNoRepeat}
 use Rattle.symbols_tree.proofs.RepeatLemmas.{read_entry}
 
 module _ (raw : RawGraph) (faultless : IsFaultlessGraph (graph_view raw)) where

@@ -1,10 +1,10 @@
 -- The order of a tree's faults, one place after the other.
 use Rattle.std.proofs.Common.{◌≡◌, ℕ, zero, suc, ◌+◌, ◌*◌, ◌^◌, ◌<◌, ◌≤◌, List, length, true, subst, arith}
 use Rattle.std.proofs.lemmas.Option.{slice_get_within}
-use Rattle.symbols_tree.specs.declared.tree.arena.Node.{Node}
-use Rattle.symbols_tree.specs.declared.check.faults.TreeFault.TheVariants.{NoProgram, TooManyNodes, BadChild, SharedChild, BadRange, BadShape, TooDeep}
-use Rattle.symbols_tree.specs.Shapes.{has_bad_shape}
-use Rattle.symbols_tree.specs.TreeFaults.{begins_with_program, HasBadChild, HasSharedChild, HasBadRange, IsTooDeep, NoneBelow, IsFaultless}
+use Rattle.symbols_syntax.specs.declared.tree.arena.Node.{Node}
+use Rattle.symbols_syntax.specs.declared.graph.faults.TreeFault.TheVariants.{NoProgram, TooManyNodes, BadChild, SharedChild, BadRange, BadShape, TooDeep}
+use Rattle.symbols_syntax.specs.Shapes.{has_bad_shape}
+use Rattle.symbols_syntax.specs.TreeFaults.{begins_with_program, HasBadChild, HasSharedChild, HasBadRange, IsTooDeep, NoneBelow, IsFaultless}
 use Rattle.symbols_tree.proofs.NodeLemmas.{inside_where_child, inside_where_bad_shape}
 
 -- the k-th fault of the node n stands

@@ -1,9 +1,9 @@
 -- A tree without a fault is well formed.
 use Rattle.std.proofs.Common.{◌≡◌, ℕ, ◌^◌, ◌<◌, ◌≤◌, List, length, Bool, true, false, refl, arith}
-use Rattle.symbols_tree.specs.declared.tree.arena.Node.{Node}
-use Rattle.symbols_tree.specs.declared.check.faults.TreeFault.TheVariants.{NoProgram, TooManyNodes, BadChild, SharedChild, BadShape}
-use Rattle.symbols_tree.specs.TreeFaults.{IsFaultless}
-use Rattle.symbols_tree.specs.WellFormed.{IsWellFormed}
+use Rattle.symbols_syntax.specs.declared.tree.arena.Node.{Node}
+use Rattle.symbols_syntax.specs.declared.graph.faults.TreeFault.TheVariants.{NoProgram, TooManyNodes, BadChild, SharedChild, BadShape}
+use Rattle.symbols_syntax.specs.TreeFaults.{IsFaultless}
+use Rattle.symbols_syntax.specs.WellFormed.{IsWellFormed}
 use Rattle.symbols_tree.proofs.DepthLemmas.{child_order, no_lower_parent}
 
 -- a test that can't be true, or can't be false

@@ -12,8 +12,8 @@ use Rattle.std.proofs.lemmas.Simd.{map-map}
 use Rattle.std.specs.String.{string_eq}
 use Rattle.indexmap.specs.IndexMap.{insert_entry}
 use Rattle.indexmap.proofs.CallerLemmas.{insert_entry-new}
-use Rattle.symbols_tree.specs.Repeats.{HasNoRepeat}
 use Rattle.symbols_tree.specs.Tables.{TextMap}
+use Rattle.symbols_tree.specs.CheckSteps.{HasNoRepeat}
 
 -- what stands at j of the first n stands at j of all
 pub stands_in_take : {A : Type 0} (n : ℕ) (xs : List A) (j : ℕ) (x : A) → slice_get (take n xs) j ≡ Some x → (j < n) × (slice_get xs j ≡ Some x)

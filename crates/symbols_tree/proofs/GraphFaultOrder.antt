@@ -1,12 +1,13 @@
 -- The faults of a graph turn by turn.
 use Rattle.std.proofs.Common.{◌≡◌, ◌≢◌, ℕ, zero, suc, ◌+◌, ◌<◌, ◌≤◌, ◌^◌, ◌⊎◌, ⊎_elim, List, length, subst, ◌∙◌, arith}
 use Rattle.std.specs.Prelude.{string_bytes}
-use Rattle.symbols_tree.specs.declared.check.faults.TreeFault.{TreeFault}
-use Rattle.symbols_tree.specs.declared.check.faults.GraphFault.{GraphFault}
-use Rattle.symbols_tree.specs.declared.check.faults.GraphFault.TheVariants as fault
-use Rattle.symbols_tree.specs.Graph.{GraphView}
-use Rattle.symbols_tree.specs.GraphFaults.{specifiers, sources, asked, IsChained, IsBadModule, StandsAt, turn, IsFaultlessGraph, IsFirstGraphFault, HasNoneOf, IsFirstOf}
+use Rattle.symbols_syntax.specs.declared.graph.faults.TreeFault.{TreeFault}
+use Rattle.symbols_syntax.specs.declared.graph.faults.GraphFault.{GraphFault}
+use Rattle.symbols_syntax.specs.declared.graph.faults.GraphFault.TheVariants as fault
+use Rattle.symbols_syntax.specs.Graph.{GraphView}
+use Rattle.symbols_tree.specs.GraphFaults.{specifiers, sources, asked, IsChained, IsBadModule, StandsAt, turn, IsFaultlessGraph, IsFirstGraphFault}
 use Rattle.symbols_tree.specs.Repeats.{IsRepeat}
+use Rattle.symbols_tree.specs.CheckSteps.{HasNoneOf, IsFirstOf}
 
 -- what stands at the i-th entry where a fault of the turn does
 abbrev pub AtTurn : GraphView → ℕ → ℕ → Type 0

@@ -9,7 +9,7 @@ use Rattle.std.specs.Str.{bytes_eq}
 use Rattle.std.specs.String.{string_eq}
 use Rattle.std.proofs.lemmas.List.Folds.{find-append}
 use Rattle.std.proofs.lemmas.Slice.Eq.{bytes_eq-Decides}
-use Rattle.symbols_tree.specs.Graph.{ModuleView, Resolution, found_resolution, module_of}
+use Rattle.symbols_syntax.specs.Graph.{ModuleView, Resolution, found_resolution, module_of}
 use Rattle.symbols_tree.specs.Tables.{AreKeyed, TextMap, rows_of, rows, text_pairs}
 
 -- the target that the redirects have

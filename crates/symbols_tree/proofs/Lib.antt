@@ -5,7 +5,6 @@ pub mod FaultOrder
 pub mod DepthLemmas
 pub mod NodeSteps
 pub mod Faultless
-mod CheckedModules
 mod RepeatLemmas
 mod ChainLemmas
 mod TreeRefusal

@@ -3,11 +3,11 @@ use Rattle.std.proofs.Common.{◌≡◌, ℕ, List, map, sym, ap, subst, ◌∙�
 use Rattle.std.specs.Prelude.{String, string_bytes}
 use Rattle.std.specs.Global.{Global}
 use Rattle.std.proofs.lemmas.Simd.{map-map}
-use Rattle.symbols_tree.specs.declared.check.raw.RawModule.{RawModule}
-use Rattle.symbols_tree.specs.Graph.{ModuleView, module_view}
+use Rattle.symbols_syntax.specs.declared.graph.raw.RawModule.{RawModule}
+use Rattle.symbols_syntax.specs.Graph.{ModuleView, module_view}
 use Rattle.symbols_tree.specs.GraphFaults.{specifiers}
-use Rattle.symbols_tree.specs.Repeats.{HasNoRepeat}
 use Rattle.symbols_tree.specs.Tables.{AreKeyed}
+use Rattle.symbols_tree.specs.CheckSteps.{HasNoRepeat}
 
 -- an entry of the map, by bytes
 abbrev pub entry_read : String Global × ModuleView → List ℕ × ModuleView

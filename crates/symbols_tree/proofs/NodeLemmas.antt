@@ -4,11 +4,11 @@ use Rattle.std.specs.Prelude.{◌||◌}
 use Rattle.std.specs.Option.{option_map, option_map_or}
 use Rattle.std.specs.List.{flat_map}
 use Rattle.std.proofs.lemmas.Option.{slice_get_past, slice_get_read}
-use Rattle.symbols_tree.specs.declared.tree.arena.Node.{Node}
-use Rattle.symbols_tree.specs.declared.tree.fields.Field.{Field}
-use Rattle.symbols_tree.specs.Fields.{fields, field_view, field_views}
-use Rattle.symbols_tree.specs.Nodes.{children, children_of}
-use Rattle.symbols_tree.specs.Shapes.{has_misplaced_child, breaks_rule, has_bad_shape}
+use Rattle.symbols_syntax.specs.declared.tree.arena.Node.{Node}
+use Rattle.symbols_syntax.specs.declared.tree.fields.Field.{Field}
+use Rattle.symbols_syntax.specs.Fields.{fields, field_view, field_views}
+use Rattle.symbols_syntax.specs.Nodes.{children, child_numbers}
+use Rattle.symbols_syntax.specs.Shapes.{has_misplaced_child, breaks_rule, has_bad_shape}
 use Rattle.symbols_tree.proofs.FieldLists.{flat_map_present}
 
 -- the children that a node's fields hold are those of the node
@@ -19,12 +19,12 @@ children_in_fields nodes n node slots inside at same =
     let here = slice_get_read nodes (length nodes) n node refl inside at in
     sym (flat_map_present (λ field. field.children) (option_map field_view) slots)
     ∙ ap (flat_map (λ field. field.children)) same
-    ∙ sym (ap (λ o. option_map_or children_of (option_map (λ x. x.kind) o) []) here)
+    ∙ sym (ap (λ o. option_map_or child_numbers (option_map (λ x. x.kind) o) []) here)
 
 -- past the end of the list there are no children
 pub no_children_past_end : (nodes : List Node) (n : ℕ) → length nodes ≤ n → children nodes n ≡ []
 unfolding children
-no_children_past_end nodes n past = ap (λ o. option_map_or children_of (option_map (λ x. x.kind) o) []) (slice_get_past nodes n past)
+no_children_past_end nodes n past = ap (λ o. option_map_or child_numbers (option_map (λ x. x.kind) o) []) (slice_get_past nodes n past)
 
 -- only a node of the list has a child
 pub inside_where_child : (nodes : List Node) (n i : ℕ) → i < length (children nodes n) → n < length nodes

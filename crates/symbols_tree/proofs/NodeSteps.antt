@@ -3,10 +3,10 @@ use Rattle.std.proofs.Common.{◌≡◌, ℕ, ◌+◌, ◌*◌, ◌<◌, ◌≤�
 use Rattle.std.specs.List.{SomeIndex, All}
 use Rattle.std.proofs.lemmas.List.Elements.{All-from_get_or}
 use Rattle.std.proofs.lemmas.Option.{slice_get-get_or, get_or_from_slice_get}
-use Rattle.symbols_tree.specs.declared.tree.arena.Node.{Node}
-use Rattle.symbols_tree.specs.Nodes.{children}
-use Rattle.symbols_tree.specs.Shapes.{has_bad_shape}
-use Rattle.symbols_tree.specs.TreeFaults.{IsBadChild, HasBadChild, HasSharedChild, IsRangeOf, HasBadRange, IsTooDeep, NoneBelow}
+use Rattle.symbols_syntax.specs.declared.tree.arena.Node.{Node}
+use Rattle.symbols_syntax.specs.Nodes.{children}
+use Rattle.symbols_syntax.specs.Shapes.{has_bad_shape}
+use Rattle.symbols_syntax.specs.TreeFaults.{IsBadChild, HasBadChild, HasSharedChild, IsRangeOf, HasBadRange, IsTooDeep, NoneBelow}
 use Rattle.symbols_tree.specs.Depths.{HasDepths, IsMetAt}
 use Rattle.symbols_tree.proofs.DepthLemmas.{child_is_there, met_is_shared, shared_is_met, too_deep_is_over}
 use Rattle.symbols_tree.proofs.FaultOrder.{none_before_next}

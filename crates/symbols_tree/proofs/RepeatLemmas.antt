@@ -7,7 +7,8 @@ use Rattle.std.proofs.lemmas.Bool.{cases_lt, false≢true}
 use Rattle.std.proofs.lemmas.Bool.Decides.{Decides-and}
 use Rattle.std.proofs.lemmas.Slice.Eq.{bytes_eq-Decides}
 use Rattle.std.proofs.lemmas.Option.{slice_get_read, slice_get_within, slice_get-map, same_Some, none-some}
-use Rattle.symbols_tree.specs.Repeats.{IsFirstWhere, IsRepeat, IsRepeatBy}
+use Rattle.symbols_tree.specs.Repeats.{IsRepeat}
+use Rattle.symbols_tree.specs.CheckSteps.{IsFirstWhere, IsRepeatBy}
 
 -- P holds of no entry below n
 abbrev pub NoneBelow : {A : Type 0} → (ℕ → A → Type 0) → ℕ → Type 0

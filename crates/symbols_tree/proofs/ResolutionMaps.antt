@@ -13,11 +13,11 @@ use Rattle.std.proofs.lemmas.Slice.Eq.{bytes_eq-Decides}
 use Rattle.std.specs.String.{string_eq}
 use Rattle.std.proofs.lemmas.Map.Text.{hash_map_updates_text}
 use Rattle.indexmap.specs.IndexMap.{get_by_text, UpdatesBy}
-use Rattle.symbols_tree.specs.declared.check.raw.RawResolution.{RawResolution}
-use Rattle.symbols_tree.specs.Graph.{Resolution, found_resolution, resolution_view}
+use Rattle.symbols_syntax.specs.declared.graph.raw.RawResolution.{RawResolution}
+use Rattle.symbols_syntax.specs.Graph.{Resolution, found_resolution, resolution_view}
 use Rattle.symbols_tree.specs.GraphFaults.{asked}
-use Rattle.symbols_tree.specs.Repeats.{HasNoRepeat}
-use Rattle.symbols_tree.specs.Tables.{TextMap, mapped}
+use Rattle.symbols_tree.specs.Tables.{TextMap}
+use Rattle.symbols_tree.specs.CheckSteps.{HasNoRepeat, found_in_maps}
 use Rattle.symbols_tree.proofs.FilledMaps.{stands_in_take}
 use Rattle.symbols_tree.proofs.RepeatLemmas.{pair_eq-Decides}
 
@@ -25,17 +25,17 @@ bytes_eq_symm : (xs ys : List ℕ) → bytes_eq xs ys ≡ bytes_eq ys xs
 bytes_eq_symm xs ys = nat_list_eq_equiv.symm xs ys
 
 -- one more specifier, for the text of the referrer, whose map was o
-pub mapped_more : (old new : TextMap (TextMap (String Global))) (referrer text : List ℕ) (specifier : String Global) (o : Option (TextMap (String Global))) (table : TextMap (String Global))
+pub found_in_maps-more : (old new : TextMap (TextMap (String Global))) (referrer text : List ℕ) (specifier : String Global) (o : Option (TextMap (String Global))) (table : TextMap (String Global))
     → get_by_text old referrer ≡ o
     → ((r : List ℕ) → get_by_text new r ≡ update bytes_eq (get_by_text old) referrer (Some table) r)
     → ((t : List ℕ) → get_by_text table t ≡ cond (bytes_eq text t) (Some specifier) (option_and_then (λ before. get_by_text before t) o))
-    → (r t : List ℕ) → mapped new r t ≡ cond (bytes_eq r referrer && bytes_eq t text) (Some (string_bytes specifier)) (mapped old r t)
-mapped_more old new referrer text specifier o table before outer inner r t =
+    → (r t : List ℕ) → found_in_maps new r t ≡ cond (bytes_eq r referrer && bytes_eq t text) (Some (string_bytes specifier)) (found_in_maps old r t)
+found_in_maps-more old new referrer text specifier o table before outer inner r t =
     ap (λ x. option_map string_bytes (option_and_then (λ found. get_by_text found t) x)) (outer r) ∙ by (bytes_eq referrer r) refl (bytes_eq text t) refl
-    ∙ ap (λ b. cond (b && bytes_eq text t) (Some (string_bytes specifier)) (mapped old r t)) (bytes_eq_symm referrer r) ∙ ap (λ b. cond (bytes_eq r referrer && b) (Some (string_bytes specifier)) (mapped old r t)) (bytes_eq_symm text t)
+    ∙ ap (λ b. cond (b && bytes_eq text t) (Some (string_bytes specifier)) (found_in_maps old r t)) (bytes_eq_symm referrer r) ∙ ap (λ b. cond (bytes_eq r referrer && b) (Some (string_bytes specifier)) (found_in_maps old r t)) (bytes_eq_symm text t)
   where
     by : (b : Bool) → bytes_eq referrer r ≡ b → (d : Bool) → bytes_eq text t ≡ d
-        → option_map string_bytes (option_and_then (λ found. get_by_text found t) (cond b (Some table) (get_by_text old r))) ≡ cond (b && d) (Some (string_bytes specifier)) (mapped old r t)
+        → option_map string_bytes (option_and_then (λ found. get_by_text found t) (cond b (Some table) (get_by_text old r))) ≡ cond (b && d) (Some (string_bytes specifier)) (found_in_maps old r t)
     by false is d told = refl
     by true is true told = ap (option_map string_bytes) (inner t ∙ ap (λ d. cond d (Some specifier) (option_and_then (λ found. get_by_text found t) o)) told)
     by true is false told =
@@ -43,18 +43,18 @@ mapped_more old new referrer text specifier o table before outer inner r t =
 
 module _ (old : TextMap (TextMap (String Global))) (told : List ℕ) (referrer text specifier : String Global) (is : told ≡ string_bytes referrer) where
   -- the text is put into the map of its referrer
-  pub mapped_into : (new : TextMap (TextMap (String Global))) (before after : TextMap (String Global)) → get_by_text old told ≡ Some before → UpdatesBy string_eq (λ k. bytes_eq told (string_bytes k)) old new (Some after) → UpdatesBy string_eq (string_eq text) before after (Some specifier)
-      → (r t : List ℕ) → mapped new r t ≡ cond (bytes_eq r (string_bytes referrer) && bytes_eq t (string_bytes text)) (Some (string_bytes specifier)) (mapped old r t)
-  mapped_into new before after found outer inner =
+  pub found_in_maps-into : (new : TextMap (TextMap (String Global))) (before after : TextMap (String Global)) → get_by_text old told ≡ Some before → UpdatesBy string_eq (λ k. bytes_eq told (string_bytes k)) old new (Some after) → UpdatesBy string_eq (string_eq text) before after (Some specifier)
+      → (r t : List ℕ) → found_in_maps new r t ≡ cond (bytes_eq r (string_bytes referrer) && bytes_eq t (string_bytes text)) (Some (string_bytes specifier)) (found_in_maps old r t)
+  found_in_maps-into new before after found outer inner =
       let by_told = hash_map_updates_text told old new (Some after) outer in
-      mapped_more old new (string_bytes referrer) (string_bytes text) specifier (Some before) after (ap (get_by_text old) (sym is) ∙ found) (λ r. by_told r ∙ ap (λ x. update bytes_eq (get_by_text old) x (Some after) r) is)
+      found_in_maps-more old new (string_bytes referrer) (string_bytes text) specifier (Some before) after (ap (get_by_text old) (sym is) ∙ found) (λ r. by_told r ∙ ap (λ x. update bytes_eq (get_by_text old) x (Some after) r) is)
       (hash_map_updates_text (string_bytes text) before after (Some specifier) inner)
 
   -- the referrer is put with a new map of the text
-  pub mapped_first : (mid new : TextMap (TextMap (String Global))) (before after : TextMap (String Global)) → mid ≡ old → get_by_text old told ≡ None → before.entries ≡ [] → UpdatesBy string_eq (string_eq referrer) mid new (Some after) → UpdatesBy string_eq (string_eq text) before after (Some specifier)
-      → (r t : List ℕ) → mapped new r t ≡ cond (bytes_eq r (string_bytes referrer) && bytes_eq t (string_bytes text)) (Some (string_bytes specifier)) (mapped old r t)
-  mapped_first mid new before after same absent empty outer inner =
-      mapped_more old new (string_bytes referrer) (string_bytes text) specifier None after (ap (get_by_text old) (sym is) ∙ absent)
+  pub found_in_maps-first : (mid new : TextMap (TextMap (String Global))) (before after : TextMap (String Global)) → mid ≡ old → get_by_text old told ≡ None → before.entries ≡ [] → UpdatesBy string_eq (string_eq referrer) mid new (Some after) → UpdatesBy string_eq (string_eq text) before after (Some specifier)
+      → (r t : List ℕ) → found_in_maps new r t ≡ cond (bytes_eq r (string_bytes referrer) && bytes_eq t (string_bytes text)) (Some (string_bytes specifier)) (found_in_maps old r t)
+  found_in_maps-first mid new before after same absent empty outer inner =
+      found_in_maps-more old new (string_bytes referrer) (string_bytes text) specifier None after (ap (get_by_text old) (sym is) ∙ absent)
       (λ r. hash_map_updates_text (string_bytes referrer) mid new (Some after) outer r ∙ ap (λ m. update bytes_eq (get_by_text m) (string_bytes referrer) (Some after) r) same)
       (λ t. hash_map_updates_text (string_bytes text) before after (Some specifier) inner t ∙ ap (λ es. cond (bytes_eq (string_bytes text) t) (Some specifier) (lookup (λ k. bytes_eq t (string_bytes k)) es)) empty)
 

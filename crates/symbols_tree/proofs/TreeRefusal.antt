@@ -4,14 +4,14 @@ use Rattle.std.specs.Prelude.{IfOk, IfNone, IfSome, MatchOption, string_bytes}
 use Rattle.std.specs.Option.{option_map}
 use Rattle.std.specs.List.{AllWithin}
 use Rattle.std.proofs.lemmas.Option.{slice_get_read, slice_get_within, slice_get-map, get_or_from_slice_get}
-use Rattle.symbols_tree.specs.declared.tree.arena.Tree.{Tree}
-use Rattle.symbols_tree.specs.declared.check.raw.RawModule.{RawModule}
-use Rattle.symbols_tree.specs.declared.check.faults.TreeFault.{TreeFault}
-use Rattle.symbols_tree.specs.Graph.{Content, ModuleView, esm, text_of, content_of, module_view, IsChecked}
+use Rattle.symbols_syntax.specs.declared.tree.arena.Tree.{Tree}
+use Rattle.symbols_syntax.specs.declared.graph.raw.RawModule.{RawModule}
+use Rattle.symbols_syntax.specs.declared.graph.faults.TreeFault.{TreeFault}
+use Rattle.symbols_syntax.specs.Graph.{Content, ModuleView, esm, text_of, content_of, module_view, IsChecked}
 use Rattle.symbols_tree.specs.GraphFaults.{HasTreeFault, IsBadModule}
-use Rattle.symbols_tree.specs.TreeFaults.{IsFaultless, IsFirstTreeFault}
-use Rattle.symbols_tree.specs.WellFormed.{IsWellFormed}
-use Rattle.symbols_tree.specs.Repeats.{IsFirstWhere}
+use Rattle.symbols_syntax.specs.TreeFaults.{IsFaultless, IsFirstTreeFault}
+use Rattle.symbols_syntax.specs.WellFormed.{IsWellFormed}
+use Rattle.symbols_tree.specs.CheckSteps.{IsFirstWhere}
 use Rattle.symbols_tree.proofs.RepeatLemmas.{read_entry}
 
 -- the check of a tree, said of the module's content

@@ -1,7 +1,7 @@
--- What the check of a tree keeps of depths: a node's depth is how many nodes stand above it, and one more.
+-- For inner functions and proofs alone: what the check of a tree keeps of depths. A node's depth is how many nodes stand above it, and one more.
 use Rattle.std.specs.Prelude.{◌≡◌, ◌≢◌, ℕ, ◌+◌, ◌<◌, ◌⊎◌, List, length, Contains, slice_index, take}
-use Rattle.symbols_tree.specs.declared.tree.arena.Node.{Node}
-use Rattle.symbols_tree.specs.Nodes.{children}
+use Rattle.symbols_syntax.specs.declared.tree.arena.Node.{Node}
+use Rattle.symbols_syntax.specs.Nodes.{children}
 
 -- no node below n has c as a child
 abbrev pub IsFree : List Node → ℕ → ℕ → Type 0

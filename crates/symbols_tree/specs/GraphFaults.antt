@@ -1,12 +1,12 @@
 -- When each fault of a graph stands, and which is the first.
-use Rattle.std.specs.Prelude.{◌≡◌, ◌≢◌, ℕ, ◌<◌, ◌≤◌, ◌^◌, ◌⊎◌, List, Some, map, length, slice_get, string_bytes}
-use Rattle.symbols_tree.specs.declared.tree.arena.Tree.{Tree}
-use Rattle.symbols_tree.specs.declared.check.faults.TreeFault.{TreeFault}
-use Rattle.symbols_tree.specs.declared.check.faults.GraphFault.{GraphFault}
-use Rattle.symbols_tree.specs.declared.check.faults.GraphFault.TheVariants as fault
-use Rattle.symbols_tree.specs.Graph.{GraphView, Content, ModuleView, Resolution, tree_of, text_of}
+use Rattle.std.specs.Prelude.{◌≡◌, ℕ, ◌<◌, ◌≤◌, ◌^◌, ◌⊎◌, List, Some, map, length, slice_get, string_bytes}
+use Rattle.symbols_syntax.specs.declared.tree.arena.Tree.{Tree}
+use Rattle.symbols_syntax.specs.declared.graph.faults.TreeFault.{TreeFault}
+use Rattle.symbols_syntax.specs.declared.graph.faults.GraphFault.{GraphFault}
+use Rattle.symbols_syntax.specs.declared.graph.faults.GraphFault.TheVariants as fault
+use Rattle.symbols_syntax.specs.Graph.{GraphView, Content, ModuleView, Resolution, tree_of, text_of}
 use Rattle.symbols_tree.specs.Repeats.{IsRepeat}
-use Rattle.symbols_tree.specs.TreeFaults.{IsFirstTreeFault}
+use Rattle.symbols_syntax.specs.TreeFaults.{IsFirstTreeFault}
 
 abbrev pub specifiers : List ModuleView → List (List ℕ)
 specifiers modules = map (λ m. m.specifier) modules
@@ -63,11 +63,3 @@ IsFaultlessGraph graph = (i : ℕ) (f : GraphFault) → StandsAt graph i f → �
 -- the fault stands in the graph, and none that is tried before it
 abbrev pub IsFirstGraphFault : GraphView → GraphFault → Type 0
 IsFirstGraphFault graph g = (j : ℕ) × StandsAt graph j g × ((i : ℕ) (f : GraphFault) → IsTriedBefore i f j g → StandsAt graph i f → ⊥)
-
--- no fault of this turn stands
-abbrev pub HasNoneOf : GraphView → ℕ → Type 0
-HasNoneOf graph at = (i : ℕ) (f : GraphFault) → turn f ≡ at → StandsAt graph i f → ⊥
-
--- the fault is of this turn and stands, and no fault of the turn stands at an entry before; or memory was refused
-abbrev pub IsFirstOf : GraphView → ℕ → GraphFault → Type 0
-IsFirstOf graph at g = g ≢ fault.OutOfMemory → (turn g ≡ at) × ((j : ℕ) × StandsAt graph j g × ((i : ℕ) (f : GraphFault) → turn f ≡ at → i < j → StandsAt graph i f → ⊥))

@@ -4,11 +4,11 @@ use Rattle.std.specs.Prelude.{nat_lt}
 use Rattle.serde_json.specs.View.{items_of}
 use Rattle.serde_json.specs.Data.{Data}
 use Rattle.serde_json.specs.Written.{has_float, items_have_float}
-use Rattle.symbols_tree.specs.declared.ids.SymbolId.{SymbolId}
-use Rattle.symbols_tree.specs.declared.tree.arena.Tree.{Tree}
-use Rattle.symbols_tree.specs.Graph.{GraphView, ModuleView, module_of, tree_of}
+use Rattle.symbols_syntax.specs.declared.ids.SymbolId.{SymbolId}
+use Rattle.symbols_syntax.specs.declared.tree.arena.Tree.{Tree}
+use Rattle.symbols_syntax.specs.Graph.{GraphView, ModuleView, module_of, tree_of}
 use Rattle.symbols_table.specs.Analysis.{symbol_count, tree_changes}
-use Rattle.symbols_table.specs.Changes.{Change, exports_of, mapped}
+use Rattle.symbols_table.specs.Changes.{Change, exports_after, mapped_after}
 use Rattle.symq_core.specs.Queries.{QueryView, asks_exports, asks_symbol, specifier_of}
 use Rattle.symq_core.specs.Answers.{export_data, exports_data, symbol_data, changes_answer, module_symbol, tree_answer, module_answer, found_answer, answer_data}
 
@@ -24,8 +24,8 @@ symbol None = refl
 symbol (Some s) = refl
 
 by_changes : (query : QueryView) (specifier : List ℕ) (changes : List Change) → has_float (changes_answer query specifier changes) ≡ false
-by_changes (asks_exports _) specifier changes = exports specifier (exports_of changes module_symbol)
-by_changes (asks_symbol _ id) specifier changes = symbol (mapped changes id)
+by_changes (asks_exports _) specifier changes = exports specifier (exports_after changes module_symbol)
+by_changes (asks_symbol _ id) specifier changes = symbol (mapped_after changes id)
 
 either : (test : Bool) (a b : Data) → has_float a ≡ false → has_float b ≡ false → has_float (cond test a b) ≡ false
 either true a b p q = p

@@ -3,23 +3,25 @@ use Rattle.std.proofs.Common.{◌≡◌, ℕ, ◌<◌, ◌≤◌, List, true, fa
 use Rattle.std.specs.Prelude.{nat_lt, slice_get, codes, Result, Ok, Err, IfOk, IfSome, IsSome}
 use Rattle.std.specs.declared.alloc.AllocError.{AllocError}
 use Rattle.std.proofs.lemmas.Bool.Decides.{nat_tests}
+use Rattle.std.proofs.lemmas.Option.{same_Some}
 use Rattle.serde_json.specs.declared.value.Value.{Value}
 use Rattle.serde_json.specs.View.{view}
-use Rattle.symbols_tree.specs.declared.ids.ModuleId.{ModuleId}
-use Rattle.symbols_tree.specs.declared.ids.SymbolId.{SymbolId}
-use Rattle.symbols_tree.specs.declared.tree.arena.Tree.{Tree}
-use Rattle.symbols_tree.specs.Graph.{ModuleView, tree_of}
+use Rattle.symbols_syntax.specs.declared.ids.ModuleId.{ModuleId}
+use Rattle.symbols_syntax.specs.declared.ids.SymbolId.{SymbolId}
+use Rattle.symbols_syntax.specs.declared.tree.arena.Tree.{Tree}
+use Rattle.symbols_syntax.specs.Graph.{ModuleView, tree_of}
 use Rattle.symbols_table.specs.declared.decl.symbol.Symbol.{Symbol}
 use Rattle.symbols_table.specs.declared.info.es_module.EsModuleInfo.{EsModuleInfo}
 use Rattle.symbols_table.specs.declared.info.module_info.ModuleInfo.{ModuleInfo}
 use Rattle.symbols_table.specs.declared.info.fault.SymbolsFault.{SymbolsFault}
 use Rattle.symbols_table.specs.declared.info.fault.SymbolsFault.TheVariants as fault
 use Rattle.symbols_table.specs.Analysis.{IsAnalysis, IsAnalysisFault, symbol_count, tree_changes}
-use Rattle.symbols_table.specs.Changes.{exports_of}
+use Rattle.symbols_table.specs.Changes.{exports_after}
 use Rattle.symbols_table.specs.Modules.{specifier_in, source_in, symbols_in, esm_in}
 use Rattle.symbols_table.specs.Symbols.{exports_in}
 use Rattle.symq_core.specs.Queries.{QueryView, asks_exports}
-use Rattle.symq_core.specs.Answers.{fault_text, fault_data, exports_data, changes_answer, Tells, module_symbol, tree_answer, module_answer}
+use Rattle.symq_core.specs.Answering.{fault_text, Tells}
+use Rattle.symq_core.specs.Answers.{fault_data, exports_data, changes_answer, module_symbol, tree_answer, module_answer}
 
 tree_answer-within : (query : QueryView) (specifier : List ℕ) (tree : Tree) → symbol_count tree ≤ 4294967295 → tree_answer query specifier tree ≡ changes_answer query specifier (tree_changes tree)
 unfolding tree_answer
@@ -33,9 +35,9 @@ tree_answer-past query specifier tree lt = let test : nat_lt (4294967295) (symbo
 pub exports_told : (r : Result Value AllocError) (info : ModuleInfo) (esm : EsModuleInfo) (symbol : Symbol) (asked specifier : List ℕ) (exports : List (List ℕ × SymbolId)) → Some esm ≡ esm_in info → slice_get (symbols_in esm) 0 ≡ Some symbol
     → specifier ≡ specifier_in esm → exports ≡ exports_in symbol → IfOk r (λ value. view value ≡ exports_data specifier exports) → IfOk r (λ value. Tells (asks_exports asked) info (view value))
 exports_told (Ok value) info esm symbol asked specifier exports has at named same is = λ found e changes tables.
-    let found_is : found ≡ esm = cc in
+    let found_is : found ≡ esm = sym (same_Some esm found (has ∙ e)) in
     let first = subst (λ x. slice_get (symbols_in x) 0 ≡ Some symbol) (sym found_is) at in
-    let shown : exports ≡ exports_of changes module_symbol = same ∙ (tables.symbols module_symbol symbol first).exports in
+    let shown : exports ≡ exports_after changes module_symbol = same ∙ (tables.symbols module_symbol symbol first).exports in
     let called : specifier ≡ specifier_in found = named ∙ ap specifier_in (sym found_is) in
     is ∙ rw (called, shown) refl
 exports_told (Err e) info esm symbol asked specifier exports has at named same is = tt

@@ -1,32 +1,19 @@
 -- The answer to a query, as data.
-use Rattle.std.specs.Prelude.{◌≡◌, ℕ, nat_lt, if◌then◌else◌, List, map, Option, Some, None, option_and_then, codes}
+use Rattle.std.specs.Prelude.{ℕ, nat_lt, if◌then◌else◌, List, map, Option, Some, None, option_and_then, codes}
 use Rattle.serde_json.specs.Data.{Data, null, number, unsigned, string, array, object, no_items, no_members, member}
 use Rattle.serde_json.specs.View.{items_of}
 use Rattle.serde_json.specs.Written.{compact_text}
-use Rattle.symbols_tree.specs.declared.ids.SymbolId.{SymbolId}
-use Rattle.symbols_tree.specs.declared.tree.arena.Tree.{Tree}
-use Rattle.symbols_tree.specs.Graph.{GraphView, ModuleView, module_of, tree_of}
-use Rattle.symbols_table.specs.declared.info.es_module.EsModuleInfo.{EsModuleInfo}
-use Rattle.symbols_table.specs.declared.info.module_info.ModuleInfo.{ModuleInfo}
-use Rattle.symbols_table.specs.declared.info.fault.SymbolsFault.{SymbolsFault}
-use Rattle.symbols_table.specs.declared.info.fault.SymbolsFault.TheVariants as fault
-use Rattle.symbols_table.specs.Changes.{Change, exports_of, mapped}
-use Rattle.symbols_table.specs.Analysis.{HasTables, tree_changes, symbol_count}
-use Rattle.symbols_table.specs.Modules.{specifier_in, esm_in}
-use Rattle.symq_reader.specs.Graph.{value_of}
+use Rattle.symbols_syntax.specs.declared.ids.SymbolId.{SymbolId}
+use Rattle.symbols_syntax.specs.declared.tree.arena.Tree.{Tree}
+use Rattle.symbols_syntax.specs.Graph.{GraphView, ModuleView, module_of, tree_of}
+use Rattle.symbols_table.specs.Changes.{Change, exports_after, mapped_after}
+use Rattle.symbols_table.specs.Analysis.{tree_changes, symbol_count}
+use Rattle.symq_reader.specs.GraphText.{json_of}
 use Rattle.symq_core.specs.Queries.{QueryView, asks_exports, asks_symbol, specifier_of, query_of}
 
 -- a line that answers with a fault
 abbrev pub fault_data : List ℕ → Data
 fault_data fault = object (member (codes "fault") (string fault) no_members)
-
--- why a call on symbols gave nothing; want of memory is no answer
-abbrev pub fault_text : SymbolsFault → Option (List ℕ)
-fault_text fault.OutOfMemory = None
-fault_text fault.TooManyModules = Some (codes "too many modules")
-fault_text (fault.TooManySymbols _) = Some (codes "too many symbols")
-fault_text fault.UnknownModule = Some (codes "unknown module")
-fault_text fault.UnknownSymbol = Some (codes "unknown symbol")
 
 -- an exported name with its owner, which no `export *` leads to so far
 abbrev pub export_data : List ℕ → List ℕ × SymbolId → Data
@@ -54,12 +41,8 @@ module_symbol = record { 0 = 0 }
 
 -- what a query asks of a module with these changes
 abbrev pub changes_answer : QueryView → List ℕ → List Change → Data
-changes_answer (asks_exports _) specifier changes = exports_data specifier (exports_of changes module_symbol)
-changes_answer (asks_symbol _ id) specifier changes = symbol_data (mapped changes id)
-
--- the value is the answer by the changes whose tables the module has
-abbrev pub Tells : QueryView → ModuleInfo → Data → Type 0
-Tells query info value = (esm : EsModuleInfo) → esm_in info ≡ Some esm → (changes : List Change) → HasTables esm changes → value ≡ changes_answer query (specifier_in esm) changes
+changes_answer (asks_exports _) specifier changes = exports_data specifier (exports_after changes module_symbol)
+changes_answer (asks_symbol _ id) specifier changes = symbol_data (mapped_after changes id)
 
 -- the answer on a tree, by what its events change; a tree of more symbols than ids is a fault
 unfoldable pub tree_answer : QueryView → List ℕ → Tree → Data
@@ -85,4 +68,4 @@ answer_data graph (Some query) = query_answer graph query
 
 -- the text of the answer to a line
 unfoldable pub answer_text : GraphView → List ℕ → List ℕ
-answer_text graph line = compact_text (answer_data graph (option_and_then query_of (value_of line)))
+answer_text graph line = compact_text (answer_data graph (option_and_then query_of (json_of line)))

@@ -1,7 +1,9 @@
 pub mod Queries
 pub mod Answers
+pub mod Answering
 pub mod Devices
 pub mod Lines
 pub mod Serving
+pub mod Sessions
 pub mod Stopping
 pub mod StopLines

@@ -3,18 +3,13 @@ use Rattle.std.specs.Prelude.{ℕ, List, [], ◌∷◌, find, codes, Option, Non
 use Rattle.std.specs.Str.{bytes_eq}
 use Rattle.serde_json.specs.Data.{Data, Items, no_items, item}
 use Rattle.serde_json.specs.Find.{as_array, as_str}
-use Rattle.symbols_tree.specs.Ids.{IdView, id_view}
-use Rattle.symq_reader.specs.Fields.{as_u32}
-use Rattle.symq_core.specs.declared.program.query.Query.{Query}
+use Rattle.symbols_syntax.specs.Ids.{IdView}
+use Rattle.symq_reader.specs.UnderKeys.{as_u32}
 
 -- what the module of a specifier exports; which symbol a name stands for in the module of a specifier
 pub data QueryView : Type 0 where
   asks_exports : List ℕ → QueryView
   asks_symbol : List ℕ → IdView → QueryView
-
-abbrev pub query_view : Query → QueryView
-query_view (Query.Exports specifier) = asks_exports specifier.now
-query_view (Query.Symbol specifier id) = asks_symbol specifier.now (id_view id)
 
 -- the specifier of the module that is asked about
 abbrev pub specifier_of : QueryView → List ℕ
@@ -27,12 +22,12 @@ exports_query (item specifier no_items) = option_map asks_exports (as_str specif
 exports_query _ = None
 
 -- a text and a number that fits 32 bits
-abbrev pub id_of : Data → Data → Option IdView
-id_of name scope = option_and_then (λ n. option_map (λ s. record { name = n; scope = s }) (as_u32 scope)) (as_str name)
+abbrev pub read_id : Data → Data → Option IdView
+read_id name scope = option_and_then (λ n. option_map (λ s. record { name = n; scope = s }) (as_u32 scope)) (as_str name)
 
 -- the form `["symbol", specifier, name, scope]`, behind its word
 abbrev pub symbol_query : Items → Option QueryView
-symbol_query (item specifier (item name (item scope no_items))) = option_and_then (λ s. option_map (asks_symbol s) (id_of name scope)) (as_str specifier)
+symbol_query (item specifier (item name (item scope no_items))) = option_and_then (λ s. option_map (asks_symbol s) (read_id name scope)) (as_str specifier)
 symbol_query _ = None
 
 -- the forms by their words

@@ -1,9 +1,9 @@
 -- The line on standard error, by why the program stops.
 use Rattle.std.specs.Prelude.{ℕ, List, ◌++◌, codes, decimal, string_bytes}
-use Rattle.symbols_tree.specs.declared.check.faults.TreeFault.{TreeFault}
-use Rattle.symbols_tree.specs.declared.check.faults.TreeFault.TheVariants as tree
-use Rattle.symbols_tree.specs.declared.check.faults.GraphFault.{GraphFault}
-use Rattle.symbols_tree.specs.declared.check.faults.GraphFault.TheVariants as graph
+use Rattle.symbols_syntax.specs.declared.graph.faults.TreeFault.{TreeFault}
+use Rattle.symbols_syntax.specs.declared.graph.faults.TreeFault.TheVariants as tree
+use Rattle.symbols_syntax.specs.declared.graph.faults.GraphFault.{GraphFault}
+use Rattle.symbols_syntax.specs.declared.graph.faults.GraphFault.TheVariants as graph
 use Rattle.symq_reader.specs.declared.faults.FormatFault.{FormatFault}
 use Rattle.symq_reader.specs.declared.faults.FormatFault.TheVariants as format
 use Rattle.symq_core.specs.declared.program.fault.EngineFault.{EngineFault}

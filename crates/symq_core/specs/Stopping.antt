@@ -1,8 +1,8 @@
 -- The exit status of the program, by why it stops.
 use Rattle.std.specs.Prelude.{ℕ}
 use Rattle.std.specs.Bool.{⊤}
-use Rattle.symbols_tree.specs.declared.check.faults.GraphFault.{GraphFault}
-use Rattle.symbols_tree.specs.declared.check.faults.GraphFault.TheVariants as graph
+use Rattle.symbols_syntax.specs.declared.graph.faults.GraphFault.{GraphFault}
+use Rattle.symbols_syntax.specs.declared.graph.faults.GraphFault.TheVariants as graph
 use Rattle.symq_reader.specs.declared.faults.FormatFault.{FormatFault}
 use Rattle.symq_reader.specs.declared.faults.FormatFault.TheVariants as format
 use Rattle.symq_core.specs.declared.program.fault.EngineFault.{EngineFault}

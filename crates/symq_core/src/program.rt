@@ -7,10 +7,11 @@ mod fault;
 mod lines;
 mod memory;
 mod query;
-mod sending;
+mod session;
 mod start;
 mod stop;
 mod streams;
+mod writing;
 
 pub use device::{DeviceFault, Input, Output};
 pub use engine::serve;

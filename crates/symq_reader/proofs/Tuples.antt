@@ -2,7 +2,7 @@
 use Rattle.std.proofs.Common.{◌≡◌, ◌<◌, List, [], ◌∷◌, length, None, refl, arith}
 use Rattle.serde_json.specs.View.{items_view}
 use Rattle.serde_json.specs.declared.value.Value.{Value}
-use Rattle.symq_reader.specs.Fields.{two_items, three_items}
+use Rattle.symq_reader.specs.UnderKeys.{two_items, three_items}
 
 pub fewer_than_two : (vs : List Value) → length vs < 2 → two_items (items_view vs) ≡ None
 fewer_than_two [] h = refl

@@ -3,11 +3,11 @@ use Rattle.std.specs.Prelude.{ℕ, List, [], ◌∷◌, Bool, if◌then◌else�
 use Rattle.std.specs.Str.{bytes_eq}
 use Rattle.serde_json.specs.Data.{Data}
 use Rattle.serde_json.specs.Find.{as_str}
-use Rattle.symbols_tree.specs.declared.tree.names.KindName.{KindName}
-use Rattle.symbols_tree.specs.declared.tree.names.KindName.TheVariants as Name
-use Rattle.symbols_tree.specs.declared.tree.kinds.Accessibility.{Accessibility}
-use Rattle.symbols_tree.specs.declared.tree.kinds.MethodKind.{MethodKind}
-use Rattle.symq_reader.specs.Fields.{required, optional, list_of, flag as flag_at, as_u32, as_identifier}
+use Rattle.symbols_syntax.specs.declared.tree.names.KindName.{KindName}
+use Rattle.symbols_syntax.specs.declared.tree.names.KindName.TheVariants as Name
+use Rattle.symbols_syntax.specs.declared.tree.kinds.Accessibility.{Accessibility}
+use Rattle.symbols_syntax.specs.declared.tree.kinds.MethodKind.{MethodKind}
+use Rattle.symq_reader.specs.UnderKeys.{required_under, optional_under, list_under, flag_under, as_u32, as_identifier}
 use Rattle.symq_reader.specs.Words.{as_accessibility, as_method_kind}
 
 -- the sorts of fields
@@ -24,34 +24,37 @@ pub data Sort : Type 0 where
 
 -- what a field holds
 pub data Slot : Type 0 where
-  has_child : ℕ → Slot
-  has_optional_child : Option ℕ → Slot
-  has_children : List ℕ → Slot
-  has_text : List ℕ → Slot
-  has_optional_text : Option (List ℕ) → Slot
-  has_flag : Bool → Slot
-  has_identifier : List ℕ × ℕ → Slot
-  has_accessibility : Option Accessibility → Slot
-  has_method_kind : MethodKind → Slot
+  holds_child : ℕ → Slot
+  holds_optional_child : Option ℕ → Slot
+  holds_children : List ℕ → Slot
+  holds_text : List ℕ → Slot
+  holds_optional_text : Option (List ℕ) → Slot
+  holds_flag : Bool → Slot
+  holds_identifier : List ℕ × ℕ → Slot
+  holds_accessibility : Option Accessibility → Slot
+  holds_method_kind : MethodKind → Slot
 
 -- what stands under a key, read as its sort
 abbrev pub slot_at : List ℕ → Sort → Data → Option Slot
-slot_at key child d = option_map has_child (required as_u32 key d)
-slot_at key optional_child d = option_map has_optional_child (optional as_u32 key d)
-slot_at key children d = option_map has_children (list_of as_u32 key d)
-slot_at key text d = option_map has_text (required as_str key d)
-slot_at key optional_text d = option_map has_optional_text (optional as_str key d)
-slot_at key flag d = option_map has_flag (flag_at key d)
-slot_at key identifier d = option_map has_identifier (required as_identifier key d)
-slot_at key accessibility d = option_map has_accessibility (optional as_accessibility key d)
-slot_at key method_kind d = option_map has_method_kind (required as_method_kind key d)
+slot_at key child d = option_map holds_child (required_under as_u32 key d)
+slot_at key optional_child d = option_map holds_optional_child (optional_under as_u32 key d)
+slot_at key children d = option_map holds_children (list_under as_u32 key d)
+slot_at key text d = option_map holds_text (required_under as_str key d)
+slot_at key optional_text d = option_map holds_optional_text (optional_under as_str key d)
+slot_at key flag d = option_map holds_flag (flag_under key d)
+slot_at key identifier d = option_map holds_identifier (required_under as_identifier key d)
+slot_at key accessibility d = option_map holds_accessibility (optional_under as_accessibility key d)
+slot_at key method_kind d = option_map holds_method_kind (required_under as_method_kind key d)
 
--- each field, in order
-abbrev pub slots_at : List (List ℕ × Sort) → Data → Option (List Slot)
+-- each field with its key, in order
+abbrev pub slots_at : List (List ℕ × Sort) → Data → Option (List (List ℕ × Slot))
 slots_at [] d = Some []
-slots_at (f ∷ fs) d = option_and_then (λ s. option_map (λ ss. s ∷ ss) (slots_at fs d)) (slot_at f.0 f.1 d)
+slots_at (f ∷ fs) d = option_and_then (λ s. option_map (λ ss. (f.0, s) ∷ ss) (slots_at fs d)) (slot_at f.0 f.1 d)
 
 -- ---- the table
+
+-- Each kind's fields by key and sort. KindShapes has these keys and sorts in this order once more, beside the fields of the
+-- tree's kinds: a reading function is proved only where the two lists have the same.
 
 abbrev pub fields_of : KindName → List (List ℕ × Sort)
 -- items of a module, their parts, and statements

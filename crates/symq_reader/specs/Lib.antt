@@ -1,8 +1,8 @@
 pub mod Reading
-pub mod Fields
+pub mod UnderKeys
 pub mod Numbers
 pub mod Words
 pub mod Kinds
-pub mod Shapes
+pub mod KindShapes
 pub mod Withheld
-pub mod Graph
+pub mod GraphText

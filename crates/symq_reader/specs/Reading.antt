@@ -1,4 +1,5 @@
--- What a reading function returned, beside what there was to read: None where the form is not kept.
+-- For inner functions and proofs alone: what a reading function returned, beside what there was to read, which is None
+-- where the form is not kept.
 use Rattle.std.specs.Prelude.{◌≡◌, ⊤, Option, Some, None, Result, Ok, Err}
 use Rattle.symq_reader.specs.declared.faults.FormatFault.{FormatFault}
 use Rattle.symq_reader.specs.declared.faults.FormatFault.TheVariants.{OutOfMemory, NotJson, BadForm}

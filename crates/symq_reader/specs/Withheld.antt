@@ -2,7 +2,7 @@
 use Rattle.std.specs.Prelude.{ℕ, List, Bool, is_some, ◌&&◌, ◌||◌, codes}
 use Rattle.std.specs.Str.{bytes_eq}
 use Rattle.serde_json.specs.Data.{Data}
-use Rattle.symq_reader.specs.Fields.{field}
+use Rattle.symq_reader.specs.UnderKeys.{field}
 
 -- a JSON module, or one that names the module of its types
 abbrev pub is_withheld_module : List ℕ → Data → Bool

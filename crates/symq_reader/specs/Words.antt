@@ -3,10 +3,10 @@ use Rattle.std.specs.Prelude.{ℕ, List, if◌then◌else◌, Option, Some, None
 use Rattle.std.specs.Str.{bytes_eq}
 use Rattle.serde_json.specs.Data.{Data}
 use Rattle.serde_json.specs.Find.{as_str}
-use Rattle.symbols_tree.specs.declared.tree.kinds.Accessibility.{Accessibility}
-use Rattle.symbols_tree.specs.declared.tree.kinds.Accessibility.TheVariants.{Public, Protected, Private}
-use Rattle.symbols_tree.specs.declared.tree.kinds.MethodKind.{MethodKind}
-use Rattle.symbols_tree.specs.declared.tree.kinds.MethodKind.TheVariants.{Method, Getter, Setter}
+use Rattle.symbols_syntax.specs.declared.tree.kinds.Accessibility.{Accessibility}
+use Rattle.symbols_syntax.specs.declared.tree.kinds.Accessibility.TheVariants.{Public, Protected, Private}
+use Rattle.symbols_syntax.specs.declared.tree.kinds.MethodKind.{MethodKind}
+use Rattle.symbols_syntax.specs.declared.tree.kinds.MethodKind.TheVariants.{Method, Getter, Setter}
 
 -- who may reach a member
 abbrev pub accessibility_named : List ℕ → Option Accessibility

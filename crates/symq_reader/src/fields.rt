@@ -5,13 +5,13 @@ ghost use Rattle.std.specs.Prelude.{◌≡◌, option_map, string_bytes};
 ghost use Rattle.serde_json.specs.Find.{as_str};
 ghost use Rattle.serde_json.specs.View.{view, items_view};
 ghost use Rattle.symq_reader.specs.Reading.{Gives};
-ghost use Rattle.symq_reader.specs.Fields.{field, required, optional, items_at, list_of, flag, as_u32, as_pair, as_triple, as_identifier};
-ghost use Rattle.symq_reader.specs.Shapes.{identifier_view};
+ghost use Rattle.symq_reader.specs.UnderKeys.{field, required_under, optional_under, items_under, list_under, flag_under, as_u32, as_pair, as_triple, as_identifier};
+ghost use Rattle.symq_reader.specs.KindShapes.{identifier_view};
 
 use crate::faults::FormatFault;
 use serde_json::Value;
 use std::alloc::Global;
-use symbols_tree::tree::{Id, NodeId};
+use symbols_syntax::tree::{Id, NodeId};
 
 /// The value under a key, unless it is null.
 pub(crate) fn field<'v>(value: &'v Value, key: &str) -> Option<&'v Value>
@@ -23,8 +23,9 @@ pub(crate) fn field<'v>(value: &'v Value, key: &str) -> Option<&'v Value>
     }
 }
 
+/// A text, which has to be there.
 pub(crate) fn text(alloc: Global, value: &Value, key: &str) -> Result<String, FormatFault>
-    ensures { Gives string_bytes result (required as_str key.now (view value.now)) }
+    ensures { Gives string_bytes result (required_under as_str key.now (view value.now)) }
 {
     let Some(found) = field(value, key).and_then(Value::as_str) else {
         return Err(FormatFault::BadForm);
@@ -32,12 +33,13 @@ pub(crate) fn text(alloc: Global, value: &Value, key: &str) -> Result<String, Fo
     Ok(String::from_str(alloc, found)?)
 }
 
+/// A text, which may be absent.
 pub(crate) fn optional_text(
     alloc: Global,
     value: &Value,
     key: &str,
 ) -> Result<Option<String>, FormatFault>
-    ensures { Gives (option_map string_bytes) result (optional as_str key.now (view value.now)) }
+    ensures { Gives (option_map string_bytes) result (optional_under as_str key.now (view value.now)) }
 {
     match field(value, key) {
         None => Ok(None),
@@ -45,8 +47,9 @@ pub(crate) fn optional_text(
     }
 }
 
+/// A flag: false where it is absent.
 pub(crate) fn flag(value: &Value, key: &str) -> Result<bool, FormatFault>
-    ensures { Gives (λ b. b) result (flag key.now (view value.now)) }
+    ensures { Gives (λ b. b) result (flag_under key.now (view value.now)) }
 {
     match field(value, key) {
         None => Ok(false),
@@ -54,23 +57,26 @@ pub(crate) fn flag(value: &Value, key: &str) -> Result<bool, FormatFault>
     }
 }
 
-fn number(value: &Value) -> Option<u32>
+/// The number that a value is, if it is whole and fits 32 bits, as those of nodes and scopes do.
+pub fn as_u32(value: &Value) -> Option<u32>
     ensures { result ≡ as_u32 (view value.now) }
 {
     u32::try_from(value.as_u64()?).ok()
 }
 
+/// The node that a value names by its number.
 fn node_id(value: &Value) -> Result<NodeId, FormatFault>
     ensures { Gives (λ n. n) result (as_u32 (view value.now)) }
 {
-    match number(value) {
+    match as_u32(value) {
         Some(number) => Ok(NodeId(number)),
         None => Err(FormatFault::BadForm),
     }
 }
 
+/// A child, which has to be there.
 pub(crate) fn child(value: &Value, key: &str) -> Result<NodeId, FormatFault>
-    ensures { Gives (λ n. n) result (required as_u32 key.now (view value.now)) }
+    ensures { Gives (λ n. n) result (required_under as_u32 key.now (view value.now)) }
 {
     match field(value, key) {
         Some(found) => node_id(found),
@@ -78,8 +84,9 @@ pub(crate) fn child(value: &Value, key: &str) -> Result<NodeId, FormatFault>
     }
 }
 
+/// A child, which may be absent.
 pub(crate) fn optional_child(value: &Value, key: &str) -> Result<Option<NodeId>, FormatFault>
-    ensures { Gives (λ n. n) result (optional as_u32 key.now (view value.now)) }
+    ensures { Gives (λ n. n) result (optional_under as_u32 key.now (view value.now)) }
 {
     match field(value, key) {
         Some(found) => Ok(Some(node_id(found)?)),
@@ -89,7 +96,7 @@ pub(crate) fn optional_child(value: &Value, key: &str) -> Result<Option<NodeId>,
 
 /// The items of a list: none where it is absent.
 pub(crate) fn list<'v>(value: &'v Value, key: &str) -> Result<&'v [Value], FormatFault>
-    ensures { Gives (λ items. items_view items.now) result (items_at key.now (view value.now)) }
+    ensures { Gives (λ items. items_view items.now) result (items_under key.now (view value.now)) }
 {
     let Some(found) = field(value, key) else {
         return Ok(&[]);
@@ -106,7 +113,7 @@ pub(crate) fn take_list(
     mut value: Value,
     key: &str,
 ) -> Result<Vec<Value>, FormatFault>
-    ensures { Gives (λ v. items_view v.items) result (items_at key.now (view value)) }
+    ensures { Gives (λ v. items_view v.items) result (items_under key.now (view value)) }
 {
     let found = match value.get_mut(key) {
         Some(found) => found.take(),
@@ -119,8 +126,9 @@ pub(crate) fn take_list(
     }
 }
 
+/// The children of a list: none where it is absent.
 pub(crate) fn children(alloc: Global, value: &Value, key: &str) -> Result<Vec<NodeId>, FormatFault>
-    ensures { Gives (λ v. v.items) result (list_of as_u32 key.now (view value.now)) }
+    ensures { Gives (λ v. v.items) result (list_under as_u32 key.now (view value.now)) }
 {
     let items = list(value, key)?;
     let mut children = Vec::with_capacity(alloc, items.len())?;
@@ -153,13 +161,14 @@ pub(crate) fn triple(value: &Value) -> Option<(&Value, &Value, &Value)>
     }
 }
 
+/// A name with its scope, which has to be there.
 pub(crate) fn identifier(alloc: Global, value: &Value, key: &str) -> Result<Id, FormatFault>
-    ensures { Gives identifier_view result (required as_identifier key.now (view value.now)) }
+    ensures { Gives identifier_view result (required_under as_identifier key.now (view value.now)) }
 {
     let Some((name, scope)) = field(value, key).and_then(pair) else {
         return Err(FormatFault::BadForm);
     };
-    let (Some(name), Some(scope)) = (name.as_str(), number(scope)) else {
+    let (Some(name), Some(scope)) = (name.as_str(), as_u32(scope)) else {
         return Err(FormatFault::BadForm);
     };
     let name = String::from_str(alloc, name)?;

@@ -4,15 +4,16 @@ ghost use Rattle.std.specs.Prelude.{codes, map, option_and_then};
 ghost use Rattle.serde_json.specs.Find.{as_str};
 ghost use Rattle.serde_json.specs.View.{view, items_view};
 ghost use Rattle.symq_reader.specs.Reading.{Gives};
-ghost use Rattle.symq_reader.specs.Fields.{list_of};
-ghost use Rattle.symq_reader.specs.Graph.{esm_of, module_kind_of, module_kind_shape, as_module, module_shape, as_redirect, redirect_shape, as_resolution, resolution_shape, graph_of, graph_shape, IsOutcome, outcome_of};
+ghost use Rattle.symq_reader.specs.UnderKeys.{list_under};
+ghost use Rattle.symq_reader.specs.GraphText.{esm_of, module_kind_of, module_kind_shape, as_module, module_shape, as_redirect, redirect_shape, as_resolution, resolution_shape, graph_of, graph_shape, IsOutcome, outcome_of};
 
 use crate::faults::FormatFault;
 use crate::{fields, nodes, numbers, withheld};
 use serde_json::Value;
 use std::alloc::Global;
-use symbols_tree::check::{RawGraph, RawModule, RawModuleKind, RawResolution};
+use symbols_syntax::graph::{RawGraph, RawModule, RawModuleKind, RawResolution};
 
+/// An ECMAScript module.
 fn esm(alloc: Global, value: &Value) -> Result<RawModuleKind, FormatFault>
     ensures { Gives module_kind_shape result (esm_of (view value.now)) }
 {
@@ -22,6 +23,7 @@ fn esm(alloc: Global, value: &Value) -> Result<RawModuleKind, FormatFault>
     Ok(RawModuleKind::Esm { text, tree, types })
 }
 
+/// A module read as the kind of this text.
 fn kind_named(alloc: Global, kind: &str, value: &Value) -> Result<RawModuleKind, FormatFault>
     ensures { Gives module_kind_shape result (module_kind_of kind.now (view value.now)) }
 {
@@ -38,6 +40,7 @@ fn kind_named(alloc: Global, kind: &str, value: &Value) -> Result<RawModuleKind,
     }
 }
 
+/// A module: its specifier, and the fields of its kind.
 fn module(alloc: Global, value: &Value) -> Result<RawModule, FormatFault>
     ensures { Gives module_shape result (as_module (view value.now)) }
 {
@@ -52,7 +55,7 @@ fn module(alloc: Global, value: &Value) -> Result<RawModule, FormatFault>
 /// The modules of a graph, whose value is let go; that of a module goes as soon as it is read.
 fn modules(alloc: Global, value: Value) -> Result<Vec<RawModule>, FormatFault>
     ensures { Gives (λ v. map module_shape v.items) result
-        (list_of as_module (codes "modules") (view value)) }
+        (list_under as_module (codes "modules") (view value)) }
 {
     let items = fields::take_list(alloc, value, "modules")?;
     let mut modules = Vec::with_capacity(alloc, items.len())?;
@@ -62,6 +65,7 @@ fn modules(alloc: Global, value: Value) -> Result<Vec<RawModule>, FormatFault>
     Ok(modules)
 }
 
+/// A redirect, by its source and its target.
 fn redirect(alloc: Global, value: &Value) -> Result<(String, String), FormatFault>
     ensures { Gives redirect_shape result (as_redirect (view value.now)) }
 {
@@ -78,7 +82,7 @@ fn redirect(alloc: Global, value: &Value) -> Result<(String, String), FormatFaul
 
 fn redirects(alloc: Global, value: &Value) -> Result<Vec<(String, String)>, FormatFault>
     ensures { Gives (λ v. map redirect_shape v.items) result
-        (list_of as_redirect (codes "redirects") (view value.now)) }
+        (list_under as_redirect (codes "redirects") (view value.now)) }
 {
     let items = fields::list(value, "redirects")?;
     let mut redirects = Vec::with_capacity(alloc, items.len())?;
@@ -88,6 +92,7 @@ fn redirects(alloc: Global, value: &Value) -> Result<Vec<(String, String)>, Form
     Ok(redirects)
 }
 
+/// What a text stands for in the module that it is written in.
 fn resolution(alloc: Global, value: &Value) -> Result<RawResolution, FormatFault>
     ensures { Gives resolution_shape result (as_resolution (view value.now)) }
 {
@@ -107,7 +112,7 @@ fn resolution(alloc: Global, value: &Value) -> Result<RawResolution, FormatFault
 
 fn resolutions(alloc: Global, value: &Value) -> Result<Vec<RawResolution>, FormatFault>
     ensures { Gives (λ v. map resolution_shape v.items) result
-        (list_of as_resolution (codes "resolutions") (view value.now)) }
+        (list_under as_resolution (codes "resolutions") (view value.now)) }
 {
     let items = fields::list(value, "resolutions")?;
     let mut resolutions = Vec::with_capacity(alloc, items.len())?;
@@ -134,7 +139,7 @@ fn graph(alloc: Global, value: Value) -> Result<RawGraph, FormatFault>
     })
 }
 
-/// The graph that bytes are, by the form of `specs/Graph.antt` and `specs/Kinds.antt` (own rules).
+/// The graph that bytes are, by the form of `specs/GraphText.antt` and `specs/Kinds.antt` (own rules).
 /// Keys that an object's kind doesn't have are ignored, and of a repeated key the last value counts;
 /// but a number that is no whole number of 64 bits is a `BadForm` under any key that counts. Nothing
 /// is checked of the graph itself. At its peak memory holds the JSON value of the whole text, some

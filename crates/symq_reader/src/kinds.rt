@@ -3,7 +3,7 @@
 ghost use Rattle.std.specs.Prelude.{◌≡◌};
 ghost use Rattle.serde_json.specs.View.{view};
 ghost use Rattle.symq_reader.specs.Reading.{Gives};
-ghost use Rattle.symq_reader.specs.Shapes.{kind_at, kind_shape, row_named};
+ghost use Rattle.symq_reader.specs.KindShapes.{read_kind, kind_shape, read_named};
 
 mod decls;
 mod exprs;
@@ -16,10 +16,11 @@ use crate::faults::FormatFault;
 use crate::fields;
 use serde_json::Value;
 use std::alloc::Global;
-use symbols_tree::tree::Kind;
+use symbols_syntax::tree::Kind;
 
+/// An object read as the kind of this text.
 fn kind_named(alloc: Global, kind: &str, value: &Value) -> Result<Kind, FormatFault>
-    ensures { Gives kind_shape result (row_named kind.now (view value.now)) }
+    ensures { Gives kind_shape result (read_named kind.now (view value.now)) }
 {
     if let Some(item) = items::item(alloc, kind, value)? {
         return Ok(Kind::Item(item));
@@ -42,9 +43,10 @@ fn kind_named(alloc: Global, kind: &str, value: &Value) -> Result<Kind, FormatFa
     Err(FormatFault::BadForm)
 }
 
-#[tactic(auto, unfolding(crate::specs::Shapes::kind_at))]
+/// An object read as the kind that it says that it is.
+#[tactic(auto, unfolding(crate::specs::KindShapes::read_kind))]
 pub(crate) fn kind(alloc: Global, value: &Value) -> Result<Kind, FormatFault>
-    ensures { Gives kind_shape result (kind_at (view value.now)) }
+    ensures { Gives kind_shape result (read_kind (view value.now)) }
 {
     match fields::field(value, "kind").and_then(Value::as_str) {
         Some(kind) => kind_named(alloc, kind, value),

@@ -1,4 +1,7 @@
 //! The text of a graph of modules, read into a graph that nothing has been checked of.
+//!
+//! Marks say where a rule comes from: '(as deno_graph)' where it is that of Deno's crate of this
+//! name, '(own rule)' where this library sets it.
 #![tactic(auto)]
 
 mod faults;
@@ -11,4 +14,5 @@ mod withheld;
 mod words;
 
 pub use faults::FormatFault;
+pub use fields::as_u32;
 pub use graph::read_graph;

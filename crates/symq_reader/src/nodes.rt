@@ -3,17 +3,18 @@
 ghost use Rattle.std.specs.Prelude.{codes, map, option_map};
 ghost use Rattle.serde_json.specs.View.{view, items_view};
 ghost use Rattle.symq_reader.specs.Reading.{Gives};
-ghost use Rattle.symq_reader.specs.Fields.{required, optional, each, list_of};
-ghost use Rattle.symq_reader.specs.Graph.{as_range, as_node, as_tree, node_shape, tree_shape};
+ghost use Rattle.symq_reader.specs.UnderKeys.{required_under, optional_under, each_item, list_under};
+ghost use Rattle.symq_reader.specs.GraphText.{as_range, as_node, as_tree, node_shape, tree_shape};
 
 use crate::faults::FormatFault;
 use crate::{fields, kinds};
 use serde_json::Value;
 use std::alloc::Global;
-use symbols_tree::tree::{Node, SourceRange, Tree};
+use symbols_syntax::tree::{Node, SourceRange, Tree};
 
+/// Where a node stands in its text, by two offsets.
 fn range(value: &Value) -> Result<SourceRange, FormatFault>
-    ensures { Gives (λ r. r) result (required as_range (codes "range") (view value.now)) }
+    ensures { Gives (λ r. r) result (required_under as_range (codes "range") (view value.now)) }
 {
     let Some((start, end)) = fields::field(value, "range").and_then(fields::pair) else {
         return Err(FormatFault::BadForm);
@@ -27,7 +28,8 @@ fn range(value: &Value) -> Result<SourceRange, FormatFault>
     }
 }
 
-#[tactic(auto, unfolding(crate::specs::Graph::as_node))]
+/// A node: its kind and its range.
+#[tactic(auto, unfolding(crate::specs::GraphText::as_node))]
 fn node(alloc: Global, value: &Value) -> Result<Node, FormatFault>
     ensures { Gives node_shape result (as_node (view value.now)) }
 {
@@ -36,9 +38,10 @@ fn node(alloc: Global, value: &Value) -> Result<Node, FormatFault>
     Ok(Node { kind, range })
 }
 
+/// The nodes of a tree, in order.
 fn nodes(alloc: Global, value: &Value) -> Result<Vec<Node>, FormatFault>
     ensures { Gives (λ v. map node_shape v.items) result
-        (list_of as_node (codes "nodes") (view value.now)) }
+        (list_under as_node (codes "nodes") (view value.now)) }
 {
     let items = fields::list(value, "nodes")?;
     let mut nodes = Vec::with_capacity(alloc, items.len())?;
@@ -48,6 +51,7 @@ fn nodes(alloc: Global, value: &Value) -> Result<Vec<Node>, FormatFault>
     Ok(nodes)
 }
 
+/// A tree, of whose nodes nothing is checked.
 fn tree(alloc: Global, value: &Value) -> Result<Tree, FormatFault>
     ensures { Gives tree_shape result (as_tree (view value.now)) }
 {
@@ -62,7 +66,7 @@ fn tree(alloc: Global, value: &Value) -> Result<Tree, FormatFault>
 /// The tree of a module, which may be absent.
 pub(crate) fn optional_tree(alloc: Global, value: &Value) -> Result<Option<Tree>, FormatFault>
     ensures { Gives (option_map tree_shape) result
-        (optional as_tree (codes "tree") (view value.now)) }
+        (optional_under as_tree (codes "tree") (view value.now)) }
 {
     match fields::field(value, "tree") {
         None => Ok(None),

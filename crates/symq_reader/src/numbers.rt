@@ -6,6 +6,7 @@ ghost use Rattle.symq_reader.specs.Numbers.{is_whole, items_are_whole, members_a
 
 use serde_json::{Map, Value};
 
+/// Whether each number of a value, at any depth, is whole and fits 64 bits.
 #[cycle(whole)]
 pub(crate) fn is_whole(value: &Value) -> bool
     ensures { result ≡ is_whole (view value.now) }

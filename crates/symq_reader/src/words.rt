@@ -3,14 +3,15 @@
 ghost use Rattle.std.specs.Prelude.{◌≡◌};
 ghost use Rattle.serde_json.specs.View.{view};
 ghost use Rattle.symq_reader.specs.Reading.{Gives};
-ghost use Rattle.symq_reader.specs.Fields.{required, optional};
+ghost use Rattle.symq_reader.specs.UnderKeys.{required_under, optional_under};
 ghost use Rattle.symq_reader.specs.Words.{accessibility_named, as_accessibility, method_kind_named, as_method_kind};
 
 use crate::faults::FormatFault;
 use crate::fields;
 use serde_json::Value;
-use symbols_tree::tree::{Accessibility, MethodKind};
+use symbols_syntax::tree::{Accessibility, MethodKind};
 
+/// Who may reach a member, by its word.
 fn accessibility_named(word: &str) -> Option<Accessibility>
     ensures { result ≡ accessibility_named word.now }
 {
@@ -22,6 +23,7 @@ fn accessibility_named(word: &str) -> Option<Accessibility>
     }
 }
 
+/// Which sort of method it is, by its word.
 fn method_kind_named(word: &str) -> Option<MethodKind>
     ensures { result ≡ method_kind_named word.now }
 {
@@ -35,7 +37,7 @@ fn method_kind_named(word: &str) -> Option<MethodKind>
 
 /// Who may reach a member, which may be absent.
 pub(crate) fn accessibility(value: &Value, key: &str) -> Result<Option<Accessibility>, FormatFault>
-    ensures { Gives (λ a. a) result (optional as_accessibility key.now (view value.now)) }
+    ensures { Gives (λ a. a) result (optional_under as_accessibility key.now (view value.now)) }
 {
     let Some(found) = fields::field(value, key) else {
         return Ok(None);
@@ -48,7 +50,7 @@ pub(crate) fn accessibility(value: &Value, key: &str) -> Result<Option<Accessibi
 
 /// Which sort of method it is.
 pub(crate) fn method_kind(value: &Value, key: &str) -> Result<MethodKind, FormatFault>
-    ensures { Gives (λ k. k) result (required as_method_kind key.now (view value.now)) }
+    ensures { Gives (λ k. k) result (required_under as_method_kind key.now (view value.now)) }
 {
     let word = fields::field(value, key).and_then(Value::as_str);
     match word.and_then(method_kind_named) {

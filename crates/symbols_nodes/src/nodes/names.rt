@@ -3,18 +3,18 @@
 ghost use Rattle.std.specs.Prelude.{◌≡◌, ◌∷◌, Some, None, IfOk, string_bytes, codes};
 ghost use Rattle.std.specs.Option.{option_map, option_copied, option_and_then};
 ghost use Rattle.std.specs.Cow.{cow_str_bytes};
-ghost use Rattle.symbols_tree.specs.NodeRefs.{node_view, kind_of};
-ghost use Rattle.symbols_tree.specs.ChildFields.{ident_of, id_of, key_of, expr_of};
+ghost use Rattle.symbols_syntax.specs.NodeRefs.{node_view, kind_of};
+ghost use Rattle.symbols_syntax.specs.ChildFields.{ident_of, id_of, key_of, expr_of};
 ghost use Rattle.symbols_nodes.specs.NodeViews.{export_decl_view, symbol_node_view};
-ghost use Rattle.symbols_nodes.specs.NodeNames.{text_of, text_in, key_text, key_name, binding_name, param_text, param_name, default_text, default_name, exported_name, lent_name, node_name};
+ghost use Rattle.symbols_nodes.specs.NodeNames.{ident_or_literal_text, text_in, key_text, key_name, binding_name, param_text, param_name, default_text, default_name, exported_name, lent_name, node_name};
 
 use crate::nodes::refs::{ExportDeclRef, SymbolNodeRef};
 use std::alloc::{AllocError, Global};
 use std::borrow::CowStr;
-use symbols_tree::tree::{Decl, Expr, Kind, NodeRef, Pat};
+use symbols_syntax::tree::{Decl, Expr, Kind, NodeRef, Pat};
 
-fn text_of(kind: &Kind) -> Option<&str>
-    ensures { option_copied result ≡ text_of kind.now }
+fn ident_or_literal_text(kind: &Kind) -> Option<&str>
+    ensures { option_copied result ≡ ident_or_literal_text kind.now }
 {
     match kind {
         Kind::Expr(Expr::Ident { sym }) => Some(sym.name.as_str()),
@@ -26,9 +26,9 @@ fn text_of(kind: &Kind) -> Option<&str>
 
 /// The text of a child, if it is there.
 fn text_in<'a>(child: Option<NodeRef<'a>>) -> Option<&'a str>
-    ensures { option_copied result ≡ option_and_then text_of (option_and_then kind_of (option_map node_view child.entry)) }
+    ensures { option_copied result ≡ option_and_then ident_or_literal_text (option_and_then kind_of (option_map node_view child.entry)) }
 {
-    text_of(child?.kind())
+    ident_or_literal_text(child?.kind())
 }
 
 /// The text of a private name, after `#`.

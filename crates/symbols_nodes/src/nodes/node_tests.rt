@@ -1,12 +1,12 @@
 //! What holds of the node of a declaration, by its kind.
 
 ghost use Rattle.std.specs.Prelude.{◌≡◌};
-ghost use Rattle.symbols_tree.specs.NodeRefs.{node_view, kind_of};
+ghost use Rattle.symbols_syntax.specs.NodeRefs.{node_view, kind_of};
 ghost use Rattle.symbols_nodes.specs.NodeViews.{export_decl_view, symbol_node_view};
 ghost use Rattle.symbols_nodes.specs.NodeTests.{is_exported_function, is_function, has_own_body, has_function_body, exported_has_body, default_has_body, has_body, is_method};
 
 use crate::nodes::refs::{ExportDeclRef, SymbolNodeRef};
-use symbols_tree::tree::{Decl, Kind, Member, MethodKind, NodeRef};
+use symbols_syntax::tree::{Decl, Kind, Member, MethodKind, NodeRef};
 
 fn has_own_body(node: NodeRef<'_>) -> bool
     ensures { result ≡ has_own_body (node_view node.entry) }

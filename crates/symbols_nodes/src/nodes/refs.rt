@@ -1,10 +1,10 @@
 //! Declarations as nodes: each with the nodes that it is made of.
 
 ghost use Rattle.std.specs.Prelude.{◌≡◌, is_some, true};
-ghost use Rattle.symbols_tree.specs.NodeRefs.{node_view};
+ghost use Rattle.symbols_syntax.specs.NodeRefs.{node_view};
 ghost use Rattle.symbols_nodes.specs.Expando.{expando_in};
 
-use symbols_tree::tree::NodeRef;
+use symbols_syntax::tree::NodeRef;
 
 /// The declaration that stands after `export` (as deno_graph).
 #[derive(Clone, Copy)]

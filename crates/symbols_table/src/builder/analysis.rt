@@ -1,10 +1,10 @@
 //! The analysis of one module.
 
-ghost use Rattle.std.specs.Prelude.{◌≡◌, ◌<◌, ◌≤◌, length, IfOk, IfErr, IfSome};
-ghost use Rattle.symbols_tree.specs.WellFormed.{IsWellFormed};
-ghost use Rattle.symbols_table.specs.Modules.{module_in, specifier_in, source_in, symbols_in};
+ghost use Rattle.std.specs.Prelude.{◌≡◌, ℕ, ◌<◌, ◌≤◌, List, length, IfOk, IfErr};
+ghost use Rattle.symbols_syntax.specs.TreeFaults.{IsFaultless};
+ghost use Rattle.symbols_syntax.specs.WellFormed.{IsWellFormed};
+ghost use Rattle.symbols_table.specs.Modules.{module_in, specifier_in, source_in};
 ghost use Rattle.symbols_table.specs.Analysis.{tree_changes, symbol_count, HasTables, IsAnalysis, IsAnalysisFault};
-ghost use Rattle.symbols_table.specs.Laws.{AreLawful, IsLawful};
 ghost use Rattle.symbols_table.specs.declared.builder.table.BuildFault.TheVariants.{TooManySymbols};
 
 use crate::builder::scope::Scope;
@@ -15,9 +15,9 @@ use indexmap::IndexMap;
 use std::alloc::Global;
 use std::collections::HashMap;
 use symbols_nodes::nodes::SymbolNodeRef;
-use symbols_tree::check::GraphModule;
-use symbols_tree::ids::ModuleId;
-use symbols_tree::tree::{NodeRef, Tree};
+use symbols_syntax::graph::GraphModule;
+use symbols_syntax::ids::ModuleId;
+use symbols_syntax::tree::{NodeRef, Tree};
 
 /// The table of a tree, whole, or a fault and nothing.
 fn build<'a>(
@@ -27,12 +27,12 @@ fn build<'a>(
     tree: &'a Tree,
     limit: u32,
 ) -> Result<EsModuleInfo<'a>, BuildFault>
-    requires { IsWellFormed tree.now.nodes.items }
+    requires well_formed { IsWellFormed tree.now.nodes.items }
+    requires faultless { (text : List ℕ) × IsFaultless text tree.now.nodes.items }
     ensures number { IfOk result (λ esm. module_in esm ≡ module_id) }
     ensures specifier { IfOk result (λ esm. specifier_in esm ≡ specifier.now) }
     ensures source { IfOk result (λ esm. source_in esm ≡ tree.now) }
     ensures tables { IfOk result (λ esm. HasTables esm (tree_changes tree.now)) }
-    ensures laws { IfOk result (λ esm. AreLawful (symbols_in esm)) }
     ensures within { IfOk result (λ _. symbol_count tree.now ≤ limit) }
     ensures too_many { IfErr result (λ fault. fault ≡ TooManySymbols → limit < symbol_count tree.now) }
 {
@@ -51,12 +51,12 @@ fn build<'a>(
         stars: Vec::new(alloc),
     };
     let decl = SymbolDecl::definition(SymbolNodeRef::Module(program), program.range());
-    let module = builder.new_symbol(None, decl)?;
+    let module = builder.add_symbol(None, decl)?;
     let scope = Scope {
         ambient: tree.declaration,
         is_module: true,
     };
-    builder.items(module, scope, program, program.body())?;
+    builder.walk_items(module, scope, program, program.body())?;
     let Builder {
         setting: _,
         symbols,
@@ -90,7 +90,6 @@ pub fn analyze<'a>(
     graph_module: &'a GraphModule,
     limit: u32,
 ) -> Result<Option<ModuleInfo<'a>>, SymbolsFault>
-    ensures laws { IfOk result (λ info. IfSome info IsLawful) }
     ensures table { IfOk result (IsAnalysis module_id graph_module.now limit) }
     ensures fault { IfErr result (IsAnalysisFault graph_module.now limit) }
 {

@@ -1,26 +1,26 @@
 //! Declarations: variables, functions, classes, interfaces, enums and aliases.
 
-ghost use Rattle.std.specs.Prelude.{◌≡◌, ℕ, ◌<◌, ◌≤◌, ◌∷◌, List, length, OnOk, Some};
+ghost use Rattle.std.specs.Prelude.{◌≡◌, ℕ, ◌<◌, List, length, Some};
 ghost use Rattle.std.specs.Option.{option_map, option_copied};
-ghost use Rattle.symbols_tree.specs.Ids.{id_view};
-ghost use Rattle.symbols_tree.specs.NodeRefs.{node_view, kind_of};
-ghost use Rattle.symbols_tree.specs.WellFormed.{IsWellFormed};
+ghost use Rattle.symbols_syntax.specs.Ids.{id_view};
+ghost use Rattle.symbols_syntax.specs.NodeRefs.{node_view, kind_of};
+ghost use Rattle.symbols_syntax.specs.WellFormed.{IsWellFormed};
 ghost use Rattle.symbols_nodes.specs.NodeViews.{export_decl_view, symbol_node_view};
 ghost use Rattle.symbols_table.specs.DeclViews.{decl_view};
 ghost use Rattle.symbols_table.specs.Events.{Row, rows_after, symbol_at, changes_of};
-ghost use Rattle.symbols_table.specs.Walks.{none, on, each, range_in};
-ghost use Rattle.symbols_table.specs.MemberEvents.{member_at, members_in};
-ghost use Rattle.symbols_table.specs.DeclarationEvents.{plain, declared_as, whole_range, is_exported, export_if, added, declared, variable_form, binding_events, binding_at, declarator_events, declarator_at, variables_events, named_form, own_name, named_events, declaration_events};
+ghost use Rattle.symbols_table.specs.Walks.{none, on, each};
+ghost use Rattle.symbols_table.specs.MemberEvents.{member_at, member_nodes};
+ghost use Rattle.symbols_table.specs.DeclarationEvents.{plain, declared_as, whole_range, is_exported, export_if, added, declared, variable_form, binding_at, declarator_at, variables_events, named_form, own_name, named_events, declaration_events};
 ghost use Rattle.symbols_table.specs.VariablesViews.{variables_view};
 
-use crate::builder::members::members_in;
+use crate::builder::members::member_nodes;
 use crate::builder::patterns::leaves;
 use crate::builder::scope::Scope;
 use crate::builder::table::{BuildFault, Builder};
 use crate::decl::SymbolDecl;
 use symbols_nodes::nodes::{ExportDeclRef, SymbolNodeRef};
-use symbols_tree::ids::SymbolId;
-use symbols_tree::tree::{Decl, Id, Kind, NodeId, NodeRef, SourceRange};
+use symbols_syntax::ids::SymbolId;
+use symbols_syntax::tree::{Decl, Id, Kind, NodeId, NodeRef, SourceRange};
 
 /// The plain form of a declaration, where no `export` stands before it.
 fn plain<'a>(decl: ExportDeclRef<'a>) -> SymbolNodeRef<'a>
@@ -125,6 +125,7 @@ fn variable_form<'a>(
 
 impl<'a> Builder<'a> {
     ghost use Rattle.symbols_table.specs.Tables.{IsTableOf, IsFilled, ReadsAll, ReadsWalk};
+    ghost use Rattle.symbols_table.specs.Keeping.{KeepsTable};
 
     /// Exports the symbol under the name where it is exported.
     pub(crate) fn export_if(
@@ -137,9 +138,7 @@ impl<'a> Builder<'a> {
         requires filled { IsFilled self.old }
         requires holder { holder.0 < length self.old.symbols.items }
         requires symbol { symbol.0 < length self.old.symbols.items }
-        ensures filled { OnOk result (IsFilled self.new) }
-        ensures setting { self.new.setting ≡ self.old.setting }
-        ensures longer { OnOk result (length self.old.symbols.items ≤ length self.new.symbols.items) }
+        ensures keeps { KeepsTable result self.old self.new }
         ensures table { (rows : List Row) (h s : ℕ) → IsTableOf self.old (changes_of rows) → symbol_at rows h ≡ Some holder → symbol_at rows s ≡ Some symbol
             → ReadsAll result self.old.setting.limit self.new (rows_after rows (export_if is_exported h name.now s)) }
     {
@@ -150,7 +149,7 @@ impl<'a> Builder<'a> {
     }
 
     /// Makes the symbol a child of its holder, and exports it where it is exported.
-    pub(crate) fn added(
+    pub(crate) fn add_to_holder(
         &mut self,
         holder: SymbolId,
         symbol: SymbolId,
@@ -160,9 +159,7 @@ impl<'a> Builder<'a> {
         requires filled { IsFilled self.old }
         requires holder { holder.0 < length self.old.symbols.items }
         requires symbol { symbol.0 < length self.old.symbols.items }
-        ensures filled { OnOk result (IsFilled self.new) }
-        ensures setting { self.new.setting ≡ self.old.setting }
-        ensures longer { OnOk result (length self.old.symbols.items ≤ length self.new.symbols.items) }
+        ensures keeps { KeepsTable result self.old self.new }
         ensures table { (rows : List Row) (h s : ℕ) → IsTableOf self.old (changes_of rows) → symbol_at rows h ≡ Some holder → symbol_at rows s ≡ Some symbol
             → ReadsAll result self.old.setting.limit self.new (rows_after rows (added is_exported h name.now s)) }
     {
@@ -170,8 +167,8 @@ impl<'a> Builder<'a> {
         self.export_if(holder, symbol, name, is_exported)
     }
 
-    /// Declares a name, with its members, and adds its symbol to the holder.
-    fn declared(
+    /// Declares a name, and adds its symbol to the holder.
+    fn declare_in_holder(
         &mut self,
         holder: SymbolId,
         id: &'a Id,
@@ -180,17 +177,15 @@ impl<'a> Builder<'a> {
     ) -> Result<(), BuildFault>
         requires filled { IsFilled self.old }
         requires holder { holder.0 < length self.old.symbols.items }
-        ensures filled { OnOk result (IsFilled self.new) }
-        ensures setting { self.new.setting ≡ self.old.setting }
-        ensures longer { OnOk result (length self.old.symbols.items ≤ length self.new.symbols.items) }
+        ensures keeps { KeepsTable result self.old self.new }
         ensures table { ReadsWalk result self.old self.new (declared is_exported (id_view id.now) (decl_view decl.entry) none) holder }
     {
         let symbol = self.declare(holder, id, decl)?;
-        self.added(holder, symbol, id.name.as_str(), is_exported)
+        self.add_to_holder(holder, symbol, id.name.as_str(), is_exported)
     }
 
     /// A name that the pattern of a declarator binds, by its number.
-    fn binding(
+    fn walk_binding(
         &mut self,
         holder: SymbolId,
         variables: Variables<'a>,
@@ -199,9 +194,7 @@ impl<'a> Builder<'a> {
     ) -> Result<(), BuildFault>
         requires filled { IsFilled self.old }
         requires holder { holder.0 < length self.old.symbols.items }
-        ensures filled { OnOk result (IsFilled self.new) }
-        ensures setting { self.new.setting ≡ self.old.setting }
-        ensures longer { OnOk result (length self.old.symbols.items ≤ length self.new.symbols.items) }
+        ensures keeps { KeepsTable result self.old self.new }
         ensures table { ReadsWalk result self.old self.new (binding_at (variables_view variables.entry) (node_view declarator.entry) n) holder }
     {
         let Some(ident) = variables.decl.node(n) else {
@@ -212,7 +205,7 @@ impl<'a> Builder<'a> {
         };
         let form = variable_form(variables, declarator, ident);
         let decl = SymbolDecl::definition(form, declarator.range());
-        self.declared(
+        self.declare_in_holder(
             holder,
             sym,
             decl,
@@ -221,7 +214,7 @@ impl<'a> Builder<'a> {
     }
 
     /// The names that the pattern of a declarator binds.
-    fn bindings(
+    fn walk_bindings(
         &mut self,
         holder: SymbolId,
         variables: Variables<'a>,
@@ -230,19 +223,17 @@ impl<'a> Builder<'a> {
     ) -> Result<(), BuildFault>
         requires filled { IsFilled self.old }
         requires holder { holder.0 < length self.old.symbols.items }
-        ensures filled { OnOk result (IsFilled self.new) }
-        ensures setting { self.new.setting ≡ self.old.setting }
-        ensures longer { OnOk result (length self.old.symbols.items ≤ length self.new.symbols.items) }
+        ensures keeps { KeepsTable result self.old self.new }
         ensures table { ReadsWalk result self.old self.new (each (binding_at (variables_view variables.entry) (node_view declarator.entry)) names.now) holder }
     {
         for n in names {
-            self.binding(holder, variables, declarator, *n)?;
+            self.walk_binding(holder, variables, declarator, *n)?;
         }
         Ok(())
     }
 
     /// A declarator, by its number.
-    fn declarator(
+    fn walk_declarator(
         &mut self,
         holder: SymbolId,
         variables: Variables<'a>,
@@ -251,9 +242,7 @@ impl<'a> Builder<'a> {
         requires well_formed { IsWellFormed variables.decl.tree.now.nodes.items }
         requires filled { IsFilled self.old }
         requires holder { holder.0 < length self.old.symbols.items }
-        ensures filled { OnOk result (IsFilled self.new) }
-        ensures setting { self.new.setting ≡ self.old.setting }
-        ensures longer { OnOk result (length self.old.symbols.items ≤ length self.new.symbols.items) }
+        ensures keeps { KeepsTable result self.old self.new }
         ensures table { ReadsWalk result self.old self.new (declarator_at (variables_view variables.entry) n) holder }
     {
         let Some(declarator) = variables.decl.node(n) else {
@@ -263,27 +252,29 @@ impl<'a> Builder<'a> {
             return Ok(());
         };
         let names = leaves(self.setting.alloc, pattern)?;
-        self.bindings(holder, variables, declarator, &names)
+        self.walk_bindings(holder, variables, declarator, &names)
     }
 
     /// A statement of variables.
-    fn variables(&mut self, holder: SymbolId, variables: Variables<'a>) -> Result<(), BuildFault>
+    fn walk_variables(
+        &mut self,
+        holder: SymbolId,
+        variables: Variables<'a>,
+    ) -> Result<(), BuildFault>
         requires well_formed { IsWellFormed variables.decl.tree.now.nodes.items }
         requires filled { IsFilled self.old }
         requires holder { holder.0 < length self.old.symbols.items }
-        ensures filled { OnOk result (IsFilled self.new) }
-        ensures setting { self.new.setting ≡ self.old.setting }
-        ensures longer { OnOk result (length self.old.symbols.items ≤ length self.new.symbols.items) }
+        ensures keeps { KeepsTable result self.old self.new }
         ensures table { ReadsWalk result self.old self.new (variables_events (variables_view variables.entry)) holder }
     {
         for n in variables.decl.decls() {
-            self.declarator(holder, variables, *n)?;
+            self.walk_declarator(holder, variables, *n)?;
         }
         Ok(())
     }
 
     /// Declares a name with the members of its node, and adds its symbol to the holder.
-    fn declared_with_members(
+    fn declare_with_members(
         &mut self,
         holder: SymbolId,
         id: &'a Id,
@@ -293,18 +284,16 @@ impl<'a> Builder<'a> {
     ) -> Result<(), BuildFault>
         requires filled { IsFilled self.old }
         requires holder { holder.0 < length self.old.symbols.items }
-        ensures filled { OnOk result (IsFilled self.new) }
-        ensures setting { self.new.setting ≡ self.old.setting }
-        ensures longer { OnOk result (length self.old.symbols.items ≤ length self.new.symbols.items) }
-        ensures table { ReadsWalk result self.old self.new (declared is_exported (id_view id.now) (decl_view decl.entry) (each (member_at node.entry.tree.now) (members_in (node_view node.entry)))) holder }
+        ensures keeps { KeepsTable result self.old self.new }
+        ensures table { ReadsWalk result self.old self.new (declared is_exported (id_view id.now) (decl_view decl.entry) (each (member_at node.entry.tree.now) (member_nodes (node_view node.entry)))) holder }
     {
         let symbol = self.declare(holder, id, decl)?;
-        self.members(symbol, node, members_in(node))?;
-        self.added(holder, symbol, id.name.as_str(), is_exported)
+        self.walk_members(symbol, node, member_nodes(node))?;
+        self.add_to_holder(holder, symbol, id.name.as_str(), is_exported)
     }
 
     /// A class, a function, an interface, an enum or an alias, with its members.
-    fn named(
+    fn walk_named(
         &mut self,
         holder: SymbolId,
         scope: Scope,
@@ -314,20 +303,18 @@ impl<'a> Builder<'a> {
     ) -> Result<(), BuildFault>
         requires filled { IsFilled self.old }
         requires holder { holder.0 < length self.old.symbols.items }
-        ensures filled { OnOk result (IsFilled self.new) }
-        ensures setting { self.new.setting ≡ self.old.setting }
-        ensures longer { OnOk result (length self.old.symbols.items ≤ length self.new.symbols.items) }
+        ensures keeps { KeepsTable result self.old self.new }
         ensures table { ReadsWalk result self.old self.new (named_events scope (option_map node_view exported.entry) (node_view node.entry) (export_decl_view form.entry)) holder }
     {
         let Some(id) = own_name(node) else {
             return Ok(());
         };
         let decl = SymbolDecl::definition(declared_as(exported, form), whole_range(exported, node));
-        self.declared_with_members(holder, id, decl, node, is_exported(scope, exported))
+        self.declare_with_members(holder, id, decl, node, is_exported(scope, exported))
     }
 
     /// A declaration that is no namespace, after the `export` if one stands before it.
-    pub(crate) fn declaration(
+    pub(crate) fn walk_declaration(
         &mut self,
         holder: SymbolId,
         scope: Scope,
@@ -337,9 +324,7 @@ impl<'a> Builder<'a> {
         requires well_formed { IsWellFormed node.tree.now.nodes.items }
         requires filled { IsFilled self.old }
         requires holder { holder.0 < length self.old.symbols.items }
-        ensures filled { OnOk result (IsFilled self.new) }
-        ensures setting { self.new.setting ≡ self.old.setting }
-        ensures longer { OnOk result (length self.old.symbols.items ≤ length self.new.symbols.items) }
+        ensures keeps { KeepsTable result self.old self.new }
         ensures table { ReadsWalk result self.old self.new (on (kind_of (node_view node.entry)) (declaration_events scope (option_map node_view exported.entry) (node_view node.entry))) holder }
     {
         let is_using = match node.kind() {
@@ -347,7 +332,7 @@ impl<'a> Builder<'a> {
             Kind::Decl(Decl::UsingDecl { .. }) => true,
             _ => {
                 return match named_form(node) {
-                    Some(form) => self.named(holder, scope, exported, node, form),
+                    Some(form) => self.walk_named(holder, scope, exported, node, form),
                     None => Ok(()),
                 };
             }
@@ -358,6 +343,6 @@ impl<'a> Builder<'a> {
             is_using,
             decl: node,
         };
-        self.variables(holder, variables)
+        self.walk_variables(holder, variables)
     }
 }

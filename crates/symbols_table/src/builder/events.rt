@@ -1,24 +1,25 @@
 //! The events of a walk, each as a step on the table.
 
-ghost use Rattle.std.specs.Prelude.{◌≡◌, ◌+◌, ◌<◌, ◌≤◌, ◌++◌, [], ◌∷◌, List, length, IfOk, OnOk, IfErr, IfSome, Some, None, if◌then◌else◌};
+ghost use Rattle.std.specs.Prelude.{◌≡◌, ◌+◌, ◌<◌, ◌++◌, [], ◌∷◌, List, length, IfOk, OnOk, IfErr, IfSome, Some, None, if◌then◌else◌};
 ghost use Rattle.std.specs.Cow.{cow_str_bytes};
-ghost use Rattle.symbols_tree.specs.Ids.{id_view};
+ghost use Rattle.symbols_syntax.specs.Ids.{id_view};
 ghost use Rattle.symbols_table.specs.DeclViews.{decl_view, is_definition};
-ghost use Rattle.symbols_table.specs.Changes.{Change, exports, has_child, maps, exported, mapped};
+ghost use Rattle.symbols_table.specs.Changes.{Change, exports, has_child, maps, exported, mapped_after};
 ghost use Rattle.symbols_table.specs.declared.builder.table.BuildFault.TheVariants.{OutOfMemory};
 ghost use Rattle.symbols_table.specs.Events.{default_text, declare_row, new_row, alias_row, default_row, member_found, member_changes, named_member_row, member_row, expando_row};
 
 use crate::builder::names::LocalName;
 use crate::builder::table::{BuildFault, Builder};
 use crate::decl::SymbolDecl;
-use symbols_tree::ids::SymbolId;
-use symbols_tree::tree::Id;
+use symbols_syntax::ids::SymbolId;
+use symbols_syntax::tree::Id;
 
 /// What a holder exports by `export default`.
 pub(crate) const DEFAULT: &str = "default";
 
 impl<'a> Builder<'a> {
     ghost use Rattle.symbols_table.specs.Tables.{IsTableOf, IsFilled, Reads, ReadsOnly};
+    ghost use Rattle.symbols_table.specs.Keeping.{KeepsTable, KeepsCount};
 
     /// A new symbol, for which the name then stands.
     fn declare_new(
@@ -29,14 +30,12 @@ impl<'a> Builder<'a> {
     ) -> Result<SymbolId, BuildFault>
         requires filled { IsFilled self.old }
         requires holder { holder.0 < length self.old.symbols.items }
-        ensures filled { OnOk result (IsFilled self.new) }
         ensures inside { IfOk result (λ s. s.0 < length self.new.symbols.items) }
-        ensures setting { self.new.setting ≡ self.old.setting }
-        ensures longer { OnOk result (length self.old.symbols.items ≤ length self.new.symbols.items) }
+        ensures keeps { KeepsTable result self.old self.new }
         ensures table { (changes : List Change) → IsTableOf self.old changes
             → Reads result (λ s. Some s) self.old.setting.limit self.new changes (new_row changes (Some holder) (decl_view decl.entry) (λ s. maps (id_view id.now) s ∷ [])) }
     {
-        let symbol = self.new_symbol(Some(holder), decl)?;
+        let symbol = self.add_symbol(Some(holder), decl)?;
         self.map_id(id, symbol)?;
         Ok(symbol)
     }
@@ -50,14 +49,12 @@ impl<'a> Builder<'a> {
     ) -> Result<SymbolId, BuildFault>
         requires filled { IsFilled self.old }
         requires holder { holder.0 < length self.old.symbols.items }
-        ensures filled { OnOk result (IsFilled self.new) }
         ensures inside { IfOk result (λ s. s.0 < length self.new.symbols.items) }
-        ensures setting { self.new.setting ≡ self.old.setting }
-        ensures longer { OnOk result (length self.old.symbols.items ≤ length self.new.symbols.items) }
+        ensures keeps { KeepsTable result self.old self.new }
         ensures table { (changes : List Change) → IsTableOf self.old changes
             → Reads result (λ s. Some s) self.old.setting.limit self.new changes (declare_row changes holder (id_view id.now) (decl_view decl.entry)) }
     {
-        if let Some(symbol) = self.mapped(id) {
+        if let Some(symbol) = self.mapped_symbol(id) {
             self.add_decl(symbol, decl)?;
             return Ok(symbol);
         }
@@ -65,7 +62,7 @@ impl<'a> Builder<'a> {
     }
 
     /// `import id = ..`: the symbol that the name stands for, with nothing added, or a new symbol.
-    pub(crate) fn alias(
+    pub(crate) fn declare_alias(
         &mut self,
         holder: SymbolId,
         id: &'a Id,
@@ -74,20 +71,18 @@ impl<'a> Builder<'a> {
         requires filled { IsFilled self.old }
         requires holder { holder.0 < length self.old.symbols.items }
         ensures inside { IfOk result (λ s. s.0 < length self.new.symbols.items) }
-        ensures filled { OnOk result (IsFilled self.new) }
-        ensures setting { self.new.setting ≡ self.old.setting }
-        ensures longer { OnOk result (length self.old.symbols.items ≤ length self.new.symbols.items) }
+        ensures keeps { KeepsTable result self.old self.new }
         ensures table { (changes : List Change) → IsTableOf self.old changes
             → Reads result (λ s. Some s) self.old.setting.limit self.new changes (alias_row changes holder (id_view id.now) (decl_view decl.entry)) }
     {
-        match self.mapped(id) {
+        match self.mapped_symbol(id) {
             Some(symbol) => Ok(symbol),
             None => self.declare_new(holder, id, decl),
         }
     }
 
     /// The symbol that a symbol exports under a name.
-    fn exported(&self, holder: SymbolId, name: &str) -> Option<SymbolId>
+    fn exported_symbol(&self, holder: SymbolId, name: &str) -> Option<SymbolId>
         requires filled { IsFilled self.now }
         requires holder { holder.0 < length self.now.symbols.items }
         ensures table { (changes : List Change) → IsTableOf self.now changes → result ≡ exported changes holder name.now }
@@ -97,7 +92,7 @@ impl<'a> Builder<'a> {
     }
 
     /// A new symbol of a default export: an export, and a child where it is a definition.
-    fn new_default(
+    fn declare_new_default(
         &mut self,
         holder: SymbolId,
         decl: SymbolDecl<'a>,
@@ -105,14 +100,12 @@ impl<'a> Builder<'a> {
         requires filled { IsFilled self.old }
         requires holder { holder.0 < length self.old.symbols.items }
         ensures inside { IfOk result (λ s. s.0 < length self.new.symbols.items) }
-        ensures filled { OnOk result (IsFilled self.new) }
-        ensures setting { self.new.setting ≡ self.old.setting }
-        ensures longer { OnOk result (length self.old.symbols.items ≤ length self.new.symbols.items) }
+        ensures keeps { KeepsTable result self.old self.new }
         ensures table { (changes : List Change) → IsTableOf self.old changes
             → Reads result (λ s. Some s) self.old.setting.limit self.new changes (new_row changes (Some holder) (decl_view decl.entry) (λ s. exports holder default_text s ∷ (if is_definition (decl_view decl.entry).kind then has_child holder s ∷ [] else []))) }
     {
         let is_definition = decl.kind.is_definition();
-        let symbol = self.new_symbol(Some(holder), decl)?;
+        let symbol = self.add_symbol(Some(holder), decl)?;
         self.add_export(holder, DEFAULT, symbol)?;
         if is_definition {
             self.add_child(holder, symbol)?;
@@ -122,7 +115,7 @@ impl<'a> Builder<'a> {
 
     /// A default export: a declaration more of the symbol that is exported as `default`, or a new
     /// symbol.
-    pub(crate) fn default_symbol(
+    pub(crate) fn declare_default(
         &mut self,
         holder: SymbolId,
         decl: SymbolDecl<'a>,
@@ -130,21 +123,19 @@ impl<'a> Builder<'a> {
         requires filled { IsFilled self.old }
         requires holder { holder.0 < length self.old.symbols.items }
         ensures inside { IfOk result (λ s. s.0 < length self.new.symbols.items) }
-        ensures filled { OnOk result (IsFilled self.new) }
-        ensures setting { self.new.setting ≡ self.old.setting }
-        ensures longer { OnOk result (length self.old.symbols.items ≤ length self.new.symbols.items) }
+        ensures keeps { KeepsTable result self.old self.new }
         ensures table { (changes : List Change) → IsTableOf self.old changes
             → Reads result (λ s. Some s) self.old.setting.limit self.new changes (default_row changes holder (decl_view decl.entry)) }
     {
-        if let Some(symbol) = self.exported(holder, DEFAULT) {
+        if let Some(symbol) = self.exported_symbol(holder, DEFAULT) {
             self.add_decl(symbol, decl)?;
             return Ok(symbol);
         }
-        self.new_default(holder, decl)
+        self.declare_new_default(holder, decl)
     }
 
     /// The symbol that a member with a name goes to.
-    fn member_place(&self, key: &LocalName<'a>, is_static: bool) -> Option<SymbolId>
+    fn member_symbol(&self, key: &LocalName<'a>, is_static: bool) -> Option<SymbolId>
         requires filled { IsFilled self.now }
         requires holder { key.now.holder.0 < length self.now.symbols.items }
         ensures table { (changes : List Change) → IsTableOf self.now changes → result ≡ member_found changes key.now.holder is_static (Some (cow_str_bytes key.now.name)) }
@@ -153,14 +144,14 @@ impl<'a> Builder<'a> {
         if !is_static {
             return self.member_names.get(key).copied();
         }
-        match self.exported(key.holder, key.name.as_str()) {
+        match self.exported_symbol(key.holder, key.name.as_str()) {
             Some(symbol) => Some(symbol),
             None => self.child_names.get(key).copied(),
         }
     }
 
-    /// What a new member with a name is of its holder.
-    fn place_named(
+    /// Adds a new member with a name: a static one as an export and a child, another as a member.
+    fn add_named_member(
         &mut self,
         key: &LocalName<'a>,
         symbol: SymbolId,
@@ -168,8 +159,7 @@ impl<'a> Builder<'a> {
     ) -> Result<(), BuildFault>
         requires holder { key.now.holder.0 < length self.old.symbols.items }
         requires symbol { symbol.0 < length self.old.symbols.items }
-        ensures setting { self.new.setting ≡ self.old.setting }
-        ensures longer { OnOk result (length self.new.symbols.items ≡ length self.old.symbols.items) }
+        ensures keeps { KeepsCount result self.old self.new }
         ensures table { OnOk result ((changes : List Change) → IsTableOf self.old changes → IsTableOf self.new (changes ++ member_changes key.now.holder is_static (Some (cow_str_bytes key.now.name)) symbol)) }
         ensures full { IfErr result (λ fault. fault ≡ OutOfMemory) }
     {
@@ -181,7 +171,7 @@ impl<'a> Builder<'a> {
     }
 
     /// A new symbol of a member with a name.
-    fn new_member(
+    fn declare_new_member(
         &mut self,
         key: &LocalName<'a>,
         decl: SymbolDecl<'a>,
@@ -190,19 +180,17 @@ impl<'a> Builder<'a> {
         requires filled { IsFilled self.old }
         requires holder { key.now.holder.0 < length self.old.symbols.items }
         ensures inside { IfOk result (λ s. s.0 < length self.new.symbols.items) }
-        ensures filled { OnOk result (IsFilled self.new) }
-        ensures setting { self.new.setting ≡ self.old.setting }
-        ensures longer { OnOk result (length self.old.symbols.items ≤ length self.new.symbols.items) }
+        ensures keeps { KeepsTable result self.old self.new }
         ensures table { (changes : List Change) → IsTableOf self.old changes
             → Reads result (λ s. Some s) self.old.setting.limit self.new changes (new_row changes (Some key.now.holder) (decl_view decl.entry) (member_changes key.now.holder is_static (Some (cow_str_bytes key.now.name)))) }
     {
-        let symbol = self.new_symbol(Some(key.holder), decl)?;
-        self.place_named(key, symbol, is_static)?;
+        let symbol = self.add_symbol(Some(key.holder), decl)?;
+        self.add_named_member(key, symbol, is_static)?;
         Ok(symbol)
     }
 
     /// A member with a name.
-    fn named_member(
+    fn declare_named_member(
         &mut self,
         key: &LocalName<'a>,
         decl: SymbolDecl<'a>,
@@ -211,21 +199,19 @@ impl<'a> Builder<'a> {
         requires filled { IsFilled self.old }
         requires holder { key.now.holder.0 < length self.old.symbols.items }
         ensures inside { IfOk result (λ s. s.0 < length self.new.symbols.items) }
-        ensures filled { OnOk result (IsFilled self.new) }
-        ensures setting { self.new.setting ≡ self.old.setting }
-        ensures longer { OnOk result (length self.old.symbols.items ≤ length self.new.symbols.items) }
+        ensures keeps { KeepsTable result self.old self.new }
         ensures table { (changes : List Change) → IsTableOf self.old changes
             → Reads result (λ s. Some s) self.old.setting.limit self.new changes (named_member_row changes key.now.holder (decl_view decl.entry) is_static (Some (cow_str_bytes key.now.name))) }
     {
-        if let Some(symbol) = self.member_place(key, is_static) {
+        if let Some(symbol) = self.member_symbol(key, is_static) {
             self.add_decl(symbol, decl)?;
             return Ok(symbol);
         }
-        self.new_member(key, decl, is_static)
+        self.declare_new_member(key, decl, is_static)
     }
 
     /// A member without a name.
-    fn unnamed_member(
+    fn declare_unnamed_member(
         &mut self,
         holder: SymbolId,
         decl: SymbolDecl<'a>,
@@ -234,13 +220,11 @@ impl<'a> Builder<'a> {
         requires filled { IsFilled self.old }
         requires holder { holder.0 < length self.old.symbols.items }
         ensures inside { IfOk result (λ s. s.0 < length self.new.symbols.items) }
-        ensures filled { OnOk result (IsFilled self.new) }
-        ensures setting { self.new.setting ≡ self.old.setting }
-        ensures longer { OnOk result (length self.old.symbols.items ≤ length self.new.symbols.items) }
+        ensures keeps { KeepsTable result self.old self.new }
         ensures table { (changes : List Change) → IsTableOf self.old changes
             → Reads result (λ s. Some s) self.old.setting.limit self.new changes (named_member_row changes holder (decl_view decl.entry) is_static None) }
     {
-        let symbol = self.new_symbol(Some(holder), decl)?;
+        let symbol = self.add_symbol(Some(holder), decl)?;
         if is_static {
             self.add_child(holder, symbol)?;
         } else {
@@ -250,7 +234,7 @@ impl<'a> Builder<'a> {
     }
 
     /// A member: a declaration more of the symbol of its name, or a new symbol.
-    pub(crate) fn member(
+    pub(crate) fn declare_member(
         &mut self,
         holder: SymbolId,
         decl: SymbolDecl<'a>,
@@ -259,32 +243,32 @@ impl<'a> Builder<'a> {
         requires filled { IsFilled self.old }
         requires holder { holder.0 < length self.old.symbols.items }
         ensures inside { IfOk result (λ s. s.0 < length self.new.symbols.items) }
-        ensures filled { OnOk result (IsFilled self.new) }
-        ensures setting { self.new.setting ≡ self.old.setting }
-        ensures longer { OnOk result (length self.old.symbols.items ≤ length self.new.symbols.items) }
+        ensures keeps { KeepsTable result self.old self.new }
         ensures table { (changes : List Change) → IsTableOf self.old changes
             → Reads result (λ s. Some s) self.old.setting.limit self.new changes (member_row changes holder (decl_view decl.entry) is_static) }
     {
         match decl.maybe_name(self.setting.alloc)? {
-            Some(name) => self.named_member(&LocalName { holder, name }, decl, is_static),
-            None => self.unnamed_member(holder, decl, is_static),
+            Some(name) => self.declare_named_member(&LocalName { holder, name }, decl, is_static),
+            None => self.declare_unnamed_member(holder, decl, is_static),
         }
     }
 
     /// A property that is assigned to what the name stands for, where that is a function.
-    pub(crate) fn expando(&mut self, id: &Id, decl: SymbolDecl<'a>) -> Result<(), BuildFault>
+    pub(crate) fn declare_expando(
+        &mut self,
+        id: &Id,
+        decl: SymbolDecl<'a>,
+    ) -> Result<(), BuildFault>
         requires filled { IsFilled self.old }
-        ensures filled { OnOk result (IsFilled self.new) }
-        ensures setting { self.new.setting ≡ self.old.setting }
-        ensures longer { OnOk result (length self.old.symbols.items ≤ length self.new.symbols.items) }
+        ensures keeps { KeepsTable result self.old self.new }
         ensures table { (changes : List Change) → IsTableOf self.old changes
-            → ReadsOnly result self.old.setting.limit self.new changes (expando_row changes (mapped changes (id_view id.now)) (decl_view decl.entry)) }
+            → ReadsOnly result self.old.setting.limit self.new changes (expando_row changes (mapped_after changes (id_view id.now)) (decl_view decl.entry)) }
     {
-        let Some(symbol) = self.mapped(id) else {
+        let Some(symbol) = self.mapped_symbol(id) else {
             return Ok(());
         };
         if self.symbols[symbol.0 as usize].has_function {
-            self.member(symbol, decl, true)?;
+            self.declare_member(symbol, decl, true)?;
         }
         Ok(())
     }

@@ -1,23 +1,23 @@
 //! The items of a module and of its namespaces.
 
-ghost use Rattle.std.specs.Prelude.{◌≡◌, ℕ, suc, ◌+◌, ◌<◌, ◌≤◌, ◌||◌, List, length, OnOk, IfOk, Some};
+ghost use Rattle.std.specs.Prelude.{◌≡◌, ℕ, suc, ◌+◌, ◌<◌, ◌≤◌, ◌||◌, List, length, IfOk, Some};
 ghost use Rattle.std.specs.Option.{option_map, option_copied, option_and_then};
-ghost use Rattle.symbols_tree.specs.NodeRefs.{node_view, kind_of, child_of};
-ghost use Rattle.symbols_tree.specs.ChildFields.{id_of, body_node_of};
-ghost use Rattle.symbols_tree.specs.WellFormed.{IsWellFormed};
+ghost use Rattle.symbols_syntax.specs.NodeRefs.{node_view, kind_of, child_of};
+ghost use Rattle.symbols_syntax.specs.ChildFields.{id_of, body_node_of};
+ghost use Rattle.symbols_syntax.specs.WellFormed.{IsWellFormed};
 ghost use Rattle.symbols_table.specs.NamespaceViews.{namespace_view};
-ghost use Rattle.symbols_table.specs.Walks.{Walk, on, each, sym_in};
-ghost use Rattle.symbols_table.specs.Levels.{AreAbove, ReadsPart, part_first};
-ghost use Rattle.symbols_table.specs.Events.{Row, rows_after, symbol_at, changes_of};
-ghost use Rattle.symbols_table.specs.TreeEvents.{plain_namespace, namespace_of, declares_items, body_within, body_at, namespace_events, plain_item_events, item_within, block_within};
+ghost use Rattle.symbols_table.specs.Walks.{on, sym_in};
+ghost use Rattle.symbols_table.specs.Levels.{AreAbove, ReadsPart};
+ghost use Rattle.symbols_table.specs.Events.{Row, symbol_at, changes_of};
+ghost use Rattle.symbols_table.specs.TreeEvents.{plain_namespace, namespace_of, declares_items, part_first, body_within, body_at, namespace_events, plain_item_events, item_within, block_within};
 
 use crate::builder::declarations::{declared_as, is_exported, whole_range};
 use crate::builder::scope::Scope;
 use crate::builder::table::{BuildFault, Builder};
 use crate::decl::SymbolDecl;
 use symbols_nodes::nodes::{ExportDeclRef, SymbolNodeRef};
-use symbols_tree::ids::SymbolId;
-use symbols_tree::tree::{Decl, Id, Item, Kind, NodeId, NodeRef};
+use symbols_syntax::ids::SymbolId;
+use symbols_syntax::tree::{Decl, Id, Item, Kind, NodeId, NodeRef};
 
 /// A namespace: the `export` before it, if one stands there, and the namespace itself.
 #[derive(Clone, Copy)]
@@ -74,10 +74,11 @@ fn namespace_id<'a>(node: NodeRef<'a>) -> Option<&'a Id>
 }
 
 impl<'a> Builder<'a> {
-    ghost use Rattle.symbols_table.specs.Tables.{IsTableOf, IsFilled, ReadsAll, ReadsWalk};
+    ghost use Rattle.symbols_table.specs.Tables.{IsTableOf, IsFilled, ReadsWalk};
+    ghost use Rattle.symbols_table.specs.Keeping.{KeepsTable};
 
     /// A later part of the dotted name of a namespace.
-    fn part(
+    fn declare_part(
         &mut self,
         holder: SymbolId,
         whole: NodeRef<'a>,
@@ -87,9 +88,7 @@ impl<'a> Builder<'a> {
         requires filled { IsFilled self.old }
         requires holder { holder.0 < length self.old.symbols.items }
         ensures inside { IfOk result (λ s. s.0 < length self.new.symbols.items) }
-        ensures filled { OnOk result (IsFilled self.new) }
-        ensures setting { self.new.setting ≡ self.old.setting }
-        ensures longer { OnOk result (length self.old.symbols.items ≤ length self.new.symbols.items) }
+        ensures keeps { KeepsTable result self.old self.new }
         ensures table { (rows : List Row) (h : ℕ) → IsTableOf self.old (changes_of rows) → symbol_at rows h ≡ Some holder
             → ReadsPart result self.old.setting.limit self.new rows (part_first (node_view whole.entry) (node_view node.entry) id.now h (length rows)) }
     {
@@ -102,7 +101,7 @@ impl<'a> Builder<'a> {
 
     /// The body of a namespace: the later parts of its name, and its items in the last of them.
     #[cycle(walk)]
-    fn body(
+    fn walk_body(
         &mut self,
         holder: SymbolId,
         whole: NodeRef<'a>,
@@ -113,9 +112,7 @@ impl<'a> Builder<'a> {
         requires inside { n < length whole.tree.now.nodes.items }
         requires filled { IsFilled self.old }
         requires holder { holder.0 < length self.old.symbols.items }
-        ensures filled { OnOk result (IsFilled self.new) }
-        ensures setting { self.new.setting ≡ self.old.setting }
-        ensures longer { OnOk result (length self.old.symbols.items ≤ length self.new.symbols.items) }
+        ensures keeps { KeepsTable result self.old self.new }
         ensures table { (levels parts : ℕ) → length whole.entry.tree.now.nodes.items ≤ n + suc levels → length whole.entry.tree.now.nodes.items ≤ n + parts
             → ReadsWalk result self.old self.new (body_within (block_within whole.entry.tree.now levels) (node_view whole.entry) ambient parts n) holder }
     {
@@ -128,14 +125,14 @@ impl<'a> Builder<'a> {
                     ambient,
                     is_module: false,
                 };
-                self.items(holder, scope, node, body)
+                self.walk_items(holder, scope, node, body)
             }
             Kind::Decl(Decl::TsNamespaceDecl { body, .. }) => {
                 let Some(id) = namespace_id(node) else {
                     return Ok(());
                 };
-                let symbol = self.part(holder, whole, node, id)?;
-                self.body(symbol, whole, ambient, *body)
+                let symbol = self.declare_part(holder, whole, node, id)?;
+                self.walk_body(symbol, whole, ambient, *body)
             }
             _ => Ok(()),
         }
@@ -143,7 +140,7 @@ impl<'a> Builder<'a> {
 
     /// What is in a namespace, where it has a body.
     #[cycle(walk)]
-    fn inside(
+    fn walk_inside(
         &mut self,
         holder: SymbolId,
         whole: NodeRef<'a>,
@@ -152,21 +149,19 @@ impl<'a> Builder<'a> {
         requires well_formed { IsWellFormed whole.tree.now.nodes.items }
         requires filled { IsFilled self.old }
         requires holder { holder.0 < length self.old.symbols.items }
-        ensures filled { OnOk result (IsFilled self.new) }
-        ensures setting { self.new.setting ≡ self.old.setting }
-        ensures longer { OnOk result (length self.old.symbols.items ≤ length self.new.symbols.items) }
+        ensures keeps { KeepsTable result self.old self.new }
         ensures table { (levels : ℕ) → length whole.entry.tree.now.nodes.items ≤ whole.entry.number + suc levels
             → ReadsWalk result self.old self.new (on (child_of (node_view whole.entry) body_node_of) (body_at (block_within whole.entry.tree.now levels) (node_view whole.entry) ambient)) holder }
     {
         match whole.body_node() {
-            Some(body) => self.body(holder, whole, ambient, body.node_id()),
+            Some(body) => self.walk_body(holder, whole, ambient, body.node_id()),
             None => Ok(()),
         }
     }
 
     /// A namespace: it is declared, with its body, where it has a name.
     #[cycle(walk)]
-    fn namespace(
+    fn walk_namespace(
         &mut self,
         holder: SymbolId,
         scope: Scope,
@@ -175,9 +170,7 @@ impl<'a> Builder<'a> {
         requires well_formed { IsWellFormed namespace.decl.tree.now.nodes.items }
         requires filled { IsFilled self.old }
         requires holder { holder.0 < length self.old.symbols.items }
-        ensures filled { OnOk result (IsFilled self.new) }
-        ensures setting { self.new.setting ≡ self.old.setting }
-        ensures longer { OnOk result (length self.old.symbols.items ≤ length self.new.symbols.items) }
+        ensures keeps { KeepsTable result self.old self.new }
         ensures table { (levels : ℕ) → length namespace.entry.decl.tree.now.nodes.items ≤ namespace.entry.decl.number + suc levels
             → ReadsWalk result self.old self.new (on (kind_of (node_view namespace.entry.decl)) (namespace_events (block_within namespace.entry.decl.tree.now levels) scope (namespace_view namespace.entry))) holder }
     {
@@ -189,8 +182,8 @@ impl<'a> Builder<'a> {
         let form = declared_as(exported, ExportDeclRef::TsModule(decl));
         let definition = SymbolDecl::definition(form, whole_range(exported, decl));
         let symbol = self.declare(holder, id, definition)?;
-        self.inside(symbol, decl, inner_ambient(scope, kind))?;
-        self.added(
+        self.walk_inside(symbol, decl, inner_ambient(scope, kind))?;
+        self.add_to_holder(
             holder,
             symbol,
             id.name.as_str(),
@@ -199,7 +192,7 @@ impl<'a> Builder<'a> {
     }
 
     /// An item that is no namespace.
-    fn plain_item(
+    fn walk_plain_item(
         &mut self,
         holder: SymbolId,
         scope: Scope,
@@ -208,24 +201,22 @@ impl<'a> Builder<'a> {
         requires well_formed { IsWellFormed node.tree.now.nodes.items }
         requires filled { IsFilled self.old }
         requires holder { holder.0 < length self.old.symbols.items }
-        ensures filled { OnOk result (IsFilled self.new) }
-        ensures setting { self.new.setting ≡ self.old.setting }
-        ensures longer { OnOk result (length self.old.symbols.items ≤ length self.new.symbols.items) }
+        ensures keeps { KeepsTable result self.old self.new }
         ensures table { ReadsWalk result self.old self.new (on (kind_of (node_view node.entry)) (plain_item_events scope (node_view node.entry))) holder }
     {
         match node.kind() {
             Kind::Item(Item::ExportDecl { .. }) => match node.decl() {
-                Some(decl) => self.declaration(holder, scope, Some(node), decl),
+                Some(decl) => self.walk_declaration(holder, scope, Some(node), decl),
                 None => Ok(()),
             },
-            Kind::Item(_) => self.module_item(holder, node),
-            _ => self.declaration(holder, scope, None, node),
+            Kind::Item(_) => self.walk_module_item(holder, node),
+            _ => self.walk_declaration(holder, scope, None, node),
         }
     }
 
     /// An item, by its number.
     #[cycle(walk)]
-    fn item(
+    fn walk_item(
         &mut self,
         holder: SymbolId,
         scope: Scope,
@@ -236,23 +227,21 @@ impl<'a> Builder<'a> {
         requires inside { n < length parent.tree.now.nodes.items }
         requires filled { IsFilled self.old }
         requires holder { holder.0 < length self.old.symbols.items }
-        ensures filled { OnOk result (IsFilled self.new) }
-        ensures setting { self.new.setting ≡ self.old.setting }
-        ensures longer { OnOk result (length self.old.symbols.items ≤ length self.new.symbols.items) }
+        ensures keeps { KeepsTable result self.old self.new }
         ensures table { (levels : ℕ) → length parent.entry.tree.now.nodes.items ≤ n + levels → ReadsWalk result self.old self.new (item_within parent.entry.tree.now levels scope n) holder }
     {
         let Some(node) = parent.node(n) else {
             return Ok(());
         };
         match namespace_of(node) {
-            Some(namespace) => self.namespace(holder, scope, namespace),
-            None => self.plain_item(holder, scope, node),
+            Some(namespace) => self.walk_namespace(holder, scope, namespace),
+            None => self.walk_plain_item(holder, scope, node),
         }
     }
 
     /// The items of a body.
     #[cycle(walk)]
-    pub(crate) fn items(
+    pub(crate) fn walk_items(
         &mut self,
         holder: SymbolId,
         scope: Scope,
@@ -263,13 +252,11 @@ impl<'a> Builder<'a> {
         requires above { AreAbove parent.tree.now.nodes.items parent.number items.now }
         requires filled { IsFilled self.old }
         requires holder { holder.0 < length self.old.symbols.items }
-        ensures filled { OnOk result (IsFilled self.new) }
-        ensures setting { self.new.setting ≡ self.old.setting }
-        ensures longer { OnOk result (length self.old.symbols.items ≤ length self.new.symbols.items) }
+        ensures keeps { KeepsTable result self.old self.new }
         ensures table { (levels : ℕ) → length parent.entry.tree.now.nodes.items ≤ parent.entry.number + suc levels → ReadsWalk result self.old self.new (block_within parent.entry.tree.now levels scope items.now) holder }
     {
         for n in items {
-            self.item(holder, scope, parent, *n)?;
+            self.walk_item(holder, scope, parent, *n)?;
         }
         Ok(())
     }

@@ -1,22 +1,22 @@
 //! The members of classes and interfaces.
 
-ghost use Rattle.std.specs.Prelude.{◌≡◌, ◌<◌, ◌≤◌, length, OnOk, Some};
+ghost use Rattle.std.specs.Prelude.{◌≡◌, ◌<◌, length, Some};
 ghost use Rattle.std.specs.Option.{option_map, option_and_then};
-ghost use Rattle.symbols_tree.specs.NodeRefs.{node_view, kind_of};
+ghost use Rattle.symbols_syntax.specs.NodeRefs.{node_view, kind_of};
 ghost use Rattle.symbols_nodes.specs.NodeViews.{symbol_node_view};
 ghost use Rattle.symbols_table.specs.MemberViews.{member_view};
-ghost use Rattle.symbols_table.specs.Walks.{Walk, none, on, each};
-ghost use Rattle.symbols_table.specs.MemberEvents.{members_in, one_member, param_at, constructor_events, simple_member, member_events, member_at};
+ghost use Rattle.symbols_table.specs.Walks.{each};
+ghost use Rattle.symbols_table.specs.MemberEvents.{member_nodes, one_member, param_at, constructor_events, simple_member, member_at};
 
 use crate::builder::table::{BuildFault, Builder};
 use crate::decl::SymbolDecl;
 use symbols_nodes::nodes::SymbolNodeRef;
-use symbols_tree::ids::SymbolId;
-use symbols_tree::tree::{Decl, Kind, Member, NodeId, NodeRef};
+use symbols_syntax::ids::SymbolId;
+use symbols_syntax::tree::{Decl, Kind, Member, NodeId, NodeRef};
 
 /// The members of a class or an interface, by their numbers.
-pub(crate) fn members_in<'a>(node: NodeRef<'a>) -> &'a [NodeId]
-    ensures { result.now ≡ members_in (node_view node.entry) }
+pub(crate) fn member_nodes<'a>(node: NodeRef<'a>) -> &'a [NodeId]
+    ensures { result.now ≡ member_nodes (node_view node.entry) }
 {
     match node.kind() {
         Kind::Decl(Decl::TsInterfaceDecl { .. }) => node.body(),
@@ -34,12 +34,14 @@ pub(crate) struct SimpleMember<'a> {
     is_static: bool,
 }
 
+/// A member of this form that has no parts.
 fn simple<'a>(form: SymbolNodeRef<'a>, is_static: bool) -> Option<SimpleMember<'a>>
     ensures { option_map member_view result ≡ Some (symbol_node_view form.entry, is_static) }
 {
     Some(SimpleMember { form, is_static })
 }
 
+/// The member that a node is, where it has no parts that are members.
 fn simple_member<'a>(node: NodeRef<'a>) -> Option<SimpleMember<'a>>
     ensures { option_map member_view result ≡ option_and_then (simple_member (node_view node.entry)) (kind_of (node_view node.entry)) }
 {
@@ -76,9 +78,10 @@ fn simple_member<'a>(node: NodeRef<'a>) -> Option<SimpleMember<'a>>
 
 impl<'a> Builder<'a> {
     ghost use Rattle.symbols_table.specs.Tables.{IsFilled, ReadsWalk};
+    ghost use Rattle.symbols_table.specs.Keeping.{KeepsTable};
 
     /// One member, where its node stands.
-    fn one_member(
+    fn define_member(
         &mut self,
         holder: SymbolId,
         form: SymbolNodeRef<'a>,
@@ -87,18 +90,16 @@ impl<'a> Builder<'a> {
     ) -> Result<(), BuildFault>
         requires filled { IsFilled self.old }
         requires holder { holder.0 < length self.old.symbols.items }
-        ensures filled { OnOk result (IsFilled self.new) }
-        ensures setting { self.new.setting ≡ self.old.setting }
-        ensures longer { OnOk result (length self.old.symbols.items ≤ length self.new.symbols.items) }
+        ensures keeps { KeepsTable result self.old self.new }
         ensures table { ReadsWalk result self.old self.new (one_member (symbol_node_view form.entry) (node_view node.entry) is_static) holder }
     {
         let decl = SymbolDecl::definition(form, node.range());
-        self.member(holder, decl, is_static)?;
+        self.declare_member(holder, decl, is_static)?;
         Ok(())
     }
 
     /// A parameter of a constructor, by its number: it may be a property too.
-    fn param(
+    fn walk_param(
         &mut self,
         holder: SymbolId,
         constructor: NodeRef<'a>,
@@ -106,9 +107,7 @@ impl<'a> Builder<'a> {
     ) -> Result<(), BuildFault>
         requires filled { IsFilled self.old }
         requires holder { holder.0 < length self.old.symbols.items }
-        ensures filled { OnOk result (IsFilled self.new) }
-        ensures setting { self.new.setting ≡ self.old.setting }
-        ensures longer { OnOk result (length self.old.symbols.items ≤ length self.new.symbols.items) }
+        ensures keeps { KeepsTable result self.old self.new }
         ensures table { ReadsWalk result self.old self.new (param_at constructor.entry.tree.now n) holder }
     {
         let Some(param) = constructor.node(n) else {
@@ -116,14 +115,14 @@ impl<'a> Builder<'a> {
         };
         match param.kind() {
             Kind::Member(Member::TsParamProp { .. }) => {
-                self.one_member(holder, SymbolNodeRef::ClassParamProp(param), param, false)
+                self.define_member(holder, SymbolNodeRef::ClassParamProp(param), param, false)
             }
             _ => Ok(()),
         }
     }
 
     /// The parameters of a constructor.
-    fn params(
+    fn walk_params(
         &mut self,
         holder: SymbolId,
         node: NodeRef<'a>,
@@ -131,19 +130,17 @@ impl<'a> Builder<'a> {
     ) -> Result<(), BuildFault>
         requires filled { IsFilled self.old }
         requires holder { holder.0 < length self.old.symbols.items }
-        ensures filled { OnOk result (IsFilled self.new) }
-        ensures setting { self.new.setting ≡ self.old.setting }
-        ensures longer { OnOk result (length self.old.symbols.items ≤ length self.new.symbols.items) }
+        ensures keeps { KeepsTable result self.old self.new }
         ensures table { ReadsWalk result self.old self.new (each (param_at node.entry.tree.now) params.now) holder }
     {
         for n in params {
-            self.param(holder, node, *n)?;
+            self.walk_param(holder, node, *n)?;
         }
         Ok(())
     }
 
     /// A constructor, and then its parameters.
-    fn constructor(
+    fn walk_constructor(
         &mut self,
         holder: SymbolId,
         node: NodeRef<'a>,
@@ -151,18 +148,16 @@ impl<'a> Builder<'a> {
     ) -> Result<(), BuildFault>
         requires filled { IsFilled self.old }
         requires holder { holder.0 < length self.old.symbols.items }
-        ensures filled { OnOk result (IsFilled self.new) }
-        ensures setting { self.new.setting ≡ self.old.setting }
-        ensures longer { OnOk result (length self.old.symbols.items ≤ length self.new.symbols.items) }
+        ensures keeps { KeepsTable result self.old self.new }
         ensures table { ReadsWalk result self.old self.new (constructor_events (node_view node.entry) params.now) holder }
     {
         let decl = SymbolDecl::definition(SymbolNodeRef::Constructor(node), node.range());
-        self.member(holder, decl, true)?;
-        self.params(holder, node, params)
+        self.declare_member(holder, decl, true)?;
+        self.walk_params(holder, node, params)
     }
 
     /// A member of a class or an interface, by its number.
-    fn member_at(
+    fn walk_member(
         &mut self,
         holder: SymbolId,
         parent: NodeRef<'a>,
@@ -170,25 +165,23 @@ impl<'a> Builder<'a> {
     ) -> Result<(), BuildFault>
         requires filled { IsFilled self.old }
         requires holder { holder.0 < length self.old.symbols.items }
-        ensures filled { OnOk result (IsFilled self.new) }
-        ensures setting { self.new.setting ≡ self.old.setting }
-        ensures longer { OnOk result (length self.old.symbols.items ≤ length self.new.symbols.items) }
+        ensures keeps { KeepsTable result self.old self.new }
         ensures table { ReadsWalk result self.old self.new (member_at parent.entry.tree.now n) holder }
     {
         let Some(node) = parent.node(n) else {
             return Ok(());
         };
         if let Kind::Member(Member::Constructor { params, .. }) = node.kind() {
-            return self.constructor(holder, node, params);
+            return self.walk_constructor(holder, node, params);
         }
         match simple_member(node) {
-            Some(member) => self.one_member(holder, member.form, node, member.is_static),
+            Some(member) => self.define_member(holder, member.form, node, member.is_static),
             None => Ok(()),
         }
     }
 
     /// The members of a class or an interface.
-    pub(crate) fn members(
+    pub(crate) fn walk_members(
         &mut self,
         holder: SymbolId,
         parent: NodeRef<'a>,
@@ -196,13 +189,11 @@ impl<'a> Builder<'a> {
     ) -> Result<(), BuildFault>
         requires filled { IsFilled self.old }
         requires holder { holder.0 < length self.old.symbols.items }
-        ensures filled { OnOk result (IsFilled self.new) }
-        ensures setting { self.new.setting ≡ self.old.setting }
-        ensures longer { OnOk result (length self.old.symbols.items ≤ length self.new.symbols.items) }
+        ensures keeps { KeepsTable result self.old self.new }
         ensures table { ReadsWalk result self.old self.new (each (member_at parent.entry.tree.now) members.now) holder }
     {
         for n in members {
-            self.member_at(holder, parent, *n)?;
+            self.walk_member(holder, parent, *n)?;
         }
         Ok(())
     }

@@ -1,27 +1,26 @@
 //! Imports and exports.
 
-ghost use Rattle.std.specs.Prelude.{◌≡◌, ℕ, ◌<◌, ◌≤◌, List, length, OnOk, IfOk, IfErr, Some, string_bytes};
-ghost use Rattle.std.specs.Option.{option_map, option_copied, option_and_then, option_map_or};
-ghost use Rattle.symbols_tree.specs.Ids.{id_view};
-ghost use Rattle.symbols_tree.specs.NodeRefs.{node_view, kind_of};
-ghost use Rattle.symbols_tree.specs.WellFormed.{IsWellFormed};
+ghost use Rattle.std.specs.Prelude.{◌≡◌, ℕ, ◌<◌, List, length, OnOk, IfOk, IfErr, Some, string_bytes};
+ghost use Rattle.std.specs.Option.{option_map, option_copied, option_and_then};
+ghost use Rattle.symbols_syntax.specs.NodeRefs.{node_view, kind_of};
+ghost use Rattle.symbols_syntax.specs.WellFormed.{IsWellFormed};
 ghost use Rattle.symbols_table.specs.DeclViews.{decl_view, decl_kind_view, dep_name_view, file_ref};
-ghost use Rattle.symbols_table.specs.Walks.{Walk, none, on, each};
+ghost use Rattle.symbols_table.specs.Walks.{on, each};
 ghost use Rattle.symbols_table.specs.Events.{Row, changes_of, symbol_at, rows_after};
 ghost use Rattle.symbols_table.specs.DeclarationEvents.{own_name};
 ghost use Rattle.symbols_table.specs.declared.builder.table.BuildFault.TheVariants.{OutOfMemory};
-ghost use Rattle.symbols_table.specs.ModuleEvents.{import_name, import_events, import_at, named_export, orig_name, orig_kind, specifier_at, export_events, export_at, binds_if, default_decl_events, default_at, default_expr, assignment_events, alias_kind, import_equals_events, expando_events, module_events};
+ghost use Rattle.symbols_table.specs.ModuleEvents.{import_name, import_at, named_export, orig_name, orig_kind, specifier_at, export_at, binds_if, default_decl_events, default_at, default_expr, assignment_events, alias_kind, import_equals_events, expando_events, module_events};
 
 use crate::builder::declarations::own_name;
 use crate::builder::events::DEFAULT;
-use crate::builder::members::members_in;
+use crate::builder::members::member_nodes;
 use crate::builder::patterns::entity_name;
 use crate::builder::table::{BuildFault, Builder};
 use crate::decl::{FileDep, FileDepName, SymbolDecl, SymbolDeclKind};
 use std::alloc::{AllocError, Global};
 use symbols_nodes::nodes::{ExpandoPropertyRef, SymbolNodeRef};
-use symbols_tree::ids::SymbolId;
-use symbols_tree::tree::{Expr, Id, Item, Kind, NodeId, NodeRef};
+use symbols_syntax::ids::SymbolId;
+use symbols_syntax::tree::{Expr, Id, Item, Kind, NodeId, NodeRef};
 
 /// What an import takes of the other module under a local name.
 fn import_name<'a>(node: NodeRef<'a>, local: &'a Id) -> Option<FileDepName<'a>>
@@ -110,9 +109,10 @@ fn alias_kind<'a>(
 
 impl<'a> Builder<'a> {
     ghost use Rattle.symbols_table.specs.Tables.{IsTableOf, IsFilled, ReadsWalk};
+    ghost use Rattle.symbols_table.specs.Keeping.{KeepsTable};
 
     /// One name of an import, by its number.
-    fn import_specifier(
+    fn walk_import_specifier(
         &mut self,
         holder: SymbolId,
         src: &'a str,
@@ -121,9 +121,7 @@ impl<'a> Builder<'a> {
     ) -> Result<(), BuildFault>
         requires filled { IsFilled self.old }
         requires holder { holder.0 < length self.old.symbols.items }
-        ensures filled { OnOk result (IsFilled self.new) }
-        ensures setting { self.new.setting ≡ self.old.setting }
-        ensures longer { OnOk result (length self.old.symbols.items ≤ length self.new.symbols.items) }
+        ensures keeps { KeepsTable result self.old self.new }
         ensures table { ReadsWalk result self.old self.new (import_at src.now import.entry.tree.now n) holder }
     {
         let Some(node) = import.node(n) else {
@@ -147,7 +145,7 @@ impl<'a> Builder<'a> {
     }
 
     /// The names of an import.
-    fn import(
+    fn walk_import(
         &mut self,
         holder: SymbolId,
         node: NodeRef<'a>,
@@ -156,19 +154,17 @@ impl<'a> Builder<'a> {
     ) -> Result<(), BuildFault>
         requires filled { IsFilled self.old }
         requires holder { holder.0 < length self.old.symbols.items }
-        ensures filled { OnOk result (IsFilled self.new) }
-        ensures setting { self.new.setting ≡ self.old.setting }
-        ensures longer { OnOk result (length self.old.symbols.items ≤ length self.new.symbols.items) }
+        ensures keeps { KeepsTable result self.old self.new }
         ensures table { ReadsWalk result self.old self.new (each (import_at src.now node.entry.tree.now) specifiers.now) holder }
     {
         for n in specifiers {
-            self.import_specifier(holder, src, node, *n)?;
+            self.walk_import_specifier(holder, src, node, *n)?;
         }
         Ok(())
     }
 
     /// A new symbol under an exported name.
-    fn named_export(
+    fn export_new(
         &mut self,
         holder: SymbolId,
         name: &str,
@@ -176,18 +172,16 @@ impl<'a> Builder<'a> {
     ) -> Result<(), BuildFault>
         requires filled { IsFilled self.old }
         requires holder { holder.0 < length self.old.symbols.items }
-        ensures filled { OnOk result (IsFilled self.new) }
-        ensures setting { self.new.setting ≡ self.old.setting }
-        ensures longer { OnOk result (length self.old.symbols.items ≤ length self.new.symbols.items) }
+        ensures keeps { KeepsTable result self.old self.new }
         ensures table { ReadsWalk result self.old self.new (named_export name.now (decl_view decl.entry)) holder }
     {
-        let symbol = self.new_symbol(Some(holder), decl)?;
+        let symbol = self.add_symbol(Some(holder), decl)?;
         self.add_export(holder, name, symbol)?;
         Ok(())
     }
 
     /// `orig as exported`.
-    fn export_specifier(
+    fn walk_export_specifier(
         &mut self,
         holder: SymbolId,
         src: Option<&'a str>,
@@ -196,9 +190,7 @@ impl<'a> Builder<'a> {
     ) -> Result<(), BuildFault>
         requires filled { IsFilled self.old }
         requires holder { holder.0 < length self.old.symbols.items }
-        ensures filled { OnOk result (IsFilled self.new) }
-        ensures setting { self.new.setting ≡ self.old.setting }
-        ensures longer { OnOk result (length self.old.symbols.items ≤ length self.new.symbols.items) }
+        ensures keeps { KeepsTable result self.old self.new }
         ensures table { ReadsWalk result self.old self.new (specifier_at (option_copied src.entry) (node_view node.entry) (option_map string_bytes exported.now)) holder }
     {
         let Some(orig) = node.orig() else {
@@ -214,11 +206,11 @@ impl<'a> Builder<'a> {
             Some(exported) => exported.as_str(),
             None => name,
         };
-        self.named_export(holder, exported, SymbolDecl::new(kind, node.range()))
+        self.export_new(holder, exported, SymbolDecl::new(kind, node.range()))
     }
 
     /// One name of an export, by its number.
-    fn export_at(
+    fn walk_export_name(
         &mut self,
         holder: SymbolId,
         src: Option<&'a str>,
@@ -227,9 +219,7 @@ impl<'a> Builder<'a> {
     ) -> Result<(), BuildFault>
         requires filled { IsFilled self.old }
         requires holder { holder.0 < length self.old.symbols.items }
-        ensures filled { OnOk result (IsFilled self.new) }
-        ensures setting { self.new.setting ≡ self.old.setting }
-        ensures longer { OnOk result (length self.old.symbols.items ≤ length self.new.symbols.items) }
+        ensures keeps { KeepsTable result self.old self.new }
         ensures table { ReadsWalk result self.old self.new (export_at (option_copied src.entry) export.entry.tree.now n) holder }
     {
         let Some(node) = export.node(n) else {
@@ -237,12 +227,12 @@ impl<'a> Builder<'a> {
         };
         match node.kind() {
             Kind::Item(Item::ExportSpecifier { exported, .. }) => {
-                self.export_specifier(holder, src, node, exported)
+                self.walk_export_specifier(holder, src, node, exported)
             }
             Kind::Item(Item::ExportNamespace { name }) => match src {
                 Some(src) => {
                     let decl = SymbolDecl::new(file_ref(FileDepName::Star, src), node.range());
-                    self.named_export(holder, name.as_str(), decl)
+                    self.export_new(holder, name.as_str(), decl)
                 }
                 None => Ok(()),
             },
@@ -251,7 +241,7 @@ impl<'a> Builder<'a> {
     }
 
     /// The names of an export.
-    fn export_named(
+    fn walk_export_named(
         &mut self,
         holder: SymbolId,
         node: NodeRef<'a>,
@@ -260,13 +250,11 @@ impl<'a> Builder<'a> {
     ) -> Result<(), BuildFault>
         requires filled { IsFilled self.old }
         requires holder { holder.0 < length self.old.symbols.items }
-        ensures filled { OnOk result (IsFilled self.new) }
-        ensures setting { self.new.setting ≡ self.old.setting }
-        ensures longer { OnOk result (length self.old.symbols.items ≤ length self.new.symbols.items) }
+        ensures keeps { KeepsTable result self.old self.new }
         ensures table { ReadsWalk result self.old self.new (each (export_at (option_copied src.entry) node.entry.tree.now) specifiers.now) holder }
     {
         for n in specifiers {
-            self.export_at(holder, src, node, *n)?;
+            self.walk_export_name(holder, src, node, *n)?;
         }
         Ok(())
     }
@@ -275,9 +263,7 @@ impl<'a> Builder<'a> {
     fn bind_name(&mut self, decl: NodeRef<'a>, symbol: SymbolId) -> Result<(), BuildFault>
         requires filled { IsFilled self.old }
         requires symbol { symbol.0 < length self.old.symbols.items }
-        ensures filled { OnOk result (IsFilled self.new) }
-        ensures setting { self.new.setting ≡ self.old.setting }
-        ensures longer { OnOk result (length self.old.symbols.items ≤ length self.new.symbols.items) }
+        ensures keeps { KeepsTable result self.old self.new }
         ensures table { OnOk result ((rows : List Row) (s : ℕ) → IsTableOf self.old (changes_of rows) → symbol_at rows s ≡ Some symbol
             → IsTableOf self.new (changes_of (rows_after rows (binds_if (own_name (node_view decl.entry)) s)))) }
         ensures full { IfErr result (λ fault. fault ≡ OutOfMemory) }
@@ -289,7 +275,7 @@ impl<'a> Builder<'a> {
     }
 
     /// `export default` before a class, a function or an interface.
-    fn export_default_decl(
+    fn walk_export_default_decl(
         &mut self,
         holder: SymbolId,
         node: NodeRef<'a>,
@@ -297,53 +283,51 @@ impl<'a> Builder<'a> {
     ) -> Result<(), BuildFault>
         requires filled { IsFilled self.old }
         requires holder { holder.0 < length self.old.symbols.items }
-        ensures filled { OnOk result (IsFilled self.new) }
-        ensures setting { self.new.setting ≡ self.old.setting }
-        ensures longer { OnOk result (length self.old.symbols.items ≤ length self.new.symbols.items) }
+        ensures keeps { KeepsTable result self.old self.new }
         ensures table { ReadsWalk result self.old self.new (default_decl_events (node_view node.entry) (node_view decl.entry)) holder }
     {
         let definition = SymbolDecl::definition(
             SymbolNodeRef::ExportDefaultDecl(node),
             node.range(),
         );
-        let symbol = self.default_symbol(holder, definition)?;
+        let symbol = self.declare_default(holder, definition)?;
         self.bind_name(decl, symbol)?;
-        self.members(symbol, decl, members_in(decl))
+        self.walk_members(symbol, decl, member_nodes(decl))
     }
 
     /// A default export with nothing under it.
-    fn default_at(&mut self, holder: SymbolId, decl: SymbolDecl<'a>) -> Result<(), BuildFault>
+    fn walk_default(&mut self, holder: SymbolId, decl: SymbolDecl<'a>) -> Result<(), BuildFault>
         requires filled { IsFilled self.old }
         requires holder { holder.0 < length self.old.symbols.items }
-        ensures filled { OnOk result (IsFilled self.new) }
-        ensures setting { self.new.setting ≡ self.old.setting }
-        ensures longer { OnOk result (length self.old.symbols.items ≤ length self.new.symbols.items) }
+        ensures keeps { KeepsTable result self.old self.new }
         ensures table { ReadsWalk result self.old self.new (default_at (decl_view decl.entry)) holder }
     {
-        self.default_symbol(holder, decl)?;
+        self.declare_default(holder, decl)?;
         Ok(())
     }
 
     /// `export = expr`: of a name alone.
-    fn export_assignment(&mut self, holder: SymbolId, expr: NodeRef<'a>) -> Result<(), BuildFault>
+    fn walk_export_assignment(
+        &mut self,
+        holder: SymbolId,
+        expr: NodeRef<'a>,
+    ) -> Result<(), BuildFault>
         requires filled { IsFilled self.old }
         requires holder { holder.0 < length self.old.symbols.items }
-        ensures filled { OnOk result (IsFilled self.new) }
-        ensures setting { self.new.setting ≡ self.old.setting }
-        ensures longer { OnOk result (length self.old.symbols.items ≤ length self.new.symbols.items) }
+        ensures keeps { KeepsTable result self.old self.new }
         ensures table { ReadsWalk result self.old self.new (on (kind_of (node_view expr.entry)) (assignment_events (node_view expr.entry))) holder }
     {
         match expr.kind() {
             Kind::Expr(Expr::Ident { sym }) => {
                 let decl = SymbolDecl::new(SymbolDeclKind::Target(sym), expr.range());
-                self.default_at(holder, decl)
+                self.walk_default(holder, decl)
             }
             _ => Ok(()),
         }
     }
 
     /// `import id = ..`.
-    fn import_equals(
+    fn walk_import_equals(
         &mut self,
         holder: SymbolId,
         node: NodeRef<'a>,
@@ -354,9 +338,7 @@ impl<'a> Builder<'a> {
         requires well_formed { IsWellFormed node.tree.now.nodes.items }
         requires filled { IsFilled self.old }
         requires holder { holder.0 < length self.old.symbols.items }
-        ensures filled { OnOk result (IsFilled self.new) }
-        ensures setting { self.new.setting ≡ self.old.setting }
-        ensures longer { OnOk result (length self.old.symbols.items ≤ length self.new.symbols.items) }
+        ensures keeps { KeepsTable result self.old self.new }
         ensures table { ReadsWalk result self.old self.new (import_equals_events (node_view node.entry) is_export entity external.now) holder }
     {
         let Some(ident) = node.id() else {
@@ -368,17 +350,15 @@ impl<'a> Builder<'a> {
         let Some(kind) = alias_kind(self.setting.alloc, node, entity, external)? else {
             return Ok(());
         };
-        let symbol = self.alias(holder, id, SymbolDecl::new(kind, node.range()))?;
+        let symbol = self.declare_alias(holder, id, SymbolDecl::new(kind, node.range()))?;
         self.export_if(holder, symbol, id.name.as_str(), is_export)
     }
 
     /// An expression as a statement: an assignment may add a property.
-    fn expression(&mut self, holder: SymbolId, expr: NodeRef<'a>) -> Result<(), BuildFault>
+    fn walk_expression(&mut self, holder: SymbolId, expr: NodeRef<'a>) -> Result<(), BuildFault>
         requires filled { IsFilled self.old }
         requires holder { holder.0 < length self.old.symbols.items }
-        ensures filled { OnOk result (IsFilled self.new) }
-        ensures setting { self.new.setting ≡ self.old.setting }
-        ensures longer { OnOk result (length self.old.symbols.items ≤ length self.new.symbols.items) }
+        ensures keeps { KeepsTable result self.old self.new }
         ensures table { ReadsWalk result self.old self.new (expando_events (node_view expr.entry)) holder }
     {
         let Some(expando) = ExpandoPropertyRef::maybe_new(expr) else {
@@ -388,11 +368,11 @@ impl<'a> Builder<'a> {
             return Ok(());
         };
         let form = SymbolNodeRef::ExpandoProperty(expando);
-        self.expando(id, SymbolDecl::definition(form, expr.range()))
+        self.declare_expando(id, SymbolDecl::definition(form, expr.range()))
     }
 
     /// An import, an export or a statement that declares nothing by itself.
-    pub(crate) fn module_item(
+    pub(crate) fn walk_module_item(
         &mut self,
         holder: SymbolId,
         node: NodeRef<'a>,
@@ -400,40 +380,43 @@ impl<'a> Builder<'a> {
         requires well_formed { IsWellFormed node.tree.now.nodes.items }
         requires filled { IsFilled self.old }
         requires holder { holder.0 < length self.old.symbols.items }
-        ensures filled { OnOk result (IsFilled self.new) }
-        ensures setting { self.new.setting ≡ self.old.setting }
-        ensures longer { OnOk result (length self.old.symbols.items ≤ length self.new.symbols.items) }
+        ensures keeps { KeepsTable result self.old self.new }
         ensures table { ReadsWalk result self.old self.new (on (kind_of (node_view node.entry)) (module_events (node_view node.entry))) holder }
     {
         let Kind::Item(item) = node.kind() else {
             return Ok(());
         };
         match item {
-            Item::Import { specifiers, src } => self.import(holder, node, specifiers, src.as_str()),
+            Item::Import { specifiers, src } => self.walk_import(
+                holder,
+                node,
+                specifiers,
+                src.as_str(),
+            ),
             Item::ExportNamed { specifiers, src } => {
-                self.export_named(holder, node, specifiers, src.as_deref())
+                self.walk_export_named(holder, node, specifiers, src.as_deref())
             }
             Item::ExportDefaultDecl { .. } => match node.decl() {
-                Some(decl) => self.export_default_decl(holder, node, decl),
+                Some(decl) => self.walk_export_default_decl(holder, node, decl),
                 None => Ok(()),
             },
             Item::ExportDefaultExpr { .. } => match node.expr() {
-                Some(expr) => self.default_at(holder, default_expr(node, expr)),
+                Some(expr) => self.walk_default(holder, default_expr(node, expr)),
                 None => Ok(()),
             },
             Item::TsExportAssignment { .. } => match node.expr() {
-                Some(expr) => self.export_assignment(holder, expr),
+                Some(expr) => self.walk_export_assignment(holder, expr),
                 None => Ok(()),
             },
-            Item::ExportAll { .. } => self.add_star(node.node_id()),
+            Item::ExportAll { src } => self.add_star(node.node_id(), src.as_str()),
             Item::TsImportEqualsDecl {
                 is_export,
                 entity,
                 external,
                 ..
-            } => self.import_equals(holder, node, *entity, external, *is_export),
+            } => self.walk_import_equals(holder, node, *entity, external, *is_export),
             Item::ExprStmt { .. } => match node.expr() {
-                Some(expr) => self.expression(holder, expr),
+                Some(expr) => self.walk_expression(holder, expr),
                 None => Ok(()),
             },
             _ => Ok(()),

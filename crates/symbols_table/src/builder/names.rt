@@ -1,7 +1,7 @@
 //! Names of symbols in a holder.
 
 use std::borrow::CowStr;
-use symbols_tree::ids::SymbolId;
+use symbols_syntax::ids::SymbolId;
 
 /// A local name of a child or a member, with its holder.
 #[derive(Drop, PartialEq, Eq, Hash)]

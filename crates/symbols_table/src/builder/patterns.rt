@@ -2,14 +2,13 @@
 
 ghost use Rattle.std.specs.Prelude.{◌≡◌, ℕ, ◌+◌, ◌≤◌, ◌++◌, length, IfOk, OnOk};
 ghost use Rattle.std.specs.Option.{option_map};
-ghost use Rattle.symbols_tree.specs.NodeRefs.{node_view};
-ghost use Rattle.symbols_tree.specs.WellFormed.{IsWellFormed};
-ghost use Rattle.symbols_table.specs.Patterns.{is_binding, pattern_parts, leaves_within, leaves_of, entity_within, entity_at};
+ghost use Rattle.symbols_syntax.specs.WellFormed.{IsWellFormed};
+ghost use Rattle.symbols_table.specs.Patterns.{is_binding, pattern_parts, leaves_within, leaves_of, entity_within};
 ghost use Rattle.symbols_table.specs.EntityViews.{entity_view};
 
 use std::alloc::{AllocError, Global};
 use std::slice;
-use symbols_tree::tree::{Expr, Id, Kind, NodeId, NodeRef, Pat, Ty};
+use symbols_syntax::tree::{Expr, Id, Kind, NodeId, NodeRef, Pat, Ty};
 
 /// Whether a pattern is a name.
 fn is_binding(kind: &Kind) -> bool

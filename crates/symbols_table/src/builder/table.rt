@@ -1,23 +1,26 @@
 //! A table that is being filled, and the steps that fill it.
 
-ghost use Rattle.std.specs.Prelude.{◌≡◌, ◌+◌, ◌<◌, ◌≤◌, ◌++◌, [], ◌∷◌, List, length, IfOk, OnOk, IfErr, IfSome, Some, None, string_bytes, slice_get};
-ghost use Rattle.symbols_tree.specs.Ids.{id_view};
+ghost use Rattle.std.specs.Prelude.{◌≡◌, ◌+◌, ◌<◌, ◌≤◌, ◌++◌, [], ◌∷◌, List, length, IfOk, OnOk, IfErr, IfSome, Some, None};
+ghost use Rattle.symbols_syntax.specs.Ids.{id_view};
 ghost use Rattle.std.specs.Option.{option_map, option_or};
 ghost use Rattle.std.specs.Cow.{cow_str_bytes};
 ghost use Rattle.symbols_table.specs.DeclViews.{decl_view};
-ghost use Rattle.symbols_table.specs.Changes.{Change, only_if, makes, declares, exports, has_child, has_member, maps, passes_on, mapped};
-ghost use Rattle.symbols_table.specs.Tables.{name_in, symbol_named, is_same_name};
+ghost use Rattle.symbols_table.specs.Laws.{IsParentOf};
+ghost use Rattle.symbols_table.specs.Changes.{Change, only_if, makes, declares, exports, has_child, has_member, maps, passes_on, mapped_after};
+ghost use Rattle.symbols_table.specs.Tables.{name_in, symbol_named};
+ghost use Rattle.symbols_table.specs.LocalNames.{is_entry_of};
 ghost use Rattle.symbols_table.specs.declared.builder.names.LocalName.{LocalName};
 ghost use Rattle.symbols_table.specs.declared.builder.table.BuildFault.TheVariants.{OutOfMemory, TooManySymbols};
 
 use crate::builder::names::LocalName;
 use crate::decl::{Symbol, SymbolDecl};
+use crate::info::star::StarStatement;
 use indexmap::{IndexMap, IndexSet};
 use std::alloc::{AllocError, AllocFailed, Global};
 use std::borrow::CowStr;
 use std::collections::HashMap;
-use symbols_tree::ids::{ModuleId, SymbolId};
-use symbols_tree::tree::{Id, NodeId};
+use symbols_syntax::ids::{ModuleId, SymbolId};
+use symbols_syntax::tree::{Id, NodeId};
 
 /// Why no table is given.
 #[derive(Clone, Copy, Debug, PartialEq, Eq)]
@@ -59,7 +62,7 @@ pub(crate) struct Builder<'a> {
     pub(crate) ids: IndexMap<&'a Id, SymbolId>,
     pub(crate) child_names: HashMap<LocalName<'a>, SymbolId>,
     pub(crate) member_names: HashMap<LocalName<'a>, SymbolId>,
-    pub(crate) stars: Vec<NodeId>,
+    pub(crate) stars: Vec<StarStatement<'a>>,
 }
 
 /// The declarations of a symbol that has one.
@@ -72,15 +75,20 @@ fn one_decl<'a>(alloc: Global, decl: SymbolDecl<'a>) -> Result<Vec<SymbolDecl<'a
     Ok(decls)
 }
 
-/// Adds a name of a symbol, where its holder has no symbol of that name.
+/// Adds the name of a symbol, if it has one, where its holder has no symbol of that name.
 fn add_name<'a>(
     names: &mut HashMap<LocalName<'a>, SymbolId>,
-    key: LocalName<'a>,
+    holder: SymbolId,
+    name: Option<CowStr<'a>>,
     symbol: SymbolId,
 ) -> Result<(), BuildFault>
-    ensures named { OnOk result ((q : LocalName) → symbol_named names.new q ≡ option_or (symbol_named names.old q) (only_if (is_same_name key.entry q) symbol)) }
+    ensures named { OnOk result ((q : LocalName) → symbol_named names.new q ≡ option_or (symbol_named names.old q) (only_if (is_entry_of holder (option_map cow_str_bytes name.entry) q) symbol)) }
     ensures full { IfErr result (λ fault. fault ≡ OutOfMemory) }
 {
+    let Some(name) = name else {
+        return Ok(());
+    };
+    let key = LocalName { holder, name };
     if names.contains_key(&key) {
         return Ok(());
     }
@@ -91,10 +99,11 @@ fn add_name<'a>(
 }
 
 impl<'a> Builder<'a> {
-    ghost use Rattle.symbols_table.specs.Tables.{IsParentOf, IsTableOf, IsFilled};
+    ghost use Rattle.symbols_table.specs.Tables.{IsTableOf, IsFilled};
+    ghost use Rattle.symbols_table.specs.Keeping.{KeepsCount};
 
     /// Makes the next symbol, with its first declaration.
-    pub(crate) fn new_symbol(
+    pub(crate) fn add_symbol(
         &mut self,
         parent: Option<SymbolId>,
         decl: SymbolDecl<'a>,
@@ -135,8 +144,7 @@ impl<'a> Builder<'a> {
     ) -> Result<(), BuildFault>
         requires holder { holder.0 < length self.old.symbols.items }
         requires symbol { symbol.0 < length self.old.symbols.items }
-        ensures setting { self.new.setting ≡ self.old.setting }
-        ensures longer { OnOk result (length self.new.symbols.items ≡ length self.old.symbols.items) }
+        ensures keeps { KeepsCount result self.old self.new }
         ensures table { OnOk result ((changes : List Change) → IsTableOf self.old changes → IsTableOf self.new (changes ++ exports holder name.now symbol ∷ [])) }
         ensures full { IfErr result (λ fault. fault ≡ OutOfMemory) }
     {
@@ -153,15 +161,15 @@ impl<'a> Builder<'a> {
         decl: SymbolDecl<'a>,
     ) -> Result<(), BuildFault>
         requires { symbol.0 < length self.old.symbols.items }
-        ensures setting { self.new.setting ≡ self.old.setting }
-        ensures longer { OnOk result (length self.new.symbols.items ≡ length self.old.symbols.items) }
+        ensures keeps { KeepsCount result self.old self.new }
         ensures table { OnOk result ((changes : List Change) → IsTableOf self.old changes → IsTableOf self.new (changes ++ declares symbol (decl_view decl.entry) ∷ [])) }
         ensures full { IfErr result (λ fault. fault ≡ OutOfMemory) }
     {
         let held = &mut self.symbols[symbol.0 as usize];
         let has_overloads = decl.is_overload_after(&held.decls);
-        held.has_function = held.has_function | decl.is_function();
+        let is_function = decl.is_function();
         held.decls.push(decl.with_overloads(has_overloads))?;
+        held.has_function = held.has_function | is_function;
         Ok(())
     }
 
@@ -180,21 +188,14 @@ impl<'a> Builder<'a> {
     pub(crate) fn add_child(&mut self, holder: SymbolId, symbol: SymbolId) -> Result<(), BuildFault>
         requires holder { holder.0 < length self.old.symbols.items }
         requires symbol { symbol.0 < length self.old.symbols.items }
-        ensures setting { self.new.setting ≡ self.old.setting }
-        ensures longer { OnOk result (length self.new.symbols.items ≡ length self.old.symbols.items) }
+        ensures keeps { KeepsCount result self.old self.new }
         ensures table { OnOk result ((changes : List Change) → IsTableOf self.old changes → IsTableOf self.new (changes ++ has_child holder symbol ∷ [])) }
         ensures full { IfErr result (λ fault. fault ≡ OutOfMemory) }
     {
         let name = self.local_name(symbol)?;
         let held = &mut self.symbols[holder.0 as usize];
         held.child_ids.insert(symbol)?;
-        match name {
-            Some(name) => {
-                add_name(&mut self.child_names, LocalName { holder, name }, symbol)?;
-                Ok(())
-            }
-            None => Ok(()),
-        }
+        add_name(&mut self.child_names, holder, name, symbol)
     }
 
     /// Adds a member, once.
@@ -205,39 +206,32 @@ impl<'a> Builder<'a> {
     ) -> Result<(), BuildFault>
         requires holder { holder.0 < length self.old.symbols.items }
         requires symbol { symbol.0 < length self.old.symbols.items }
-        ensures setting { self.new.setting ≡ self.old.setting }
-        ensures longer { OnOk result (length self.new.symbols.items ≡ length self.old.symbols.items) }
+        ensures keeps { KeepsCount result self.old self.new }
         ensures table { OnOk result ((changes : List Change) → IsTableOf self.old changes → IsTableOf self.new (changes ++ has_member holder symbol ∷ [])) }
         ensures full { IfErr result (λ fault. fault ≡ OutOfMemory) }
     {
         let name = self.local_name(symbol)?;
         let held = &mut self.symbols[holder.0 as usize];
         held.members.insert(symbol)?;
-        match name {
-            Some(name) => {
-                add_name(&mut self.member_names, LocalName { holder, name }, symbol)?;
-                Ok(())
-            }
-            None => Ok(()),
-        }
+        add_name(&mut self.member_names, holder, name, symbol)
     }
 
     /// Adds a statement `export *`.
-    pub(crate) fn add_star(&mut self, node: NodeId) -> Result<(), BuildFault>
-        ensures setting { self.new.setting ≡ self.old.setting }
-        ensures longer { OnOk result (length self.new.symbols.items ≡ length self.old.symbols.items) }
-        ensures table { OnOk result ((changes : List Change) → IsTableOf self.old changes → IsTableOf self.new (changes ++ passes_on node ∷ [])) }
+    pub(crate) fn add_star(&mut self, node_id: NodeId, src: &'a str) -> Result<(), BuildFault>
+        ensures keeps { KeepsCount result self.old self.new }
+        ensures table { OnOk result ((changes : List Change) → IsTableOf self.old changes → IsTableOf self.new (changes ++ passes_on (record { number = node_id; text = src.now }) ∷ [])) }
         ensures full { IfErr result (λ fault. fault ≡ OutOfMemory) }
     {
-        self.stars.push(node)?;
-        Ok(())
+        match self.stars.push(StarStatement { node_id, src }) {
+            Ok(()) => Ok(()),
+            Err(_) => Err(BuildFault::OutOfMemory),
+        }
     }
 
-    /// Maps a name, also where it is mapped.
+    /// Maps a name, also one that is mapped already.
     pub(crate) fn map_id(&mut self, id: &'a Id, symbol: SymbolId) -> Result<(), BuildFault>
         requires { symbol.0 < length self.old.symbols.items }
-        ensures setting { self.new.setting ≡ self.old.setting }
-        ensures longer { OnOk result (length self.new.symbols.items ≡ length self.old.symbols.items) }
+        ensures keeps { KeepsCount result self.old self.new }
         ensures table { OnOk result ((changes : List Change) → IsTableOf self.old changes → IsTableOf self.new (changes ++ maps (id_view id.now) symbol ∷ [])) }
         ensures full { IfErr result (λ fault. fault ≡ OutOfMemory) }
     {
@@ -248,9 +242,9 @@ impl<'a> Builder<'a> {
     }
 
     /// The symbol that a name stands for.
-    pub(crate) fn mapped(&self, id: &Id) -> Option<SymbolId>
+    pub(crate) fn mapped_symbol(&self, id: &Id) -> Option<SymbolId>
         requires { IsFilled self.now }
-        ensures table { (changes : List Change) → IsTableOf self.now changes → result ≡ mapped changes (id_view id.now) }
+        ensures table { (changes : List Change) → IsTableOf self.now changes → result ≡ mapped_after changes (id_view id.now) }
         ensures inside { IfSome result (λ s. s.0 < length self.now.symbols.items) }
     {
         self.ids.get(&id).copied()

@@ -3,13 +3,15 @@
 ghost use Rattle.std.specs.Prelude.{◌≡◌, [], None, string_bytes, map};
 ghost use Rattle.std.specs.Option.{option_copied};
 ghost use Rattle.std.specs.Map.{lookup};
+ghost use Rattle.std.specs.List.{list_any};
 ghost use Rattle.std.specs.Str.{bytes_eq};
-ghost use Rattle.symbols_table.specs.DeclViews.{decl_view, exports_view};
+ghost use Rattle.symbols_nodes.specs.NodeTests.{is_function};
+ghost use Rattle.symbols_table.specs.DeclViews.{decl_view, exports_view, node_test};
 
 use crate::decl::symbol_decl::SymbolDecl;
 use indexmap::{IndexMap, IndexSet};
 use std::alloc::Global;
-use symbols_tree::ids::{ModuleId, SymbolId};
+use symbols_syntax::ids::{ModuleId, SymbolId};
 
 /// A symbol: what is declared under one name of a module, and the names that it has itself.
 #[derive(Drop)]
@@ -22,6 +24,7 @@ pub struct Symbol<'a> {
     pub(crate) child_ids: IndexSet<SymbolId>,
     pub(crate) members: IndexSet<SymbolId>,
     pub(crate) has_function: bool,
+    ghost functions: { has_function ≡ list_any (node_test is_function) (map decl_view decls.items) },
 }
 
 impl<'a> Symbol<'a> {

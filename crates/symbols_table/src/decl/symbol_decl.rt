@@ -11,7 +11,7 @@ use crate::decl::dep::FileDep;
 use std::alloc::{AllocError, Global};
 use std::borrow::CowStr;
 use symbols_nodes::nodes::{SymbolNode, SymbolNodeRef};
-use symbols_tree::tree::{Id, SourceRange};
+use symbols_syntax::tree::{Id, SourceRange};
 
 /// What a declaration is (as deno_graph).
 #[derive(Drop)]

@@ -1,14 +1,22 @@
 //! An ECMAScript or TypeScript module with its symbols.
 
-ghost use Rattle.std.specs.Prelude.{◌≡◌, ◌<◌, length, Some, slice_get};
+ghost use Rattle.std.specs.Prelude.{◌≡◌, ◌<◌, length, map, All, Some, slice_get};
 ghost use Rattle.std.specs.Option.{option_copied};
+ghost use Rattle.std.proofs.Props.{props};
+ghost use Rattle.symbols_syntax.specs.Ids.{id_view};
+ghost use Rattle.symbols_syntax.specs.WellFormed.{IsWellFormed};
+ghost use Rattle.symbols_table.specs.ModuleViews.{ids_view, star_view};
+ghost use Rattle.symbols_table.specs.Laws.{AreLawful, AreFewIn, AreNamesOf, AreDeclaredIn, IsStarOf};
 
 use crate::decl::Symbol;
+use crate::info::star::StarStatement;
 use indexmap::IndexMap;
-use symbols_tree::ids::{ModuleId, SymbolId};
-use symbols_tree::tree::{Id, NodeId, Tree};
+use symbols_syntax::ids::{ModuleId, SymbolId};
+use symbols_syntax::tree::{Id, Tree};
 
 /// An ECMAScript or TypeScript module with its symbols (as deno_graph). Symbol 0 is the module.
+/// Its laws hold of each value: parents fall, what symbols and names say are symbols of the module,
+/// and declarations and `export *` are made of nodes of its own tree.
 #[derive(Drop)]
 pub struct EsModuleInfo<'a> {
     pub(crate) module_id: ModuleId,
@@ -16,8 +24,14 @@ pub struct EsModuleInfo<'a> {
     pub(crate) source: &'a Tree,
     pub(crate) symbols: Vec<Symbol<'a>>,
     pub(crate) ids: IndexMap<&'a Id, SymbolId>,
-    pub(crate) stars: Vec<NodeId>,
-    ghost has_module: { 0 < length symbols.items },
+    pub(crate) stars: Vec<StarStatement<'a>>,
+    pub ghost well_formed: { IsWellFormed source.now.nodes.items },
+    pub ghost has_module: { 0 < length symbols.items },
+    pub ghost lawful: { AreLawful symbols.items } by { Prim.hlevel props },
+    pub ghost few: { AreFewIn source.now symbols.items },
+    pub ghost named: { AreNamesOf (length symbols.items) (ids_view ids.entries) },
+    pub ghost declared: { AreDeclaredIn source.now symbols.items },
+    pub ghost starred: { All (IsStarOf source.now) (map star_view stars.items) },
 }
 
 impl<'a> EsModuleInfo<'a> {
@@ -53,7 +67,7 @@ impl<'a> EsModuleInfo<'a> {
 
     /// The symbol that a name of the module stands for, if it stands for one (as deno_graph).
     pub fn symbol_id_from_swc(&self, id: &Id) -> Option<SymbolId>
-        ensures { result ≡ mapped_in self.now id.entry }
+        ensures { result ≡ mapped_in self.now (id_view id.now) }
     {
         self.ids.get(&id).copied()
     }

@@ -3,11 +3,11 @@
 ghost use Rattle.std.specs.Prelude.{◌≡◌, ◌++◌, [], OnOk};
 ghost use Rattle.std.specs.Option.{option_map, option_map_or};
 ghost use Rattle.std.specs.List.{flat_map};
-ghost use Rattle.symbols_tree.specs.Fields.{field_view};
-ghost use Rattle.symbols_tree.specs.Nodes.{children};
+ghost use Rattle.symbols_syntax.specs.Fields.{field_view};
+ghost use Rattle.symbols_syntax.specs.Nodes.{children};
 
-use crate::tree::{Children, Field, Node, NodeId};
 use std::alloc::AllocError;
+use symbols_syntax::tree::{Children, Field, Node, NodeId};
 
 fn push_held(field: &Field, ids: &mut Vec<NodeId>) -> Result<(), AllocError>
     ensures { OnOk result (ids.new.items ≡ ids.old.items ++ (field_view field.now).children) }

@@ -2,14 +2,15 @@
 
 ghost use Rattle.std.specs.Prelude.{IfOk, map, string_bytes};
 ghost use Rattle.std.specs.Option.{option_copied, option_map};
-ghost use Rattle.symbols_tree.specs.Graph.{module_view, redirect_view, resolution_view};
+ghost use Rattle.symbols_syntax.specs.Graph.{module_view, redirect_view, resolution_view};
 ghost use Rattle.symbols_tree.specs.GraphFaults.{asked, sources, specifiers};
-ghost use Rattle.symbols_tree.specs.Repeats.{IsFirstWhere, IsRepeat, IsRepeatBy};
+ghost use Rattle.symbols_tree.specs.Repeats.{IsRepeat};
+ghost use Rattle.symbols_tree.specs.CheckSteps.{IsFirstWhere, IsRepeatBy};
 
-use crate::check::raw::{RawModule, RawResolution};
 use std::alloc::{AllocError, Global};
 use std::collections::HashSet;
 use std::hash::Hash;
+use symbols_syntax::graph::{RawModule, RawResolution};
 
 /// The first key that stands earlier in the list too.
 fn first_repeat<K: Copy + Eq + Hash + Drop>(

@@ -2,18 +2,16 @@
 
 ghost use Rattle.std.specs.Prelude.{◌≡◌, ◌≢◌, ℕ, IfErr, IfOk, List, OnOk};
 ghost use Rattle.std.specs.Option.{option_copied};
-ghost use Rattle.symbols_tree.specs.declared.check.faults.GraphFault.TheVariants.{OutOfMemory};
-ghost use Rattle.symbols_tree.specs.Graph.{graph_view, module_of, resolution_of};
+ghost use Rattle.symbols_syntax.specs.declared.graph.faults.GraphFault.TheVariants.{OutOfMemory};
+ghost use Rattle.symbols_syntax.specs.Graph.{graph_view, module_of, resolution_of};
 ghost use Rattle.symbols_tree.specs.GraphFaults.{IsFaultlessGraph, IsFirstGraphFault};
 
-use crate::check::GraphFault;
 use crate::check::graph_check::check;
-use crate::check::module::GraphModule;
-use crate::check::raw::RawGraph;
 use crate::check::tables::{Resolutions, keyed_modules, keyed_redirects, keyed_resolutions};
 use indexmap::IndexMap;
 use std::alloc::Global;
 use std::marker::Model;
+use symbols_syntax::graph::{GraphFault, GraphModule, RawGraph};
 
 /// A graph that was checked: modules by their specifiers, redirects and resolved specifiers.
 #[derive(Drop)]
@@ -26,7 +24,7 @@ pub struct ModuleGraph {
 impl Model for ModuleGraph {
     ghost use Rattle.std.specs.String.{string_eq};
     ghost use Rattle.indexmap.specs.IndexMap.{values, IsUnique};
-    ghost use Rattle.symbols_tree.specs.Graph.{GraphView};
+    ghost use Rattle.symbols_syntax.specs.Graph.{GraphView};
     ghost use Rattle.symbols_tree.specs.Tables.{AreKeyed, rows, text_pairs};
 
     ghost Value = { GraphView };

@@ -1,16 +1,16 @@
 //! The check of a raw graph.
 
 ghost use Rattle.std.specs.Prelude.{◌≢◌, All, IfErr, IfOk, IfNone, MatchOption, OnOk, map};
-ghost use Rattle.symbols_tree.specs.declared.check.faults.GraphFault.TheVariants.{OutOfMemory};
-ghost use Rattle.symbols_tree.specs.Graph.{IsChecked, content_of, graph_view, module_view};
-ghost use Rattle.symbols_tree.specs.GraphFaults.{HasNoneOf, HasTreeFault, IsFaultlessGraph, IsFirstGraphFault, IsFirstOf};
+ghost use Rattle.symbols_syntax.specs.declared.graph.faults.GraphFault.TheVariants.{OutOfMemory};
+ghost use Rattle.symbols_syntax.specs.Graph.{IsChecked, content_of, graph_view, module_view};
+ghost use Rattle.symbols_tree.specs.GraphFaults.{HasTreeFault, IsFaultlessGraph, IsFirstGraphFault};
+ghost use Rattle.symbols_tree.specs.CheckSteps.{HasNoneOf, IsFirstOf};
 
 use crate::check::chains::chained_redirect;
 use crate::check::duplicates::{repeated_resolution, repeated_source, repeated_specifier};
-use crate::check::raw::{RawGraph, RawModuleKind};
 use crate::check::tree_check::first_tree_fault;
-use crate::check::{GraphFault, TreeFault};
 use std::alloc::{AllocError, Global};
+use symbols_syntax::graph::{GraphFault, RawGraph, RawModuleKind, TreeFault};
 
 /// The first fault of a module's tree; none where there is no tree.
 fn tree_fault(alloc: Global, kind: &RawModuleKind) -> Result<Option<TreeFault>, AllocError>

@@ -4,11 +4,13 @@
 ghost use Rattle.std.specs.Prelude.{◌≡◌, false};
 ghost use Rattle.std.specs.Option.{option_map, option_map_or};
 ghost use Rattle.std.specs.List.{list_any};
-ghost use Rattle.symbols_tree.specs.Fields.{field_view};
-ghost use Rattle.symbols_tree.specs.Nodes.{kind_at};
-ghost use Rattle.symbols_tree.specs.Shapes.{is_misplaced, holds_misplaced, has_misplaced_child, is_string, is_binding_ident, needs_source, is_bad_param, breaks_rule, has_bad_shape};
+ghost use Rattle.symbols_syntax.specs.Fields.{field_view};
+ghost use Rattle.symbols_syntax.specs.Nodes.{kind_at};
+ghost use Rattle.symbols_syntax.specs.Shapes.{is_misplaced, holds_misplaced, has_misplaced_child, is_string, is_binding_ident, needs_source, is_bad_param, breaks_rule, has_bad_shape};
 
-use crate::tree::{Category, Children, Expr, Field, Item, Kind, Member, Node, NodeId, Pat};
+use symbols_syntax::tree::{
+    Category, Children, Expr, Field, Item, Kind, Member, Node, NodeId, Pat,
+};
 
 fn is_misplaced(nodes: &[Node], category: Category, id: NodeId) -> bool
     ensures { result ≡ is_misplaced nodes.now category id }
@@ -19,7 +21,7 @@ fn is_misplaced(nodes: &[Node], category: Category, id: NodeId) -> bool
     }
 }
 
-// Whether a child in the field is of a kind that may not stand there.
+/// Whether a child in the field is of a kind that may not stand there.
 fn holds_misplaced(nodes: &[Node], field: &Field) -> bool
     ensures { result ≡ holds_misplaced nodes.now (field_view field.now) }
 {
@@ -133,7 +135,7 @@ fn breaks_rule(nodes: &[Node], kind: &Kind) -> bool
 }
 
 /// Whether the node of a number is of a bad shape (own rule); one that is absent isn't.
-#[tactic(auto, unfolding(crate::specs::Shapes::has_bad_shape))]
+#[tactic(auto, unfolding(symbols_syntax::specs::Shapes::has_bad_shape))]
 pub(crate) fn has_bad_shape(nodes: &[Node], n: usize) -> bool
     ensures { result ≡ has_bad_shape nodes.now n }
 {

@@ -4,15 +4,14 @@ ghost use Rattle.std.specs.Prelude.{◌≡◌, ◌&&◌, All, IfOk, OnOk, if◌t
 ghost use Rattle.std.specs.Str.{bytes_eq};
 ghost use Rattle.std.specs.String.{string_eq};
 ghost use Rattle.indexmap.specs.IndexMap.{insert_entry, values, IsUnique, Updates};
-ghost use Rattle.symbols_tree.specs.Graph.{IsChecked, content_of, module_view, redirect_view, resolution_view, found_resolution};
+ghost use Rattle.symbols_syntax.specs.Graph.{IsChecked, content_of, module_view, redirect_view, resolution_view, found_resolution};
 ghost use Rattle.symbols_tree.specs.GraphFaults.{asked, sources, specifiers};
-ghost use Rattle.symbols_tree.specs.Repeats.{HasNoRepeat};
-ghost use Rattle.symbols_tree.specs.Tables.{AreKeyed, mapped, text_pairs};
+ghost use Rattle.symbols_tree.specs.Tables.{AreKeyed, text_pairs};
+ghost use Rattle.symbols_tree.specs.CheckSteps.{HasNoRepeat, found_in_maps};
 
-use crate::check::module::GraphModule;
-use crate::check::raw::{RawModule, RawResolution};
 use indexmap::IndexMap;
 use std::alloc::{AllocError, Global};
+use symbols_syntax::graph::{GraphModule, RawModule, RawResolution};
 
 /// What a referrer's texts stand for, referrer by referrer.
 pub(crate) type Resolutions = IndexMap<String, IndexMap<String, String>>;
@@ -66,7 +65,7 @@ fn add_resolution(
     tables: &mut Resolutions,
     row: RawResolution,
 ) -> Result<(), AllocError>
-    ensures mapped { OnOk result ((referrer text : List ℕ) → mapped tables.new referrer text ≡ (if bytes_eq referrer (string_bytes row.referrer) && bytes_eq text (string_bytes row.text) then Some (string_bytes row.specifier) else mapped tables.old referrer text)) }
+    ensures found { OnOk result ((referrer text : List ℕ) → found_in_maps tables.new referrer text ≡ (if bytes_eq referrer (string_bytes row.referrer) && bytes_eq text (string_bytes row.text) then Some (string_bytes row.specifier) else found_in_maps tables.old referrer text)) }
     ensures unique { OnOk result (IsUnique string_eq tables.new) }
 {
     let RawResolution {
@@ -88,7 +87,7 @@ pub(crate) fn keyed_resolutions(
     resolutions: Vec<RawResolution>,
 ) -> Result<Resolutions, AllocError>
     requires { HasNoRepeat (asked (map resolution_view resolutions.items)) }
-    ensures mapped { IfOk result (λ tables. (referrer text : List ℕ) → mapped tables referrer text ≡ found_resolution (map resolution_view resolutions.items) referrer text) }
+    ensures found { IfOk result (λ tables. (referrer text : List ℕ) → found_in_maps tables referrer text ≡ found_resolution (map resolution_view resolutions.items) referrer text) }
     ensures unique { IfOk result (IsUnique string_eq) }
 {
     let mut tables = IndexMap::new(alloc);

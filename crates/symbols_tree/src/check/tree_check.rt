@@ -1,16 +1,16 @@
 //! The check of a tree: one pass over its nodes.
 
 ghost use Rattle.std.specs.Prelude.{◌≡◌, ◌↔◌, ℕ, ◌+◌, ◌*◌, ◌<◌, ◌≤◌, ◌^◌, All, length, slice_index, SomeIndex, IsTrue, IfOk, IfSome, IfNone, Some, false};
-ghost use Rattle.symbols_tree.specs.Nodes.{children};
+ghost use Rattle.symbols_syntax.specs.Nodes.{children};
 ghost use Rattle.symbols_tree.specs.Depths.{HasDepths, IsMetAt, GivesDepth};
-ghost use Rattle.symbols_tree.specs.TreeFaults.{begins_with_program, IsBadChild, IsRangeOf, NoneBelow, IsFirstTreeFault};
-ghost use Rattle.symbols_tree.specs.WellFormed.{IsWellFormed};
+ghost use Rattle.symbols_syntax.specs.TreeFaults.{begins_with_program, IsBadChild, IsRangeOf, NoneBelow, IsFirstTreeFault};
+ghost use Rattle.symbols_syntax.specs.WellFormed.{IsWellFormed};
 
 use crate::check::child_list::list_children;
-use crate::check::faults::TreeFault;
 use crate::check::shape::has_bad_shape;
-use crate::tree::{Item, Kind, Node, NodeId, SourceRange, Tree};
 use std::alloc::{AllocError, Global};
+use symbols_syntax::graph::TreeFault;
+use symbols_syntax::tree::{Item, Kind, Node, NodeId, SourceRange, Tree};
 
 fn begins(nodes: &[Node]) -> bool
     ensures { result ≡ begins_with_program nodes.now }
@@ -41,7 +41,7 @@ fn lies_in(range: SourceRange, text: &str) -> bool
         && text.is_char_boundary(range.end)
 }
 
-// Gives the children the depth in place of 1, and says whether one of them had another before.
+/// Gives the children the depth in place of 1, and says whether one of them had another before.
 fn gives_twice(ids: &[NodeId], depths: &mut [u16], depth: u16) -> bool
     requires inside { All (λ id. id < length depths.old) ids.now }
     requires deep { 2 ≤ depth }
@@ -62,7 +62,7 @@ fn gives_twice(ids: &[NodeId], depths: &mut [u16], depth: u16) -> bool
 /// The depth of the deepest nodes that are let through: the program's is 1.
 const DEEPEST: u16 = 4096;
 
-// The first fault of the node, where none stands before it.
+/// The first fault of the node, where none stands before it.
 fn first_fault_at(
     nodes: &[Node],
     text: &str,

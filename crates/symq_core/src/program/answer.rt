@@ -3,11 +3,12 @@
 ghost use Rattle.std.specs.Prelude.{◌≡◌, map, string_bytes, IfOk, IfSome, IsSome};
 ghost use Rattle.serde_json.specs.View.{view};
 ghost use Rattle.std.specs.Option.{option_and_then};
-ghost use Rattle.symbols_tree.specs.Graph.{tree_of};
+ghost use Rattle.symbols_syntax.specs.Graph.{tree_of};
 ghost use Rattle.symbols_table.specs.DeclViews.{exports_view};
-ghost use Rattle.symq_reader.specs.Graph.{value_of};
-ghost use Rattle.symq_core.specs.Queries.{query_view, query_of};
-ghost use Rattle.symq_core.specs.Answers.{export_data, exports_data, symbol_data, fault_text, fault_data, Tells, module_answer, query_answer, answer_data, answer_text};
+ghost use Rattle.symq_reader.specs.GraphText.{json_of};
+ghost use Rattle.symq_core.specs.Queries.{query_of};
+ghost use Rattle.symq_core.specs.Answers.{export_data, exports_data, symbol_data, fault_data, module_answer, query_answer, answer_data, answer_text};
+ghost use Rattle.symq_core.specs.Answering.{query_view, Tells, fault_text};
 
 use crate::program::query::{Query, line_value, read_query};
 use indexmap::IndexMap;
@@ -18,6 +19,7 @@ use symbols_table::info::{ModuleInfo, SymbolsFault};
 use symbols_tree::check::{GraphModule, ModuleGraph};
 use symbols_tree::ids::{ModuleId, SymbolId};
 
+/// An export of a module: its name, and the symbol that it leads to.
 fn export_value(
     alloc: Global,
     specifier: &str,
@@ -30,6 +32,7 @@ fn export_value(
     json!(in alloc; {"chain": [], "module": specifier, "name": name, "symbol": number})
 }
 
+/// The exports of a module, in order.
 fn export_values(
     alloc: Global,
     specifier: &str,
@@ -44,7 +47,7 @@ fn export_values(
     Ok(values)
 }
 
-/// The own exports of a module.
+/// What a module exports.
 fn exports_value(
     alloc: Global,
     specifier: &str,
@@ -111,6 +114,7 @@ fn module_answer(
     }
 }
 
+/// What a query asks of a graph: null where its specifier names no module.
 fn query_answer(alloc: Global, graph: &ModuleGraph, query: &Query<'_>) -> Result<Value, AllocError>
     ensures { IfOk result (λ value. view value ≡ query_answer graph.now (query_view query.now)) }
 {
@@ -120,8 +124,9 @@ fn query_answer(alloc: Global, graph: &ModuleGraph, query: &Query<'_>) -> Result
     }
 }
 
+/// The answer to a line as a value, be it a query or none.
 fn line_answer(alloc: Global, graph: &ModuleGraph, line: &[u8]) -> Result<Value, AllocError>
-    ensures { IfOk result (λ value. view value ≡ answer_data graph.now (option_and_then query_of (value_of line.now))) }
+    ensures { IfOk result (λ value. view value ≡ answer_data graph.now (option_and_then query_of (json_of line.now))) }
 {
     let value = line_value(alloc, line)?;
     let query = match &value {

@@ -2,13 +2,14 @@
 
 ghost use Rattle.std.specs.Prelude.{◌≡◌, option_map, IfOk};
 ghost use Rattle.serde_json.specs.View.{view, items_view};
-ghost use Rattle.symq_reader.specs.Fields.{as_u32};
-ghost use Rattle.symq_reader.specs.Graph.{value_of};
-ghost use Rattle.symq_core.specs.Queries.{query_view, specifier_of, query_of, word_and_rest, exports_query, symbol_query};
+ghost use Rattle.symq_reader.specs.GraphText.{json_of};
+ghost use Rattle.symq_core.specs.Queries.{specifier_of, query_of, word_and_rest, exports_query, symbol_query};
+ghost use Rattle.symq_core.specs.Answering.{query_view};
 
 use serde_json::Value;
 use std::alloc::{AllocError, Global};
 use symbols_tree::tree::Id;
+use symq_reader::as_u32;
 
 /// What a line asks.
 #[derive(Drop)]
@@ -32,7 +33,7 @@ impl Query<'_> {
 
 /// The value of a line; none where it is no JSON.
 pub(crate) fn line_value(alloc: Global, line: &[u8]) -> Result<Option<Value>, AllocError>
-    ensures { IfOk result (λ value. option_map view value ≡ value_of line.now) }
+    ensures { IfOk result (λ value. option_map view value ≡ json_of line.now) }
 {
     match Value::from_slice(alloc, line) {
         Ok(value) => Ok(Some(value)),
@@ -51,12 +52,7 @@ fn word_and_rest(value: &Value) -> Option<(&str, &[Value])>
     }
 }
 
-fn scope_number(value: &Value) -> Option<u32>
-    ensures { result ≡ as_u32 (view value.now) }
-{
-    u32::try_from(value.as_u64()?).ok()
-}
-
+/// The items behind the word `exports`: a specifier.
 #[tactic(auto, using(crate::proofs::Forms::exports_short, crate::proofs::Forms::exports_long))]
 fn read_exports(items: &[Value]) -> Option<Query<'_>>
     ensures { option_map query_view result ≡ exports_query (items_view items.now) }
@@ -67,6 +63,7 @@ fn read_exports(items: &[Value]) -> Option<Query<'_>>
     }
 }
 
+/// The items behind the word `symbol`: a specifier, and a name with its scope.
 #[tactic(auto, using(crate::proofs::Forms::symbol_short, crate::proofs::Forms::symbol_long))]
 fn read_symbol(alloc: Global, items: &[Value]) -> Result<Option<Query<'_>>, AllocError>
     ensures { IfOk result (λ query. option_map query_view query ≡ symbol_query (items_view items.now)) }
@@ -77,7 +74,7 @@ fn read_symbol(alloc: Global, items: &[Value]) -> Result<Option<Query<'_>>, Allo
     let (Some(specifier), Some(name), Some(scope)) = (
         specifier.as_str(),
         name.as_str(),
-        scope_number(scope),
+        as_u32(scope),
     ) else {
         return Ok(None);
     };

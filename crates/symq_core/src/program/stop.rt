@@ -59,12 +59,14 @@ impl Stop {
     }
 }
 
+/// The line that says that memory was refused.
 fn memory_line(alloc: Global) -> Result<String, AllocError>
     ensures { IfOk result (λ line. string_bytes line ≡ memory_line) }
 {
     String::from_str(alloc, "symq: out of memory")
 }
 
+/// Why a text is no graph.
 fn format_line(alloc: Global, fault: FormatFault) -> Result<String, AllocError>
     ensures { IfOk result (λ line. string_bytes line ≡ format_line fault) }
 {
@@ -75,6 +77,7 @@ fn format_line(alloc: Global, fault: FormatFault) -> Result<String, AllocError>
     }
 }
 
+/// Why serving stopped.
 fn engine_line(alloc: Global, fault: EngineFault) -> Result<String, AllocError>
     ensures { IfOk result (λ line. string_bytes line ≡ engine_line fault) }
 {
@@ -86,6 +89,7 @@ fn engine_line(alloc: Global, fault: EngineFault) -> Result<String, AllocError>
     }
 }
 
+/// Why a graph is refused: the number of the fault, and what it names.
 fn graph_line(alloc: Global, fault: &GraphFault) -> Result<String, AllocError>
     ensures { IfOk result (λ line. string_bytes line ≡ graph_line fault.now) }
 {
@@ -104,6 +108,7 @@ fn graph_line(alloc: Global, fault: &GraphFault) -> Result<String, AllocError>
     }
 }
 
+/// Why a graph is refused for the tree of a module.
 fn tree_line(alloc: Global, specifier: &str, fault: TreeFault) -> Result<String, AllocError>
     ensures { IfOk result (λ line. string_bytes line
         ≡ codes "symq: graph refused: 7 " ++ (specifier.now ++ (codes " " ++ tree_fault_text fault))) }
@@ -112,6 +117,7 @@ fn tree_line(alloc: Global, specifier: &str, fault: TreeFault) -> Result<String,
     format!(in alloc; "symq: graph refused: 7 {specifier} {rest}")
 }
 
+/// The number of a tree's fault, and the node that it names.
 fn tree_fault_text(alloc: Global, fault: TreeFault) -> Result<String, AllocError>
     ensures { IfOk result (λ text. string_bytes text ≡ tree_fault_text fault) }
 {

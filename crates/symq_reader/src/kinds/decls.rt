@@ -2,18 +2,18 @@
 
 ghost use Rattle.std.specs.Prelude.{option_map};
 ghost use Rattle.serde_json.specs.View.{view};
-ghost use Rattle.symbols_tree.specs.declared.tree.names.KindName.TheVariants as Name;
+ghost use Rattle.symbols_syntax.specs.declared.tree.names.KindName.TheVariants as Name;
 ghost use Rattle.symq_reader.specs.Reading.{Gives};
-ghost use Rattle.symq_reader.specs.Shapes.{row_at, decl_row, decl_shape};
+ghost use Rattle.symq_reader.specs.KindShapes.{read_as, read_decl, decl_shape};
 
 use crate::faults::FormatFault;
 use crate::fields;
 use serde_json::Value;
 use std::alloc::Global;
-use symbols_tree::tree::Decl;
+use symbols_syntax::tree::Decl;
 
 fn class_decl(value: &Value) -> Result<Decl, FormatFault>
-    ensures { Gives decl_shape result (row_at Name.ClassDecl (view value.now)) }
+    ensures { Gives decl_shape result (read_as Name.ClassDecl (view value.now)) }
 {
     let ident = fields::child(value, "ident")?;
     let class = fields::child(value, "class")?;
@@ -21,7 +21,7 @@ fn class_decl(value: &Value) -> Result<Decl, FormatFault>
 }
 
 fn class_expr(value: &Value) -> Result<Decl, FormatFault>
-    ensures { Gives decl_shape result (row_at Name.ClassExpr (view value.now)) }
+    ensures { Gives decl_shape result (read_as Name.ClassExpr (view value.now)) }
 {
     let ident = fields::optional_child(value, "ident")?;
     let class = fields::child(value, "class")?;
@@ -29,7 +29,7 @@ fn class_expr(value: &Value) -> Result<Decl, FormatFault>
 }
 
 fn class(alloc: Global, value: &Value) -> Result<Decl, FormatFault>
-    ensures { Gives decl_shape result (row_at Name.Class (view value.now)) }
+    ensures { Gives decl_shape result (read_as Name.Class (view value.now)) }
 {
     Ok(Decl::Class {
         type_params: fields::optional_child(value, "type_params")?,
@@ -41,7 +41,7 @@ fn class(alloc: Global, value: &Value) -> Result<Decl, FormatFault>
 }
 
 fn fn_decl(value: &Value) -> Result<Decl, FormatFault>
-    ensures { Gives decl_shape result (row_at Name.FnDecl (view value.now)) }
+    ensures { Gives decl_shape result (read_as Name.FnDecl (view value.now)) }
 {
     let ident = fields::child(value, "ident")?;
     let function = fields::child(value, "function")?;
@@ -49,7 +49,7 @@ fn fn_decl(value: &Value) -> Result<Decl, FormatFault>
 }
 
 fn fn_expr(value: &Value) -> Result<Decl, FormatFault>
-    ensures { Gives decl_shape result (row_at Name.FnExpr (view value.now)) }
+    ensures { Gives decl_shape result (read_as Name.FnExpr (view value.now)) }
 {
     let ident = fields::optional_child(value, "ident")?;
     let function = fields::child(value, "function")?;
@@ -57,7 +57,7 @@ fn fn_expr(value: &Value) -> Result<Decl, FormatFault>
 }
 
 fn function(alloc: Global, value: &Value) -> Result<Decl, FormatFault>
-    ensures { Gives decl_shape result (row_at Name.Function (view value.now)) }
+    ensures { Gives decl_shape result (read_as Name.Function (view value.now)) }
 {
     Ok(Decl::Function {
         type_params: fields::optional_child(value, "type_params")?,
@@ -68,21 +68,21 @@ fn function(alloc: Global, value: &Value) -> Result<Decl, FormatFault>
 }
 
 fn var_decl(alloc: Global, value: &Value) -> Result<Decl, FormatFault>
-    ensures { Gives decl_shape result (row_at Name.VarDecl (view value.now)) }
+    ensures { Gives decl_shape result (read_as Name.VarDecl (view value.now)) }
 {
     let decls = fields::children(alloc, value, "decls")?;
     Ok(Decl::VarDecl { decls })
 }
 
 fn using_decl(alloc: Global, value: &Value) -> Result<Decl, FormatFault>
-    ensures { Gives decl_shape result (row_at Name.UsingDecl (view value.now)) }
+    ensures { Gives decl_shape result (read_as Name.UsingDecl (view value.now)) }
 {
     let decls = fields::children(alloc, value, "decls")?;
     Ok(Decl::UsingDecl { decls })
 }
 
 fn var_declarator(value: &Value) -> Result<Decl, FormatFault>
-    ensures { Gives decl_shape result (row_at Name.VarDeclarator (view value.now)) }
+    ensures { Gives decl_shape result (read_as Name.VarDeclarator (view value.now)) }
 {
     let name = fields::child(value, "name")?;
     let init = fields::optional_child(value, "init")?;
@@ -90,7 +90,7 @@ fn var_declarator(value: &Value) -> Result<Decl, FormatFault>
 }
 
 fn ts_interface_decl(alloc: Global, value: &Value) -> Result<Decl, FormatFault>
-    ensures { Gives decl_shape result (row_at Name.TsInterfaceDecl (view value.now)) }
+    ensures { Gives decl_shape result (read_as Name.TsInterfaceDecl (view value.now)) }
 {
     Ok(Decl::TsInterfaceDecl {
         id: fields::child(value, "id")?,
@@ -101,7 +101,7 @@ fn ts_interface_decl(alloc: Global, value: &Value) -> Result<Decl, FormatFault>
 }
 
 fn ts_type_alias_decl(value: &Value) -> Result<Decl, FormatFault>
-    ensures { Gives decl_shape result (row_at Name.TsTypeAliasDecl (view value.now)) }
+    ensures { Gives decl_shape result (read_as Name.TsTypeAliasDecl (view value.now)) }
 {
     Ok(Decl::TsTypeAliasDecl {
         id: fields::child(value, "id")?,
@@ -111,7 +111,7 @@ fn ts_type_alias_decl(value: &Value) -> Result<Decl, FormatFault>
 }
 
 fn ts_enum_decl(alloc: Global, value: &Value) -> Result<Decl, FormatFault>
-    ensures { Gives decl_shape result (row_at Name.TsEnumDecl (view value.now)) }
+    ensures { Gives decl_shape result (read_as Name.TsEnumDecl (view value.now)) }
 {
     let id = fields::child(value, "id")?;
     let members = fields::children(alloc, value, "members")?;
@@ -119,14 +119,14 @@ fn ts_enum_decl(alloc: Global, value: &Value) -> Result<Decl, FormatFault>
 }
 
 fn ts_enum_member(value: &Value) -> Result<Decl, FormatFault>
-    ensures { Gives decl_shape result (row_at Name.TsEnumMember (view value.now)) }
+    ensures { Gives decl_shape result (read_as Name.TsEnumMember (view value.now)) }
 {
     let init = fields::optional_child(value, "init")?;
     Ok(Decl::TsEnumMember { init })
 }
 
 fn ts_module_decl(value: &Value) -> Result<Decl, FormatFault>
-    ensures { Gives decl_shape result (row_at Name.TsModuleDecl (view value.now)) }
+    ensures { Gives decl_shape result (read_as Name.TsModuleDecl (view value.now)) }
 {
     Ok(Decl::TsModuleDecl {
         id: fields::child(value, "id")?,
@@ -136,7 +136,7 @@ fn ts_module_decl(value: &Value) -> Result<Decl, FormatFault>
 }
 
 fn ts_namespace_decl(value: &Value) -> Result<Decl, FormatFault>
-    ensures { Gives decl_shape result (row_at Name.TsNamespaceDecl (view value.now)) }
+    ensures { Gives decl_shape result (read_as Name.TsNamespaceDecl (view value.now)) }
 {
     let id = fields::child(value, "id")?;
     let body = fields::child(value, "body")?;
@@ -144,16 +144,16 @@ fn ts_namespace_decl(value: &Value) -> Result<Decl, FormatFault>
 }
 
 fn ts_module_block(alloc: Global, value: &Value) -> Result<Decl, FormatFault>
-    ensures { Gives decl_shape result (row_at Name.TsModuleBlock (view value.now)) }
+    ensures { Gives decl_shape result (read_as Name.TsModuleBlock (view value.now)) }
 {
     let body = fields::children(alloc, value, "body")?;
     Ok(Decl::TsModuleBlock { body })
 }
 
 /// The declaration of a kind's text; none where no declaration has it.
-#[tactic(auto, unfolding(crate::specs::Shapes::decl_row))]
+#[tactic(auto, unfolding(crate::specs::KindShapes::read_decl))]
 pub(crate) fn decl(alloc: Global, kind: &str, value: &Value) -> Result<Option<Decl>, FormatFault>
-    ensures { Gives (option_map decl_shape) result (decl_row kind.now (view value.now)) }
+    ensures { Gives (option_map decl_shape) result (read_decl kind.now (view value.now)) }
 {
     match kind {
         "ClassDecl" => Ok(Some(class_decl(value)?)),

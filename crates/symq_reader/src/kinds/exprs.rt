@@ -2,25 +2,25 @@
 
 ghost use Rattle.std.specs.Prelude.{option_map};
 ghost use Rattle.serde_json.specs.View.{view};
-ghost use Rattle.symbols_tree.specs.declared.tree.names.KindName.TheVariants as Name;
+ghost use Rattle.symbols_syntax.specs.declared.tree.names.KindName.TheVariants as Name;
 ghost use Rattle.symq_reader.specs.Reading.{Gives};
-ghost use Rattle.symq_reader.specs.Shapes.{row_at, expr_row, expr_shape};
+ghost use Rattle.symq_reader.specs.KindShapes.{read_as, read_expr, expr_shape};
 
 use crate::faults::FormatFault;
 use crate::fields;
 use serde_json::Value;
 use std::alloc::Global;
-use symbols_tree::tree::Expr;
+use symbols_syntax::tree::Expr;
 
 fn ident(alloc: Global, value: &Value) -> Result<Expr, FormatFault>
-    ensures { Gives expr_shape result (row_at Name.Ident (view value.now)) }
+    ensures { Gives expr_shape result (read_as Name.Ident (view value.now)) }
 {
     let sym = fields::identifier(alloc, value, "sym")?;
     Ok(Expr::Ident { sym })
 }
 
 fn member(value: &Value) -> Result<Expr, FormatFault>
-    ensures { Gives expr_shape result (row_at Name.Member (view value.now)) }
+    ensures { Gives expr_shape result (read_as Name.Member (view value.now)) }
 {
     let obj = fields::child(value, "obj")?;
     let prop = fields::child(value, "prop")?;
@@ -28,49 +28,49 @@ fn member(value: &Value) -> Result<Expr, FormatFault>
 }
 
 fn ident_name(alloc: Global, value: &Value) -> Result<Expr, FormatFault>
-    ensures { Gives expr_shape result (row_at Name.IdentName (view value.now)) }
+    ensures { Gives expr_shape result (read_as Name.IdentName (view value.now)) }
 {
     let name = fields::text(alloc, value, "name")?;
     Ok(Expr::IdentName { name })
 }
 
 fn private_name(alloc: Global, value: &Value) -> Result<Expr, FormatFault>
-    ensures { Gives expr_shape result (row_at Name.PrivateName (view value.now)) }
+    ensures { Gives expr_shape result (read_as Name.PrivateName (view value.now)) }
 {
     let name = fields::text(alloc, value, "name")?;
     Ok(Expr::PrivateName { name })
 }
 
 fn string(alloc: Global, value: &Value) -> Result<Expr, FormatFault>
-    ensures { Gives expr_shape result (row_at Name.Str (view value.now)) }
+    ensures { Gives expr_shape result (read_as Name.Str (view value.now)) }
 {
     let value = fields::text(alloc, value, "value")?;
     Ok(Expr::Str { value })
 }
 
 fn number(alloc: Global, value: &Value) -> Result<Expr, FormatFault>
-    ensures { Gives expr_shape result (row_at Name.Num (view value.now)) }
+    ensures { Gives expr_shape result (read_as Name.Num (view value.now)) }
 {
     let text = fields::text(alloc, value, "text")?;
     Ok(Expr::Num { text })
 }
 
 fn big_int(alloc: Global, value: &Value) -> Result<Expr, FormatFault>
-    ensures { Gives expr_shape result (row_at Name.BigInt (view value.now)) }
+    ensures { Gives expr_shape result (read_as Name.BigInt (view value.now)) }
 {
     let text = fields::text(alloc, value, "text")?;
     Ok(Expr::BigInt { text })
 }
 
 fn computed(value: &Value) -> Result<Expr, FormatFault>
-    ensures { Gives expr_shape result (row_at Name.Computed (view value.now)) }
+    ensures { Gives expr_shape result (read_as Name.Computed (view value.now)) }
 {
     let expr = fields::child(value, "expr")?;
     Ok(Expr::Computed { expr })
 }
 
 fn assign(value: &Value) -> Result<Expr, FormatFault>
-    ensures { Gives expr_shape result (row_at Name.Assign (view value.now)) }
+    ensures { Gives expr_shape result (read_as Name.Assign (view value.now)) }
 {
     Ok(Expr::Assign {
         plain: fields::flag(value, "plain")?,
@@ -80,7 +80,7 @@ fn assign(value: &Value) -> Result<Expr, FormatFault>
 }
 
 fn arrow(alloc: Global, value: &Value) -> Result<Expr, FormatFault>
-    ensures { Gives expr_shape result (row_at Name.Arrow (view value.now)) }
+    ensures { Gives expr_shape result (read_as Name.Arrow (view value.now)) }
 {
     Ok(Expr::Arrow {
         type_params: fields::optional_child(value, "type_params")?,
@@ -92,9 +92,9 @@ fn arrow(alloc: Global, value: &Value) -> Result<Expr, FormatFault>
 }
 
 /// The expression of a kind's text; none where no expression has it.
-#[tactic(auto, unfolding(crate::specs::Shapes::expr_row))]
+#[tactic(auto, unfolding(crate::specs::KindShapes::read_expr))]
 pub(crate) fn expr(alloc: Global, kind: &str, value: &Value) -> Result<Option<Expr>, FormatFault>
-    ensures { Gives (option_map expr_shape) result (expr_row kind.now (view value.now)) }
+    ensures { Gives (option_map expr_shape) result (read_expr kind.now (view value.now)) }
 {
     match kind {
         "Ident" => Ok(Some(ident(alloc, value)?)),

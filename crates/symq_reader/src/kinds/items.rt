@@ -2,25 +2,25 @@
 
 ghost use Rattle.std.specs.Prelude.{option_map};
 ghost use Rattle.serde_json.specs.View.{view};
-ghost use Rattle.symbols_tree.specs.declared.tree.names.KindName.TheVariants as Name;
+ghost use Rattle.symbols_syntax.specs.declared.tree.names.KindName.TheVariants as Name;
 ghost use Rattle.symq_reader.specs.Reading.{Gives};
-ghost use Rattle.symq_reader.specs.Shapes.{row_at, item_row, item_shape};
+ghost use Rattle.symq_reader.specs.KindShapes.{read_as, read_item, item_shape};
 
 use crate::faults::FormatFault;
 use crate::fields;
 use serde_json::Value;
 use std::alloc::Global;
-use symbols_tree::tree::Item;
+use symbols_syntax::tree::Item;
 
 fn program(alloc: Global, value: &Value) -> Result<Item, FormatFault>
-    ensures { Gives item_shape result (row_at Name.Program (view value.now)) }
+    ensures { Gives item_shape result (read_as Name.Program (view value.now)) }
 {
     let body = fields::children(alloc, value, "body")?;
     Ok(Item::Program { body })
 }
 
 fn import(alloc: Global, value: &Value) -> Result<Item, FormatFault>
-    ensures { Gives item_shape result (row_at Name.Import (view value.now)) }
+    ensures { Gives item_shape result (read_as Name.Import (view value.now)) }
 {
     let specifiers = fields::children(alloc, value, "specifiers")?;
     let src = fields::text(alloc, value, "src")?;
@@ -28,7 +28,7 @@ fn import(alloc: Global, value: &Value) -> Result<Item, FormatFault>
 }
 
 fn import_named(alloc: Global, value: &Value) -> Result<Item, FormatFault>
-    ensures { Gives item_shape result (row_at Name.ImportNamed (view value.now)) }
+    ensures { Gives item_shape result (read_as Name.ImportNamed (view value.now)) }
 {
     let local = fields::child(value, "local")?;
     let imported = fields::optional_text(alloc, value, "imported")?;
@@ -36,28 +36,28 @@ fn import_named(alloc: Global, value: &Value) -> Result<Item, FormatFault>
 }
 
 fn import_default(value: &Value) -> Result<Item, FormatFault>
-    ensures { Gives item_shape result (row_at Name.ImportDefault (view value.now)) }
+    ensures { Gives item_shape result (read_as Name.ImportDefault (view value.now)) }
 {
     let local = fields::child(value, "local")?;
     Ok(Item::ImportDefault { local })
 }
 
 fn import_namespace(value: &Value) -> Result<Item, FormatFault>
-    ensures { Gives item_shape result (row_at Name.ImportNamespace (view value.now)) }
+    ensures { Gives item_shape result (read_as Name.ImportNamespace (view value.now)) }
 {
     let local = fields::child(value, "local")?;
     Ok(Item::ImportNamespace { local })
 }
 
 fn export_decl(value: &Value) -> Result<Item, FormatFault>
-    ensures { Gives item_shape result (row_at Name.ExportDecl (view value.now)) }
+    ensures { Gives item_shape result (read_as Name.ExportDecl (view value.now)) }
 {
     let decl = fields::child(value, "decl")?;
     Ok(Item::ExportDecl { decl })
 }
 
 fn export_named(alloc: Global, value: &Value) -> Result<Item, FormatFault>
-    ensures { Gives item_shape result (row_at Name.ExportNamed (view value.now)) }
+    ensures { Gives item_shape result (read_as Name.ExportNamed (view value.now)) }
 {
     let specifiers = fields::children(alloc, value, "specifiers")?;
     let src = fields::optional_text(alloc, value, "src")?;
@@ -65,7 +65,7 @@ fn export_named(alloc: Global, value: &Value) -> Result<Item, FormatFault>
 }
 
 fn export_specifier(alloc: Global, value: &Value) -> Result<Item, FormatFault>
-    ensures { Gives item_shape result (row_at Name.ExportSpecifier (view value.now)) }
+    ensures { Gives item_shape result (read_as Name.ExportSpecifier (view value.now)) }
 {
     let orig = fields::child(value, "orig")?;
     let exported = fields::optional_text(alloc, value, "exported")?;
@@ -73,42 +73,42 @@ fn export_specifier(alloc: Global, value: &Value) -> Result<Item, FormatFault>
 }
 
 fn export_namespace(alloc: Global, value: &Value) -> Result<Item, FormatFault>
-    ensures { Gives item_shape result (row_at Name.ExportNamespace (view value.now)) }
+    ensures { Gives item_shape result (read_as Name.ExportNamespace (view value.now)) }
 {
     let name = fields::text(alloc, value, "name")?;
     Ok(Item::ExportNamespace { name })
 }
 
 fn export_default_specifier(value: &Value) -> Result<Item, FormatFault>
-    ensures { Gives item_shape result (row_at Name.ExportDefaultSpecifier (view value.now)) }
+    ensures { Gives item_shape result (read_as Name.ExportDefaultSpecifier (view value.now)) }
 {
     let local = fields::child(value, "local")?;
     Ok(Item::ExportDefaultSpecifier { local })
 }
 
 fn export_default_decl(value: &Value) -> Result<Item, FormatFault>
-    ensures { Gives item_shape result (row_at Name.ExportDefaultDecl (view value.now)) }
+    ensures { Gives item_shape result (read_as Name.ExportDefaultDecl (view value.now)) }
 {
     let decl = fields::child(value, "decl")?;
     Ok(Item::ExportDefaultDecl { decl })
 }
 
 fn export_default_expr(value: &Value) -> Result<Item, FormatFault>
-    ensures { Gives item_shape result (row_at Name.ExportDefaultExpr (view value.now)) }
+    ensures { Gives item_shape result (read_as Name.ExportDefaultExpr (view value.now)) }
 {
     let expr = fields::child(value, "expr")?;
     Ok(Item::ExportDefaultExpr { expr })
 }
 
 fn ts_export_assignment(value: &Value) -> Result<Item, FormatFault>
-    ensures { Gives item_shape result (row_at Name.TsExportAssignment (view value.now)) }
+    ensures { Gives item_shape result (read_as Name.TsExportAssignment (view value.now)) }
 {
     let expr = fields::child(value, "expr")?;
     Ok(Item::TsExportAssignment { expr })
 }
 
 fn ts_import_equals_decl(alloc: Global, value: &Value) -> Result<Item, FormatFault>
-    ensures { Gives item_shape result (row_at Name.TsImportEqualsDecl (view value.now)) }
+    ensures { Gives item_shape result (read_as Name.TsImportEqualsDecl (view value.now)) }
 {
     Ok(Item::TsImportEqualsDecl {
         is_export: fields::flag(value, "is_export")?,
@@ -119,16 +119,16 @@ fn ts_import_equals_decl(alloc: Global, value: &Value) -> Result<Item, FormatFau
 }
 
 fn expr_stmt(value: &Value) -> Result<Item, FormatFault>
-    ensures { Gives item_shape result (row_at Name.ExprStmt (view value.now)) }
+    ensures { Gives item_shape result (read_as Name.ExprStmt (view value.now)) }
 {
     let expr = fields::child(value, "expr")?;
     Ok(Item::ExprStmt { expr })
 }
 
 /// The item of a kind's text; none where no item has it.
-#[tactic(auto, unfolding(crate::specs::Shapes::item_row))]
+#[tactic(auto, unfolding(crate::specs::KindShapes::read_item))]
 pub(crate) fn item(alloc: Global, kind: &str, value: &Value) -> Result<Option<Item>, FormatFault>
-    ensures { Gives (option_map item_shape) result (item_row kind.now (view value.now)) }
+    ensures { Gives (option_map item_shape) result (read_item kind.now (view value.now)) }
 {
     match kind {
         "Program" => Ok(Some(program(alloc, value)?)),

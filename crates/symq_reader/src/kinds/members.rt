@@ -2,18 +2,18 @@
 
 ghost use Rattle.std.specs.Prelude.{option_map};
 ghost use Rattle.serde_json.specs.View.{view};
-ghost use Rattle.symbols_tree.specs.declared.tree.names.KindName.TheVariants as Name;
+ghost use Rattle.symbols_syntax.specs.declared.tree.names.KindName.TheVariants as Name;
 ghost use Rattle.symq_reader.specs.Reading.{Gives};
-ghost use Rattle.symq_reader.specs.Shapes.{row_at, member_row, member_shape};
+ghost use Rattle.symq_reader.specs.KindShapes.{read_as, read_member, member_shape};
 
 use crate::faults::FormatFault;
 use crate::{fields, words};
 use serde_json::Value;
 use std::alloc::Global;
-use symbols_tree::tree::Member;
+use symbols_syntax::tree::Member;
 
 fn constructor(alloc: Global, value: &Value) -> Result<Member, FormatFault>
-    ensures { Gives member_shape result (row_at Name.Constructor (view value.now)) }
+    ensures { Gives member_shape result (read_as Name.Constructor (view value.now)) }
 {
     Ok(Member::Constructor {
         params: fields::children(alloc, value, "params")?,
@@ -23,7 +23,7 @@ fn constructor(alloc: Global, value: &Value) -> Result<Member, FormatFault>
 }
 
 fn ts_param_prop(value: &Value) -> Result<Member, FormatFault>
-    ensures { Gives member_shape result (row_at Name.TsParamProp (view value.now)) }
+    ensures { Gives member_shape result (read_as Name.TsParamProp (view value.now)) }
 {
     Ok(Member::TsParamProp {
         param: fields::child(value, "param")?,
@@ -32,7 +32,7 @@ fn ts_param_prop(value: &Value) -> Result<Member, FormatFault>
 }
 
 fn class_method(value: &Value) -> Result<Member, FormatFault>
-    ensures { Gives member_shape result (row_at Name.ClassMethod (view value.now)) }
+    ensures { Gives member_shape result (read_as Name.ClassMethod (view value.now)) }
 {
     Ok(Member::ClassMethod {
         key: fields::child(value, "key")?,
@@ -44,7 +44,7 @@ fn class_method(value: &Value) -> Result<Member, FormatFault>
 }
 
 fn class_prop(value: &Value) -> Result<Member, FormatFault>
-    ensures { Gives member_shape result (row_at Name.ClassProp (view value.now)) }
+    ensures { Gives member_shape result (read_as Name.ClassProp (view value.now)) }
 {
     Ok(Member::ClassProp {
         key: fields::child(value, "key")?,
@@ -56,7 +56,7 @@ fn class_prop(value: &Value) -> Result<Member, FormatFault>
 }
 
 fn auto_accessor(value: &Value) -> Result<Member, FormatFault>
-    ensures { Gives member_shape result (row_at Name.AutoAccessor (view value.now)) }
+    ensures { Gives member_shape result (read_as Name.AutoAccessor (view value.now)) }
 {
     Ok(Member::AutoAccessor {
         key: fields::child(value, "key")?,
@@ -68,7 +68,7 @@ fn auto_accessor(value: &Value) -> Result<Member, FormatFault>
 }
 
 fn ts_index_signature(alloc: Global, value: &Value) -> Result<Member, FormatFault>
-    ensures { Gives member_shape result (row_at Name.TsIndexSignature (view value.now)) }
+    ensures { Gives member_shape result (read_as Name.TsIndexSignature (view value.now)) }
 {
     Ok(Member::TsIndexSignature {
         params: fields::children(alloc, value, "params")?,
@@ -78,7 +78,7 @@ fn ts_index_signature(alloc: Global, value: &Value) -> Result<Member, FormatFaul
 }
 
 fn ts_call_signature_decl(alloc: Global, value: &Value) -> Result<Member, FormatFault>
-    ensures { Gives member_shape result (row_at Name.TsCallSignatureDecl (view value.now)) }
+    ensures { Gives member_shape result (read_as Name.TsCallSignatureDecl (view value.now)) }
 {
     Ok(Member::TsCallSignatureDecl {
         type_params: fields::optional_child(value, "type_params")?,
@@ -88,7 +88,7 @@ fn ts_call_signature_decl(alloc: Global, value: &Value) -> Result<Member, Format
 }
 
 fn ts_construct_signature_decl(alloc: Global, value: &Value) -> Result<Member, FormatFault>
-    ensures { Gives member_shape result (row_at Name.TsConstructSignatureDecl (view value.now)) }
+    ensures { Gives member_shape result (read_as Name.TsConstructSignatureDecl (view value.now)) }
 {
     Ok(Member::TsConstructSignatureDecl {
         type_params: fields::optional_child(value, "type_params")?,
@@ -98,7 +98,7 @@ fn ts_construct_signature_decl(alloc: Global, value: &Value) -> Result<Member, F
 }
 
 fn ts_property_signature(value: &Value) -> Result<Member, FormatFault>
-    ensures { Gives member_shape result (row_at Name.TsPropertySignature (view value.now)) }
+    ensures { Gives member_shape result (read_as Name.TsPropertySignature (view value.now)) }
 {
     Ok(Member::TsPropertySignature {
         key: fields::child(value, "key")?,
@@ -108,7 +108,7 @@ fn ts_property_signature(value: &Value) -> Result<Member, FormatFault>
 }
 
 fn ts_getter_signature(value: &Value) -> Result<Member, FormatFault>
-    ensures { Gives member_shape result (row_at Name.TsGetterSignature (view value.now)) }
+    ensures { Gives member_shape result (read_as Name.TsGetterSignature (view value.now)) }
 {
     Ok(Member::TsGetterSignature {
         key: fields::child(value, "key")?,
@@ -118,7 +118,7 @@ fn ts_getter_signature(value: &Value) -> Result<Member, FormatFault>
 }
 
 fn ts_setter_signature(value: &Value) -> Result<Member, FormatFault>
-    ensures { Gives member_shape result (row_at Name.TsSetterSignature (view value.now)) }
+    ensures { Gives member_shape result (read_as Name.TsSetterSignature (view value.now)) }
 {
     Ok(Member::TsSetterSignature {
         key: fields::child(value, "key")?,
@@ -128,7 +128,7 @@ fn ts_setter_signature(value: &Value) -> Result<Member, FormatFault>
 }
 
 fn ts_method_signature(alloc: Global, value: &Value) -> Result<Member, FormatFault>
-    ensures { Gives member_shape result (row_at Name.TsMethodSignature (view value.now)) }
+    ensures { Gives member_shape result (read_as Name.TsMethodSignature (view value.now)) }
 {
     Ok(Member::TsMethodSignature {
         key: fields::child(value, "key")?,
@@ -140,13 +140,13 @@ fn ts_method_signature(alloc: Global, value: &Value) -> Result<Member, FormatFau
 }
 
 /// The member of a kind's text; none where no member has it.
-#[tactic(auto, unfolding(crate::specs::Shapes::member_row))]
+#[tactic(auto, unfolding(crate::specs::KindShapes::read_member))]
 pub(crate) fn member(
     alloc: Global,
     kind: &str,
     value: &Value,
 ) -> Result<Option<Member>, FormatFault>
-    ensures { Gives (option_map member_shape) result (member_row kind.now (view value.now)) }
+    ensures { Gives (option_map member_shape) result (read_member kind.now (view value.now)) }
 {
     match kind {
         "Constructor" => Ok(Some(constructor(alloc, value)?)),

@@ -2,18 +2,18 @@
 
 ghost use Rattle.std.specs.Prelude.{option_map};
 ghost use Rattle.serde_json.specs.View.{view};
-ghost use Rattle.symbols_tree.specs.declared.tree.names.KindName.TheVariants as Name;
+ghost use Rattle.symbols_syntax.specs.declared.tree.names.KindName.TheVariants as Name;
 ghost use Rattle.symq_reader.specs.Reading.{Gives};
-ghost use Rattle.symq_reader.specs.Shapes.{row_at, pat_row, pat_shape};
+ghost use Rattle.symq_reader.specs.KindShapes.{read_as, read_pat, pat_shape};
 
 use crate::faults::FormatFault;
 use crate::fields;
 use serde_json::Value;
 use std::alloc::Global;
-use symbols_tree::tree::Pat;
+use symbols_syntax::tree::Pat;
 
 fn binding_ident(alloc: Global, value: &Value) -> Result<Pat, FormatFault>
-    ensures { Gives pat_shape result (row_at Name.BindingIdent (view value.now)) }
+    ensures { Gives pat_shape result (read_as Name.BindingIdent (view value.now)) }
 {
     let sym = fields::identifier(alloc, value, "sym")?;
     let type_ann = fields::optional_child(value, "type_ann")?;
@@ -21,7 +21,7 @@ fn binding_ident(alloc: Global, value: &Value) -> Result<Pat, FormatFault>
 }
 
 fn array_pat(alloc: Global, value: &Value) -> Result<Pat, FormatFault>
-    ensures { Gives pat_shape result (row_at Name.ArrayPat (view value.now)) }
+    ensures { Gives pat_shape result (read_as Name.ArrayPat (view value.now)) }
 {
     let elems = fields::children(alloc, value, "elems")?;
     let type_ann = fields::optional_child(value, "type_ann")?;
@@ -29,7 +29,7 @@ fn array_pat(alloc: Global, value: &Value) -> Result<Pat, FormatFault>
 }
 
 fn object_pat(alloc: Global, value: &Value) -> Result<Pat, FormatFault>
-    ensures { Gives pat_shape result (row_at Name.ObjectPat (view value.now)) }
+    ensures { Gives pat_shape result (read_as Name.ObjectPat (view value.now)) }
 {
     let props = fields::children(alloc, value, "props")?;
     let type_ann = fields::optional_child(value, "type_ann")?;
@@ -37,7 +37,7 @@ fn object_pat(alloc: Global, value: &Value) -> Result<Pat, FormatFault>
 }
 
 fn rest_pat(value: &Value) -> Result<Pat, FormatFault>
-    ensures { Gives pat_shape result (row_at Name.RestPat (view value.now)) }
+    ensures { Gives pat_shape result (read_as Name.RestPat (view value.now)) }
 {
     let arg = fields::child(value, "arg")?;
     let type_ann = fields::optional_child(value, "type_ann")?;
@@ -45,7 +45,7 @@ fn rest_pat(value: &Value) -> Result<Pat, FormatFault>
 }
 
 fn key_value_pat_prop(value: &Value) -> Result<Pat, FormatFault>
-    ensures { Gives pat_shape result (row_at Name.KeyValuePatProp (view value.now)) }
+    ensures { Gives pat_shape result (read_as Name.KeyValuePatProp (view value.now)) }
 {
     let key = fields::child(value, "key")?;
     let value = fields::child(value, "value")?;
@@ -53,7 +53,7 @@ fn key_value_pat_prop(value: &Value) -> Result<Pat, FormatFault>
 }
 
 fn assign_pat_prop(value: &Value) -> Result<Pat, FormatFault>
-    ensures { Gives pat_shape result (row_at Name.AssignPatProp (view value.now)) }
+    ensures { Gives pat_shape result (read_as Name.AssignPatProp (view value.now)) }
 {
     let key = fields::child(value, "key")?;
     let value = fields::optional_child(value, "value")?;
@@ -61,7 +61,7 @@ fn assign_pat_prop(value: &Value) -> Result<Pat, FormatFault>
 }
 
 fn assign_pat(value: &Value) -> Result<Pat, FormatFault>
-    ensures { Gives pat_shape result (row_at Name.AssignPat (view value.now)) }
+    ensures { Gives pat_shape result (read_as Name.AssignPat (view value.now)) }
 {
     let left = fields::child(value, "left")?;
     let right = fields::child(value, "right")?;
@@ -69,30 +69,31 @@ fn assign_pat(value: &Value) -> Result<Pat, FormatFault>
 }
 
 fn expr_pat(value: &Value) -> Result<Pat, FormatFault>
-    ensures { Gives pat_shape result (row_at Name.ExprPat (view value.now)) }
+    ensures { Gives pat_shape result (read_as Name.ExprPat (view value.now)) }
 {
     let expr = fields::child(value, "expr")?;
     Ok(Pat::ExprPat { expr })
 }
 
+/// What the text calls a `Type`.
 fn plain(alloc: Global, value: &Value) -> Result<Pat, FormatFault>
-    ensures { Gives pat_shape result (row_at Name.Plain (view value.now)) }
+    ensures { Gives pat_shape result (read_as Name.Plain (view value.now)) }
 {
     let children = fields::children(alloc, value, "children")?;
     Ok(Pat::Plain { children })
 }
 
 fn other(alloc: Global, value: &Value) -> Result<Pat, FormatFault>
-    ensures { Gives pat_shape result (row_at Name.Other (view value.now)) }
+    ensures { Gives pat_shape result (read_as Name.Other (view value.now)) }
 {
     let children = fields::children(alloc, value, "children")?;
     Ok(Pat::Other { children })
 }
 
 /// The pattern, or whatever else, of a kind's text; none where nothing here has it.
-#[tactic(auto, unfolding(crate::specs::Shapes::pat_row))]
+#[tactic(auto, unfolding(crate::specs::KindShapes::read_pat))]
 pub(crate) fn pat(alloc: Global, kind: &str, value: &Value) -> Result<Option<Pat>, FormatFault>
-    ensures { Gives (option_map pat_shape) result (pat_row kind.now (view value.now)) }
+    ensures { Gives (option_map pat_shape) result (read_pat kind.now (view value.now)) }
 {
     match kind {
         "BindingIdent" => Ok(Some(binding_ident(alloc, value)?)),

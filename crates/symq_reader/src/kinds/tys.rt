@@ -2,25 +2,25 @@
 
 ghost use Rattle.std.specs.Prelude.{option_map};
 ghost use Rattle.serde_json.specs.View.{view};
-ghost use Rattle.symbols_tree.specs.declared.tree.names.KindName.TheVariants as Name;
+ghost use Rattle.symbols_syntax.specs.declared.tree.names.KindName.TheVariants as Name;
 ghost use Rattle.symq_reader.specs.Reading.{Gives};
-ghost use Rattle.symq_reader.specs.Shapes.{row_at, ty_row, ty_shape};
+ghost use Rattle.symq_reader.specs.KindShapes.{read_as, read_ty, ty_shape};
 
 use crate::faults::FormatFault;
 use crate::fields;
 use serde_json::Value;
 use std::alloc::Global;
-use symbols_tree::tree::Ty;
+use symbols_syntax::tree::Ty;
 
 fn ts_type_param_decl(alloc: Global, value: &Value) -> Result<Ty, FormatFault>
-    ensures { Gives ty_shape result (row_at Name.TsTypeParamDecl (view value.now)) }
+    ensures { Gives ty_shape result (read_as Name.TsTypeParamDecl (view value.now)) }
 {
     let params = fields::children(alloc, value, "params")?;
     Ok(Ty::TsTypeParamDecl { params })
 }
 
 fn ts_type_param(value: &Value) -> Result<Ty, FormatFault>
-    ensures { Gives ty_shape result (row_at Name.TsTypeParam (view value.now)) }
+    ensures { Gives ty_shape result (read_as Name.TsTypeParam (view value.now)) }
 {
     Ok(Ty::TsTypeParam {
         constraint: fields::optional_child(value, "constraint")?,
@@ -29,21 +29,21 @@ fn ts_type_param(value: &Value) -> Result<Ty, FormatFault>
 }
 
 fn ts_type_param_instantiation(alloc: Global, value: &Value) -> Result<Ty, FormatFault>
-    ensures { Gives ty_shape result (row_at Name.TsTypeParamInstantiation (view value.now)) }
+    ensures { Gives ty_shape result (read_as Name.TsTypeParamInstantiation (view value.now)) }
 {
     let params = fields::children(alloc, value, "params")?;
     Ok(Ty::TsTypeParamInstantiation { params })
 }
 
 fn ts_type_ann(value: &Value) -> Result<Ty, FormatFault>
-    ensures { Gives ty_shape result (row_at Name.TsTypeAnn (view value.now)) }
+    ensures { Gives ty_shape result (read_as Name.TsTypeAnn (view value.now)) }
 {
     let ty = fields::child(value, "ty")?;
     Ok(Ty::TsTypeAnn { ty })
 }
 
 fn ts_expr_with_type_args(value: &Value) -> Result<Ty, FormatFault>
-    ensures { Gives ty_shape result (row_at Name.TsExprWithTypeArgs (view value.now)) }
+    ensures { Gives ty_shape result (read_as Name.TsExprWithTypeArgs (view value.now)) }
 {
     let expr = fields::child(value, "expr")?;
     let type_args = fields::optional_child(value, "type_args")?;
@@ -51,7 +51,7 @@ fn ts_expr_with_type_args(value: &Value) -> Result<Ty, FormatFault>
 }
 
 fn ts_as_expr(value: &Value) -> Result<Ty, FormatFault>
-    ensures { Gives ty_shape result (row_at Name.TsAsExpr (view value.now)) }
+    ensures { Gives ty_shape result (read_as Name.TsAsExpr (view value.now)) }
 {
     let expr = fields::child(value, "expr")?;
     let ty = fields::child(value, "ty")?;
@@ -59,7 +59,7 @@ fn ts_as_expr(value: &Value) -> Result<Ty, FormatFault>
 }
 
 fn ts_type_assertion(value: &Value) -> Result<Ty, FormatFault>
-    ensures { Gives ty_shape result (row_at Name.TsTypeAssertion (view value.now)) }
+    ensures { Gives ty_shape result (read_as Name.TsTypeAssertion (view value.now)) }
 {
     let expr = fields::child(value, "expr")?;
     let ty = fields::child(value, "ty")?;
@@ -67,7 +67,7 @@ fn ts_type_assertion(value: &Value) -> Result<Ty, FormatFault>
 }
 
 fn ts_type_query(value: &Value) -> Result<Ty, FormatFault>
-    ensures { Gives ty_shape result (row_at Name.TsTypeQuery (view value.now)) }
+    ensures { Gives ty_shape result (read_as Name.TsTypeQuery (view value.now)) }
 {
     Ok(Ty::TsTypeQuery {
         expr_name: fields::child(value, "expr_name")?,
@@ -76,7 +76,7 @@ fn ts_type_query(value: &Value) -> Result<Ty, FormatFault>
 }
 
 fn ts_import_type(alloc: Global, value: &Value) -> Result<Ty, FormatFault>
-    ensures { Gives ty_shape result (row_at Name.TsImportType (view value.now)) }
+    ensures { Gives ty_shape result (read_as Name.TsImportType (view value.now)) }
 {
     Ok(Ty::TsImportType {
         arg: fields::text(alloc, value, "arg")?,
@@ -86,7 +86,7 @@ fn ts_import_type(alloc: Global, value: &Value) -> Result<Ty, FormatFault>
 }
 
 fn ts_tuple_element(value: &Value) -> Result<Ty, FormatFault>
-    ensures { Gives ty_shape result (row_at Name.TsTupleElement (view value.now)) }
+    ensures { Gives ty_shape result (read_as Name.TsTupleElement (view value.now)) }
 {
     let label = fields::optional_child(value, "label")?;
     let ty = fields::child(value, "ty")?;
@@ -94,7 +94,7 @@ fn ts_tuple_element(value: &Value) -> Result<Ty, FormatFault>
 }
 
 fn ts_qualified_name(alloc: Global, value: &Value) -> Result<Ty, FormatFault>
-    ensures { Gives ty_shape result (row_at Name.TsQualifiedName (view value.now)) }
+    ensures { Gives ty_shape result (read_as Name.TsQualifiedName (view value.now)) }
 {
     let left = fields::child(value, "left")?;
     let right = fields::text(alloc, value, "right")?;
@@ -102,9 +102,9 @@ fn ts_qualified_name(alloc: Global, value: &Value) -> Result<Ty, FormatFault>
 }
 
 /// The type, or what holds one, of a kind's text; none where nothing here has it.
-#[tactic(auto, unfolding(crate::specs::Shapes::ty_row))]
+#[tactic(auto, unfolding(crate::specs::KindShapes::read_ty))]
 pub(crate) fn ty(alloc: Global, kind: &str, value: &Value) -> Result<Option<Ty>, FormatFault>
-    ensures { Gives (option_map ty_shape) result (ty_row kind.now (view value.now)) }
+    ensures { Gives (option_map ty_shape) result (read_ty kind.now (view value.now)) }
 {
     match kind {
         "TsTypeParamDecl" => Ok(Some(ts_type_param_decl(alloc, value)?)),

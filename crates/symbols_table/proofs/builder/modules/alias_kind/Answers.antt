@@ -1,5 +1,5 @@
 use Rattle.std.proofs.Common.{sym}
-use Rattle.symbols_tree.specs.NodeRefs.{node_view}
+use Rattle.symbols_syntax.specs.NodeRefs.{node_view}
 use Rattle.symbols_table.proofs.ModuleWalks.{no_alias}
 use Rattle.symbols_table.proofs.builder.modules.alias_kind.Goals as goal
 

@@ -1,8 +1,8 @@
 use Rattle.std.proofs.Common.{◌<◌, take, sym, arith}
 use Rattle.std.specs.Prelude.{Contains}
 use Rattle.std.proofs.lemmas.List.{append-nil, take_all}
-use Rattle.symbols_tree.specs.NodeRefs.{node_view}
-use Rattle.symbols_tree.specs.WellFormed.{IsWellFormed}
+use Rattle.symbols_syntax.specs.NodeRefs.{node_view}
+use Rattle.symbols_syntax.specs.WellFormed.{IsWellFormed}
 use Rattle.symbols_table.specs.Patterns.{leaves_within, pattern_parts}
 use Rattle.symbols_table.proofs.Walks.{take_item}
 use Rattle.symbols_table.proofs.PatternLemmas.{is_found, is_missing, is_above, parts_are_children, leaves_at_name, leaves_at_parts, leaves_more, leaves_outside}

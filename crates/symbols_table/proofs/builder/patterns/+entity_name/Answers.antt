@@ -1,9 +1,9 @@
 use Rattle.std.proofs.Common.{◌≡◌, refl, arith, Some, None, rules}
 use Rattle.std.proofs.lemmas.List.{map-append}
-use Rattle.symbols_tree.specs.declared.tree.kinds.Kind.TheVariants as Kind
-use Rattle.symbols_tree.specs.declared.tree.kinds.Ty.TheVariants as Ty
-use Rattle.symbols_tree.specs.NodeRefs.{node_view}
-use Rattle.symbols_tree.specs.WellFormed.{IsWellFormed}
+use Rattle.symbols_syntax.specs.declared.tree.kinds.Kind.TheVariants as Kind
+use Rattle.symbols_syntax.specs.declared.tree.kinds.Ty.TheVariants as Ty
+use Rattle.symbols_syntax.specs.NodeRefs.{node_view}
+use Rattle.symbols_syntax.specs.WellFormed.{IsWellFormed}
 use Rattle.symbols_table.proofs.PatternLemmas.{is_found, is_missing, left_above, entity_at_name, entity_outside}
 use Rattle.symbols_table.proofs.builder.patterns.+entity_name.Goals as goal
 use Rattle.symbols_table.proofs.builder.patterns.+entity_name.Goals.{in_default-via-in-Expr+in_default, in_default-via-in-Ty+in_default, in_default-via-in_default}

@@ -1,7 +1,7 @@
 use Rattle.std.proofs.Common.{◌||◌, Bool, ◌∙◌, sym, ap, subst, take, map, List, ℕ}
 use Rattle.std.specs.List.{list_any}
 use Rattle.std.specs.Str.{bytes_eq}
-use Rattle.symbols_tree.specs.Graph.{redirect_view}
+use Rattle.symbols_syntax.specs.Graph.{redirect_view}
 use Rattle.symbols_tree.specs.GraphFaults.{sources, IsChained}
 use Rattle.symbols_tree.proofs.ChainLemmas.{source_more, target_told, chained_at, unchained_more, unchained_all, gained}
 use Rattle.symbols_tree.proofs.check.chains.chained_redirect.Goals as goal

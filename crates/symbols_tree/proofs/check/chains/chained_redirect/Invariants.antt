@@ -2,7 +2,7 @@ use Rattle.std.proofs.Common.{◌≡◌, ℕ, List, take, map, Bor}
 use Rattle.std.specs.List.{list_any}
 use Rattle.std.specs.Str.{bytes_eq}
 use Rattle.std.specs.HashSet.{contains}
-use Rattle.symbols_tree.specs.Graph.{redirect_view}
+use Rattle.symbols_syntax.specs.Graph.{redirect_view}
 use Rattle.symbols_tree.specs.GraphFaults.{sources, IsChained}
 use Rattle.symbols_tree.proofs.RepeatLemmas.{NoneBelow}
 use Rattle.symbols_tree.proofs.check.chains.chained_redirect.Given as goal

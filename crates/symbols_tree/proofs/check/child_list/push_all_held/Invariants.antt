@@ -1,7 +1,7 @@
 use Rattle.std.proofs.Common.{◌≡◌, ◌++◌, [], take}
 use Rattle.std.specs.Option.{option_map, option_map_or}
 use Rattle.std.specs.List.{flat_map}
-use Rattle.symbols_tree.specs.Fields.{field_view}
+use Rattle.symbols_syntax.specs.Fields.{field_view}
 use Rattle.symbols_tree.proofs.check.child_list.push_all_held.Given as goal
 
 abbrev pub invariant-loop-slot : goal.invariant-loop-slot

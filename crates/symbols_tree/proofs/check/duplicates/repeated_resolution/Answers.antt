@@ -4,7 +4,7 @@ use Rattle.std.proofs.lemmas.Iterator.{YieldsList-from_slice, YieldsList-from_ma
 use Rattle.std.proofs.lemmas.Iterator.Consumers.{map_from_collect}
 use Rattle.std.proofs.lemmas.Result.{IfOk-at_ok, IfOk-weaker}
 use Rattle.std.proofs.lemmas.Simd.{map-map}
-use Rattle.symbols_tree.specs.Graph.{resolution_view}
+use Rattle.symbols_syntax.specs.Graph.{resolution_view}
 use Rattle.symbols_tree.specs.GraphFaults.{asked}
 use Rattle.symbols_tree.proofs.RepeatLemmas.{first_repeat_read, pair_eq-Decides}
 use Rattle.symbols_tree.proofs.check.duplicates.repeated_resolution.Goals as goal

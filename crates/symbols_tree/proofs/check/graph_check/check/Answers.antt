@@ -1,5 +1,5 @@
 use Rattle.std.proofs.lemmas.Result.{err_from_is_err_and, IfOk-weaker, IfErr-weaker}
-use Rattle.symbols_tree.specs.Graph.{graph_view}
+use Rattle.symbols_syntax.specs.Graph.{graph_view}
 use Rattle.symbols_tree.proofs.GraphFaultOrder.{none_before_first, none_before_more, first_of_all, none_at_all}
 use Rattle.symbols_tree.proofs.check.graph_check.check.Goals as goal
 

@@ -1,6 +1,6 @@
 use Rattle.std.proofs.Common.{arith}
 use Rattle.std.proofs.lemmas.List.{length-map}
-use Rattle.symbols_tree.specs.Graph.{graph_view}
+use Rattle.symbols_syntax.specs.Graph.{graph_view}
 use Rattle.symbols_tree.proofs.GraphFaultOrder.{none_of}
 use Rattle.symbols_tree.proofs.check.graph_check.check_count.Goals as goal
 

@@ -1,6 +1,6 @@
 use Rattle.std.proofs.Common.{◌∙◌, sym, ap, refl, Some, map, List, ℕ, Bor, string_bytes}
 use Rattle.std.specs.Option.{option_map}
-use Rattle.symbols_tree.specs.Graph.{graph_view, resolution_view}
+use Rattle.symbols_syntax.specs.Graph.{graph_view, resolution_view}
 use Rattle.symbols_tree.specs.GraphFaults.{asked}
 use Rattle.symbols_tree.specs.Repeats.{IsRepeat}
 use Rattle.symbols_tree.proofs.GraphFaultOrder.{none_of, first_of_turn}

@@ -1,6 +1,6 @@
 use Rattle.std.proofs.Common.{◌∙◌, sym, ap, refl, Some, map}
 use Rattle.std.specs.Option.{option_copied}
-use Rattle.symbols_tree.specs.Graph.{graph_view, redirect_view}
+use Rattle.symbols_syntax.specs.Graph.{graph_view, redirect_view}
 use Rattle.symbols_tree.specs.GraphFaults.{sources}
 use Rattle.symbols_tree.specs.Repeats.{IsRepeat}
 use Rattle.symbols_tree.proofs.GraphFaultOrder.{none_of, first_of_turn}

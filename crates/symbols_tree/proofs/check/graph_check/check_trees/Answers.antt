@@ -1,8 +1,8 @@
 use Rattle.std.proofs.Common.{rules, ◌≡◌, ◌<◌, ◌≤◌, refl, subst, List, length, get_or, string_bytes}
 use Rattle.std.proofs.lemmas.List.Elements.{All-from_all_within, AllWithin-upto}
 use Rattle.std.proofs.lemmas.Option.{MatchOption-at_some}
-use Rattle.symbols_tree.specs.declared.check.raw.RawModule.{RawModule}
-use Rattle.symbols_tree.specs.Graph.{IsChecked, content_of, graph_view}
+use Rattle.symbols_syntax.specs.declared.graph.raw.RawModule.{RawModule}
+use Rattle.symbols_syntax.specs.Graph.{IsChecked, content_of, graph_view}
 use Rattle.symbols_tree.specs.GraphFaults.{HasTreeFault}
 use Rattle.symbols_tree.proofs.GraphFaultOrder.{none_of, first_of_turn}
 use Rattle.symbols_tree.proofs.TreeRefusal.{first_bad, none_bad}

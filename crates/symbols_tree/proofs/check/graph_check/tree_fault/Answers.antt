@@ -1,7 +1,7 @@
 use Rattle.std.proofs.Common.{◌≡◌, ◌∙◌, sym, ap, List, ℕ, Option, Some, string_bytes}
 use Rattle.std.specs.Option.{option_map}
-use Rattle.symbols_tree.specs.declared.tree.arena.Tree.{Tree}
-use Rattle.symbols_tree.specs.Graph.{esm, content_of}
+use Rattle.symbols_syntax.specs.declared.tree.arena.Tree.{Tree}
+use Rattle.symbols_syntax.specs.Graph.{esm, content_of}
 use Rattle.symbols_tree.proofs.TreeRefusal.{content_told}
 use Rattle.symbols_tree.proofs.check.graph_check.tree_fault.Goals as goal
 

@@ -1,7 +1,7 @@
 use Rattle.std.proofs.Common.{◌≡◌, refl, ap, ◌∙◌, rules, length, List, ℕ, string_bytes}
 use Rattle.std.proofs.lemmas.Iterator.Adapters.{YieldsList-from_vec}
 use Rattle.std.proofs.lemmas.Iterator.Consumers.{YieldsList-turn, YieldsList-end}
-use Rattle.symbols_tree.specs.Graph.{ModuleView}
+use Rattle.symbols_syntax.specs.Graph.{ModuleView}
 use Rattle.symbols_tree.proofs.FilledMaps.{inserted_more, filled_all}
 use Rattle.symbols_tree.proofs.ModuleMaps.{entry_read, entry_of, distinct_entries, modules_filled, keyed_filled}
 use Rattle.symbols_tree.proofs.check.tables.keyed_modules.Goals as goal

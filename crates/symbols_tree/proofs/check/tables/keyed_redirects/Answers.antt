@@ -1,7 +1,7 @@
 use Rattle.std.proofs.Common.{refl, rules, length, string_bytes}
 use Rattle.std.proofs.lemmas.Iterator.Adapters.{YieldsList-from_vec}
 use Rattle.std.proofs.lemmas.Iterator.Consumers.{YieldsList-turn, YieldsList-end}
-use Rattle.symbols_tree.specs.Graph.{redirect_view}
+use Rattle.symbols_syntax.specs.Graph.{redirect_view}
 use Rattle.symbols_tree.proofs.FilledMaps.{inserted_more, filled_all}
 use Rattle.symbols_tree.proofs.check.tables.keyed_redirects.Goals as goal
 

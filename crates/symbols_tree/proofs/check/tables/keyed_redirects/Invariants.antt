@@ -1,5 +1,5 @@
 use Rattle.std.proofs.Common.{◌≡◌, length, map, take}
-use Rattle.symbols_tree.specs.Graph.{redirect_view}
+use Rattle.symbols_syntax.specs.Graph.{redirect_view}
 use Rattle.symbols_tree.specs.Tables.{text_pairs}
 use Rattle.symbols_tree.proofs.check.tables.keyed_redirects.Given as goal
 

@@ -3,7 +3,7 @@ use Rattle.std.specs.Str.{bytes_eq}
 use Rattle.std.proofs.lemmas.Iterator.Adapters.{YieldsList-from_vec}
 use Rattle.std.proofs.lemmas.Iterator.Consumers.{YieldsList-turn}
 use Rattle.std.proofs.lemmas.List.{length_push}
-use Rattle.symbols_tree.specs.Graph.{resolution_view, found_resolution}
+use Rattle.symbols_syntax.specs.Graph.{resolution_view, found_resolution}
 use Rattle.symbols_tree.proofs.ResolutionMaps.{found_next}
 use Rattle.symbols_tree.proofs.check.tables.keyed_resolutions.Goals as goal
 
@@ -14,7 +14,7 @@ loop-row-preserved c =
     let given = c.into_iter-row-iterator.ensures.into_iter_gives in
     let turn = YieldsList-turn (YieldsList-from_vec all given.0 (search rules)) c.loop-row.yielded c.loop-row.row-iterator c.loop-row.yielded_by c.next.result c.next.new.self row c.in-Some.is c.next.ensures.steps in
     record {
-      same = λ r t. c.in_ok-add_resolution.ensures.mapped r t ∙ ap (λ before. cond (bytes_eq r (string_bytes row.referrer) && bytes_eq t (string_bytes row.text)) (Some (string_bytes row.specifier)) before) (c.loop-row.invariant.same r t)
+      same = λ r t. c.in_ok-add_resolution.ensures.found r t ∙ ap (λ before. cond (bytes_eq r (string_bytes row.referrer) && bytes_eq t (string_bytes row.text)) (Some (string_bytes row.specifier)) before) (c.loop-row.invariant.same r t)
           ∙ sym (found_next all (length c.loop-row.yielded) row c.requires turn.0 turn.1 r t) ∙ ap (λ n. found_resolution (take n (map resolution_view all)) r t) (sym (length_push c.loop-row.yielded row));
       unique = c.in_ok-add_resolution.ensures.unique;
     }

@@ -1,5 +1,5 @@
 use Rattle.std.proofs.Common.{ℕ, ◌<◌, get_or}
-use Rattle.symbols_tree.specs.TreeFaults.{IsBadChild}
+use Rattle.symbols_syntax.specs.TreeFaults.{IsBadChild}
 use Rattle.symbols_tree.proofs.check.tree_check.any_bad_child.Given as goal
 
 abbrev pub invariant-loop-id : goal.invariant-loop-id

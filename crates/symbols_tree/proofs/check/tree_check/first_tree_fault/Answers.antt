@@ -1,5 +1,5 @@
 use Rattle.std.proofs.Common.{arith}
-use Rattle.symbols_tree.specs.TreeFaults.{IsFaultless}
+use Rattle.symbols_syntax.specs.TreeFaults.{IsFaultless}
 use Rattle.symbols_tree.proofs.FaultOrder.{faultless}
 use Rattle.symbols_tree.proofs.Faultless.{well_formed_where_faultless}
 use Rattle.symbols_tree.proofs.check.tree_check.first_tree_fault.Goals as goal

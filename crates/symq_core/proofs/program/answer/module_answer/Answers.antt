@@ -1,7 +1,7 @@
 use Rattle.std.proofs.Common.{Option, subst}
 use Rattle.symbols_table.specs.declared.info.module_info.ModuleInfo.{ModuleInfo}
 use Rattle.symbols_table.specs.Analysis.{IsAnalysis}
-use Rattle.symq_core.specs.Queries.{query_view}
+use Rattle.symq_core.specs.Answering.{query_view}
 use Rattle.symq_core.proofs.Tables.{info_answered, fault_answer}
 use Rattle.symq_core.proofs.program.answer.module_answer.Goals as goal
 

@@ -20,8 +20,8 @@ returns-then-read-eq0-clause-stopped g c =
     let none : v.0 ++ take c.in-Ok.read c.read.new.buffer ≡ v.0 = ap (λ k. v.0 ++ take k c.read.new.buffer) c.if-read-eq0.true ∙ append-nil v.0 in
     let all : Consumes start left v.0 = subst (Consumes start left) none (Consumes-trans start (g.R.Input.remaining l.reader) left v.0 (take c.in-Ok.read c.read.new.buffer) v.1 c.in-Ok.ensures.consumed.0) in
     let room : 0 < length c.read.new.buffer = grind (arith, common_steps) in
-    stops_if answer c.finish.result _ _ start left before (g.W.Output.written l.writer) after (l.pending.answers.items ++ answers_to answer (line_in l.pending.line.items)) c.finish.ensures.err
-    (λ q. begun_at_end answer start left before (g.W.Output.written l.writer) after v.0 l.pending.line.items l.pending.answers.items all (c.in-Ok.ensures.consumed.1 c.if-read-eq0.true room) v.3 v.4 v.2 q)
+    stops_if answer c.finish.result _ _ start left before (g.W.Output.written l.writer) after (l.session.answers.items ++ answers_to answer (line_in l.session.line.items)) (rw v.8 at c.finish.ensures.err)
+    (λ q. begun_at_end answer start left before (g.W.Output.written l.writer) after v.0 l.session.line.items l.session.answers.items all (c.in-Ok.ensures.consumed.1 c.if-read-eq0.true room) v.3 v.4 v.2 q)
 
 pub returns-in_err-take_block-clause-stopped : goal.returns-in_err-take_block-clause-stopped
 returns-in_err-take_block-clause-stopped g c =
@@ -29,7 +29,7 @@ returns-in_err-take_block-clause-stopped g c =
     let v = l.invariant in
     let answer = answer_text c.args.graph.now in
     let p = err_from_is_err_and c.from_residual-in_err-take_block.result c.from_residual-in_err-take_block.ensures.1 in
-    let e = c.in_err-take_block.ensures.err in
+    let e = rw v.8 at c.in_err-take_block.ensures.err in
     let block = take c.in-Ok.read c.read.new.buffer in
     let start = g.R.Input.remaining c.args.reader.now in
     let left = g.R.Input.remaining c.read.new.self in
@@ -38,21 +38,22 @@ returns-in_err-take_block-clause-stopped g c =
     let after = g.W.Output.written c.take_block.new.writer in
     rw (p.1, p.2) (stops_from answer c.in_err-take_block.field-0.0 _ _ start left before after e.0
     (begun_output answer start left before after (v.0 ++ block) (Consumes-trans start (g.R.Input.remaining l.reader) left v.0 block v.1 c.in-Ok.ensures.consumed.0)
-    (block_begun answer before middle after v.0 l.pending.line.items l.pending.answers.items block v.3 v.4 v.2 e.1)))
+    (block_begun answer before middle after v.0 l.session.line.items l.session.answers.items block v.3 v.4 v.2 e.1)))
 
 pub loop-turn-preserved : goal.loop-turn-preserved
 loop-turn-preserved g c =
     let l = c.loop-turn in
     let v = l.invariant in
     let answer = answer_text c.args.graph.now in
-    let done = c.in_ok-take_block.ensures.ok in
+    let done = rw v.8 at c.in_ok-take_block.ensures.ok in
     let block = take c.in-Ok.read c.read.new.buffer in (
       v.0 ++ block,
       Consumes-trans _ _ _ v.0 block v.1 c.in-Ok.ensures.consumed.0,
-      block_sent answer _ _ _ v.0 l.pending.line.items l.pending.answers.items block v.3 v.4 v.2 done.0,
+      block_sent answer _ _ _ v.0 l.session.line.items l.session.answers.items block v.3 v.4 v.2 done.0,
       done.1,
-      block_line v.0 l.pending.line.items c.take_block.new.pending.line.items block v.4 done.2,
+      block_line v.0 l.session.line.items c.take_block.new.self.line.items block v.4 done.2,
       grind (arith, common_steps),
       grind arith,
       done.3 ∙ v.7,
+      ap (λ t. t.now) c.in_ok-take_block.ensures.graph ∙ v.8,
     )

@@ -8,5 +8,6 @@ abbrev pub invariant-loop-turn : goal.invariant-loop-turn
 invariant-loop-turn g l =
     (read : List ℕ) × Consumes (g.R.Input.remaining l.initial.reader) (g.R.Input.remaining l.reader) read
     × Appends (g.W.Output.written l.initial.writer) (g.W.Output.written l.writer) (answers_to (answer_text l.graph) (ended_lines read))
-    × (l.pending.answers.items ≡ []) × (l.pending.line.items ≡ last_part (parts_of read)) × (l.turn ≤ length read)
+    × (l.session.answers.items ≡ []) × (l.session.line.items ≡ last_part (parts_of read)) × (l.turn ≤ length read)
     × (g.R.Input.failures l.reader ≡ g.R.Input.failures l.initial.reader) × (g.W.Output.failures l.writer ≡ g.W.Output.failures l.initial.writer)
+    × (l.session.graph.now ≡ l.graph)

@@ -1,11 +1,11 @@
 use Rattle.std.proofs.Common.{◌≡◌, ℕ, suc, ◌+◌, ◌≤◌, take, drop, List, [], length, Some, refl, sym, ◌∙◌, ap, subst, arith, rules}
 use Rattle.std.proofs.lemmas.List.{take_all}
-use Rattle.symbols_tree.specs.declared.tree.kinds.Kind.{Kind}
-use Rattle.symbols_tree.specs.declared.tree.kinds.Decl.TheVariants as Decl
-use Rattle.symbols_tree.specs.NodeRefs.{node_view, child_of}
-use Rattle.symbols_tree.specs.ChildFields.{id_of, body_node_of}
-use Rattle.symbols_tree.specs.Ids.{id_view}
-use Rattle.symbols_tree.specs.WellFormed.{IsWellFormed}
+use Rattle.symbols_syntax.specs.declared.tree.kinds.Kind.{Kind}
+use Rattle.symbols_syntax.specs.declared.tree.kinds.Decl.TheVariants as Decl
+use Rattle.symbols_syntax.specs.NodeRefs.{node_view, child_of}
+use Rattle.symbols_syntax.specs.ChildFields.{id_of, body_node_of}
+use Rattle.symbols_syntax.specs.Ids.{id_view}
+use Rattle.symbols_syntax.specs.WellFormed.{IsWellFormed}
 use Rattle.symbols_table.specs.declared.builder.table.Setting.{Setting}
 use Rattle.symbols_table.specs.NamespaceViews.{namespace_view}
 use Rattle.symbols_table.specs.DeclViews.{Declaration, decl_view}
@@ -15,6 +15,7 @@ use Rattle.symbols_table.specs.Levels.{AreAbove}
 use Rattle.symbols_table.specs.Events.{rows_after, changes_of}
 use Rattle.symbols_table.specs.TreeEvents.{part_events, body_events, body_within, body_at, item_within, block_within}
 use Rattle.symbols_table.specs.Tables.{ReadsAll, ReadsWalk}
+use Rattle.symbols_table.proofs.Keeping.{keeps_same}
 use Rattle.symbols_table.proofs.Walks.{take_item, split_item, each_none, each_next, each_fault, none_read, on_none, on_reads}
 use Rattle.symbols_table.proofs.PatternLemmas.{is_found}
 use Rattle.symbols_table.proofs.ItemWalks.{later_read, later_fault, declared_fault, declared_inner_fault, declared_read, child_found, bodies_are_children, items_above, rest_above, body_reads, item_reads, plain_reads, body_stays, namespace_reads, namespace_inner, namespace_decl, namespace_read, namespace_stays, namespace_at}
@@ -22,8 +23,8 @@ use Rattle.symbols_table.proofs.builder.table.Builder.+walk.Goals as goal
 
 -- ---- body
 
-pub body-items-requires : goal.body-items-requires
-body-items-requires t c =
+pub walk_body-walk_items-requires : goal.walk_body-walk_items-requires
+walk_body-walk_items-requires t c =
     let node = node_view c.in-Some.node in
     let found = is_found c.args.whole.tree.now c.args.n node c.in-Some.ensures in
     let formed : IsWellFormed node.tree.nodes.items = rw found.same_tree c.requires.well_formed in
@@ -31,18 +32,18 @@ body-items-requires t c =
     let above : AreAbove node.tree.nodes.items node.number c.deref.result.now = rw c.deref.ensures.value (items_above node (Kind.Decl (Decl.TsModuleBlock c.in-Decl-TsModuleBlock.body)) formed c.in-Some.node.inside (c.kind.ensures ∙ ap (λ (k : Kind). Some k) kind)) in
     (rw (found.same_tree, found.number_is) (omega arith), (formed, (above, (c.requires.filled, c.requires.holder))))
 
-pub body-returns-in-Decl-TsModuleBlock-clause-table : goal.body-returns-in-Decl-TsModuleBlock-clause-table
-body-returns-in-Decl-TsModuleBlock-clause-table t c = λ levels parts enough deep.
+pub walk_body-returns-in-Decl-TsModuleBlock-clause-table : goal.walk_body-returns-in-Decl-TsModuleBlock-clause-table
+walk_body-returns-in-Decl-TsModuleBlock-clause-table t c = λ levels parts enough deep.
     let whole = node_view c.args.whole in
     let node = node_view c.in-Some.node in
     let found = is_found c.args.whole.tree.now c.args.n node c.in-Some.ensures in
     let kind : c.kind.result.now ≡ Kind.Decl (Decl.TsModuleBlock c.in-Decl-TsModuleBlock.body) = search rules in
-    let read = rw (found.same_tree, c.deref.ensures.value) at (c.items.ensures.table levels) in
-    body_reads c.items.result c.args.self.now c.items.new.self c.args.holder (block_within c.args.whole.tree.now levels) whole c.args.ambient parts c.args.n node (Kind.Decl (Decl.TsModuleBlock c.in-Decl-TsModuleBlock.body)) found (c.kind.ensures ∙ ap (λ (k : Kind). Some k) kind) deep
+    let read = rw (found.same_tree, c.deref.ensures.value) at (c.walk_items.ensures.table levels) in
+    body_reads c.walk_items.result c.args.self.now c.walk_items.new.self c.args.holder (block_within c.args.whole.tree.now levels) whole c.args.ambient parts c.args.n node (Kind.Decl (Decl.TsModuleBlock c.in-Decl-TsModuleBlock.body)) found (c.kind.ensures ∙ ap (λ (k : Kind). Some k) kind) deep
     (λ left more. read (omega arith))
 
-pub body-returns-in_default-namespace_id-clause-table : goal.body-returns-in_default-namespace_id-clause-table
-body-returns-in_default-namespace_id-clause-table t c = λ levels parts enough deep.
+pub walk_body-returns-in_default-namespace_id-clause-table : goal.walk_body-returns-in_default-namespace_id-clause-table
+walk_body-returns-in_default-namespace_id-clause-table t c = λ levels parts enough deep.
     let whole = node_view c.args.whole in
     let node = node_view c.in-Some.node in
     let found = is_found c.args.whole.tree.now c.args.n node c.in-Some.ensures in
@@ -54,8 +55,8 @@ body-returns-in_default-namespace_id-clause-table t c = λ levels parts enough d
     body_stays c.args.self.now c.args.holder block whole c.args.ambient parts c.args.n node (Kind.Decl (Decl.TsNamespaceDecl id rest)) found is deep
     (λ left rows h before. on_none c.args.self.now rows (sym_in id_of node) (part_events whole node (body_within block whole c.args.ambient left rest)) h (length rows) (sym c.in_default-namespace_id.ensures) before)
 
-pub body-returns-in_err-symbol-in-Decl-TsNamespaceDecl-clause-table : goal.body-returns-in_err-symbol-in-Decl-TsNamespaceDecl-clause-table
-body-returns-in_err-symbol-in-Decl-TsNamespaceDecl-clause-table t c = λ levels parts enough deep.
+pub walk_body-returns-in_err-symbol-in-Decl-TsNamespaceDecl-clause-table : goal.walk_body-returns-in_err-symbol-in-Decl-TsNamespaceDecl-clause-table
+walk_body-returns-in_err-symbol-in-Decl-TsNamespaceDecl-clause-table t c = λ levels parts enough deep.
     let whole = node_view c.args.whole in
     let node = node_view c.in-Some.node in
     let found = is_found c.args.whole.tree.now c.args.n node c.in-Some.ensures in
@@ -65,15 +66,15 @@ body-returns-in_err-symbol-in-Decl-TsNamespaceDecl-clause-table t c = λ levels 
     let is = c.kind.ensures ∙ ap (λ (k : Kind). Some k) kind in
     let block = block_within c.args.whole.tree.now levels in
     let limit = c.args.self.now.setting.limit in
-    body_reads c.from_residual.result c.args.self.now c.part.new.self c.args.holder block whole c.args.ambient parts c.args.n node (Kind.Decl (Decl.TsNamespaceDecl id rest)) found is deep
+    body_reads c.from_residual.result c.args.self.now c.declare_part.new.self c.args.holder block whole c.args.ambient parts c.args.n node (Kind.Decl (Decl.TsNamespaceDecl id rest)) found is deep
     (λ left more rows h before at.
     let name = c.in-Some-namespace_id.id.now in
     let inner = body_within block whole c.args.ambient left rest in
-    on_reads c.from_residual.result limit c.part.new.self rows (sym_in id_of node) name (part_events whole node inner) h (length rows) (sym c.in-Some-namespace_id.ensures)
-    (later_fault c.from_residual.result whole node name inner rows h limit c.part.new.self c.in_err-symbol-in-Decl-TsNamespaceDecl.field-0.0 c.from_residual.ensures.1 (c.in_err-symbol-in-Decl-TsNamespaceDecl.ensures.table rows h before at)))
+    on_reads c.from_residual.result limit c.declare_part.new.self rows (sym_in id_of node) name (part_events whole node inner) h (length rows) (sym c.in-Some-namespace_id.ensures)
+    (later_fault c.from_residual.result whole node name inner rows h limit c.declare_part.new.self c.in_err-symbol-in-Decl-TsNamespaceDecl.field-0.0 c.from_residual.ensures.1 (c.in_err-symbol-in-Decl-TsNamespaceDecl.ensures.table rows h before at)))
 
-pub body-body-requires : goal.body-body-requires
-body-body-requires t c =
+pub walk_body-walk_body-requires : goal.walk_body-walk_body-requires
+walk_body-walk_body-requires t c =
     let node = node_view c.in-Some.node in
     let found = is_found c.args.whole.tree.now c.args.n node c.in-Some.ensures in
     let formed : IsWellFormed node.tree.nodes.items = rw found.same_tree c.requires.well_formed in
@@ -82,10 +83,10 @@ body-body-requires t c =
     let kind : c.kind.result.now ≡ Kind.Decl (Decl.TsNamespaceDecl id rest) = search rules in
     let is = c.kind.ensures ∙ ap (λ (k : Kind). Some k) kind in
     let above = rw (found.same_tree, found.number_is) at (rest_above node id rest formed c.in-Some.node.inside is) in
-    (omega (arith, above.0), (c.requires.well_formed, (above.1, (c.in_ok-symbol-in-Decl-TsNamespaceDecl.ensures.filled, c.in_ok-symbol-in-Decl-TsNamespaceDecl.ensures.inside))))
+    (omega (arith, above.0), (c.requires.well_formed, (above.1, (c.in_ok-symbol-in-Decl-TsNamespaceDecl.ensures.keeps.filled, c.in_ok-symbol-in-Decl-TsNamespaceDecl.ensures.inside))))
 
-pub body-returns-in_ok-symbol-in-Decl-TsNamespaceDecl-clause-table : goal.body-returns-in_ok-symbol-in-Decl-TsNamespaceDecl-clause-table
-body-returns-in_ok-symbol-in-Decl-TsNamespaceDecl-clause-table t c = λ levels parts enough deep.
+pub walk_body-returns-in_ok-symbol-in-Decl-TsNamespaceDecl-clause-table : goal.walk_body-returns-in_ok-symbol-in-Decl-TsNamespaceDecl-clause-table
+walk_body-returns-in_ok-symbol-in-Decl-TsNamespaceDecl-clause-table t c = λ levels parts enough deep.
     let whole = node_view c.args.whole in
     let node = node_view c.in-Some.node in
     let found = is_found c.args.whole.tree.now c.args.n node c.in-Some.ensures in
@@ -97,19 +98,17 @@ body-returns-in_ok-symbol-in-Decl-TsNamespaceDecl-clause-table t c = λ levels p
     let above = rw (found.same_tree, found.number_is) at (rest_above node id rest formed c.in-Some.node.inside is) in
     let block = block_within c.args.whole.tree.now levels in
     let limit = c.args.self.now.setting.limit in
-    body_reads c.body.result c.args.self.now c.body.new.self c.args.holder block whole c.args.ambient parts c.args.n node (Kind.Decl (Decl.TsNamespaceDecl id rest)) found is deep
+    body_reads c.walk_body.result c.args.self.now c.walk_body.new.self c.args.holder block whole c.args.ambient parts c.args.n node (Kind.Decl (Decl.TsNamespaceDecl id rest)) found is deep
     (λ left more rows h before at.
     let name = c.in-Some-namespace_id.id.now in
     let inner = body_within block whole c.args.ambient left rest in
-    on_reads c.body.result limit c.body.new.self rows (sym_in id_of node) name (part_events whole node inner) h (length rows) (sym c.in-Some-namespace_id.ensures)
-    (later_read c.body.result whole node name inner rows h c.in_ok-symbol-in-Decl-TsNamespaceDecl.symbol limit c.part.new.self c.body.new.self (ap (λ (s : Setting). s.limit) c.in_ok-symbol-in-Decl-TsNamespaceDecl.ensures.setting) (c.in_ok-symbol-in-Decl-TsNamespaceDecl.ensures.table rows h before at)
-    (c.body.ensures.table levels left (omega (arith, above.0)) (omega (arith, above.0)))))
+    on_reads c.walk_body.result limit c.walk_body.new.self rows (sym_in id_of node) name (part_events whole node inner) h (length rows) (sym c.in-Some-namespace_id.ensures)
+    (later_read c.walk_body.result whole node name inner rows h c.in_ok-symbol-in-Decl-TsNamespaceDecl.symbol limit c.declare_part.new.self c.walk_body.new.self (ap (λ (s : Setting). s.limit) c.in_ok-symbol-in-Decl-TsNamespaceDecl.ensures.keeps.setting) (c.in_ok-symbol-in-Decl-TsNamespaceDecl.ensures.table rows h before at)
+    (c.walk_body.ensures.table levels left (omega (arith, above.0)) (omega (arith, above.0)))))
 
-pub body-returns-in_default-kind : goal.body-returns-in_default-kind
-body-returns-in_default-kind t c = record {
-  filled = c.requires.filled;
-  setting = refl;
-  longer = omega arith;
+pub walk_body-returns-in_default-kind : goal.walk_body-returns-in_default-kind
+walk_body-returns-in_default-kind t c = record {
+  keeps = keeps_same _ _ c.requires.filled;
   table = λ levels parts enough deep.
       let whole = node_view c.args.whole in
       let node = node_view c.in-Some.node in
@@ -119,11 +118,9 @@ body-returns-in_default-kind t c = record {
       (λ left rows h is. let nothing : body_events (body_within block whole c.args.ambient left) block whole c.args.ambient node c.kind.result.now h (length rows) ≡ [] = search rules in rw nothing (none_read c.args.self.now rows is));
 }
 
-pub body-returns-in_default-kind-2 : goal.body-returns-in_default-kind-2
-body-returns-in_default-kind-2 t c = record {
-  filled = c.requires.filled;
-  setting = refl;
-  longer = omega arith;
+pub walk_body-returns-in_default-kind-2 : goal.walk_body-returns-in_default-kind-2
+walk_body-returns-in_default-kind-2 t c = record {
+  keeps = keeps_same _ _ c.requires.filled;
   table = λ levels parts enough deep.
       let whole = node_view c.args.whole in
       let node = node_view c.in-Some.node in
@@ -135,29 +132,29 @@ body-returns-in_default-kind-2 t c = record {
 
 -- ---- inside
 
-pub inside-body-requires : goal.inside-body-requires
-inside-body-requires t c =
+pub walk_inside-walk_body-requires : goal.walk_inside-walk_body-requires
+walk_inside-walk_body-requires t c =
     let whole = node_view c.args.whole in
     let child = child_found whole (node_view c.in-Some.body) body_node_of c.requires.well_formed c.args.whole.inside bodies_are_children c.in-Some.ensures in
     rw c.node_id.ensures (omega (arith, child.above), (c.requires.well_formed, (child.inside, (c.requires.filled, c.requires.holder))))
 
-pub inside-returns-in-Some-clause-table : goal.inside-returns-in-Some-clause-table
-inside-returns-in-Some-clause-table t c = λ levels enough rows h is at.
+pub walk_inside-returns-in-Some-clause-table : goal.walk_inside-returns-in-Some-clause-table
+walk_inside-returns-in-Some-clause-table t c = λ levels enough rows h is at.
     let whole = node_view c.args.whole in
     let body = node_view c.in-Some.body in
     let child = child_found whole body body_node_of c.requires.well_formed c.args.whole.inside bodies_are_children c.in-Some.ensures in
-    let read = rw c.node_id.ensures at (c.body.ensures.table levels (length whole.tree.nodes.items)) in
-    on_reads c.body.result c.args.self.now.setting.limit c.body.new.self rows (child_of whole body_node_of) body (body_at (block_within whole.tree levels) whole c.args.ambient) h (length rows) (sym c.in-Some.ensures) (read (omega (arith, child.above)) (omega arith) rows h is at)
+    let read = rw c.node_id.ensures at (c.walk_body.ensures.table levels (length whole.tree.nodes.items)) in
+    on_reads c.walk_body.result c.args.self.now.setting.limit c.walk_body.new.self rows (child_of whole body_node_of) body (body_at (block_within whole.tree levels) whole c.args.ambient) h (length rows) (sym c.in-Some.ensures) (read (omega (arith, child.above)) (omega arith) rows h is at)
 
-pub inside-returns-in-None-clause-table : goal.inside-returns-in-None-clause-table
-inside-returns-in-None-clause-table t c = λ levels enough rows h is at.
+pub walk_inside-returns-in-None-clause-table : goal.walk_inside-returns-in-None-clause-table
+walk_inside-returns-in-None-clause-table t c = λ levels enough rows h is at.
     let whole = node_view c.args.whole in
     on_none c.args.self.now rows (child_of whole body_node_of) (body_at (block_within whole.tree levels) whole c.args.ambient) h (length rows) (sym c.in-None.ensures) is
 
 -- ---- item
 
-pub item-namespace-requires : goal.item-namespace-requires
-item-namespace-requires t c =
+pub walk_item-walk_namespace-requires : goal.walk_item-walk_namespace-requires
+walk_item-walk_namespace-requires t c =
     let node = node_view c.in-Some.node in
     let found = is_found c.args.parent.tree.now c.args.n node c.in-Some.ensures in
     let formed : IsWellFormed node.tree.nodes.items = rw found.same_tree c.requires.well_formed in
@@ -166,8 +163,8 @@ item-namespace-requires t c =
     let there : IsWellFormed c.in-Some-namespace_of.namespace.decl.tree.now.nodes.items = rw same c.requires.well_formed in
     (rw same (omega (arith, at.from, found.number_is)), (there, (c.requires.filled, c.requires.holder)))
 
-pub item-returns-in-Some-namespace_of-clause-table : goal.item-returns-in-Some-namespace_of-clause-table
-item-returns-in-Some-namespace_of-clause-table t c = λ levels enough.
+pub walk_item-returns-in-Some-namespace_of-clause-table : goal.walk_item-returns-in-Some-namespace_of-clause-table
+walk_item-returns-in-Some-namespace_of-clause-table t c = λ levels enough.
     let tree = c.args.parent.tree.now in
     let node = node_view c.in-Some.node in
     let found = is_found tree c.args.n node c.in-Some.ensures in
@@ -175,78 +172,74 @@ item-returns-in-Some-namespace_of-clause-table t c = λ levels enough.
     let namespace = namespace_view c.in-Some-namespace_of.namespace in
     let at = namespace_at node namespace formed c.in-Some.node.inside c.in-Some-namespace_of.ensures in
     let same : namespace.decl.tree ≡ tree = at.same_tree ∙ found.same_tree in
-    item_reads c.namespace.result c.args.self.now c.namespace.new.self c.args.holder tree c.args.scope levels c.args.n node found enough
+    item_reads c.walk_namespace.result c.args.self.now c.walk_namespace.new.self c.args.holder tree c.args.scope levels c.args.n node found enough
     (λ left more.
     let far : length namespace.decl.tree.nodes.items ≤ namespace.decl.number + suc left = rw same (omega (arith, at.from, found.number_is)) in
-    namespace_reads c.namespace.result c.args.self.now c.namespace.new.self c.args.holder tree left c.args.scope node namespace same c.in-Some-namespace_of.ensures (c.namespace.ensures.table left far))
+    namespace_reads c.walk_namespace.result c.args.self.now c.walk_namespace.new.self c.args.holder tree left c.args.scope node namespace same c.in-Some-namespace_of.ensures (c.walk_namespace.ensures.table left far))
 
-pub item-returns-in-None-clause-table : goal.item-returns-in-None-clause-table
-item-returns-in-None-clause-table t c = λ levels enough.
+pub walk_item-returns-in-None-clause-table : goal.walk_item-returns-in-None-clause-table
+walk_item-returns-in-None-clause-table t c = λ levels enough.
     let tree = c.args.parent.tree.now in
     let node = node_view c.in-Some.node in
     let found = is_found tree c.args.n node c.in-Some.ensures in
-    item_reads c.plain_item.result c.args.self.now c.plain_item.new.self c.args.holder tree c.args.scope levels c.args.n node found enough
-    (λ left more. plain_reads c.plain_item.result c.args.self.now c.plain_item.new.self c.args.holder (block_within tree left) c.args.scope node c.in-None.ensures c.plain_item.ensures.table)
+    item_reads c.walk_plain_item.result c.args.self.now c.walk_plain_item.new.self c.args.holder tree c.args.scope levels c.args.n node found enough
+    (λ left more. plain_reads c.walk_plain_item.result c.args.self.now c.walk_plain_item.new.self c.args.holder (block_within tree left) c.args.scope node c.in-None.ensures c.walk_plain_item.ensures.table)
 
 -- ---- items
 
-pub items-loop-n-init : goal.items-loop-n-init
-items-loop-n-init t c = λ levels enough. each_none _ (item_within c.args.parent.tree.now levels c.args.scope) _ c.requires.filled
+pub walk_items-loop-n-init : goal.walk_items-loop-n-init
+walk_items-loop-n-init t c = λ levels enough. each_none _ (item_within c.args.parent.tree.now levels c.args.scope) _ c.requires.filled
 
-pub items-item-requires : goal.items-item-requires
-items-item-requires t c =
+pub walk_items-walk_item-requires : goal.walk_items-walk_item-requires
+walk_items-walk_item-requires t c =
     let n = c.n-item.result in
     let above = c.requires.above c.loop-n.n-index n c.loop-n-test.true in
     let walked = c.loop-n.invariant (length c.args.parent.tree.now.nodes.items) (omega arith) in
     (omega (arith, above.0, c.n-item.is, c.args.parent.inside), (c.requires.well_formed, (omega (arith, above.1, c.n-item.is), (walked.filled, omega (arith, walked.longer, c.requires.holder)))))
 
-pub items-loop-n-preserved : goal.items-loop-n-preserved
-items-loop-n-preserved t c = λ levels enough.
+pub walk_items-loop-n-preserved : goal.walk_items-loop-n-preserved
+walk_items-loop-n-preserved t c = λ levels enough.
     let n = c.n-item.result in
     let walk = item_within c.args.parent.tree.now levels c.args.scope in
     let above = c.requires.above c.loop-n.n-index n c.loop-n-test.true in
     rw (take_item c.args.items.now c.loop-n.n-index n c.loop-n-test.true c.n-item.is)
-    (each_next walk (take c.loop-n.n-index c.args.items.now) (c.loop-n.invariant levels enough) c.item.new.self n c.in_ok-item.field-0 c.in_ok-item.ensures.filled c.in_ok-item.ensures.setting c.in_ok-item.ensures.longer (c.in_ok-item.ensures.table levels (omega (arith, above.0, c.n-item.is))))
+    (each_next walk (take c.loop-n.n-index c.args.items.now) (c.loop-n.invariant levels enough) c.walk_item.new.self n c.in_ok-walk_item.field-0 c.in_ok-walk_item.ensures.keeps (c.in_ok-walk_item.ensures.table levels (omega (arith, above.0, c.n-item.is))))
 
-pub items-returns-in_err-item-clause-setting : goal.items-returns-in_err-item-clause-setting
-items-returns-in_err-item-clause-setting t c =
+pub walk_items-returns-in_err-walk_item-clause-keeps : goal.walk_items-returns-in_err-walk_item-clause-keeps
+walk_items-returns-in_err-walk_item-clause-keeps t c =
     let walked = c.loop-n.invariant (length c.args.parent.tree.now.nodes.items) (omega arith) in
-    c.in_err-item.ensures.setting ∙ walked.setting
+    record { setting = c.in_err-walk_item.ensures.keeps.setting ∙ walked.setting; filled = search rules; longer = search rules }
 
-pub items-returns-in_err-item-clause-table : goal.items-returns-in_err-item-clause-table
-items-returns-in_err-item-clause-table t c = λ levels enough.
+pub walk_items-returns-in_err-walk_item-clause-table : goal.walk_items-returns-in_err-walk_item-clause-table
+walk_items-returns-in_err-walk_item-clause-table t c = λ levels enough.
     let items = c.args.items.now in
     let n = c.n-item.result in
     let walk = item_within c.args.parent.tree.now levels c.args.scope in
     let above = c.requires.above c.loop-n.n-index n c.loop-n-test.true in
-    let P : List ℕ → Type 0 = λ ms. ReadsWalk c.from_residual.result c.args.self.now c.item.new.self (each walk ms) c.args.holder in
+    let P : List ℕ → Type 0 = λ ms. ReadsWalk c.from_residual.result c.args.self.now c.walk_item.new.self (each walk ms) c.args.holder in
     subst P (split_item items c.loop-n.n-index n c.loop-n-test.true c.n-item.is)
-    (each_fault ℕ walk (take c.loop-n.n-index items) (c.loop-n.invariant levels enough) c.item.new.self c.item.new.self n (drop (suc c.loop-n.n-index) items) c.in_err-item.field-0.0 c.from_residual.result c.from_residual.ensures.1 (c.in_err-item.ensures.table levels (omega (arith, above.0, c.n-item.is))))
+    (each_fault ℕ walk (take c.loop-n.n-index items) (c.loop-n.invariant levels enough) c.walk_item.new.self c.walk_item.new.self n (drop (suc c.loop-n.n-index) items) c.in_err-walk_item.field-0.0 c.from_residual.result c.from_residual.ensures.1 (c.in_err-walk_item.ensures.table levels (omega (arith, above.0, c.n-item.is))))
 
-pub items-returns-clause-filled : goal.items-returns-clause-filled
-items-returns-clause-filled t c = let walked = c.loop-n.invariant (length c.args.parent.tree.now.nodes.items) (omega arith) in walked.filled
+pub walk_items-returns-clause-keeps : goal.walk_items-returns-clause-keeps
+walk_items-returns-clause-keeps t c =
+    let walked = c.loop-n.invariant (length c.args.parent.tree.now.nodes.items) (omega arith) in
+    record { setting = walked.setting; filled = walked.filled; longer = walked.longer }
 
-pub items-returns-clause-setting : goal.items-returns-clause-setting
-items-returns-clause-setting t c = let walked = c.loop-n.invariant (length c.args.parent.tree.now.nodes.items) (omega arith) in walked.setting
-
-pub items-returns-clause-longer : goal.items-returns-clause-longer
-items-returns-clause-longer t c = let walked = c.loop-n.invariant (length c.args.parent.tree.now.nodes.items) (omega arith) in walked.longer
-
-pub items-returns-clause-table : goal.items-returns-clause-table
-items-returns-clause-table t c = λ levels enough.
+pub walk_items-returns-clause-table : goal.walk_items-returns-clause-table
+walk_items-returns-clause-table t c = λ levels enough.
     let all = take_all c.loop-n.n-index c.args.items.now (omega arith) in
     let walked = rw all at (c.loop-n.invariant levels enough) in
     walked.table
 
 -- ---- namespace
 
-pub namespace-returns-in_default-clause-table : goal.namespace-returns-in_default-clause-table
-namespace-returns-in_default-clause-table t c = λ levels enough rows h is at.
+pub walk_namespace-returns-in_default-clause-table : goal.walk_namespace-returns-in_default-clause-table
+walk_namespace-returns-in_default-clause-table t c = λ levels enough rows h is at.
     let namespace = namespace_view c.args.namespace in
     namespace_stays c.args.self.now rows h (block_within namespace.decl.tree levels) c.args.scope namespace c.kind-kind.result.now c.kind-kind.ensures (sym c.in_default.ensures) is
 
-pub namespace-returns-in_err-symbol-clause-table : goal.namespace-returns-in_err-symbol-clause-table
-namespace-returns-in_err-symbol-clause-table t c = λ levels enough rows h is at.
+pub walk_namespace-returns-in_err-symbol-clause-table : goal.walk_namespace-returns-in_err-symbol-clause-table
+walk_namespace-returns-in_err-symbol-clause-table t c = λ levels enough rows h is at.
     let namespace = namespace_view c.args.namespace in
     let kind = c.kind-kind.result.now in
     let id = c.in-Some.id.now in
@@ -260,35 +253,35 @@ namespace-returns-in_err-symbol-clause-table t c = λ levels enough rows h is at
     namespace_read r limit c.declare.new.self rows h block c.args.scope namespace kind id c.kind-kind.ensures (sym c.in-Some.ensures)
     (subst P decl (declared_fault r test (id_view id) (decl_view c.definition-definition.result) inner rows h c.args.holder limit c.declare.new.self c.in_err-symbol.field-0.0 at c.from_residual.ensures.1 (c.in_err-symbol.ensures.table (changes_of rows) is)))
 
-pub namespace-returns-in_err-inside-clause-table : goal.namespace-returns-in_err-inside-clause-table
-namespace-returns-in_err-inside-clause-table t c = λ levels enough rows h is at.
+pub walk_namespace-returns-in_err-walk_inside-clause-table : goal.walk_namespace-returns-in_err-walk_inside-clause-table
+walk_namespace-returns-in_err-walk_inside-clause-table t c = λ levels enough rows h is at.
     let namespace = namespace_view c.args.namespace in
     let kind = c.kind-kind.result.now in
     let id = c.in-Some.id.now in
     let block = block_within namespace.decl.tree levels in
     let limit = c.args.self.now.setting.limit in
-    let r = c.from_residual-in_err-inside.result in
+    let r = c.from_residual-in_err-walk_inside.result in
     let inner = namespace_inner block c.args.scope namespace kind in
     let test = is_exported c.args.scope namespace.exported in
     let decl : decl_view c.definition-definition.result ≡ namespace_decl namespace = c.definition-definition.ensures ∙ (rw (c.declared_as-form.ensures, c.whole_range.ensures) refl) in
-    let P : Declaration → Type 0 = λ d. ReadsAll r limit c.inside.new.self (rows_after rows (declared test (id_view id) d inner h (length rows))) in
-    let read = rw c.inner_ambient.ensures at (c.in_err-inside.ensures.table levels enough) in
-    namespace_read r limit c.inside.new.self rows h block c.args.scope namespace kind id c.kind-kind.ensures (sym c.in-Some.ensures)
-    (subst P decl (declared_inner_fault ℕ r test (id_view id) (decl_view c.definition-definition.result) inner rows h c.args.holder c.in_ok-symbol.symbol limit c.declare.new.self c.inside.new.self c.inside.new.self c.in_err-inside.field-0.0 (ap (λ (s : Setting). s.limit) c.in_ok-symbol.ensures.setting) at (c.in_ok-symbol.ensures.table (changes_of rows) is) c.from_residual-in_err-inside.ensures.1 read))
+    let P : Declaration → Type 0 = λ d. ReadsAll r limit c.walk_inside.new.self (rows_after rows (declared test (id_view id) d inner h (length rows))) in
+    let read = rw c.inner_ambient.ensures at (c.in_err-walk_inside.ensures.table levels enough) in
+    namespace_read r limit c.walk_inside.new.self rows h block c.args.scope namespace kind id c.kind-kind.ensures (sym c.in-Some.ensures)
+    (subst P decl (declared_inner_fault ℕ r test (id_view id) (decl_view c.definition-definition.result) inner rows h c.args.holder c.in_ok-symbol.symbol limit c.declare.new.self c.walk_inside.new.self c.walk_inside.new.self c.in_err-walk_inside.field-0.0 (ap (λ (s : Setting). s.limit) c.in_ok-symbol.ensures.keeps.setting) at (c.in_ok-symbol.ensures.table (changes_of rows) is) c.from_residual-in_err-walk_inside.ensures.1 read))
 
-pub namespace-returns-clause-table : goal.namespace-returns-clause-table
-namespace-returns-clause-table t c = λ levels enough rows h is at.
+pub walk_namespace-returns-clause-table : goal.walk_namespace-returns-clause-table
+walk_namespace-returns-clause-table t c = λ levels enough rows h is at.
     let namespace = namespace_view c.args.namespace in
     let kind = c.kind-kind.result.now in
     let id = c.in-Some.id.now in
     let block = block_within namespace.decl.tree levels in
     let limit = c.args.self.now.setting.limit in
-    let r = c.added.result in
+    let r = c.add_to_holder.result in
     let inner = namespace_inner block c.args.scope namespace kind in
     let test = is_exported c.args.scope namespace.exported in
     let decl : decl_view c.definition-definition.result ≡ namespace_decl namespace = c.definition-definition.ensures ∙ (rw (c.declared_as-form.ensures, c.whole_range.ensures) refl) in
-    let P : Declaration → Type 0 = λ d. ReadsAll r limit c.added.new.self (rows_after rows (declared test (id_view id) d inner h (length rows))) in
-    let read = rw c.inner_ambient.ensures at (c.in_ok-inside.ensures.table levels enough) in
-    let put = rw (c.is_exported.ensures, c.as_str.ensures.value) at c.added.ensures.table in
-    namespace_read r limit c.added.new.self rows h block c.args.scope namespace kind id c.kind-kind.ensures (sym c.in-Some.ensures)
-    (subst P decl (declared_read r test (id_view id) (decl_view c.definition-definition.result) inner rows h c.args.holder c.in_ok-symbol.symbol limit c.declare.new.self c.inside.new.self c.added.new.self (ap (λ (s : Setting). s.limit) (c.in_ok-inside.ensures.setting ∙ c.in_ok-symbol.ensures.setting)) at (c.in_ok-symbol.ensures.table (changes_of rows) is) read put))
+    let P : Declaration → Type 0 = λ d. ReadsAll r limit c.add_to_holder.new.self (rows_after rows (declared test (id_view id) d inner h (length rows))) in
+    let read = rw c.inner_ambient.ensures at (c.in_ok-walk_inside.ensures.table levels enough) in
+    let put = rw (c.is_exported.ensures, c.as_str.ensures.value) at c.add_to_holder.ensures.table in
+    namespace_read r limit c.add_to_holder.new.self rows h block c.args.scope namespace kind id c.kind-kind.ensures (sym c.in-Some.ensures)
+    (subst P decl (declared_read r test (id_view id) (decl_view c.definition-definition.result) inner rows h c.args.holder c.in_ok-symbol.symbol limit c.declare.new.self c.walk_inside.new.self c.add_to_holder.new.self (ap (λ (s : Setting). s.limit) (c.in_ok-walk_inside.ensures.keeps.setting ∙ c.in_ok-symbol.ensures.keeps.setting)) at (c.in_ok-symbol.ensures.table (changes_of rows) is) read put))

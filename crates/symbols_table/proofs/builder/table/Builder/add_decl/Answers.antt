@@ -1,4 +1,4 @@
-use Rattle.std.proofs.Common.{refl, ap, ◌∙◌, List, map, Bool, ◌||◌}
+use Rattle.std.proofs.Common.{refl, ap, ◌∙◌, List, map}
 use Rattle.symbols_table.specs.declared.decl.symbol_decl.SymbolDecl.{SymbolDecl}
 use Rattle.symbols_table.specs.DeclViews.{decl_view, last_decl, is_overload_after}
 use Rattle.symbols_table.proofs.OneChange.{only_decl}
@@ -10,4 +10,4 @@ returns-clause-table c = λ changes is.
     let held = c.index_mut-held.result.now in
     let flag = c.is_overload_after-has_overloads.ensures ∙ ap (λ (ds : List SymbolDecl). is_overload_after (last_decl (map decl_view ds)) (decl_view c.args.decl)) c.deref.ensures.value in
     only_decl {old = held} (record { below = c.requires; read = c.index_mut-held.ensures.value; set_to = refl; ids = refl; stars = refl; setting = refl; number = refl; module_number = refl; parent = refl }) changes is
-    (decl_view c.args.decl) (pushed_decl held.decls.items _ c.args.decl c.with_overloads.result _ c.in_ok-push.ensures.items c.with_overloads.ensures flag) refl refl refl (ap (λ (b : Bool). held.has_function || b) c.is_function.ensures) refl refl
+    (decl_view c.args.decl) (pushed_decl held.decls.items _ c.args.decl c.with_overloads.result _ c.in_ok-push.ensures.items c.with_overloads.ensures flag) refl refl refl refl refl

@@ -1,5 +1,5 @@
 use Rattle.std.proofs.Common.{◌≡◌, None, sym, ap}
-use Rattle.symbols_tree.specs.NodeRefs.{node_view}
+use Rattle.symbols_syntax.specs.NodeRefs.{node_view}
 use Rattle.symbols_table.specs.Events.{changes_of}
 use Rattle.symbols_table.specs.DeclarationEvents.{own_name}
 use Rattle.symbols_table.specs.ModuleEvents.{binds_if}

@@ -1,5 +1,5 @@
 use Rattle.std.proofs.Common.{Some, ◌∙◌, [], ◌∷◌}
-use Rattle.symbols_tree.specs.Ids.{id_view}
+use Rattle.symbols_syntax.specs.Ids.{id_view}
 use Rattle.symbols_table.specs.DeclViews.{decl_view}
 use Rattle.symbols_table.specs.Changes.{maps}
 use Rattle.symbols_table.specs.Events.{new_row}
@@ -14,5 +14,5 @@ returns-clause-table c = λ changes is.
 pub returns-in_err-symbol-clause-table : goal.returns-in_err-symbol-clause-table
 returns-in_err-symbol-clause-table c = λ changes is.
     let row = new_row changes (Some c.args.holder) (decl_view c.args.decl) (λ s. maps (id_view c.args.id.now) s ∷ []) in
-    err_reads c.from_residual.result (λ s. Some s) c.args.self.now.setting.limit c.new_symbol.new.self changes row c.in_err-symbol.field-0.0 c.from_residual.ensures.1
+    err_reads c.from_residual.result (λ s. Some s) c.args.self.now.setting.limit c.add_symbol.new.self changes row c.in_err-symbol.field-0.0 c.from_residual.ensures.1
     (λ e. past_limit changes (Some c.args.holder) (decl_view c.args.decl) (λ s. maps (id_view c.args.id.now) s ∷ []) c.args.self.now.setting.limit _ is.count (c.in_err-symbol.ensures.full e))

@@ -13,4 +13,4 @@ pub keyed_resolutions-requires : goal.keyed_resolutions-requires
 keyed_resolutions-requires c = distinct_asked c.args.raw c.in_ok-check.ensures.accepted
 
 pub returns-clause-resolutions : goal.returns-clause-resolutions
-returns-clause-resolutions c = λ r t. sym (rows_found r t c.in_ok-resolutions.resolutions.entries c.in_ok-resolutions.ensures.unique) ∙ c.in_ok-resolutions.ensures.mapped r t
+returns-clause-resolutions c = λ r t. sym (rows_found r t c.in_ok-resolutions.resolutions.entries c.in_ok-resolutions.ensures.unique) ∙ c.in_ok-resolutions.ensures.found r t
