@@ -2,26 +2,24 @@
 use Rattle.std.proofs.Common.{◌≡◌, ◌<◌, List, [], ◌∷◌, length, None, refl, arith}
 use Rattle.serde_json.specs.View.{items_view}
 use Rattle.serde_json.specs.declared.value.Value.{Value}
-use Rattle.symq_core.specs.Queries.{exports_query, symbol_query}
+use Rattle.symq_core.specs.Queries.{two_and_rest, exports_question, symbol_question}
 
-pub exports_short : (values : List Value) → length values < 1 → exports_query (items_view values) ≡ None
-exports_short [] h = refl
-exports_short (a ∷ values) h = absurd (omega arith)
+pub two_short : (values : List Value) → length values < 2 → two_and_rest (items_view values) ≡ None
+two_short [] h = refl
+two_short (a ∷ []) h = refl
+two_short (a ∷ b ∷ values) h = absurd (omega arith)
 
-pub exports_long : (values : List Value) → 1 < length values → exports_query (items_view values) ≡ None
-exports_long [] h = refl
-exports_long (a ∷ []) h = absurd (omega arith)
-exports_long (a ∷ b ∷ values) h = refl
+pub exports_long : (values : List Value) → 0 < length values → exports_question (items_view values) ≡ None
+exports_long [] h = absurd (omega arith)
+exports_long (a ∷ values) h = refl
 
-pub symbol_short : (values : List Value) → length values < 3 → symbol_query (items_view values) ≡ None
+pub symbol_short : (values : List Value) → length values < 2 → symbol_question (items_view values) ≡ None
 symbol_short [] h = refl
 symbol_short (a ∷ []) h = refl
-symbol_short (a ∷ b ∷ []) h = refl
-symbol_short (a ∷ b ∷ c ∷ values) h = absurd (omega arith)
+symbol_short (a ∷ b ∷ values) h = absurd (omega arith)
 
-pub symbol_long : (values : List Value) → 3 < length values → symbol_query (items_view values) ≡ None
+pub symbol_long : (values : List Value) → 2 < length values → symbol_question (items_view values) ≡ None
 symbol_long [] h = refl
 symbol_long (a ∷ []) h = refl
-symbol_long (a ∷ b ∷ []) h = refl
-symbol_long (a ∷ b ∷ c ∷ []) h = absurd (omega arith)
-symbol_long (a ∷ b ∷ c ∷ d ∷ values) h = refl
+symbol_long (a ∷ b ∷ []) h = absurd (omega arith)
+symbol_long (a ∷ b ∷ c ∷ values) h = refl

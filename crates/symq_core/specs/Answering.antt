@@ -1,5 +1,5 @@
 -- For inner functions and proofs alone: a query of the program, and its answer by the tables of a module.
-use Rattle.std.specs.Prelude.{◌≡◌, ℕ, List, Option, Some, None, codes}
+use Rattle.std.specs.Prelude.{◌≡◌, List, Option, Some, None}
 use Rattle.serde_json.specs.Data.{Data}
 use Rattle.symbols_syntax.specs.Ids.{id_view}
 use Rattle.symbols_table.specs.declared.info.es_module.EsModuleInfo.{EsModuleInfo}
@@ -9,23 +9,30 @@ use Rattle.symbols_table.specs.declared.info.fault.SymbolsFault.TheVariants as f
 use Rattle.symbols_table.specs.Changes.{Change}
 use Rattle.symbols_table.specs.Analysis.{HasTables}
 use Rattle.symbols_table.specs.Modules.{specifier_in, esm_in}
-use Rattle.symq_core.specs.Queries.{QueryView, asks_exports, asks_symbol}
+use Rattle.symq_core.specs.Queries.{QuestionView, asks_exports, asks_symbol, QueryView}
+use Rattle.symq_core.specs.AnswerViews.{AnswerFault, too_many_modules, too_many_symbols, unknown_module, unknown_symbol}
+use Rattle.symq_core.specs.AnswerData.{answer_data}
 use Rattle.symq_core.specs.Answers.{changes_answer}
+use Rattle.symq_core.specs.declared.program.query.Question.{Question}
 use Rattle.symq_core.specs.declared.program.query.Query.{Query}
 
 -- what a query of the program asks
-abbrev pub query_view : Query → QueryView
-query_view (Query.Exports specifier) = asks_exports specifier.now
-query_view (Query.Symbol specifier id) = asks_symbol specifier.now (id_view id)
+abbrev pub question_view : Question → QuestionView
+question_view Question.Exports = asks_exports
+question_view (Question.Symbol id) = asks_symbol (id_view id)
 
--- the value is the answer by the changes whose tables the module has
-abbrev pub Tells : QueryView → ModuleInfo → Data → Type 0
-Tells query info value = (esm : EsModuleInfo) → esm_in info ≡ Some esm → (changes : List Change) → HasTables esm changes → value ≡ changes_answer query (specifier_in esm) changes
+abbrev pub query_view : Query → QueryView
+query_view query = record { specifier = query.specifier.now; question = question_view query.question }
+
+-- the value is that of the answer by the changes whose tables the module has
+abbrev pub IsAnswerByTables : QuestionView → ModuleInfo → Data → Type 0
+IsAnswerByTables question info value =
+    (esm : EsModuleInfo) → esm_in info ≡ Some esm → (changes : List Change) → HasTables esm changes → value ≡ answer_data (changes_answer question (specifier_in esm) changes)
 
 -- why a call on symbols gave nothing; want of memory is no answer
-abbrev pub fault_text : SymbolsFault → Option (List ℕ)
-fault_text fault.OutOfMemory = None
-fault_text fault.TooManyModules = Some (codes "too many modules")
-fault_text (fault.TooManySymbols _) = Some (codes "too many symbols")
-fault_text fault.UnknownModule = Some (codes "unknown module")
-fault_text fault.UnknownSymbol = Some (codes "unknown symbol")
+abbrev pub fault_view : SymbolsFault → Option AnswerFault
+fault_view fault.OutOfMemory = None
+fault_view fault.TooManyModules = Some too_many_modules
+fault_view (fault.TooManySymbols _) = Some too_many_symbols
+fault_view fault.UnknownModule = Some unknown_module
+fault_view fault.UnknownSymbol = Some unknown_symbol

@@ -1,5 +1,8 @@
 pub mod Queries
+pub mod AnswerViews
+pub mod AnswerData
 pub mod Answers
+pub mod AnswerTexts
 pub mod Answering
 pub mod Devices
 pub mod Lines

@@ -7,13 +7,9 @@ ghost use Rattle.symq_reader.specs.Withheld.{is_withheld_module};
 use crate::fields;
 use serde_json::Value;
 
-/// Whether a module of this kind is a JSON module, or one that names the module of its types.
+/// Whether a module of this kind is one that names the module of its types.
 pub(crate) fn is_withheld_module(kind: &str, value: &Value) -> bool
     ensures { result ≡ is_withheld_module kind.now (view value.now) }
 {
-    match kind {
-        "json" => true,
-        "esm" => fields::field(value, "types").is_some(),
-        _ => false,
-    }
+    kind == "esm" && fields::field(value, "types").is_some()
 }

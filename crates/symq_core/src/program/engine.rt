@@ -2,7 +2,7 @@
 
 ghost use Rattle.std.specs.Prelude.{◌≡◌, ◌<◌, vec_len, OnOk, IfOk, IfErr, IfSome};
 ghost use Rattle.std.specs.Io.KnownBytes.{Appends};
-ghost use Rattle.symq_core.specs.Answers.{answer_text};
+ghost use Rattle.symq_core.specs.AnswerTexts.{answer_text};
 ghost use Rattle.symq_core.specs.Devices.{COUNT_LIMIT};
 ghost use Rattle.symq_core.specs.Lines.{output_of};
 ghost use Rattle.symq_core.specs.Serving.{Stops, CountsFailures};

@@ -3,32 +3,28 @@
 ghost use Rattle.std.specs.Prelude.{◌≡◌, option_map, IfOk};
 ghost use Rattle.serde_json.specs.View.{view, items_view};
 ghost use Rattle.symq_reader.specs.GraphText.{json_of};
-ghost use Rattle.symq_core.specs.Queries.{specifier_of, query_of, word_and_rest, exports_query, symbol_query};
-ghost use Rattle.symq_core.specs.Answering.{query_view};
+ghost use Rattle.symq_core.specs.Queries.{query_of, parts_of_query, exports_question, symbol_question};
+ghost use Rattle.symq_core.specs.Answering.{question_view, query_view};
 
 use serde_json::Value;
 use std::alloc::{AllocError, Global};
 use symbols_tree::tree::Id;
 use symq_reader::as_u32;
 
-/// What a line asks.
+/// What is asked of a module.
 #[derive(Drop)]
-pub(crate) enum Query<'a> {
-    /// The exports of the module of a specifier.
-    Exports(&'a str),
-    /// The symbol that a name stands for in the module of a specifier.
-    Symbol(&'a str, Id),
+pub(crate) enum Question {
+    /// What it exports.
+    Exports,
+    /// The symbol that a name stands for in it.
+    Symbol(Id),
 }
 
-impl Query<'_> {
-    /// The specifier of the module that is asked about.
-    pub(crate) fn specifier(&self) -> &str
-        ensures { result.now ≡ specifier_of (query_view self.now) }
-    {
-        match self {
-            Query::Exports(specifier) | Query::Symbol(specifier, _) => specifier,
-        }
-    }
+/// What a line asks: a question, and the specifier of the module that it is asked of.
+#[derive(Drop)]
+pub(crate) struct Query<'a> {
+    pub(crate) specifier: &'a str,
+    pub(crate) question: Question,
 }
 
 /// The value of a line; none where it is no JSON.
@@ -42,53 +38,57 @@ pub(crate) fn line_value(alloc: Global, line: &[u8]) -> Result<Option<Value>, Al
     }
 }
 
-/// The text that a list begins with, and the items behind it.
-fn word_and_rest(value: &Value) -> Option<(&str, &[Value])>
-    ensures { option_map (λ pair. (pair.0.now, items_view pair.1.now)) result ≡ word_and_rest (view value.now) }
+/// The word and the specifier that a list begins with, and the items behind them.
+#[tactic(auto, using(crate::proofs::Forms::two_short))]
+fn parts_of_query(value: &Value) -> Option<(&str, &str, &[Value])>
+    ensures { option_map (λ parts. (parts.0.now, parts.1.now, items_view parts.2.now)) result ≡ parts_of_query (view value.now) }
 {
     match value.as_array()?.as_slice() {
-        [word, rest @ ..] => Some((word.as_str()?, rest)),
-        [] => None,
-    }
-}
-
-/// The items behind the word `exports`: a specifier.
-#[tactic(auto, using(crate::proofs::Forms::exports_short, crate::proofs::Forms::exports_long))]
-fn read_exports(items: &[Value]) -> Option<Query<'_>>
-    ensures { option_map query_view result ≡ exports_query (items_view items.now) }
-{
-    match items {
-        [specifier] => Some(Query::Exports(specifier.as_str()?)),
+        [word, specifier, rest @ ..] => Some((word.as_str()?, specifier.as_str()?, rest)),
         _ => None,
     }
 }
 
-/// The items behind the word `symbol`: a specifier, and a name with its scope.
-#[tactic(auto, using(crate::proofs::Forms::symbol_short, crate::proofs::Forms::symbol_long))]
-fn read_symbol(alloc: Global, items: &[Value]) -> Result<Option<Query<'_>>, AllocError>
-    ensures { IfOk result (λ query. option_map query_view query ≡ symbol_query (items_view items.now)) }
+/// The items behind the word `exports` and a specifier: none.
+#[tactic(auto, using(crate::proofs::Forms::exports_long))]
+fn exports_question(items: &[Value]) -> Option<Question>
+    ensures { option_map question_view result ≡ exports_question (items_view items.now) }
 {
-    let [specifier, name, scope] = items else {
+    match items {
+        [] => Some(Question::Exports),
+        _ => None,
+    }
+}
+
+/// The items behind the word `symbol` and a specifier: a name with its scope.
+#[tactic(auto, using(crate::proofs::Forms::symbol_short, crate::proofs::Forms::symbol_long))]
+fn symbol_question(alloc: Global, items: &[Value]) -> Result<Option<Question>, AllocError>
+    ensures { IfOk result (λ question. option_map question_view question ≡ symbol_question (items_view items.now)) }
+{
+    let [name, scope] = items else {
         return Ok(None);
     };
-    let (Some(specifier), Some(name), Some(scope)) = (
-        specifier.as_str(),
-        name.as_str(),
-        as_u32(scope),
-    ) else {
+    let (Some(name), Some(scope)) = (name.as_str(), as_u32(scope)) else {
         return Ok(None);
     };
     let name = String::from_str(alloc, name)?;
-    Ok(Some(Query::Symbol(specifier, Id { name, scope })))
+    Ok(Some(Question::Symbol(Id { name, scope })))
 }
 
 /// The query that a value is, if it is one.
 pub(crate) fn read_query(alloc: Global, value: &Value) -> Result<Option<Query<'_>>, AllocError>
     ensures { IfOk result (λ query. option_map query_view query ≡ query_of (view value.now)) }
 {
-    match word_and_rest(value) {
-        Some(("exports", rest)) => Ok(read_exports(rest)),
-        Some(("symbol", rest)) => read_symbol(alloc, rest),
-        _ => Ok(None),
-    }
+    let Some((word, specifier, items)) = parts_of_query(value) else {
+        return Ok(None);
+    };
+    let question = match word {
+        "exports" => exports_question(items),
+        "symbol" => symbol_question(alloc, items)?,
+        _ => None,
+    };
+    Ok(question.map(|question| Query {
+        specifier,
+        question,
+    }))
 }

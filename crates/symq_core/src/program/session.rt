@@ -2,7 +2,7 @@
 
 ghost use Rattle.std.specs.Prelude.{◌≡◌, ◌+◌, ◌<◌, ◌++◌, ◌∷◌, [], OnOk, IfErr};
 ghost use Rattle.std.specs.Io.KnownBytes.{Appends};
-ghost use Rattle.symq_core.specs.Answers.{answer_text};
+ghost use Rattle.symq_core.specs.AnswerTexts.{answer_text};
 ghost use Rattle.symq_core.specs.Devices.{COUNT_LIMIT};
 ghost use Rattle.symq_core.specs.Lines.{line_end, all_but_last, last_part, line_in, answers_to};
 ghost use Rattle.symq_core.specs.Serving.{AppendsBeginning};

@@ -3,7 +3,7 @@ use Rattle.std.proofs.lemmas.Result.{err_from_is_err_and}
 use Rattle.std.proofs.lemmas.Grind.{common_steps}
 use Rattle.std.proofs.KnownBytes.{Consumes-trans}
 use Rattle.std.specs.Io.KnownBytes.{Consumes}
-use Rattle.symq_core.specs.Answers.{answer_text}
+use Rattle.symq_core.specs.AnswerTexts.{answer_text}
 use Rattle.symq_core.specs.Lines.{answers_to, line_in}
 use Rattle.symq_core.proofs.Outputs.{block_sent, block_line, block_begun, begun_output, begun_at_end, stops_from, stops_if}
 use Rattle.symq_core.proofs.program.engine.serve.Goals as goal

@@ -1,6 +1,6 @@
 use Rattle.std.proofs.Common.{◌≡◌, ◌≤◌, ℕ, List, [], length}
 use Rattle.std.specs.Io.KnownBytes.{Appends, Consumes}
-use Rattle.symq_core.specs.Answers.{answer_text}
+use Rattle.symq_core.specs.AnswerTexts.{answer_text}
 use Rattle.symq_core.specs.Lines.{parts_of, last_part, ended_lines, answers_to}
 use Rattle.symq_core.proofs.program.engine.serve.Given as goal
 

@@ -1,6 +1,6 @@
 use Rattle.std.proofs.Common.{ℕ, List, [], ◌∷◌, ◌++◌, ap, sym, subst, ◌∙◌}
 use Rattle.std.proofs.lemmas.Result.{err_from_is_err_and, on_ok_weaker}
-use Rattle.symq_core.specs.Answers.{answer_text}
+use Rattle.symq_core.specs.AnswerTexts.{answer_text}
 use Rattle.symq_core.specs.Lines.{answers_to}
 use Rattle.symq_core.specs.Sessions.{Sends, IsAnswerFault, parts_after}
 use Rattle.symq_core.proofs.Parts.{answers_to-append}

@@ -1,5 +1,5 @@
 use Rattle.std.proofs.Common.{◌≡◌, ◌++◌, ℕ, List, length}
-use Rattle.symq_core.specs.Answers.{answer_text}
+use Rattle.symq_core.specs.AnswerTexts.{answer_text}
 use Rattle.symq_core.specs.Lines.{answers_to}
 use Rattle.symq_core.specs.Sessions.{Sends, parts_after}
 use Rattle.symq_core.proofs.program.session.Session.take_block.Given as goal

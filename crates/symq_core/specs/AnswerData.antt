@@ -1,0 +1,38 @@
+-- The JSON value of an answer.
+use Rattle.std.specs.Prelude.{ℕ, List, map, Option, Some, None, codes}
+use Rattle.serde_json.specs.Data.{Data, null, number, unsigned, string, array, object, no_items, item, no_members, member}
+use Rattle.serde_json.specs.View.{items_of}
+use Rattle.symbols_syntax.specs.declared.ids.SymbolId.{SymbolId}
+use Rattle.symq_core.specs.AnswerViews.{AnswerFault, bad_query, too_many_modules, too_many_symbols, unknown_module, unknown_symbol, ExportEntry, AnswerView, tells_nothing, tells_fault, tells_exports, tells_symbol}
+
+abbrev pub fault_words : AnswerFault → List ℕ
+fault_words bad_query = codes "bad query"
+fault_words too_many_modules = codes "too many modules"
+fault_words too_many_symbols = codes "too many symbols"
+fault_words unknown_module = codes "unknown module"
+fault_words unknown_symbol = codes "unknown symbol"
+
+-- a statement `export *`, by its referrer and its text
+abbrev pub statement_data : List ℕ × List ℕ → Data
+statement_data statement = array (item (string statement.0) (item (string statement.1) no_items))
+
+abbrev pub statements_data : List (List ℕ × List ℕ) → Data
+statements_data statements = array (items_of (map statement_data statements))
+
+abbrev pub entry_data : ExportEntry → Data
+entry_data entry =
+    object (member (codes "chain") (statements_data entry.chain)
+    (member (codes "module") (string entry.owner)
+    (member (codes "name") (string entry.name)
+    (member (codes "symbol") (number (unsigned entry.symbol.0)) no_members))))
+
+abbrev pub symbol_number : Option SymbolId → Data
+symbol_number None = null
+symbol_number (Some symbol) = number (unsigned symbol.0)
+
+-- each answer's value, its keys in the order of their bytes
+abbrev pub answer_data : AnswerView → Data
+answer_data tells_nothing = null
+answer_data (tells_fault fault) = object (member (codes "fault") (string (fault_words fault)) no_members)
+answer_data (tells_exports entries unresolved) = object (member (codes "exports") (array (items_of (map entry_data entries))) (member (codes "unresolved") (statements_data unresolved) no_members))
+answer_data (tells_symbol found) = object (member (codes "symbol") (symbol_number found) no_members)

@@ -1,0 +1,27 @@
+-- What an answer says.
+use Rattle.std.specs.Prelude.{ℕ, List, Option}
+use Rattle.symbols_syntax.specs.declared.ids.SymbolId.{SymbolId}
+
+-- why a line has no other answer
+pub data AnswerFault : Type 0 where
+  bad_query : AnswerFault
+  too_many_modules : AnswerFault
+  too_many_symbols : AnswerFault
+  unknown_module : AnswerFault
+  unknown_symbol : AnswerFault
+
+-- a name that is exported: the statements `export *` that lead to it, each by its referrer and its text, the specifier of the module that
+-- owns it, its name, and its symbol there
+pub record ExportEntry : Type 0 where
+  pub chain : List (List ℕ × List ℕ)
+  pub owner : List ℕ
+  pub name : List ℕ
+  pub symbol : SymbolId
+
+-- nothing, where no module is named or it has no symbols; why there is no other answer; what is exported, and the statements `export *` that
+-- lead to no module; which symbol a name stands for, if any
+pub data AnswerView : Type 0 where
+  tells_nothing : AnswerView
+  tells_fault : AnswerFault → AnswerView
+  tells_exports : List ExportEntry → List (List ℕ × List ℕ) → AnswerView
+  tells_symbol : Option SymbolId → AnswerView
