@@ -3,3 +3,5 @@ pub mod ExpandoViews
 pub mod NodeViews
 pub mod NodeNames
 pub mod NodeTests
+pub mod NodeMembers
+pub mod NodeNamespaces

@@ -7,11 +7,34 @@ use Rattle.symbols_syntax.specs.declared.tree.kinds.Kind.{Kind}
 use Rattle.symbols_syntax.specs.declared.tree.kinds.Decl.TheVariants as Decl
 use Rattle.symbols_syntax.specs.declared.tree.kinds.Member.TheVariants as Member
 use Rattle.symbols_syntax.specs.declared.tree.kinds.MethodKind.TheVariants as MethodKind
-use Rattle.symbols_nodes.specs.NodeViews.{ExportDeclView, NodeView, exported_class, exported_fn, exported_var, exported_ts_enum, exported_ts_interface, exported_ts_module, exported_ts_type_alias, program, export_decl, export_default_decl, class_decl, fn_decl, ts_enum, ts_interface, ts_namespace, class_method, constructor}
+use Rattle.symbols_nodes.specs.NodeViews.{ExportDeclView, NodeView, exported_class, exported_fn, exported_var, exported_ts_enum, exported_ts_interface, exported_ts_module, exported_ts_type_alias, program, export_decl, export_default_decl, export_default_expr, class_decl, fn_decl, ts_enum, ts_interface, ts_namespace, var, class_method, constructor}
+
+-- what holds of the kind of the declaration after `export default`
+abbrev pub default_test : (Kind → Bool) → TreeNode → Bool
+default_test test node = option_map_or test (option_and_then kind_of (child_of node decl_of)) false
+
+abbrev pub is_class_kind : Kind → Bool
+is_class_kind (Kind.Decl (Decl.ClassExpr _ _)) = true
+is_class_kind _ = false
 
 abbrev pub is_function_kind : Kind → Bool
 is_function_kind (Kind.Decl (Decl.FnExpr _ _)) = true
 is_function_kind _ = false
+
+abbrev pub is_interface_kind : Kind → Bool
+is_interface_kind (Kind.Decl (Decl.TsInterfaceDecl _ _ _ _)) = true
+is_interface_kind _ = false
+
+abbrev pub is_exported_class : ExportDeclView → Bool
+is_exported_class (exported_class _) = true
+is_exported_class _ = false
+
+-- a class: plain, exported or default
+abbrev pub is_class : NodeView → Bool
+is_class (class_decl _) = true
+is_class (export_decl _ exported) = is_exported_class exported
+is_class (export_default_decl node) = default_test is_class_kind node
+is_class _ = false
 
 abbrev pub is_exported_function : ExportDeclView → Bool
 is_exported_function (exported_fn _) = true
@@ -21,8 +44,54 @@ is_exported_function _ = false
 abbrev pub is_function : NodeView → Bool
 is_function (fn_decl _) = true
 is_function (export_decl _ exported) = is_exported_function exported
-is_function (export_default_decl node) = option_map_or is_function_kind (option_and_then kind_of (child_of node decl_of)) false
+is_function (export_default_decl node) = default_test is_function_kind node
 is_function _ = false
+
+abbrev pub is_exported_interface : ExportDeclView → Bool
+is_exported_interface (exported_ts_interface _) = true
+is_exported_interface _ = false
+
+-- an interface: plain, exported or default
+abbrev pub is_interface : NodeView → Bool
+is_interface (ts_interface _) = true
+is_interface (export_decl _ exported) = is_exported_interface exported
+is_interface (export_default_decl node) = default_test is_interface_kind node
+is_interface _ = false
+
+abbrev pub is_exported_ts_namespace : ExportDeclView → Bool
+is_exported_ts_namespace (exported_ts_module _) = true
+is_exported_ts_namespace _ = false
+
+-- a namespace: plain or exported
+abbrev pub is_ts_namespace : NodeView → Bool
+is_ts_namespace (ts_namespace _) = true
+is_ts_namespace (export_decl _ exported) = is_exported_ts_namespace exported
+is_ts_namespace _ = false
+
+abbrev pub is_exported_var : ExportDeclView → Bool
+is_exported_var (exported_var _ _ _) = true
+is_exported_var _ = false
+
+-- a variable of `var`, `let` or `const`: plain or exported
+abbrev pub is_var : NodeView → Bool
+is_var (var _ _ _) = true
+is_var (export_decl _ exported) = is_exported_var exported
+is_var _ = false
+
+abbrev pub is_ctor : NodeView → Bool
+is_ctor (constructor _) = true
+is_ctor _ = false
+
+abbrev pub is_module : NodeView → Bool
+is_module (program _) = true
+is_module _ = false
+
+-- a declaration or an expression after `export` or `export default`
+abbrev pub has_export_keyword : NodeView → Bool
+has_export_keyword (export_decl _ _) = true
+has_export_keyword (export_default_decl _) = true
+has_export_keyword (export_default_expr _) = true
+has_export_keyword _ = false
 
 -- the node itself has a body, as a namespace or a constructor may
 abbrev pub has_own_body : TreeNode → Bool

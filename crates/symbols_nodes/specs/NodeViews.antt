@@ -1,5 +1,7 @@
 -- Declarations as nodes, as contracts see them: nodes of a tree by their numbers.
-use Rattle.std.specs.Prelude.{List, [], ◌∷◌}
+use Rattle.std.specs.Prelude.{List, [], ◌∷◌, Option, slice_get}
+use Rattle.std.specs.Option.{option_map}
+use Rattle.symbols_syntax.specs.declared.tree.arena.Tree.{Tree}
 use Rattle.symbols_syntax.specs.NodeRefs.{TreeNode, node_view}
 use Rattle.symbols_nodes.specs.declared.nodes.refs.ExportDeclRef.{ExportDeclRef}
 use Rattle.symbols_nodes.specs.declared.nodes.refs.SymbolNodeRef.{SymbolNodeRef}
@@ -114,3 +116,7 @@ nodes_of (ts_property_signature node) = node ∷ []
 nodes_of (ts_getter_signature node) = node ∷ []
 nodes_of (ts_setter_signature node) = node ∷ []
 nodes_of (ts_method_signature node) = node ∷ []
+
+-- the tree of the first of these nodes, which each declaration has
+abbrev pub source_of : NodeView → Option Tree
+source_of node = option_map (λ (first : TreeNode). first.tree) (slice_get (nodes_of node) 0)

@@ -1,7 +1,9 @@
 //! The nodes of declarations.
 
 mod expando;
+mod member_tests;
 mod names;
+mod namespaces;
 mod node_tests;
 mod refs;
 mod symbol_node;

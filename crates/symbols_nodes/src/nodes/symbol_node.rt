@@ -1,8 +1,58 @@
 //! The node of a definition.
 
-ghost use Rattle.std.specs.Prelude.{◌≡◌};
+ghost use Rattle.std.specs.Prelude.{◌≡◌, IfOk, Some, slice_get};
+ghost use Rattle.std.specs.Cow.{cow_str_bytes};
+ghost use Rattle.std.specs.Option.{option_map, option_and_then};
+ghost use Rattle.symbols_syntax.specs.NodeRefs.{node_view};
+ghost use Rattle.symbols_nodes.specs.NodeNames.{node_name};
+ghost use Rattle.symbols_nodes.specs.NodeViews.{symbol_node_view, nodes_of, source_of};
 
 use crate::nodes::refs::SymbolNodeRef;
+use std::alloc::{AllocError, Global};
+use std::borrow::CowStr;
+use symbols_syntax::tree::{NodeRef, Tree};
+
+/// The first of the nodes that a declaration is made of.
+fn first_node<'a>(node: SymbolNodeRef<'a>) -> NodeRef<'a>
+    ensures { Some (node_view result) ≡ slice_get (nodes_of (symbol_node_view node.entry)) 0 }
+{
+    match node {
+        SymbolNodeRef::Module(node)
+        | SymbolNodeRef::ExportDecl(node, _)
+        | SymbolNodeRef::ExportDefaultDecl(node)
+        | SymbolNodeRef::ExportDefaultExpr(node)
+        | SymbolNodeRef::ClassDecl(node)
+        | SymbolNodeRef::FnDecl(node)
+        | SymbolNodeRef::TsEnum(node)
+        | SymbolNodeRef::TsInterface(node)
+        | SymbolNodeRef::TsNamespace(node)
+        | SymbolNodeRef::TsTypeAlias(node)
+        | SymbolNodeRef::Var(node, _, _)
+        | SymbolNodeRef::UsingVar(node, _, _)
+        | SymbolNodeRef::AutoAccessor(node)
+        | SymbolNodeRef::ClassMethod(node)
+        | SymbolNodeRef::ClassProp(node)
+        | SymbolNodeRef::ClassParamProp(node)
+        | SymbolNodeRef::Constructor(node)
+        | SymbolNodeRef::TsIndexSignature(node)
+        | SymbolNodeRef::TsCallSignatureDecl(node)
+        | SymbolNodeRef::TsConstructSignatureDecl(node)
+        | SymbolNodeRef::TsPropertySignature(node)
+        | SymbolNodeRef::TsGetterSignature(node)
+        | SymbolNodeRef::TsSetterSignature(node)
+        | SymbolNodeRef::TsMethodSignature(node) => node,
+        SymbolNodeRef::ExpandoProperty(expando) => expando.inner(),
+    }
+}
+
+impl<'a> SymbolNodeRef<'a> {
+    /// The tree of the node: of the first, where the declaration is made of several.
+    pub fn source(self) -> &'a Tree
+        ensures { Some result.now ≡ source_of (symbol_node_view self.entry) }
+    {
+        first_node(self).tree
+    }
+}
 
 /// The node of a definition, if it has one: the definitions of a JSON module have none.
 #[derive(Clone, Copy)]
@@ -11,10 +61,36 @@ pub struct SymbolNode<'a> {
 }
 
 impl<'a> SymbolNode<'a> {
+    /// What the definition is called (as deno_graph): the name of its node; without a node it has
+    /// none.
+    ///
+    /// # Errors
+    ///
+    /// Memory was refused, which only the name of a private key takes.
+    pub fn maybe_name(&self, alloc: Global) -> Result<Option<CowStr<'a>>, AllocError>
+        ensures { IfOk result (λ name. option_map cow_str_bytes name ≡ option_and_then node_name (option_map symbol_node_view self.now.node)) }
+    {
+        match self.node {
+            Some(node) => node.maybe_name(alloc),
+            None => Ok(None),
+        }
+    }
+
     /// The node, if the definition has one.
     pub fn maybe_ref(&self) -> Option<SymbolNodeRef<'a>>
         ensures { result ≡ self.now.node }
     {
         self.node
+    }
+
+    /// The node, if the definition has one, and the tree that it is of (as deno_graph).
+    pub fn maybe_ref_and_source(&self) -> Option<(SymbolNodeRef<'a>, &'a Tree)>
+        ensures node { option_map (λ both. both.0) result ≡ self.now.node }
+        ensures source { option_map (λ both. both.1.now) result ≡ option_and_then source_of (option_map symbol_node_view self.now.node) }
+    {
+        match self.node {
+            Some(node) => Some((node, node.source())),
+            None => None,
+        }
     }
 }
