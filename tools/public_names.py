@@ -314,6 +314,7 @@ def check(folder):
         faults += ['line %d: %s %s' % (row.line, row.name, fault)] if fault else []
     for item, places in sources.places.items():
         own = [row for row in rows if (row.place, row.base) in places]
+        own += [row for row in rows if row.place in (NOT_YET, LEFT_OUT) and row.base == places[-1][1]]
         missing = names_without(item, places[-1], own)
         passed += all_names(item) - len(missing)
         faults += ['no row: | `%s` | `%s` |' % (name, places[-1][0]) for name in missing]

@@ -74,13 +74,44 @@ fn push_test(text: &mut String, word: &str, holds: bool) -> Result<(), AllocErro
     }
 }
 
-/// The words of the tests that hold of a declaration.
+/// The words of the tests that tell what a node is.
+fn push_sorts(text: &mut String, node: SymbolNodeRef<'_>) -> Result<(), AllocError> {
+    push_test(text, "class", node.is_class())?;
+    push_test(text, "function", node.is_function())?;
+    push_test(text, "interface", node.is_interface())?;
+    push_test(text, "namespace", node.is_ts_namespace())?;
+    push_test(text, "var", node.is_var())?;
+    push_test(text, "constructor", node.is_ctor())?;
+    push_test(text, "module", node.is_module())?;
+    push_test(text, "method", node.is_method())
+}
+
+/// The words of the tests that tell how a node is declared.
+fn push_places(text: &mut String, node: SymbolNodeRef<'_>) -> Result<(), AllocError> {
+    push_test(text, "export keyword", node.has_export_keyword())?;
+    push_test(text, "declaration", node.is_decl())?;
+    push_test(text, "member", node.is_member())?;
+    push_test(text, "private member", node.is_private_member())
+}
+
+fn namespaces(decl: &SymbolDecl<'_>) -> (bool, bool) {
+    match decl.maybe_node() {
+        Some(node) => node.namespaces(),
+        None => (true, true),
+    }
+}
+
+/// The words of the tests that hold of a declaration, and of the namespaces in which it stands.
 fn push_tests(text: &mut String, decl: &SymbolDecl<'_>) -> Result<(), AllocError> {
-    let is_method = decl.maybe_node().is_some_and(|node| node.is_method());
-    push_test(text, "function", decl.is_function())?;
-    push_test(text, "method", is_method)?;
+    if let Some(node) = decl.maybe_node() {
+        push_sorts(text, node)?;
+        push_places(text, node)?;
+    }
     push_test(text, "body", decl.has_body())?;
-    push_test(text, "overloads", decl.has_overloads())
+    push_test(text, "overloads", decl.has_overloads())?;
+    let (is_value, is_type) = namespaces(decl);
+    push_test(text, "value", is_value)?;
+    push_test(text, "type", is_type)
 }
 
 fn push_nodes_of(text: &mut String, node: Option<SymbolNodeRef<'_>>) -> Result<(), AllocError> {
