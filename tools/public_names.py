@@ -38,6 +38,7 @@ DERIVE = re.compile(r'derive\(([^)]*)\)', re.S)
 FIELD = re.compile(r'    pub (?!ghost )(\w+):')
 VARIANT = re.compile(r'    (\w+)(?: \{(.*)\})?[,({ ]*')
 ASKED = re.compile(r'    (?:const |unsafe )*(?:fn|type|const) (\w+)')
+UNREAD = re.compile(r'pub (?!ghost )|impl\b')
 METHOD = re.compile(r'    pub (?:(?:const |unsafe )*fn|const) (\w+)')
 
 
@@ -127,7 +128,7 @@ def read_parts(item, kind, lines):
         if found and kind == 'enum':
             variant = found[1]
             item.fields[variant] = set(re.findall(r'(\w+):', found[2] or ''))
-        elif kind == 'enum' and re.match(r' {8}\w+:', line):
+        elif kind == 'enum' and re.match(r' {8}\w+:(?!:)', line):
             item.fields[variant].add(line.split(':')[0].strip())
 
 
@@ -138,7 +139,7 @@ def read_impl(module, lines):
     methods = [] if trait else ['::' + found[1] for found in map(METHOD.match, lines) if found]
     module.impls.append((head['type'], trait, methods))
     if not trait:
-        module.unread += [line.strip() for line in lines if line.startswith('    pub ') and not METHOD.match(line)]
+        module.unread += [line.strip() for line in lines if UNREAD.match(line[4:]) and not METHOD.match(line)]
 
 
 def read_module(text):
@@ -156,7 +157,7 @@ def read_module(text):
             module.uses.update(used(use[1]))
         elif IMPL.match(lines[0]):
             read_impl(module, lines)
-        elif whole.startswith('pub '):
+        elif UNREAD.match(whole):
             module.unread.append(lines[0])
         words = DERIVE.search(whole) if whole.startswith('#') else None
         derived = set(re.findall(r'\w+', words[1])) if words else derived if whole.startswith('#') else set()

@@ -79,7 +79,9 @@ pub struct Number(pub u32, u8);
 )]
 pub enum Kind {
     Plain,
-    Of(Number),
+    Of(
+        other::Number,
+    ),
     With {
         /// The left one.
         left: Number,
@@ -180,6 +182,9 @@ CHANGES = [
      ['not read: high: pub use view::*;']),
     ('a module within a file', SHOWN, ('pub const', 'pub mod within {\n}\n\npub const'),
      ['not read: low::shown: pub mod within {']),
+    ('an impl over several lines', SHOWN, ('pub const', 'impl<\n    T,\n> Device for Kind {}\n\npub const'),
+     ['not read: low::shown: impl<']),
+    ('what only contracts speak of', SHOWN, ('pub const', 'pub ghost fn spoken();\n\npub const'), []),
     ('two items of one name', SHOWN, ('pub const', 'pub fn make() {}\n\npub const'),
      ['not read: low: make is a name of two items', 'no row: | `make` | `high::shown` |']),
 ]
