@@ -17,7 +17,8 @@ crates.txt that have src/lib.rt. Public is what a user can write: `pub` items th
 the crate's root, their `pub` fields and methods, variants, what a trait asks for, and traits that are implemented by
 hand. What only contracts speak of isn't: `ghost` parts, and the trait `Model`, which says what they are about.
 
-The sources are read in the layout of `rt fmt`. A line for each row that is wrong and each name without a row, such as
+The sources are read in the layout of `rt fmt`, and what can't be read there fails too: `pub use` of all names, a module
+within a file, two items of one name in a crate. A line for each row that is wrong and each name without a row, such as
 the table needs it; the last line is 'N passed, M failed'.
 """
 import os
