@@ -1,7 +1,7 @@
 //! The symbols of a module, a line for each, with its declarations and tables below it.
 
 use crate::declarations::push_declaration;
-use indexmap::{IndexMap, IndexSet};
+use indexmap::IndexMap;
 use std::alloc::{AllocError, Global};
 use symbols_table::decl::Symbol;
 use symbols_table::info::EsModuleInfo;
@@ -36,11 +36,7 @@ fn push_exports(text: &mut String, exports: &IndexMap<String, SymbolId>) -> Resu
     Ok(())
 }
 
-fn push_numbers(
-    text: &mut String,
-    word: &str,
-    symbols: &IndexSet<SymbolId>,
-) -> Result<(), AllocError> {
+fn push_numbers(text: &mut String, word: &str, symbols: &[SymbolId]) -> Result<(), AllocError> {
     if symbols.is_empty() {
         return Ok(());
     }
@@ -61,8 +57,8 @@ fn push_symbol(
     push_number(text, number, symbol.parent_id())?;
     push_declarations(alloc, text, symbol)?;
     push_exports(text, symbol.exports())?;
-    push_numbers(text, "children", symbol.child_ids())?;
-    push_numbers(text, "members", symbol.members())
+    push_numbers(text, "children", symbol.child_ids().as_slice())?;
+    push_numbers(text, "members", symbol.members().as_slice())
 }
 
 /// The symbols from 0 up to the first number that none has.

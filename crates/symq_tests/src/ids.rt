@@ -1,5 +1,6 @@
 //! Numbers and their texts.
 
+use std::hash::{DefaultHasher, Hash, Hasher};
 use std::test::Fail;
 use symbols_tree::ids::{ModuleId, SymbolId, UniqueSymbolId};
 
@@ -13,8 +14,25 @@ fn keeps_the_number(rt: HostRuntime) {
     let id = UniqueSymbolId::new(ModuleId::from_number(3), SymbolId::from_number(5));
     assert_eq!(rt; id.module_id.number(), 3);
     assert_eq!(rt; id.symbol_id.number(), 5);
-    let other = UniqueSymbolId::new(ModuleId::from_number(4), SymbolId::from_number(0));
-    assert!(rt; id != other && id < other);
+}
+
+fn unique(module: u32, symbol: u32) -> UniqueSymbolId {
+    UniqueSymbolId::new(ModuleId::from_number(module), SymbolId::from_number(symbol))
+}
+
+fn hash_of(id: UniqueSymbolId) -> u64 {
+    let mut state = DefaultHasher::new();
+    id.hash(&mut state);
+    state.finish()
+}
+
+#[test]
+fn compares_both_parts(rt: HostRuntime) {
+    let id = unique(3, 5);
+    assert!(rt; id == unique(3, 5) && hash_of(id) == hash_of(unique(3, 5)));
+    assert!(rt; id != unique(3, 6) && id != unique(2, 5));
+    assert!(rt; unique(2, 9) < id && unique(3, 4) < id);
+    assert!(rt; id < unique(3, 6) && id < unique(4, 0));
 }
 
 #[test]

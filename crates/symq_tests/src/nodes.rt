@@ -1,9 +1,11 @@
-//! Nodes of declarations. Their tests are told by runs of `symq_tables`.
+//! Nodes of declarations, in a tree without kinds, and in one of which no table tells. Most of what they tell is told
+//! by runs of `symq_tables`.
 
 use std::alloc::{AllocError, Global};
 use std::borrow::CowStr;
+use std::process::Abort;
 use std::test::Fail;
-use symbols_nodes::nodes::{SymbolNode, SymbolNodeRef};
+use symbols_nodes::nodes::{ExportDeclRef, SymbolNode, SymbolNodeRef};
 use symbols_tree::tree::{Decl, Expr, Kind, Node, NodeId, NodeRef, Pat, SourceRange, Tree};
 
 /// Three nodes of no kind of their own.
@@ -40,6 +42,39 @@ fn shows_the_node_of_a_definition(rt: HostRuntime) -> Result<(), Fail> {
     let tree = tree(rt.alloc())?;
     assert_eq!(rt; number_of(&tree, 2), Some(NodeId(2)));
     assert_eq!(rt; number_of(&tree, 3), None);
+    Ok(())
+}
+
+/// What a node tells by its form alone.
+fn tells(rt: &impl Abort, node: NodeRef<'_>) {
+    let class = SymbolNodeRef::ClassDecl(node);
+    assert!(rt; class.is_class() && class.is_decl() && !class.is_member());
+    let interface = SymbolNodeRef::TsInterface(node);
+    assert!(rt; interface.is_interface() && !interface.is_module());
+    assert_eq!(rt; interface.namespaces(), (false, true));
+    let namespace = SymbolNodeRef::ExportDecl(node, ExportDeclRef::TsModule(node));
+    assert!(rt;
+        namespace.is_ts_namespace() && namespace.has_export_keyword() && !namespace.is_var()
+    );
+    let constructor = SymbolNodeRef::Constructor(node);
+    assert!(rt;
+        constructor.is_ctor() && constructor.is_member() && !constructor.is_private_member()
+    );
+}
+
+/// How many nodes the tree has that a definition is of.
+fn nodes_around(node: NodeRef<'_>) -> Option<usize> {
+    let node = Some(SymbolNodeRef::Module(node));
+    let (_, source) = SymbolNode { node }.maybe_ref_and_source()?;
+    Some(source.nodes.len())
+}
+
+#[test]
+fn tells_what_a_node_is(rt: HostRuntime) -> Result<(), Fail> {
+    let tree = tree(rt.alloc())?;
+    let node = NodeRef::new(&tree, NodeId(1)).ok_or("no node")?;
+    tells(&rt, node);
+    assert_eq!(rt; nodes_around(node), Some(3));
     Ok(())
 }
 

@@ -1,16 +1,34 @@
 //! Symbols without a module.
 
-use symbols_table::decl::Symbol;
-use symbols_tree::ids::{ModuleId, SymbolId};
+use std::test::Fail;
+use symbols_table::decl::{FileDepName, Symbol};
+use symbols_tree::ids::{ModuleId, SymbolId, UniqueSymbolId};
 
 #[test]
-fn starts_a_symbol_empty(rt: HostRuntime) {
+fn starts_a_symbol_empty(rt: HostRuntime) -> Result<(), Fail> {
     let parent = Some(SymbolId::from_number(2));
-    let module = ModuleId::from_number(0);
-    let symbol = Symbol::new(rt.alloc(), module, SymbolId::from_number(3), parent);
+    let module = ModuleId::from_number(4);
+    let number = SymbolId::from_number(3);
+    let symbol = Symbol::new(rt.alloc(), module, number, parent);
+    assert_eq!(rt; symbol.unique_id(), UniqueSymbolId::new(module, number));
+    assert_eq!(rt; symbol.module_id(), module);
+    assert_eq!(rt; symbol.symbol_id(), number);
     assert_eq!(rt; symbol.parent_id(), parent);
+    let parent_unique_id = symbol.parent_unique_id().map(|id| id.module_id);
+    assert_eq!(rt; parent_unique_id, Some(module));
     assert!(rt; symbol.decls().is_empty());
     assert!(rt; symbol.exports().is_empty());
-    assert!(rt; symbol.child_ids().is_empty());
+    assert_eq!(rt; symbol.child_ids().len(), 0);
     assert!(rt; symbol.members().is_empty());
+    assert!(rt; symbol.maybe_name()?.is_none());
+    assert!(rt; symbol.file_dep().is_none());
+    assert!(rt; !symbol.is_module() && !symbol.is_decl());
+    assert!(rt; !symbol.is_member() && !symbol.is_private_member());
+    Ok(())
+}
+
+#[test]
+fn names_what_is_taken(rt: HostRuntime) {
+    assert_eq!(rt; FileDepName::Name("a").maybe_name(), Some("a"));
+    assert_eq!(rt; FileDepName::Star.maybe_name(), None);
 }

@@ -122,6 +122,7 @@ impl<'a> Builder<'a> {
         let has_function = decl.is_function();
         let decls = one_decl(self.setting.alloc, decl.with_overloads(false))?;
         let symbol = Symbol {
+            alloc: self.setting.alloc,
             module_id: self.setting.module_id,
             symbol_id,
             parent_id: parent,

@@ -1,10 +1,27 @@
 //! What a declaration takes of another module.
 
+ghost use Rattle.std.specs.Prelude.{◌≡◌};
+ghost use Rattle.std.specs.Option.{option_copied};
+
 /// What is taken of a module: all of it, or a name (as deno_graph).
 #[derive(Clone, Copy, Debug, PartialEq, Eq, Hash)]
 pub enum FileDepName<'a> {
     Star,
     Name(&'a str),
+}
+
+impl<'a> FileDepName<'a> {
+    ghost use Rattle.symbols_table.specs.DeclViews.{dep_name_view, taken_name};
+
+    /// The name that is taken; none where all of the module is (as deno_graph).
+    pub fn maybe_name(&self) -> Option<&'a str>
+        ensures { option_copied result ≡ taken_name (dep_name_view self.now) }
+    {
+        match self {
+            FileDepName::Star => None,
+            FileDepName::Name(name) => Some(*name),
+        }
+    }
 }
 
 /// A name of another module, by the text that stands for the module (as deno_graph).

@@ -2,16 +2,16 @@
 
 ghost use Rattle.std.specs.Prelude.{◌≡◌, map, IfOk};
 ghost use Rattle.std.specs.Cow.{cow_str_bytes};
-ghost use Rattle.std.specs.Option.{option_map};
+ghost use Rattle.std.specs.Option.{option_copied, option_map};
 ghost use Rattle.symbols_nodes.specs.NodeViews.{symbol_node_view};
-ghost use Rattle.symbols_nodes.specs.NodeTests.{is_function, has_body, is_method};
-ghost use Rattle.symbols_table.specs.DeclViews.{decl_view, decl_kind_view, decl_name, declaration_at, defined, is_definition, node_of_kind, node_test, last_decl, is_overload_after};
+ghost use Rattle.symbols_nodes.specs.NodeTests.{is_class, is_function, is_interface, is_var, is_ctor, has_body, is_method};
+ghost use Rattle.symbols_table.specs.DeclViews.{decl_view, decl_kind_view, decl_name, declaration_at, defined, decl_namespaces, dep_view, is_definition, node_of_kind, source_of_kind, dep_of_kind, node_test, last_decl, is_overload_after};
 
 use crate::decl::dep::FileDep;
 use std::alloc::{AllocError, Global};
 use std::borrow::CowStr;
 use symbols_nodes::nodes::{SymbolNode, SymbolNodeRef};
-use symbols_syntax::tree::{Id, SourceRange};
+use symbols_syntax::tree::{Id, SourceRange, Tree};
 
 /// What a declaration is (as deno_graph).
 #[derive(Drop)]
@@ -26,12 +26,23 @@ pub enum SymbolDeclKind<'a> {
     Definition(SymbolNode<'a>),
 }
 
-impl SymbolDeclKind<'_> {
+impl<'a> SymbolDeclKind<'a> {
     /// Whether it is a definition (as deno_graph).
     pub fn is_definition(&self) -> bool
         ensures { result ≡ is_definition (decl_kind_view self.now) }
     {
         matches!(self, SymbolDeclKind::Definition(_))
+    }
+
+    /// The node of a definition that has one, and the tree that it is of (as deno_graph).
+    pub fn maybe_node_and_source(&self) -> Option<(SymbolNodeRef<'a>, &'a Tree)>
+        ensures node { option_map (λ both. symbol_node_view both.0) result ≡ node_of_kind (decl_kind_view self.now) }
+        ensures source { option_map (λ both. both.1.now) result ≡ source_of_kind (decl_kind_view self.now) }
+    {
+        match self {
+            SymbolDeclKind::Definition(node) => node.maybe_ref_and_source(),
+            _ => None,
+        }
     }
 }
 
@@ -102,6 +113,85 @@ impl<'a> SymbolDecl<'a> {
         match &self.kind {
             SymbolDeclKind::Definition(node) => node.maybe_ref(),
             _ => None,
+        }
+    }
+
+    /// The tree that the node is of (as deno_graph); none without a node.
+    pub fn maybe_source(&self) -> Option<&'a Tree>
+        ensures { option_copied result ≡ source_of_kind (decl_view self.now).kind }
+    {
+        match self.maybe_node() {
+            Some(node) => Some(node.source()),
+            None => None,
+        }
+    }
+
+    /// The node of a definition that has one, and the tree that it is of (as deno_graph).
+    pub fn maybe_node_and_source(&self) -> Option<(SymbolNodeRef<'a>, &'a Tree)>
+        ensures node { option_map (λ both. symbol_node_view both.0) result ≡ node_of_kind (decl_view self.now).kind }
+        ensures source { option_map (λ both. both.1.now) result ≡ source_of_kind (decl_view self.now).kind }
+    {
+        self.kind.maybe_node_and_source()
+    }
+
+    /// What it takes of another module, where it is a name of one.
+    pub(crate) fn file_dep(&self) -> Option<FileDep<'a>>
+        ensures { option_map dep_view result ≡ dep_of_kind (decl_view self.now).kind }
+    {
+        match &self.kind {
+            SymbolDeclKind::FileRef(dep) => Some(*dep),
+            _ => None,
+        }
+    }
+
+    /// Whether it is a value, and whether it is a type, as its node is; without a node it counts as
+    /// both (as deno_graph).
+    pub fn namespaces(&self) -> (bool, bool)
+        ensures { result ≡ decl_namespaces (decl_view self.now) }
+    {
+        match self.maybe_node() {
+            Some(node) => node.namespaces(),
+            None => (true, true),
+        }
+    }
+
+    /// Whether it is a class (as deno_graph); false without a node.
+    pub fn is_class(&self) -> bool
+        ensures { result ≡ node_test is_class (decl_view self.now) }
+    {
+        match self.maybe_node() {
+            Some(node) => node.is_class(),
+            None => false,
+        }
+    }
+
+    /// Whether it is a variable, but none of `using` (as deno_graph); false without a node.
+    pub fn is_var(&self) -> bool
+        ensures { result ≡ node_test is_var (decl_view self.now) }
+    {
+        match self.maybe_node() {
+            Some(node) => node.is_var(),
+            None => false,
+        }
+    }
+
+    /// Whether it is a constructor (as deno_graph); false without a node.
+    pub fn is_ctor(&self) -> bool
+        ensures { result ≡ node_test is_ctor (decl_view self.now) }
+    {
+        match self.maybe_node() {
+            Some(node) => node.is_ctor(),
+            None => false,
+        }
+    }
+
+    /// Whether it is an interface (as deno_graph); false without a node.
+    pub fn is_interface(&self) -> bool
+        ensures { result ≡ node_test is_interface (decl_view self.now) }
+    {
+        match self.maybe_node() {
+            Some(node) => node.is_interface(),
+            None => false,
         }
     }
 
