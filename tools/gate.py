@@ -1,5 +1,6 @@
 #!/usr/bin/env python3
-"""The whole gate: every proof from nothing, the wrong bodies, and the stored cases on the proved programs.
+"""The whole gate: every proof from nothing, the wrong bodies, the table of public names, and the stored cases on the
+proved programs.
 
     python3 tools/gate.py
 
@@ -107,8 +108,8 @@ def wrong_bodies_part(name, libraries, proofs, lanes):
     return part.run(['nice', '-n', '5', *tool('wrong_bodies.py', '--libraries', proofs.folder, '--lanes', lanes, name)])
 
 
-def tests_part():
-    return Part('tests of tools/wrong_bodies.py').run(tool('test_wrong_bodies.py'))
+def tests_part(name):
+    return Part('tests of tools/' + name).run(tool('test_' + name))
 
 
 def laid(folder, name, files=0):
@@ -127,11 +128,13 @@ def all_parts():
     processors, libraries = len(os.sched_getaffinity(0)), libraries_of(TOP)
     os.environ.setdefault('RT_JOBS', str(max(1, processors // 2)))
     names = [name for name in libraries if Crate(TOP, name, libraries).names()]
-    with tempfile.TemporaryDirectory(prefix='gate-') as folder, ThreadPoolExecutor(len(names) + 2) as pool:
+    with tempfile.TemporaryDirectory(prefix='gate-') as folder, ThreadPoolExecutor(len(names) + 3) as pool:
         proofs, lanes = Proofs(laid(folder, 'built')), laid(folder, 'lanes', max(2, processors - 1))
-        tasks = [pool.submit(proofs_part, proofs), pool.submit(tests_part)]
+        tasks = [pool.submit(proofs_part, proofs)]
+        tasks += [pool.submit(tests_part, name) for name in ('wrong_bodies.py', 'public_names.py')]
         tasks += [pool.submit(wrong_bodies_part, name, libraries, proofs, lanes) for name in names]
         parts = [it.result() for it in tasks]
+    parts.append(Part('public names').run(tool('public_names.py')))
     return parts + [Part('cases').run(tool('run_cases.py', '--proved'))]
 
 

@@ -2,6 +2,7 @@
 
 use crate::nodes::{form_name, push_nodes};
 use std::alloc::{AllocError, Global};
+use std::borrow::CowStr;
 use symbols_nodes::nodes::SymbolNodeRef;
 use symbols_table::decl::{FileDep, FileDepName, SymbolDecl, SymbolDeclKind};
 use symbols_tree::tree::{Id, SourceRange};
@@ -22,7 +23,8 @@ fn push_qualified_target(text: &mut String, id: &Id, parts: &[&str]) -> Result<(
     Ok(())
 }
 
-fn push_file_ref(text: &mut String, dep: FileDep<'_>) -> Result<(), AllocError> {
+/// What is taken of another module, and the text that stands for the module.
+pub(crate) fn push_file_ref(text: &mut String, dep: FileDep<'_>) -> Result<(), AllocError> {
     let specifier = dep.specifier;
     match dep.name {
         FileDepName::Star => write!(text, "file * from {specifier:?}"),
@@ -30,8 +32,9 @@ fn push_file_ref(text: &mut String, dep: FileDep<'_>) -> Result<(), AllocError> 
     }
 }
 
-fn push_name(alloc: Global, text: &mut String, decl: &SymbolDecl<'_>) -> Result<(), AllocError> {
-    match decl.maybe_name(alloc)? {
+/// A name, where there is one.
+pub(crate) fn push_name(text: &mut String, name: Option<CowStr<'_>>) -> Result<(), AllocError> {
+    match name {
         Some(name) => write!(text, " {name:?}"),
         None => Ok(()),
     }
@@ -48,7 +51,7 @@ fn push_definition(
         let form = form_name(node);
         write!(text, " {form}")?;
     }
-    push_name(alloc, text, decl)
+    push_name(text, decl.maybe_name(alloc)?)
 }
 
 fn push_kind(alloc: Global, text: &mut String, decl: &SymbolDecl<'_>) -> Result<(), AllocError> {
@@ -66,7 +69,8 @@ fn push_range(text: &mut String, range: SourceRange) -> Result<(), AllocError> {
     write!(text, " at {start}..{end}")
 }
 
-fn push_test(text: &mut String, word: &str, holds: bool) -> Result<(), AllocError> {
+/// A word, where the test of this name holds.
+pub(crate) fn push_test(text: &mut String, word: &str, holds: bool) -> Result<(), AllocError> {
     if holds {
         write!(text, ", {word}")
     } else {
@@ -74,13 +78,42 @@ fn push_test(text: &mut String, word: &str, holds: bool) -> Result<(), AllocErro
     }
 }
 
-/// The words of the tests that hold of a declaration.
-fn push_tests(text: &mut String, decl: &SymbolDecl<'_>) -> Result<(), AllocError> {
-    let is_method = decl.maybe_node().is_some_and(|node| node.is_method());
+/// The words of the tests that tell what a declaration is.
+fn push_sorts(text: &mut String, decl: &SymbolDecl<'_>) -> Result<(), AllocError> {
+    let node = decl.maybe_node();
+    push_test(text, "class", decl.is_class())?;
     push_test(text, "function", decl.is_function())?;
-    push_test(text, "method", is_method)?;
+    push_test(text, "interface", decl.is_interface())?;
+    push_test(
+        text,
+        "namespace",
+        node.is_some_and(|node| node.is_ts_namespace()),
+    )?;
+    push_test(text, "var", decl.is_var())?;
+    push_test(text, "constructor", decl.is_ctor())?;
+    push_test(text, "module", node.is_some_and(|node| node.is_module()))?;
+    push_test(text, "method", node.is_some_and(|node| node.is_method()))
+}
+
+/// The words of the tests that tell how a node is declared.
+fn push_places(text: &mut String, node: SymbolNodeRef<'_>) -> Result<(), AllocError> {
+    push_test(text, "export keyword", node.has_export_keyword())?;
+    push_test(text, "declaration", node.is_decl())?;
+    push_test(text, "member", node.is_member())?;
+    push_test(text, "private member", node.is_private_member())
+}
+
+/// The words of the tests that hold of a declaration, and of the namespaces in which it stands.
+fn push_tests(text: &mut String, decl: &SymbolDecl<'_>) -> Result<(), AllocError> {
+    push_sorts(text, decl)?;
+    if let Some(node) = decl.maybe_node() {
+        push_places(text, node)?;
+    }
     push_test(text, "body", decl.has_body())?;
-    push_test(text, "overloads", decl.has_overloads())
+    push_test(text, "overloads", decl.has_overloads())?;
+    let (is_value, is_type) = decl.namespaces();
+    push_test(text, "value", is_value)?;
+    push_test(text, "type", is_type)
 }
 
 fn push_nodes_of(text: &mut String, node: Option<SymbolNodeRef<'_>>) -> Result<(), AllocError> {

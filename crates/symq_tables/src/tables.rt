@@ -1,20 +1,35 @@
 //! The symbols of a module, a line for each, with its declarations and tables below it.
 
-use crate::declarations::push_declaration;
+use crate::declarations::{push_declaration, push_file_ref, push_name, push_test};
 use indexmap::IndexMap;
 use std::alloc::{AllocError, Global};
 use symbols_table::decl::Symbol;
 use symbols_table::info::EsModuleInfo;
 use symbols_tree::ids::SymbolId;
 
-fn push_number(
-    text: &mut String,
-    number: SymbolId,
-    parent: Option<SymbolId>,
-) -> Result<(), AllocError> {
-    match parent {
-        Some(parent) => write!(text, "  symbol {number:?} in {parent:?}\n"),
-        None => write!(text, "  symbol {number:?}\n"),
+/// A word for each test that holds of the symbol, and what it takes of another module.
+fn push_tests(text: &mut String, symbol: &Symbol<'_>) -> Result<(), AllocError> {
+    push_test(text, "module", symbol.is_module())?;
+    push_test(text, "declaration", symbol.is_decl())?;
+    push_test(text, "member", symbol.is_member())?;
+    push_test(text, "private member", symbol.is_private_member())?;
+    match symbol.file_dep() {
+        Some(dep) => {
+            text.push_str(", ")?;
+            push_file_ref(text, dep)
+        }
+        None => Ok(()),
+    }
+}
+
+/// The symbol's number, its name and its parent's number, as far as it has them.
+fn push_number(text: &mut String, symbol: &Symbol<'_>) -> Result<(), AllocError> {
+    let number = symbol.symbol_id();
+    write!(text, "  symbol {number:?}")?;
+    push_name(text, symbol.maybe_name()?)?;
+    match symbol.parent_id() {
+        Some(parent) => write!(text, " in {parent:?}"),
+        None => Ok(()),
     }
 }
 
@@ -47,14 +62,11 @@ fn push_numbers(text: &mut String, word: &str, symbols: &[SymbolId]) -> Result<(
     text.push('\n')
 }
 
-/// A symbol: its number and its parent's, its declarations, exports, children and members.
-fn push_symbol(
-    alloc: Global,
-    text: &mut String,
-    number: SymbolId,
-    symbol: &Symbol<'_>,
-) -> Result<(), AllocError> {
-    push_number(text, number, symbol.parent_id())?;
+/// A symbol on a line, and below it its declarations, exports, children and members.
+fn push_symbol(alloc: Global, text: &mut String, symbol: &Symbol<'_>) -> Result<(), AllocError> {
+    push_number(text, symbol)?;
+    push_tests(text, symbol)?;
+    text.push('\n')?;
     push_declarations(alloc, text, symbol)?;
     push_exports(text, symbol.exports())?;
     push_numbers(text, "children", symbol.child_ids().as_slice())?;
@@ -68,9 +80,8 @@ pub(crate) fn push_symbols(
     module: &EsModuleInfo<'_>,
 ) -> Result<(), AllocError> {
     for number in 0..u32::MAX {
-        let number = SymbolId::from_number(number);
-        match module.symbol(number) {
-            Some(symbol) => push_symbol(alloc, text, number, symbol)?,
+        match module.symbol(SymbolId::from_number(number)) {
+            Some(symbol) => push_symbol(alloc, text, symbol)?,
             None => return Ok(()),
         }
     }

@@ -1,10 +1,12 @@
-//! Nodes of declarations, in a tree without kinds. Most of what they tell is told by runs of `symq_tables`.
+//! Nodes of declarations, in a tree without kinds, and in one of which no table tells. Most of what they tell is told
+//! by runs of `symq_tables`.
 
 use std::alloc::{AllocError, Global};
+use std::borrow::CowStr;
 use std::process::Abort;
 use std::test::Fail;
 use symbols_nodes::nodes::{ExportDeclRef, SymbolNode, SymbolNodeRef};
-use symbols_tree::tree::{Kind, Node, NodeId, NodeRef, Pat, SourceRange, Tree};
+use symbols_tree::tree::{Decl, Expr, Kind, Node, NodeId, NodeRef, Pat, SourceRange, Tree};
 
 /// Three nodes of no kind of their own.
 fn tree(alloc: Global) -> Result<Tree, AllocError> {
@@ -73,5 +75,40 @@ fn tells_what_a_node_is(rt: HostRuntime) -> Result<(), Fail> {
     let node = NodeRef::new(&tree, NodeId(1)).ok_or("no node")?;
     tells(&rt, node);
     assert_eq!(rt; nodes_around(node), Some(3));
+    Ok(())
+}
+
+/// `declare module "m";`, which no table of a module has.
+fn tree_of_a_named_module(alloc: Global) -> Result<Tree, AllocError> {
+    let range = SourceRange { start: 0, end: 0 };
+    let id = NodeId(1);
+    let module = Kind::Decl(Decl::TsModuleDecl {
+        id,
+        declare: true,
+        body: None,
+    });
+    let value = String::from_str(alloc, "m")?;
+    let name = Kind::Expr(Expr::Str { value });
+    let mut nodes = Vec::new(alloc);
+    nodes.push(Node {
+        kind: module,
+        range,
+    })?;
+    nodes.push(Node { kind: name, range })?;
+    Ok(Tree {
+        declaration: true,
+        nodes,
+    })
+}
+
+#[test]
+fn names_a_module_by_its_text(rt: HostRuntime) -> Result<(), Fail> {
+    let tree = tree_of_a_named_module(rt.alloc())?;
+    let node = NodeRef::new(&tree, NodeId(0)).map(SymbolNodeRef::TsNamespace);
+    let definition = SymbolNode { node };
+    let name = definition.maybe_name(rt.alloc())?;
+    assert!(rt; matches!(name, Some(CowStr::Borrowed(text)) if text == "m"));
+    assert!(rt; node.is_some_and(|node| node.is_ts_namespace()));
+    assert!(rt; !node.is_some_and(|node| node.has_body()));
     Ok(())
 }
