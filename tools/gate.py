@@ -105,7 +105,7 @@ def wrong_bodies_part(name, libraries, proofs, lanes):
     part = Part('wrong bodies: ' + name)
     if not proofs.has(libraries_below(name, libraries)):
         return part
-    return part.run(['nice', '-n', '5', *tool('wrong_bodies.py', '--proved', '--libraries', proofs.folder, '--lanes', lanes, name)])
+    return part.run(['nice', '-n', '5', *tool('wrong_bodies.py', '--libraries', proofs.folder, '--lanes', lanes, name)])
 
 
 def tests_part(name):

@@ -80,11 +80,11 @@ def lay(folder, source):
     return Crate(folder, 'small', libraries_of(folder))
 
 
-def verdicts_on(source, names, proved=False):
+def verdicts_on(source, names):
     with tempfile.TemporaryDirectory() as folder:
         crate = lay(folder, source)
         words = wrong_bodies.words_of(crate, wrong_bodies.kit(), None)
-        verdicts, wrong, _ = try_crate(crate, names or crate.names(), words, Lanes(), proved)
+        verdicts, wrong, _ = try_crate(crate, names or crate.names(), words, Lanes())
     return {name: it.how for name, it in verdicts.items()}, wrong
 
 
@@ -99,10 +99,6 @@ def tests():
     yield 'what is called counts by its contract', (found, wrong), ({'once_alone': 'refused'}, [])
     found, wrong = verdicts_on(SOURCE.replace('next(next(x))', 'next(next(x)) + 1'), ['in_two_steps'])
     yield 'a function that is not proved without its edit', (found, len(wrong)), ({}, 1)
-    found, wrong = verdicts_on(SOURCE, ['once_alone', 'turned_round'], proved=True)
-    yield 'a crate that is proved elsewhere', (found, wrong), ({'once_alone': 'refused', 'turned_round': 'let through'}, [])
-    found, wrong = verdicts_on(SOURCE.replace('-> u8 {\n    x', '-> u8 {\n    x / (x - x)'), ['once_alone', 'turned_round', 'against_a_law_of_its_type'], proved=True)
-    yield 'a check in which nothing is proved', sorted(found.values()), ['undecided', 'undecided', 'undecided']
 
 
 def main():

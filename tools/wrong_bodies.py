@@ -6,7 +6,6 @@
     python3 tools/wrong_bodies.py CRATE/EDIT ..         some edits
     python3 tools/wrong_bodies.py --libraries FOLDER .. over the built libraries of a folder, NAME.rlib
     python3 tools/wrong_bodies.py --lanes FOLDER ..     as many checks at once, with others', as the folder has files
-    python3 tools/wrong_bodies.py --proved ..           the crates are proved by another command of the same run
 
 An edit is a file crates/CRATE/wrong/EDIT.edit with a line 'file: src/FILE.rt' and pairs of lines 'old: TEXT' and
 'new: TEXT'. Each old text stands in that file exactly once, where the earlier pairs are made already, and all that an
@@ -24,9 +23,7 @@ calls, whose functions share a proof. An edit is
     undecided       where neither a goal was named nor the function proved; such an edit is tried once more, alone
 
 and only the first passes. Before the edits each crate has a check without any: the functions that they change must all
-be proved there, so that an edit is refused for what it changes, and not for the way it is tried. Where another command
-proves the crate in the same run, that check is left out, and each check of edits has a function without one instead,
-which must be proved there.
+be proved there, so that an edit is refused for what it changes, and not for the way it is tried.
 
 The libraries below a crate must be built: where no folder is named, those in their out/, as `rt check` of the crate
 leaves them. A line an edit, with what refused it; the last line is 'N passed, M failed'.
@@ -302,19 +299,9 @@ class Room:
     def beside(self, name):
         """A room of its own, with what the checks in this one kept so far."""
         room = Room(self.crate, self.own_words, os.path.join(self.folder, name), self.lanes)
-        if self.is_kept():
+        if os.path.isdir(os.path.join(self.folder, 'kept')):
             shutil.copytree(os.path.join(self.folder, 'kept'), os.path.join(room.folder, 'kept'))
         return room
-
-    def is_kept(self):
-        """Whether a check has kept something for the next."""
-        return os.path.isdir(os.path.join(self.folder, 'kept'))
-
-    def untouched(self, batch):
-        """The shortest function that shares no proof with an edited one, if there is one."""
-        units = {it.function.unit() for it in batch}
-        free = [it for it in self.crate.functions if it.unit() not in units and self.has_holes(it)]
-        return sorted(free, key=lambda it: it.last - it.first)[:1]
 
     def has_holes(self, function):
         """Whether a hole may stand for the proof: not in a recursion, whose proof is one for all its calls, and not in
@@ -426,14 +413,9 @@ def batches_of(edits):
 
 
 def tried(room, batch):
-    """The verdict on each edit of a batch, which is halved where it doesn't compile. A function without an edit must be
-    proved in the same check, else it tells nothing."""
-    untouched = room.untouched(batch)
-    said = room.check(batch, [it.function for it in batch] + untouched)
+    """The verdict on each edit of a batch, which is halved where it doesn't compile."""
+    said = room.check(batch, [it.function for it in batch])
     if reached_prover(said):
-        unproved = [it for it in untouched if not is_proved(said, room.crate.name, it)]
-        if unproved:
-            return {it: Verdict('undecided', '%s is not proved without an edit' % unproved[0].name()) for it in batch}
         return {it: judged(said, it) for it in batch}
     if len(batch) == 1:
         return {batch[0]: Verdict('not reached', first_error(said))}
@@ -442,10 +424,8 @@ def tried(room, batch):
 
 
 def tried_all(room, edits):
-    """The verdict on each edit: the batches side by side, each in a room of its own, once a check has kept something."""
+    """The verdict on each edit: the batches side by side, each in a room of its own."""
     batches, found = batches_of(edits), {}
-    if batches and not room.is_kept():
-        found.update(tried(room, batches.pop(0)))
     rooms = [room.beside('batch-%d' % n) for n in range(len(batches))]
     with ThreadPoolExecutor(max(1, len(batches))) as pool:
         for verdicts in pool.map(tried, rooms, batches):
@@ -477,14 +457,13 @@ def read_edits(crate, names):
     return edits, bad
 
 
-def try_crate(crate, names, words, lanes, proved=False):
-    """Tries edits of a crate by checks of these words: the verdict on each by its name, what is wrong without an edit, and the number of checks.
-    A crate that is proved elsewhere isn't checked without an edit."""
+def try_crate(crate, names, words, lanes):
+    """Tries edits of a crate by checks of these words: the verdict on each by its name, what is wrong without an edit, and the number of checks."""
     edits, verdicts = read_edits(crate, names)
     with tempfile.TemporaryDirectory(prefix='wrong-bodies-') as folder:
         room = Room(crate, words, folder, lanes)
         functions = list({it.function.unit(): it.function for it in edits}.values())
-        wrong = proved_without(room, functions) if edits and not proved else []
+        wrong = proved_without(room, functions) if edits else []
         if not wrong:
             verdicts.update({edit.name: it for edit, it in tried_all(room, edits).items()})
     return verdicts, wrong, room.checks
@@ -521,13 +500,13 @@ def wanted(top, words):
     return sorted((it for it in found.values() if it[1]), key=lambda it: -len(it[1]))
 
 
-def run(top, words, built, lanes, proved):
+def run(top, words, built, lanes):
     """Tries the edits that the words name, and returns how many were refused, and how many failures there were."""
     crates, kit_folder, printing, counts = wanted(top, words), kit(), threading.Lock(), []
 
     def work(crate, names):
         began = time.time()
-        verdicts, wrong, checks = try_crate(crate, names, words_of(crate, kit_folder, built), lanes, proved)
+        verdicts, wrong, checks = try_crate(crate, names, words_of(crate, kit_folder, built), lanes)
         with printing:
             counts.append(report(crate, verdicts, wrong, checks, began))
 
@@ -538,10 +517,10 @@ def run(top, words, built, lanes, proved):
 
 
 def main():
-    words, folders = [it for it in sys.argv[1:] if it != '--proved'], {}
+    words, folders = sys.argv[1:], {}
     while words[:1] in (['--libraries'], ['--lanes']) and words[1:]:
         folders[words[0]], words = os.path.abspath(words[1]), words[2:]
-    passed, failed = run(TOP, words, folders.get('--libraries'), Lanes(folders.get('--lanes')), '--proved' in sys.argv)
+    passed, failed = run(TOP, words, folders.get('--libraries'), Lanes(folders.get('--lanes')))
     if not passed and not failed:
         print('no edit was found')
         failed = 1
