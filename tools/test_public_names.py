@@ -10,6 +10,7 @@ import re
 import sys
 import tempfile
 
+from tested import told
 import public_names
 from wrong_bodies import read, write
 
@@ -224,17 +225,5 @@ def tests():
     yield 'a left out row is not moved', moved(('    fn own', '    pub fn gone'))[0], []
 
 
-def main():
-    passed = failed = 0
-    for name, found, want in tests():
-        if found == want:
-            passed += 1
-        else:
-            failed += 1
-            print('%s: found %r, want %r' % (name, found, want))
-    print('%d passed, %d failed' % (passed, failed))
-    return 1 if failed else 0
-
-
 if __name__ == '__main__':
-    sys.exit(main())
+    sys.exit(told(tests()))

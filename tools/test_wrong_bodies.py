@@ -10,6 +10,7 @@ import sys
 import tempfile
 
 import wrong_bodies
+from tested import told
 from wrong_bodies import Crate, Lanes, libraries_of, try_crate
 
 SOURCE = '''//! A small crate.
@@ -101,17 +102,5 @@ def tests():
     yield 'a function that is not proved without its edit', (found, len(wrong)), ({}, 1)
 
 
-def main():
-    passed = failed = 0
-    for name, found, want in tests():
-        if found == want:
-            passed += 1
-        else:
-            failed += 1
-            print('%s: found %r, want %r' % (name, found, want))
-    print('%d passed, %d failed' % (passed, failed))
-    return 1 if failed else 0
-
-
 if __name__ == '__main__':
-    sys.exit(main())
+    sys.exit(told(tests()))
