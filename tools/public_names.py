@@ -17,9 +17,9 @@ crates.txt that have src/lib.rt. Public is what a user can write: `pub` items th
 the crate's root, their `pub` fields and methods, variants, what a trait asks for, and traits that are implemented by
 hand. What only contracts speak of isn't: `ghost` parts, and the trait `Model`, which says what they are about.
 
-The sources are read in the layout of `rt fmt`, and what can't be read there fails too: `pub use` of all names, a module
-within a file, two items of one name in a crate. A line for each row that is wrong and each name without a row, such as
-the table needs it; the last line is 'N passed, M failed'.
+The sources are read in the layout of `rt fmt`, and what can't be read there fails too: `pub use` of all names, or of one
+that isn't there, a module within a file, two items of one name in a crate. A line for each row that is wrong and each
+name without a row, such as the table needs it; the last line is 'N passed, M failed'.
 """
 import os
 import re
@@ -33,7 +33,7 @@ NOT_YET, LEFT_OUT = 'not there yet', 'left out'
 LINK = re.compile(r'\[([^]]*)\]\([^)]*\)')
 ROW = re.compile(r'\| `([^`]+)` \| ([^|]+?) \|.*')
 ITEM = re.compile(r'pub (?:const |unsafe )*(struct|enum|trait|fn|type|const|static) (\w+)')
-MODULE = re.compile(r'(pub )?mod (\w+);')
+MODULE = re.compile(r'(pub )?(?:pub\([a-z]+\) )?mod (\w+);')
 USE = re.compile(r'pub use (.*);', re.S)
 DERIVE = re.compile(r'derive\(([^)]*)\)', re.S)
 FIELD = re.compile(r'    pub (?!ghost )(\w+):')
@@ -226,6 +226,9 @@ class Sources:
         found = {name: path + (name,) for name, is_public in module.children.items() if is_public}
         found.update({name: self.target(path, used) for name, used in module.uses.items()})
         found.update(module.items)
+        for name, way in module.uses.items():
+            if found[name] is None and way[0] in ('crate', 'self', 'super', *module.children):
+                self.unread.append('%s: %s leads nowhere' % ('::'.join(path), '::'.join(way)))
         for name, what in found.items():
             if isinstance(what, Item):
                 self.places.setdefault(what, []).append(('::'.join(place), name))

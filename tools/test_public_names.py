@@ -25,7 +25,7 @@ pub mod shown;
 pub use hidden::deep::{Made, make as made};
 pub use other::Foreign;
 ''',
-    'crates/low/src/hidden.rt': '''pub mod deep;
+    'crates/low/src/hidden.rt': '''pub(crate) mod deep;
 
 /// Nobody leads here.
 pub struct Unreachable {
@@ -181,6 +181,8 @@ CHANGES = [
      ['is no row: | `Device::read()` | `low::shown` |', 'no row: | `Device::read` | `high::shown` |']),
     ('what is passed on without names', 'crates/high/src/lib.rt', ('mod view;', 'mod view;\n\npub use view::*;'),
      ['not read: high: pub use view::*;']),
+    ('what is passed on from nowhere', 'crates/low/src/lib.rt', ('make as made', 'absent'),
+     ['not read: low: hidden::deep::absent leads nowhere', 'made low has no public made']),
     ('a module within a file', SHOWN, ('pub const', 'pub mod within {\n}\n\npub const'),
      ['not read: low::shown: pub mod within {']),
     ('an impl over several lines', SHOWN, ('pub const', 'impl<\n    T,\n> Device for Kind {}\n\npub const'),

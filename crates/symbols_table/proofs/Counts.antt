@@ -106,7 +106,7 @@ few_events tree text none formed =
     omega (arith, light_tree tree (node_weight nodes) (node_weighs text nodes none formed) first.0 first.1, weight_few (parent_of nodes) (parent_lower nodes) (length nodes) 0)
 
 -- no more symbols than nodes,
-pub few_symbols : (tree : Tree) (text : List ℕ) → IsFaultless text tree.nodes.items → IsWellFormed tree.nodes.items → symbol_count tree ≤ length tree.nodes.items
+pub few_symbols : (tree : Tree) (text : List ℕ) → IsFaultless text tree.nodes.items → IsWellFormed tree.nodes.items → symbol_count (tree_changes tree) ≤ length tree.nodes.items
 few_symbols tree text none formed = omega (arith, symbols_by (tree_events tree), few_events tree text none formed)
 
 -- and no more declarations
@@ -114,7 +114,7 @@ pub few_declarations : (tree : Tree) (text : List ℕ) → IsFaultless text tree
 few_declarations tree text none formed = omega (arith, (few_by (tree_events tree)).declarations, few_events tree text none formed)
 
 -- the same of symbols that hold what a tree changes
-pub are_few : (tree : Tree) (text : List ℕ) (symbols : List Symbol) → IsFaultless text tree.nodes.items → IsWellFormed tree.nodes.items → length symbols ≡ symbol_count tree
+pub are_few : (tree : Tree) (text : List ℕ) (symbols : List Symbol) → IsFaultless text tree.nodes.items → IsWellFormed tree.nodes.items → length symbols ≡ symbol_count (tree_changes tree)
     → ((s : SymbolId) (symbol : Symbol) → slice_get symbols s.0 ≡ Some symbol → decls_in symbol ≡ decls_after (tree_changes tree) s) → AreFewIn tree symbols
 are_few tree text symbols none formed counted held = record {
   few_symbols = omega (arith, counted, few_symbols tree text none formed);

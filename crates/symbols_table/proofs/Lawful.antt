@@ -27,12 +27,14 @@ symbol_of b changes s symbol is at =
     let read : get_or b.symbols.items s.0 symbol ≡ symbol = get_or_from_slice_get b.symbols.items s.0 symbol symbol at in
     subst (IsSymbolOf b.setting.module_id changes s) read (is.symbols s symbol (slice_get_within b.symbols.items s.0 symbol at))
 
-lawful_symbol : (b : Builder) (changes : List Change) (s : SymbolId) (symbol : Symbol) → IsTableOf b changes → slice_get b.symbols.items s.0 ≡ Some symbol → IsLawfulSymbol (length b.symbols.items) s symbol
+lawful_symbol : (b : Builder) (changes : List Change) (s : SymbolId) (symbol : Symbol) → IsTableOf b changes → slice_get b.symbols.items s.0 ≡ Some symbol → IsLawfulSymbol b.setting.module_id (length b.symbols.items) s symbol
 lawful_symbol b changes s symbol is at =
     let count = length b.symbols.items in
     let below : s.0 < count = slice_get_within b.symbols.items s.0 symbol at in
     let here = symbol_of b changes s symbol is at in
     record {
+      of_module = here.of_module;
+      number = here.number;
       parent = is.parents s.0 (parent_in symbol) here.parent;
       declared = rw here.decls (is.declared s below);
       exports = rw here.exports (exports_inside count changes s is.sound);
@@ -41,7 +43,7 @@ lawful_symbol b changes s symbol is at =
       once = rw here.exports (are_exports changes s).once;
     }
 
-pub are_lawful : (b : Builder) (changes : List Change) → IsTableOf b changes → AreLawful b.symbols.items
+pub are_lawful : (b : Builder) (changes : List Change) → IsTableOf b changes → AreLawful b.setting.module_id b.symbols.items
 are_lawful b changes is = λ s symbol at. lawful_symbol b changes s symbol is at
 
 pub are_names : (b : Builder) (changes : List Change) → IsTableOf b changes → AreNamesOf (length b.symbols.items) (ids_view b.ids.entries)

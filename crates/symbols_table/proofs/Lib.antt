@@ -25,3 +25,6 @@ pub mod OwnEvents
 pub mod OwnChanges
 pub mod ExportLaws
 pub mod Lawful
+pub mod Sources
+pub mod Stars
+pub mod NamePaths

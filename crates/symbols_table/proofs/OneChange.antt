@@ -20,7 +20,7 @@ use Rattle.symbols_table.specs.declared.builder.names.LocalName.{LocalName}
 use Rattle.symbols_table.specs.declared.builder.table.Builder.{Builder}
 use Rattle.symbols_table.specs.DeclViews.{Declaration, decl_view, exports_view, with_decl, is_overload_after, last_decl}
 use Rattle.symbols_table.specs.Changes.{Change, Star, makes, declares, exports, has_child, has_member, maps, passes_on, is_same, star_by, stars_after, child_named, member_named, parent_by, decl_by, setting_by, child_by, member_by, mapping_by, parents_after, decls_after, exports_after, children_after, members_after, mapped_after, with_first}
-use Rattle.symbols_table.specs.declared.info.star.StarStatement.{StarStatement}
+use Rattle.symbols_table.specs.declared.info.re_exports.StarStatement.{StarStatement}
 use Rattle.symbols_table.specs.ModuleViews.{ids_view, star_view}
 use Rattle.symbols_table.specs.Symbols.{IsSymbolOf}
 use Rattle.symbols_table.specs.Laws.{IsParentOf}

@@ -1,54 +1,62 @@
 -- What the analysis of a module gives.
-use Rattle.std.specs.Prelude.{◌≡◌, ℕ, ◌<◌, ◌≤◌, List, length, Option, Some, None, slice_get, string_bytes}
+use Rattle.std.specs.Prelude.{◌≡◌, ℕ, ◌<◌, ◌≤◌, List, length, Option, Some, None, string_bytes}
 use Rattle.symbols_syntax.specs.declared.ids.ModuleId.{ModuleId}
 use Rattle.symbols_syntax.specs.declared.ids.SymbolId.{SymbolId}
 use Rattle.symbols_syntax.specs.declared.tree.arena.Tree.{Tree}
-use Rattle.symbols_syntax.specs.Graph.{ModuleView, tree_of}
+use Rattle.symbols_syntax.specs.Graph.{ModuleView}
 use Rattle.symbols_syntax.specs.Ids.{IdView}
-use Rattle.symbols_table.specs.declared.decl.symbol.Symbol.{Symbol}
-use Rattle.symbols_table.specs.declared.info.es_module.EsModuleInfo.{EsModuleInfo}
 use Rattle.symbols_table.specs.declared.info.module_info.ModuleInfo.{ModuleInfo}
 use Rattle.symbols_table.specs.declared.info.fault.SymbolsFault.{SymbolsFault}
 use Rattle.symbols_table.specs.declared.info.fault.SymbolsFault.TheVariants as fault
 use Rattle.symbols_table.specs.Changes.{Change, parents_after, stars_after, mapped_after}
 use Rattle.symbols_table.specs.Events.{changes_by}
 use Rattle.symbols_table.specs.TreeEvents.{tree_events}
-use Rattle.symbols_table.specs.Symbols.{IsSymbolOf}
-use Rattle.symbols_table.specs.Modules.{module_in, specifier_in, source_in, symbols_in, mapped_in, stars_in, esm_in}
+use Rattle.symbols_table.specs.JsonEvents.{json_events}
+use Rattle.symbols_table.specs.SymbolViews.{symbol_after}
+use Rattle.symbols_table.specs.Modules.{Source, parsed, json_text, source_of, Table, table_of, symbol_in, mapped_in}
 
--- what the events of a tree change
+-- what the events of a tree, and those of a JSON text, change
 abbrev pub tree_changes : Tree → List Change
 tree_changes tree = changes_by (tree_events tree)
 
--- how many symbols a tree has
-abbrev pub symbol_count : Tree → ℕ
-symbol_count tree = length (parents_after (tree_changes tree))
+abbrev pub json_changes : List ℕ → List Change
+json_changes text = changes_by (json_events text)
 
--- the module has the symbols of the changes, each with its number and its tables, and each name stands for the symbol that they map it to
-pub record HasTables (esm : EsModuleInfo) (changes : List Change) : Type 0 where
-  pub count : length (symbols_in esm) ≡ length (parents_after changes)
-  pub symbols : (s : SymbolId) (symbol : Symbol) → slice_get (symbols_in esm) s.0 ≡ Some symbol → IsSymbolOf (module_in esm) changes s symbol
-  pub ids : (id : IdView) → mapped_in esm id ≡ mapped_after changes id
-  pub stars : stars_in esm ≡ stars_after changes
+abbrev pub source_changes : Source → List Change
+source_changes (parsed _ tree) = tree_changes tree
+source_changes (json_text text) = json_changes text
 
--- the module of the graph, with the tables of its tree
-pub record IsAnalyzed (module_id : ModuleId) (graph_module : ModuleView) (limit : ℕ) (esm : EsModuleInfo) : Type 0 where
-  pub number : module_in esm ≡ module_id
-  pub specifier : specifier_in esm ≡ graph_module.specifier
-  pub tree : tree_of graph_module.content ≡ Some (source_in esm)
-  pub tables : HasTables esm (tree_changes (source_in esm))
-  pub within : symbol_count (source_in esm) ≤ limit
+-- how many symbols changes make
+abbrev pub symbol_count : List Change → ℕ
+symbol_count changes = length (parents_after changes)
 
--- nothing where the module has no tree, and else the module with its tables
+-- the table is that of the changes: its symbols, each with all that it shows, what its names stand for, and its `export *`
+pub record HasTables (table : Table) (changes : List Change) : Type 0 where
+  pub symbols : (s : SymbolId) → symbol_in table s ≡ symbol_after changes s
+  pub names : (id : IdView) → mapped_in table id ≡ mapped_after changes id
+  pub stars : table.stars ≡ stars_after changes
+
+-- the table of a module of this number and specifier, from its source
+pub record IsAnalyzed (module_id : ModuleId) (name : List ℕ) (content : Source) (limit : ℕ) (table : Table) : Type 0 where
+  pub number : table.module_id ≡ module_id
+  pub specifier : table.specifier ≡ name
+  pub source : table.source ≡ content
+  pub tables : HasTables table (source_changes content)
+  pub within : symbol_count (source_changes content) ≤ limit
+
+-- nothing where the module has no source of symbols, and else the module with its table
 abbrev pub IsAnalysis : ModuleId → ModuleView → ℕ → Option ModuleInfo → Type 0
-IsAnalysis module_id graph_module limit None = tree_of graph_module.content ≡ None
-IsAnalysis module_id graph_module limit (Some info) = (esm : EsModuleInfo) × (esm_in info ≡ Some esm) × IsAnalyzed module_id graph_module limit esm
+IsAnalysis module_id graph_module limit None = source_of graph_module.content ≡ None
+IsAnalysis module_id graph_module limit (Some info) = (source : Source) × (source_of graph_module.content ≡ Some source) × IsAnalyzed module_id graph_module.specifier source limit (table_of info)
 
--- why there is no analysis: want of memory, or a tree with more symbols than the limit
+-- the module's source makes more symbols than the limit
+abbrev pub IsTooMany : ModuleView → ℕ → Type 0
+IsTooMany graph_module limit = (source : Source) × (source_of graph_module.content ≡ Some source) × (limit < symbol_count (source_changes source))
+
+-- why there is no analysis: want of memory, or a source of more symbols than the limit
 abbrev pub IsAnalysisFault : ModuleView → ℕ → SymbolsFault → Type 0
 IsAnalysisFault graph_module limit fault.OutOfMemory = Unit {0}
-IsAnalysisFault graph_module limit (fault.TooManySymbols specifier) =
-    (string_bytes specifier ≡ graph_module.specifier) × ((tree : Tree) × (tree_of graph_module.content ≡ Some tree) × (limit < symbol_count tree))
+IsAnalysisFault graph_module limit (fault.TooManySymbols specifier) = (string_bytes specifier ≡ graph_module.specifier) × IsTooMany graph_module limit
 IsAnalysisFault graph_module limit fault.TooManyModules = ⊥
 IsAnalysisFault graph_module limit fault.UnknownModule = ⊥
 IsAnalysisFault graph_module limit fault.UnknownSymbol = ⊥

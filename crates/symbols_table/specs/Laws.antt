@@ -4,6 +4,7 @@ use Rattle.std.specs.List.{sum_by, IsDistinct}
 use Rattle.std.specs.Map.{lookup}
 use Rattle.std.specs.Str.{bytes_eq}
 use Rattle.std.specs.Option.{option_and_then, option_map_or}
+use Rattle.symbols_syntax.specs.declared.ids.ModuleId.{ModuleId}
 use Rattle.symbols_syntax.specs.declared.ids.SymbolId.{SymbolId}
 use Rattle.symbols_syntax.specs.declared.tree.arena.Tree.{Tree}
 use Rattle.symbols_syntax.specs.declared.tree.kinds.Kind.{Kind}
@@ -15,14 +16,16 @@ use Rattle.symbols_nodes.specs.NodeViews.{nodes_of}
 use Rattle.symbols_table.specs.declared.decl.symbol.Symbol.{Symbol}
 use Rattle.symbols_table.specs.Changes.{Star, names_set}
 use Rattle.symbols_table.specs.DeclViews.{Declaration, node_of_kind}
-use Rattle.symbols_table.specs.Symbols.{parent_in, decls_in, exports_in, children_in, members_in}
+use Rattle.symbols_table.specs.Symbols.{module_number_in, number_in, parent_in, decls_in, exports_in, children_in, members_in}
 
 -- a parent of the symbol n: symbol 0 has none, and the others have a lower one
 abbrev pub IsParentOf : ℕ → Option SymbolId → Type 0
 IsParentOf n parent = MatchOption parent (n ≡ 0) (λ s. s.0 < n)
 
--- a symbol of so many: its parent's number is smaller than its own, and only symbol 0 has none; something is declared of it; what it exports and has as children and members are symbols of the module; and it exports no name twice
-pub record IsLawfulSymbol (count : ℕ) (s : SymbolId) (symbol : Symbol) : Type 0 where
+-- a symbol of so many in a module: it knows its module and its number; its parent's number is smaller than its own, and only symbol 0 has none; something is declared of it; what it exports and has as children and members are symbols of the module; and it exports no name twice
+pub record IsLawfulSymbol (module_id : ModuleId) (count : ℕ) (s : SymbolId) (symbol : Symbol) : Type 0 where
+  pub of_module : module_number_in symbol ≡ module_id
+  pub number : number_in symbol ≡ s
   pub parent : IsParentOf s.0 (parent_in symbol)
   pub declared : 0 < length (decls_in symbol)
   pub exports : All (λ entry. entry.1.0 < count) (exports_in symbol)
@@ -30,8 +33,8 @@ pub record IsLawfulSymbol (count : ℕ) (s : SymbolId) (symbol : Symbol) : Type 
   pub members : All (λ member. member.0 < count) (members_in symbol)
   pub once : IsDistinct bytes_eq (names_set (exports_in symbol))
 
-abbrev pub AreLawful : List Symbol → Type 0
-AreLawful symbols = (s : SymbolId) (symbol : Symbol) → slice_get symbols s.0 ≡ Some symbol → IsLawfulSymbol (length symbols) s symbol
+abbrev pub AreLawful : ModuleId → List Symbol → Type 0
+AreLawful module_id symbols = (s : SymbolId) (symbol : Symbol) → slice_get symbols s.0 ≡ Some symbol → IsLawfulSymbol module_id (length symbols) s symbol
 
 -- how many declarations symbols have together
 abbrev pub declarations_of : List Symbol → ℕ

@@ -12,10 +12,15 @@ pub mod ModuleEvents
 pub mod TreeEvents
 pub mod NamespaceViews
 pub mod Symbols
+pub mod SymbolViews
 pub mod ModuleViews
 pub mod Laws
 pub mod Modules
+pub mod ReExports
+pub mod JsonEvents
 pub mod Analysis
+pub mod QualifiedNames
+pub mod NamePaths
 pub mod LocalNames
 pub mod Tables
 pub mod Keeping

@@ -4,7 +4,7 @@ use Rattle.std.specs.Borrow.{Bor}
 use Rattle.symbols_syntax.specs.declared.ids.SymbolId.{SymbolId}
 use Rattle.symbols_syntax.specs.declared.tree.arena.Id.{Id}
 use Rattle.symbols_syntax.specs.Ids.{IdView, id_view}
-use Rattle.symbols_table.specs.declared.info.star.StarStatement.{StarStatement}
+use Rattle.symbols_table.specs.declared.info.re_exports.StarStatement.{StarStatement}
 use Rattle.symbols_table.specs.Changes.{Star}
 
 -- the names with the symbols that they stand for

@@ -1,57 +1,42 @@
--- What a symbol shows, and what it holds after changes.
-use Rattle.std.specs.Prelude.{◌≡◌, ℕ, Bool, false, List, map, Option, Some, slice_get}
-use Rattle.std.specs.Option.{option_map, option_map_or, option_and_then}
+-- For short: what a symbol shows. And for proofs alone: that it holds what was changed of it.
+use Rattle.std.specs.Prelude.{◌≡◌, ℕ, List, Option, Some, slice_get}
+use Rattle.std.specs.Option.{option_map}
 use Rattle.symbols_syntax.specs.declared.ids.ModuleId.{ModuleId}
 use Rattle.symbols_syntax.specs.declared.ids.SymbolId.{SymbolId}
 use Rattle.symbols_syntax.specs.declared.ids.UniqueSymbolId.{UniqueSymbolId}
-use Rattle.symbols_nodes.specs.NodeViews.{NodeView}
 use Rattle.symbols_table.specs.declared.decl.symbol.Symbol.{Symbol}
-use Rattle.symbols_table.specs.DeclViews.{Declaration, decl_view, decl_name, node_of_kind, exports_view}
+use Rattle.symbols_table.specs.DeclViews.{Declaration}
+use Rattle.symbols_table.specs.SymbolViews.{symbol_view}
 use Rattle.symbols_table.specs.Changes.{Change, parents_after, decls_after, exports_after, children_after, members_after}
 
 -- its own number, and that of its module
 abbrev pub number_in : Symbol → SymbolId
-number_in symbol = symbol.symbol_id
+number_in symbol = (symbol_view symbol).number
 
 abbrev pub module_number_in : Symbol → ModuleId
 module_number_in symbol = symbol.module_id
 
+-- a symbol among those of all modules; its parent is one of its module
 abbrev pub unique_in : Symbol → UniqueSymbolId
 unique_in symbol = record { module_id = symbol.module_id; symbol_id = symbol.symbol_id }
 
-abbrev pub parent_in : Symbol → Option SymbolId
-parent_in symbol = symbol.parent_id
-
--- the parent is one of the same module
 abbrev pub parent_unique_in : Symbol → Option UniqueSymbolId
-parent_unique_in symbol = option_map (λ parent. record { module_id = symbol.module_id; symbol_id = parent }) (parent_in symbol)
+parent_unique_in symbol = option_map (λ parent. record { module_id = symbol.module_id; symbol_id = parent }) symbol.parent_id
+
+abbrev pub parent_in : Symbol → Option SymbolId
+parent_in symbol = (symbol_view symbol).parent
 
 abbrev pub decls_in : Symbol → List Declaration
-decls_in symbol = map decl_view symbol.decls.items
+decls_in symbol = (symbol_view symbol).decls
 
 abbrev pub exports_in : Symbol → List (List ℕ × SymbolId)
-exports_in symbol = exports_view symbol.exports.entries
+exports_in symbol = (symbol_view symbol).exports
 
 abbrev pub children_in : Symbol → List SymbolId
-children_in symbol = symbol.child_ids.keys
+children_in symbol = (symbol_view symbol).children
 
 abbrev pub members_in : Symbol → List SymbolId
-members_in symbol = symbol.members.keys
-
-abbrev pub first_decl_in : Symbol → Option Declaration
-first_decl_in symbol = slice_get (decls_in symbol) 0
-
--- a symbol is called what its first declaration is called; without one it has no name
-abbrev pub symbol_name : Symbol → Option (List ℕ)
-symbol_name symbol = option_and_then decl_name (first_decl_in symbol)
-
--- the node of its first declaration, if that has one
-abbrev pub first_node_in : Symbol → Option NodeView
-first_node_in symbol = option_and_then (λ (decl : Declaration). node_of_kind decl.kind) (first_decl_in symbol)
-
--- what holds of a symbol is what holds of this node; without it nothing does
-abbrev pub symbol_test : (NodeView → Bool) → Symbol → Bool
-symbol_test test symbol = option_map_or test (first_node_in symbol) false
+members_in symbol = (symbol_view symbol).members
 
 -- the symbol is that of the number s in the module, and holds what was changed of it
 pub record IsSymbolOf (module_id : ModuleId) (changes : List Change) (s : SymbolId) (symbol : Symbol) : Type 0 where

@@ -2,9 +2,13 @@
 
 mod es_module;
 mod fault;
+mod json_module;
 mod module_info;
-pub(crate) mod star;
+mod qualified_name;
+pub(crate) mod re_exports;
 
 pub use es_module::EsModuleInfo;
 pub use fault::SymbolsFault;
-pub use module_info::{ModuleInfo, ModuleInfoRef};
+pub use json_module::JsonModuleInfo;
+pub use module_info::{ModuleInfo, ModuleInfoRef, Symbols};
+pub use re_exports::ReExportNodes;

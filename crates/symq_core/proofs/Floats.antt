@@ -3,8 +3,8 @@ use Rattle.std.proofs.Common.{◌≡◌, ℕ, List, [], ◌∷◌, false, Option
 use Rattle.serde_json.specs.View.{items_of}
 use Rattle.serde_json.specs.Written.{has_float, items_have_float}
 use Rattle.symbols_syntax.specs.declared.ids.SymbolId.{SymbolId}
-use Rattle.symq_core.specs.AnswerViews.{ExportEntry, AnswerView, tells_nothing, tells_fault, tells_exports, tells_symbol}
-use Rattle.symq_core.specs.AnswerData.{statement_data, entry_data, symbol_number, answer_data}
+use Rattle.symq_core.specs.AnswerViews.{ExportEntry, AnswerView, tells_nothing, tells_fault, tells_exports, tells_symbol, tells_name}
+use Rattle.symq_core.specs.AnswerData.{statement_data, entry_data, symbol_number, name_text, answer_data}
 
 in_statements : (statements : List (List ℕ × List ℕ)) → items_have_float (items_of (map statement_data statements)) ≡ false
 in_statements [] = refl
@@ -21,8 +21,13 @@ in_number : (found : Option SymbolId) → has_float (symbol_number found) ≡ fa
 in_number None = refl
 in_number (Some symbol) = refl
 
+in_name : (name : Option (List ℕ)) → has_float (name_text name) ≡ false
+in_name None = refl
+in_name (Some text) = refl
+
 pub no_float : (answer : AnswerView) → has_float (answer_data answer) ≡ false
 no_float tells_nothing = refl
 no_float (tells_fault fault) = refl
 no_float (tells_exports entries unresolved) = rw (in_entries entries, in_statements unresolved) refl
 no_float (tells_symbol found) = rw (in_number found) refl
+no_float (tells_name name) = rw (in_name name) refl

@@ -2,7 +2,7 @@
 use Rattle.std.proofs.Common.{◌≡◌, ◌<◌, List, [], ◌∷◌, length, None, refl, arith}
 use Rattle.serde_json.specs.View.{items_view}
 use Rattle.serde_json.specs.declared.value.Value.{Value}
-use Rattle.symq_core.specs.Queries.{two_and_rest, exports_question, symbol_question}
+use Rattle.symq_core.specs.Queries.{two_and_rest, exports_question, symbol_question, name_question}
 
 pub two_short : (values : List Value) → length values < 2 → two_and_rest (items_view values) ≡ None
 two_short [] h = refl
@@ -23,3 +23,12 @@ symbol_long [] h = refl
 symbol_long (a ∷ []) h = refl
 symbol_long (a ∷ b ∷ []) h = absurd (omega arith)
 symbol_long (a ∷ b ∷ c ∷ values) h = refl
+
+pub name_short : (values : List Value) → length values < 1 → name_question (items_view values) ≡ None
+name_short [] h = refl
+name_short (a ∷ values) h = absurd (omega arith)
+
+pub name_long : (values : List Value) → 1 < length values → name_question (items_view values) ≡ None
+name_long [] h = refl
+name_long (a ∷ []) h = absurd (omega arith)
+name_long (a ∷ b ∷ values) h = refl

@@ -3,7 +3,7 @@ use Rattle.std.specs.Prelude.{ℕ, List, map, Option, Some, None, codes}
 use Rattle.serde_json.specs.Data.{Data, null, number, unsigned, string, array, object, no_items, item, no_members, member}
 use Rattle.serde_json.specs.View.{items_of}
 use Rattle.symbols_syntax.specs.declared.ids.SymbolId.{SymbolId}
-use Rattle.symq_core.specs.AnswerViews.{AnswerFault, bad_query, too_many_modules, too_many_symbols, unknown_module, unknown_symbol, ExportEntry, AnswerView, tells_nothing, tells_fault, tells_exports, tells_symbol}
+use Rattle.symq_core.specs.AnswerViews.{AnswerFault, bad_query, too_many_modules, too_many_symbols, unknown_module, unknown_symbol, ExportEntry, AnswerView, tells_nothing, tells_fault, tells_exports, tells_symbol, tells_name}
 
 abbrev pub fault_words : AnswerFault → List ℕ
 fault_words bad_query = codes "bad query"
@@ -30,9 +30,14 @@ abbrev pub symbol_number : Option SymbolId → Data
 symbol_number None = null
 symbol_number (Some symbol) = number (unsigned symbol.0)
 
+abbrev pub name_text : Option (List ℕ) → Data
+name_text None = null
+name_text (Some name) = string name
+
 -- each answer's value, its keys in the order of their bytes
 abbrev pub answer_data : AnswerView → Data
 answer_data tells_nothing = null
 answer_data (tells_fault fault) = object (member (codes "fault") (string (fault_words fault)) no_members)
 answer_data (tells_exports entries unresolved) = object (member (codes "exports") (array (items_of (map entry_data entries))) (member (codes "unresolved") (statements_data unresolved) no_members))
 answer_data (tells_symbol found) = object (member (codes "symbol") (symbol_number found) no_members)
+answer_data (tells_name name) = object (member (codes "name") (name_text name) no_members)

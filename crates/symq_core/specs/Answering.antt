@@ -2,14 +2,13 @@
 use Rattle.std.specs.Prelude.{◌≡◌, List, Option, Some, None}
 use Rattle.serde_json.specs.Data.{Data}
 use Rattle.symbols_syntax.specs.Ids.{id_view}
-use Rattle.symbols_table.specs.declared.info.es_module.EsModuleInfo.{EsModuleInfo}
 use Rattle.symbols_table.specs.declared.info.module_info.ModuleInfo.{ModuleInfo}
 use Rattle.symbols_table.specs.declared.info.fault.SymbolsFault.{SymbolsFault}
 use Rattle.symbols_table.specs.declared.info.fault.SymbolsFault.TheVariants as fault
 use Rattle.symbols_table.specs.Changes.{Change}
 use Rattle.symbols_table.specs.Analysis.{HasTables}
-use Rattle.symbols_table.specs.Modules.{specifier_in, esm_in}
-use Rattle.symq_core.specs.Queries.{QuestionView, asks_exports, asks_symbol, QueryView}
+use Rattle.symbols_table.specs.Modules.{table_of}
+use Rattle.symq_core.specs.Queries.{QuestionView, asks_exports, asks_symbol, asks_name, QueryView}
 use Rattle.symq_core.specs.AnswerViews.{AnswerFault, too_many_modules, too_many_symbols, unknown_module, unknown_symbol}
 use Rattle.symq_core.specs.AnswerData.{answer_data}
 use Rattle.symq_core.specs.Answers.{changes_answer}
@@ -20,14 +19,14 @@ use Rattle.symq_core.specs.declared.program.query.Query.{Query}
 abbrev pub question_view : Question → QuestionView
 question_view Question.Exports = asks_exports
 question_view (Question.Symbol id) = asks_symbol (id_view id)
+question_view (Question.Name symbol) = asks_name symbol
 
 abbrev pub query_view : Query → QueryView
 query_view query = record { specifier = query.specifier.now; question = question_view query.question }
 
 -- the value is that of the answer by the changes whose tables the module has
 abbrev pub IsAnswerByTables : QuestionView → ModuleInfo → Data → Type 0
-IsAnswerByTables question info value =
-    (esm : EsModuleInfo) → esm_in info ≡ Some esm → (changes : List Change) → HasTables esm changes → value ≡ answer_data (changes_answer question (specifier_in esm) changes)
+IsAnswerByTables question info value = (changes : List Change) → HasTables (table_of info) changes → value ≡ answer_data (changes_answer question (table_of info).specifier changes)
 
 -- why a call on symbols gave nothing; want of memory is no answer
 abbrev pub fault_view : SymbolsFault → Option AnswerFault

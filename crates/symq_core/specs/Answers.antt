@@ -1,11 +1,14 @@
 -- What a query is answered with.
-use Rattle.std.specs.Prelude.{ℕ, nat_lt, if◌then◌else◌, List, [], map, length, Option, Some, None, option_map}
+use Rattle.std.specs.Prelude.{ℕ, nat_lt, if◌then◌else◌, List, [], map, Option, Some, None, option_map}
 use Rattle.symbols_syntax.specs.declared.ids.SymbolId.{SymbolId}
-use Rattle.symbols_syntax.specs.Graph.{GraphView, ModuleView, module_of, tree_of}
-use Rattle.symbols_table.specs.Changes.{Change, parents_after, exports_after, mapped_after}
-use Rattle.symbols_table.specs.Analysis.{tree_changes}
-use Rattle.symq_core.specs.Queries.{QuestionView, asks_exports, asks_symbol, QueryView}
-use Rattle.symq_core.specs.AnswerViews.{bad_query, too_many_symbols, ExportEntry, AnswerView, tells_nothing, tells_fault, tells_exports, tells_symbol}
+use Rattle.symbols_syntax.specs.Graph.{GraphView, ModuleView, module_of}
+use Rattle.symbols_table.specs.Changes.{Change, exports_after, mapped_after}
+use Rattle.symbols_table.specs.SymbolViews.{SymbolView, symbol_after}
+use Rattle.symbols_table.specs.QualifiedNames.{qualified_name}
+use Rattle.symbols_table.specs.Modules.{source_of}
+use Rattle.symbols_table.specs.Analysis.{source_changes, symbol_count}
+use Rattle.symq_core.specs.Queries.{QuestionView, asks_exports, asks_symbol, asks_name, QueryView}
+use Rattle.symq_core.specs.AnswerViews.{bad_query, too_many_symbols, unknown_symbol, ExportEntry, AnswerView, tells_nothing, tells_fault, tells_exports, tells_symbol, tells_name}
 
 -- the symbol of the module itself
 abbrev pub module_symbol : SymbolId
@@ -18,23 +21,29 @@ own_entry specifier named = record { chain = []; owner = specifier; name = named
 abbrev pub own_entries : List ℕ → List (List ℕ × SymbolId) → List ExportEntry
 own_entries specifier exports = map (own_entry specifier) exports
 
+-- the name of a symbol, and a fault where there is no such symbol
+abbrev pub named_answer : Option SymbolView → Option (List ℕ) → AnswerView
+named_answer None name = tells_fault unknown_symbol
+named_answer (Some _) name = tells_name name
+
 -- the answer to a question on a module with these changes
 abbrev pub changes_answer : QuestionView → List ℕ → List Change → AnswerView
 changes_answer asks_exports specifier changes = tells_exports (own_entries specifier (exports_after changes module_symbol)) []
 changes_answer (asks_symbol id) specifier changes = tells_symbol (mapped_after changes id)
+changes_answer (asks_name s) specifier changes = named_answer (symbol_after changes s) (qualified_name (symbol_after changes) s)
 
 -- the same, unless the changes make more symbols than there are ids
 unfoldable pub counted_answer : QuestionView → List ℕ → List Change → AnswerView
-counted_answer question specifier changes = if nat_lt (4294967295) (length (parents_after changes)) then tells_fault too_many_symbols else changes_answer question specifier changes
+counted_answer question specifier changes = if nat_lt (4294967295) (symbol_count changes) then tells_fault too_many_symbols else changes_answer question specifier changes
 
 -- nothing without changes
 abbrev pub answer_by : QuestionView → List ℕ → Option (List Change) → AnswerView
 answer_by question specifier None = tells_nothing
 answer_by question specifier (Some changes) = counted_answer question specifier changes
 
--- what the module's events change; none where it has no tree
+-- what the module's events change; none where it has no source of symbols
 abbrev pub changes_of : ModuleView → Option (List Change)
-changes_of graph_module = option_map tree_changes (tree_of graph_module.content)
+changes_of graph_module = option_map source_changes (source_of graph_module.content)
 
 abbrev pub module_answer : QuestionView → ModuleView → AnswerView
 module_answer question graph_module = answer_by question graph_module.specifier (changes_of graph_module)

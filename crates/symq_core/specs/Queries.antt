@@ -3,13 +3,15 @@ use Rattle.std.specs.Prelude.{ℕ, List, [], ◌∷◌, find, codes, Option, Som
 use Rattle.std.specs.Str.{bytes_eq}
 use Rattle.serde_json.specs.Data.{Data, Items, no_items, item}
 use Rattle.serde_json.specs.Find.{as_array, as_str}
+use Rattle.symbols_syntax.specs.declared.ids.SymbolId.{SymbolId}
 use Rattle.symbols_syntax.specs.Ids.{IdView}
 use Rattle.symq_reader.specs.UnderKeys.{as_u32}
 
--- what is asked of a module: what it exports; which symbol a name stands for in it
+-- what is asked of a module: what it exports; which symbol a name stands for in it; what a symbol of it is called in full
 pub data QuestionView : Type 0 where
   asks_exports : QuestionView
   asks_symbol : IdView → QuestionView
+  asks_name : SymbolId → QuestionView
 
 -- a question, and the specifier of the module that it is asked of
 pub record QueryView : Type 0 where
@@ -30,9 +32,14 @@ abbrev pub symbol_question : Items → Option QuestionView
 symbol_question (item name (item scope no_items)) = option_map asks_symbol (read_id name scope)
 symbol_question _ = None
 
+-- the form `["name", specifier, number]`, behind its specifier
+abbrev pub name_question : Items → Option QuestionView
+name_question (item symbol no_items) = option_map (λ n. asks_name (record { 0 = n })) (as_u32 symbol)
+name_question _ = None
+
 -- the forms by their words
 abbrev pub forms : List (List ℕ × (Items → Option QuestionView))
-forms = (codes "exports", exports_question) ∷ (codes "symbol", symbol_question) ∷ []
+forms = (codes "exports", exports_question) ∷ (codes "symbol", symbol_question) ∷ (codes "name", name_question) ∷ []
 
 abbrev pub question_named : List ℕ → Items → Option QuestionView
 question_named word items = option_and_then (λ form. form.1 items) (find (λ form. bytes_eq word form.0) forms)

@@ -6,21 +6,24 @@ use std::alloc::{AllocError, Global};
 use std::io;
 use std::io::Write;
 use symbols_table::analyze;
-use symbols_table::info::{EsModuleInfo, SymbolsFault};
+use symbols_table::info::{ModuleInfoRef, SymbolsFault};
 use symbols_tree::check::{GraphModule, ModuleGraph};
 use symbols_tree::ids::ModuleId;
 use symq_core::program::EngineFault;
 
-/// The specifier, the symbols and the names of a module.
+/// The specifier, the symbols and the names of a module. A JSON module has no names.
 fn push_module(
     alloc: Global,
     text: &mut String,
-    module: &EsModuleInfo<'_>,
+    module: ModuleInfoRef<'_, '_>,
 ) -> Result<(), AllocError> {
     let specifier = module.specifier();
     write!(text, "module {specifier:?}\n")?;
     push_symbols(alloc, text, module)?;
-    push_names(alloc, text, module)
+    match module.esm() {
+        Some(esm) => push_names(alloc, text, esm),
+        None => Ok(()),
+    }
 }
 
 /// That a module's symbols were not found, for a reason that is no want of memory.
@@ -37,11 +40,7 @@ fn push_fault(
 fn module_text(alloc: Global, module: &GraphModule) -> Result<String, AllocError> {
     let mut text = String::new(alloc);
     match analyze(alloc, ModuleId::from_number(0), module, u32::MAX) {
-        Ok(Some(info)) => {
-            if let Some(esm) = info.esm() {
-                push_module(alloc, &mut text, esm)?;
-            }
-        }
+        Ok(Some(info)) => push_module(alloc, &mut text, info.as_ref())?,
         Ok(None) => {}
         Err(SymbolsFault::OutOfMemory) => return Err(AllocError),
         Err(fault) => push_fault(&mut text, module, &fault)?,

@@ -4,7 +4,7 @@ use crate::declarations::{push_declaration, push_file_ref, push_name, push_test}
 use indexmap::IndexMap;
 use std::alloc::{AllocError, Global};
 use symbols_table::decl::Symbol;
-use symbols_table::info::EsModuleInfo;
+use symbols_table::info::ModuleInfoRef;
 use symbols_tree::ids::SymbolId;
 
 /// A word for each test that holds of the symbol, and what it takes of another module.
@@ -73,17 +73,14 @@ fn push_symbol(alloc: Global, text: &mut String, symbol: &Symbol<'_>) -> Result<
     push_numbers(text, "members", symbol.members().as_slice())
 }
 
-/// The symbols from 0 up to the first number that none has.
+/// The symbols, by their numbers.
 pub(crate) fn push_symbols(
     alloc: Global,
     text: &mut String,
-    module: &EsModuleInfo<'_>,
+    module: ModuleInfoRef<'_, '_>,
 ) -> Result<(), AllocError> {
-    for number in 0..u32::MAX {
-        match module.symbol(SymbolId::from_number(number)) {
-            Some(symbol) => push_symbol(alloc, text, symbol)?,
-            None => return Ok(()),
-        }
+    for symbol in module.symbols() {
+        push_symbol(alloc, text, symbol)?;
     }
     Ok(())
 }

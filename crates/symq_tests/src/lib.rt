@@ -18,3 +18,5 @@ mod serving;
 mod stops;
 #[cfg(test)]
 mod symbols;
+#[cfg(test)]
+mod views;

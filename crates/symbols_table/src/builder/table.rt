@@ -14,7 +14,7 @@ ghost use Rattle.symbols_table.specs.declared.builder.table.BuildFault.TheVarian
 
 use crate::builder::names::LocalName;
 use crate::decl::{Symbol, SymbolDecl};
-use crate::info::star::StarStatement;
+use crate::info::re_exports::StarStatement;
 use indexmap::{IndexMap, IndexSet};
 use std::alloc::{AllocError, AllocFailed, Global};
 use std::borrow::CowStr;

@@ -48,7 +48,8 @@ fn first_dep<'a>(decls: &[SymbolDecl<'a>]) -> Option<FileDep<'a>>
 }
 
 impl<'a> Symbol<'a> {
-    ghost use Rattle.symbols_table.specs.Symbols.{number_in, module_number_in, unique_in, parent_in, parent_unique_in, decls_in, first_node_in, symbol_name, symbol_test, exports_in, children_in, members_in};
+    ghost use Rattle.symbols_table.specs.SymbolViews.{symbol_view, first_node, symbol_name, symbol_test};
+    ghost use Rattle.symbols_table.specs.Symbols.{number_in, module_number_in, unique_in, parent_in, parent_unique_in, decls_in, exports_in, children_in, members_in};
 
     /// A symbol that nothing is declared of, with empty tables.
     pub fn new(
@@ -124,7 +125,7 @@ impl<'a> Symbol<'a> {
     ///
     /// Memory was refused, which only the name of a private key takes.
     pub fn maybe_name(&self) -> Result<Option<CowStr<'a>>, AllocError>
-        ensures { IfOk result (λ name. option_map cow_str_bytes name ≡ symbol_name self.now) }
+        ensures { IfOk result (λ name. option_map cow_str_bytes name ≡ symbol_name (symbol_view self.now)) }
     {
         match self.decls.first() {
             Some(decl) => decl.maybe_name(self.alloc),
@@ -177,15 +178,15 @@ impl<'a> Symbol<'a> {
     }
 
     /// The node of the first declaration, if there is one that has a node.
-    fn first_node(&self) -> Option<SymbolNodeRef<'a>>
-        ensures { option_map symbol_node_view result ≡ first_node_in self.now }
+    pub(crate) fn first_node(&self) -> Option<SymbolNodeRef<'a>>
+        ensures { option_map symbol_node_view result ≡ first_node (symbol_view self.now) }
     {
         self.decls.first()?.maybe_node()
     }
 
     /// Whether its first declaration is the module (as deno_graph); false without a node.
     pub fn is_module(&self) -> bool
-        ensures { result ≡ symbol_test is_module self.now }
+        ensures { result ≡ symbol_test is_module (symbol_view self.now) }
     {
         match self.first_node() {
             Some(node) => node.is_module(),
@@ -196,7 +197,7 @@ impl<'a> Symbol<'a> {
     /// Whether its first declaration is neither the module nor a member (as deno_graph); false
     /// without a node.
     pub fn is_decl(&self) -> bool
-        ensures { result ≡ symbol_test is_decl self.now }
+        ensures { result ≡ symbol_test is_decl (symbol_view self.now) }
     {
         match self.first_node() {
             Some(node) => node.is_decl(),
@@ -206,7 +207,7 @@ impl<'a> Symbol<'a> {
 
     /// Whether its first declaration is a member (as deno_graph); false without a node.
     pub fn is_member(&self) -> bool
-        ensures { result ≡ symbol_test is_member self.now }
+        ensures { result ≡ symbol_test is_member (symbol_view self.now) }
     {
         match self.first_node() {
             Some(node) => node.is_member(),
@@ -216,7 +217,7 @@ impl<'a> Symbol<'a> {
 
     /// Whether its first declaration is a private member (as deno_graph); false without a node.
     pub fn is_private_member(&self) -> bool
-        ensures { result ≡ symbol_test is_private_member self.now }
+        ensures { result ≡ symbol_test is_private_member (symbol_view self.now) }
     {
         match self.first_node() {
             Some(node) => node.is_private_member(),

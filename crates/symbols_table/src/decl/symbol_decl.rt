@@ -1,11 +1,11 @@
 //! One declaration of a symbol.
 
-ghost use Rattle.std.specs.Prelude.{◌≡◌, map, IfOk};
+ghost use Rattle.std.specs.Prelude.{◌≡◌, map, IfOk, None};
 ghost use Rattle.std.specs.Cow.{cow_str_bytes};
 ghost use Rattle.std.specs.Option.{option_copied, option_map};
 ghost use Rattle.symbols_nodes.specs.NodeViews.{symbol_node_view};
 ghost use Rattle.symbols_nodes.specs.NodeTests.{is_class, is_function, is_interface, is_var, is_ctor, has_body, is_method};
-ghost use Rattle.symbols_table.specs.DeclViews.{decl_view, decl_kind_view, decl_name, declaration_at, defined, decl_namespaces, dep_view, is_definition, node_of_kind, source_of_kind, dep_of_kind, node_test, last_decl, is_overload_after};
+ghost use Rattle.symbols_table.specs.DeclViews.{decl_view, decl_kind_view, decl_name, declaration_at, defined, definition, decl_namespaces, dep_view, is_definition, node_of_kind, source_of_kind, dep_of_kind, node_test, last_decl, is_overload_after};
 
 use crate::decl::dep::FileDep;
 use std::alloc::{AllocError, Global};
@@ -89,6 +89,13 @@ impl<'a> SymbolDecl<'a> {
     {
         let node = SymbolNode { node: Some(node) };
         SymbolDecl::new(SymbolDeclKind::Definition(node), range)
+    }
+
+    /// A definition that has no node, as those of a JSON module.
+    pub(crate) fn without_node(range: SourceRange) -> SymbolDecl<'a>
+        ensures { decl_view result ≡ declaration_at (definition None) range }
+    {
+        SymbolDecl::new(SymbolDeclKind::Definition(SymbolNode { node: None }), range)
     }
 
     /// What the declaration is called (as deno_graph): the name of its node; without a node it has

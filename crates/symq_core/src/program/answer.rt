@@ -3,12 +3,15 @@
 ghost use Rattle.std.specs.Prelude.{◌≡◌, [], map, string_bytes, IfOk, IfSome, IsSome};
 ghost use Rattle.serde_json.specs.View.{view};
 ghost use Rattle.std.specs.Option.{option_and_then};
+ghost use Rattle.symbols_syntax.specs.Ids.{id_view};
 ghost use Rattle.symbols_table.specs.DeclViews.{exports_view};
+ghost use Rattle.symbols_table.specs.Modules.{table_of, symbol_in, mapped_in};
+ghost use Rattle.symbols_table.specs.QualifiedNames.{qualified_name};
 ghost use Rattle.symq_reader.specs.GraphText.{json_of};
 ghost use Rattle.symq_core.specs.Queries.{query_of};
 ghost use Rattle.symq_core.specs.AnswerViews.{tells_fault, tells_exports, tells_symbol};
 ghost use Rattle.symq_core.specs.AnswerData.{entry_data, answer_data};
-ghost use Rattle.symq_core.specs.Answers.{own_entry, own_entries, module_answer, query_answer, asked_answer};
+ghost use Rattle.symq_core.specs.Answers.{own_entry, own_entries, named_answer, module_answer, query_answer, asked_answer};
 ghost use Rattle.symq_core.specs.AnswerTexts.{answer_text};
 ghost use Rattle.symq_core.specs.Answering.{question_view, query_view, IsAnswerByTables, fault_view};
 
@@ -20,6 +23,7 @@ use symbols_table::analyze;
 use symbols_table::info::{ModuleInfo, SymbolsFault};
 use symbols_tree::check::{GraphModule, ModuleGraph};
 use symbols_tree::ids::{ModuleId, SymbolId};
+use symbols_tree::tree::Id;
 
 /// The value of an export of a module: its name, and the symbol that it leads to.
 fn export_value(
@@ -71,23 +75,6 @@ fn symbol_value(alloc: Global, symbol: Option<SymbolId>) -> Result<Value, AllocE
     }
 }
 
-/// The answer to a question on a module with its symbols.
-fn info_answer(
-    alloc: Global,
-    info: &ModuleInfo<'_>,
-    question: &Question,
-) -> Result<Value, AllocError>
-    ensures { IfOk result (λ value. IsAnswerByTables (question_view question.now) info.now (view value)) }
-{
-    let Some(esm) = info.esm() else {
-        return Ok(Value::Null);
-    };
-    match question {
-        Question::Exports => exports_value(alloc, esm.specifier(), esm.module_symbol().exports()),
-        Question::Symbol(id) => symbol_value(alloc, esm.symbol_id_from_swc(id)),
-    }
-}
-
 /// The answer where a call on symbols gave nothing, want of memory apart.
 fn fault_value(alloc: Global, fault: &SymbolsFault) -> Result<Value, AllocError>
     ensures { IfOk result (λ value. IfSome (fault_view fault.now) (λ told. view value ≡ answer_data (tells_fault told))
@@ -101,6 +88,48 @@ fn fault_value(alloc: Global, fault: &SymbolsFault) -> Result<Value, AllocError>
         SymbolsFault::UnknownSymbol => "unknown symbol",
     };
     json!(in alloc; {"fault": text})
+}
+
+/// The symbol that a name stands for in a module.
+fn mapped_symbol(info: &ModuleInfo<'_>, id: &Id) -> Option<SymbolId>
+    ensures { result ≡ mapped_in (table_of info.now) (id_view id.now) }
+{
+    match info {
+        ModuleInfo::Esm(esm) => esm.symbol_id_from_swc(id),
+        ModuleInfo::Json(_) => None,
+    }
+}
+
+/// What a symbol of a module is called in full.
+fn name_value(alloc: Global, info: &ModuleInfo<'_>, symbol: SymbolId) -> Result<Value, AllocError>
+    ensures { IfOk result (λ value. view value ≡ answer_data (named_answer (symbol_in (table_of info.now) symbol) (qualified_name (symbol_in (table_of info.now)) symbol))) }
+{
+    match info.as_ref().fully_qualified_symbol_name(alloc, symbol) {
+        Ok(Some(name)) => json!(in alloc; {"name": name}),
+        Ok(None) => json!(in alloc; {"name": null}),
+        Err(fault) => fault_value(alloc, &fault),
+    }
+}
+
+/// The answer to a question on a module with its symbols.
+fn info_answer(
+    alloc: Global,
+    info: &ModuleInfo<'_>,
+    question: &Question,
+) -> Result<Value, AllocError>
+    ensures { IfOk result (λ value. IsAnswerByTables (question_view question.now) info.now (view value)) }
+{
+    match question {
+        Question::Exports => {
+            exports_value(
+                alloc,
+                info.specifier(),
+                info.as_ref().module_symbol().exports(),
+            )
+        }
+        Question::Symbol(id) => symbol_value(alloc, mapped_symbol(info, id)),
+        Question::Name(symbol) => name_value(alloc, info, *symbol),
+    }
 }
 
 /// The answer to a question on a module of the graph, which is analysed anew for each query until modules

@@ -3,11 +3,12 @@
 ghost use Rattle.std.specs.Prelude.{◌≡◌, option_map, IfOk};
 ghost use Rattle.serde_json.specs.View.{view, items_view};
 ghost use Rattle.symq_reader.specs.GraphText.{json_of};
-ghost use Rattle.symq_core.specs.Queries.{query_of, parts_of_query, exports_question, symbol_question};
+ghost use Rattle.symq_core.specs.Queries.{query_of, parts_of_query, exports_question, symbol_question, name_question};
 ghost use Rattle.symq_core.specs.Answering.{question_view, query_view};
 
 use serde_json::Value;
 use std::alloc::{AllocError, Global};
+use symbols_tree::ids::SymbolId;
 use symbols_tree::tree::Id;
 use symq_reader::as_u32;
 
@@ -18,6 +19,8 @@ pub(crate) enum Question {
     Exports,
     /// The symbol that a name stands for in it.
     Symbol(Id),
+    /// What a symbol of it is called in full.
+    Name(SymbolId),
 }
 
 /// What a line asks: a question, and the specifier of the module that it is asked of.
@@ -75,6 +78,17 @@ fn symbol_question(alloc: Global, items: &[Value]) -> Result<Option<Question>, A
     Ok(Some(Question::Symbol(Id { name, scope })))
 }
 
+/// The items behind the word `name` and a specifier: the number of a symbol.
+#[tactic(auto, using(crate::proofs::Forms::name_short, crate::proofs::Forms::name_long))]
+fn name_question(items: &[Value]) -> Option<Question>
+    ensures { option_map question_view result ≡ name_question (items_view items.now) }
+{
+    match items {
+        [number] => Some(Question::Name(SymbolId::from_number(as_u32(number)?))),
+        _ => None,
+    }
+}
+
 /// The query that a value is, if it is one.
 pub(crate) fn read_query(alloc: Global, value: &Value) -> Result<Option<Query<'_>>, AllocError>
     ensures { IfOk result (λ query. option_map query_view query ≡ query_of (view value.now)) }
@@ -85,6 +99,7 @@ pub(crate) fn read_query(alloc: Global, value: &Value) -> Result<Option<Query<'_
     let question = match word {
         "exports" => exports_question(items),
         "symbol" => symbol_question(alloc, items)?,
+        "name" => name_question(items),
         _ => None,
     };
     Ok(question.map(|question| Query {

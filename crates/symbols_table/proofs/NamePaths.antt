@@ -1,0 +1,117 @@
+-- Paths of symbols, and the names along them.
+use Rattle.std.proofs.Common.{◌≡◌, ℕ, zero, suc, ◌<◌, length, get_or, true, arith, subst, List, [], ◌∷◌, ◌++◌, Option, None, Some, refl, sym, ap, ◌∙◌, append_assoc}
+use Rattle.std.specs.Prelude.{codes, slice_get, string_bytes, String}
+use Rattle.std.specs.Global.{Global}
+use Rattle.std.proofs.lemmas.Option.{slice_get_read, slice_get-get_or, get_or_from_slice_get}
+use Rattle.std.specs.Option.{option_and_then, option_map}
+use Rattle.symbols_syntax.specs.declared.ids.ModuleId.{ModuleId}
+use Rattle.symbols_syntax.specs.declared.ids.SymbolId.{SymbolId}
+use Rattle.symbols_table.specs.declared.decl.symbol.Symbol.{Symbol}
+use Rattle.symbols_table.specs.declared.info.qualified_name.Named.{Named}
+use Rattle.symbols_table.specs.Laws.{IsParentOf, AreLawful}
+use Rattle.symbols_table.specs.NamePaths.{IsNamed, IsNamedPart}
+use Rattle.symbols_nodes.specs.NodeTests.{is_class}
+use Rattle.symbols_table.specs.SymbolViews.{SymbolView, symbol_view, symbol_name, symbol_test, numbered}
+use Rattle.symbols_table.specs.QualifiedNames.{SymbolAt, has_member, name_over, path_name, path_within, path_to}
+
+-- a path ends below the module
+pub path_ends : (symbols : SymbolAt) (n : ℕ) (s : SymbolId) (symbol : SymbolView) → symbols s ≡ Some symbol → symbol.parent ≡ None → path_within symbols (suc n) s ≡ []
+unfolding path_within
+path_ends symbols n s symbol at none = rw (at, none) refl
+
+-- and else is the one to the parent, with the symbol behind it
+pub path_goes_on : (symbols : SymbolAt) (n : ℕ) (s parent : SymbolId) (symbol : SymbolView) → symbols s ≡ Some symbol → symbol.parent ≡ Some parent → path_within symbols (suc n) s ≡ path_within symbols n parent ++ symbol ∷ []
+unfolding path_within
+path_goes_on symbols n s parent symbol at has = rw (at, has) refl
+
+-- a part of a path that has no name takes the name of the whole
+pub no_name_above : (path : List SymbolView) (symbol : SymbolView) (lower : List SymbolView) → path_name (symbol ∷ lower) ≡ None → path_name (path ++ symbol ∷ lower) ≡ None
+no_name_above [] symbol lower none = none
+no_name_above (first ∷ []) symbol lower none = rw none refl
+no_name_above (first ∷ second ∷ path) symbol lower none = let rest : path_name (second ∷ (path ++ symbol ∷ lower)) ≡ None = no_name_above (second ∷ path) symbol lower none in rw rest refl
+
+-- a symbol without a name gives none to the path that it begins
+pub no_name_first : (symbol : SymbolView) (lower : List SymbolView) → symbol_name symbol ≡ None → path_name (symbol ∷ lower) ≡ None
+no_name_first symbol [] none = none
+no_name_first symbol (inner ∷ lower) none = by (path_name (inner ∷ lower)) refl
+  where
+    by : (o : Option (List ℕ)) → path_name (inner ∷ lower) ≡ o → option_and_then (λ (text : List ℕ). option_map (name_over symbol inner.number text) (symbol_name symbol)) o ≡ None
+    by None e = refl
+    by (Some text) e = rw none refl
+
+-- what is called in a class
+pub over_class : (symbol : SymbolView) (inner : SymbolId) (text name : List ℕ) → 0 < length text → has_member symbol inner ≡ true → symbol_test is_class symbol ≡ true → name_over symbol inner text name ≡ name ++ (codes ".prototype." ++ text)
+over_class symbol inner [] name some member class = absurd (omega (arith, some))
+over_class symbol inner (b ∷ text) name some member class = rw (member, class) refl
+
+-- what was read of the path to a symbol, and what is left of it: the path to this number, of so many symbols at most
+abbrev pub IsReadTo : List Symbol → SymbolId → SymbolId → Option Named → Type 0
+IsReadTo symbols asked number inner =
+    (n : ℕ) × (lower : List SymbolView) × (number.0 < length symbols) × (number.0 < n) × (path_to (numbered symbols) asked ≡ path_within (numbered symbols) n number ++ lower) × IsNamed inner lower
+
+-- the symbol that stands at a number
+stands : (symbols : List Symbol) (number : SymbolId) (symbol : Symbol) → number.0 < length symbols → symbol ≡ get_or symbols number.0 symbol → slice_get symbols number.0 ≡ Some symbol
+stands symbols number symbol below read = slice_get_read symbols (length symbols) number.0 symbol refl below read
+
+has_parent : (symbols : List Symbol) (number parent : SymbolId) (symbol d : Symbol) → slice_get symbols number.0 ≡ Some symbol → (get_or symbols number.0 d).parent_id ≡ Some parent → symbol.parent_id ≡ Some parent
+has_parent symbols number parent symbol d at has = sym (ap (λ (s : Symbol). s.parent_id) (get_or_from_slice_get symbols number.0 symbol d at)) ∙ has
+
+-- parents fall
+pub falls : (symbols : List Symbol) (module_id : ModuleId) (number parent : SymbolId) (d : Symbol) → AreLawful module_id symbols → number.0 < length symbols → (get_or symbols number.0 d).parent_id ≡ Some parent → parent.0 < number.0
+falls symbols module_id number parent d lawful below has =
+    let law = lawful number (get_or symbols number.0 d) (slice_get-get_or symbols number.0 d below) in
+    subst (IsParentOf number.0) has law.parent
+
+-- the rest of the path is one symbol shorter
+shorter : (symbols : List Symbol) (asked number parent : SymbolId) (symbol : Symbol) (n : ℕ) (lower : List SymbolView) → slice_get symbols number.0 ≡ Some symbol → symbol.parent_id ≡ Some parent
+    → path_to (numbered symbols) asked ≡ path_within (numbered symbols) (suc n) number ++ lower → path_to (numbered symbols) asked ≡ path_within (numbered symbols) n parent ++ symbol_view symbol ∷ lower
+shorter symbols asked number parent symbol n lower at has path =
+    let up = path_goes_on (numbered symbols) n number parent (symbol_view symbol) (ap (option_map symbol_view) at) has in
+    path ∙ ap (λ (p : List SymbolView). p ++ lower) up ∙ append_assoc (path_within (numbered symbols) n parent) (symbol_view symbol ∷ []) lower
+
+-- one symbol more was read
+pub one_more : (symbols : List Symbol) (module_id : ModuleId) (asked number parent : SymbolId) (symbol d : Symbol) (inner : Option Named) (name : List ℕ) (text : String Global) → AreLawful module_id symbols → symbol ≡ get_or symbols number.0 symbol
+    → (get_or symbols number.0 d).parent_id ≡ Some parent → symbol_name (symbol_view symbol) ≡ Some name
+    → ((path : List SymbolView) → IsNamed inner path → symbol_name (symbol_view symbol) ≡ Some name → path_name (symbol_view symbol ∷ path) ≡ Some (string_bytes text)) → IsReadTo symbols asked number inner
+    → IsReadTo symbols asked parent (Some (record { number = number; text = text }))
+one_more symbols module_id asked number parent symbol d inner name text lawful read has named called (zero, lower, below, few, path, told) = absurd (omega (arith, few))
+one_more symbols module_id asked number parent symbol d inner name text lawful read has named called (suc n, lower, below, few, path, told) =
+    let at = stands symbols number symbol below read in
+    let lower_number = falls symbols module_id number parent d lawful below has in (
+      n,
+      symbol_view symbol ∷ lower,
+      omega (arith, lower_number, below),
+      omega (arith, lower_number, few),
+      shorter symbols asked number parent symbol n lower at (has_parent symbols number parent symbol d at has) path,
+      record {
+        first = (symbol_view symbol, lower, refl, (lawful number symbol at).number);
+        name = called lower told named;
+      },
+    )
+
+-- a symbol on the path has no name
+pub unnamed : (symbols : List Symbol) (asked number parent : SymbolId) (symbol d : Symbol) (inner : Option Named) → symbol ≡ get_or symbols number.0 symbol → (get_or symbols number.0 d).parent_id ≡ Some parent → symbol_name (symbol_view symbol) ≡ None
+    → IsReadTo symbols asked number inner → None ≡ path_name (path_to (numbered symbols) asked)
+unnamed symbols asked number parent symbol d inner read has none (zero, lower, below, few, path, told) = absurd (omega (arith, few))
+unnamed symbols asked number parent symbol d inner read has none (suc n, lower, below, few, path, told) =
+    let at = stands symbols number symbol below read in
+    let whole = shorter symbols asked number parent symbol n lower at (has_parent symbols number parent symbol d at has) path in
+    sym (ap path_name whole ∙ no_name_above (path_within (numbered symbols) n parent) (symbol_view symbol) lower (no_name_first (symbol_view symbol) lower none))
+
+-- the whole path was read
+all_read : (symbols : List Symbol) (asked number : SymbolId) (d : Symbol) (inner : Option Named) → (get_or symbols number.0 d).parent_id ≡ None → (is : IsReadTo symbols asked number inner) → path_to (numbered symbols) asked ≡ is.1
+all_read symbols asked number d inner none (zero, lower, below, few, path, told) = absurd (omega (arith, few))
+all_read symbols asked number d inner none (suc n, lower, below, few, path, told) =
+    let at = ap (option_map symbol_view) (slice_get-get_or symbols number.0 d below) in
+    path ∙ ap (λ (p : List SymbolView). p ++ lower) (path_ends (numbered symbols) n number (symbol_view (get_or symbols number.0 d)) at none)
+
+pub whole_name : (symbols : List Symbol) (asked number : SymbolId) (d : Symbol) (inner : Option Named) (named : Named) → (get_or symbols number.0 d).parent_id ≡ None → IsReadTo symbols asked number inner → inner ≡ Some named
+    → Some (string_bytes named.text) ≡ path_name (path_to (numbered symbols) asked)
+whole_name symbols asked number d inner named none is has =
+    let part : IsNamedPart named is.1 = subst (λ (o : Option Named). IsNamed o is.1) has is.5 in
+    sym (ap path_name (all_read symbols asked number d inner none is) ∙ part.name)
+
+pub no_path : (symbols : List Symbol) (asked number : SymbolId) (d : Symbol) (inner : Option Named) → (get_or symbols number.0 d).parent_id ≡ None → IsReadTo symbols asked number inner → inner ≡ None → None ≡ path_name (path_to (numbered symbols) asked)
+no_path symbols asked number d inner none is has =
+    let empty : is.1 ≡ [] = subst (λ (o : Option Named). IsNamed o is.1) has is.5 in
+    sym (ap path_name (all_read symbols asked number d inner none is ∙ empty))

@@ -1,0 +1,144 @@
+//! What an analysed module lends, of both kinds.
+
+use std::alloc::{AllocError, Global};
+use std::process::Abort;
+use std::test::Fail;
+use symbols_table::analyze;
+use symbols_table::info::{ModuleInfoRef, ReExportNodes};
+use symbols_tree::check::{
+    GraphFault, GraphModule, ModuleGraph, RawGraph, RawModule, RawModuleKind,
+};
+use symbols_tree::ids::{ModuleId, SymbolId};
+use symbols_tree::tree::{Decl, Id, Item, Kind, Node, NodeId, Pat, SourceRange, Tree};
+
+fn push(nodes: &mut Vec<Node>, kind: Kind) -> Result<(), AllocError> {
+    let range = SourceRange { start: 0, end: 0 };
+    nodes.push(Node { kind, range })?;
+    Ok(())
+}
+
+fn export_all(alloc: Global, src: &str) -> Result<Kind, AllocError> {
+    let src = String::from_str(alloc, src)?;
+    Ok(Kind::Item(Item::ExportAll { src }))
+}
+
+fn id(alloc: Global, name: &str, scope: u32) -> Result<Id, AllocError> {
+    let name = String::from_str(alloc, name)?;
+    Ok(Id { name, scope })
+}
+
+/// A list of these nodes.
+fn list(alloc: Global, numbers: &[u32]) -> Result<Vec<NodeId>, AllocError> {
+    let mut list = Vec::new(alloc);
+    for number in numbers {
+        list.push(NodeId(*number))?;
+    }
+    Ok(list)
+}
+
+/// The text `export * from "a"; export var x; export * from "b";`.
+fn tree(alloc: Global) -> Result<Tree, AllocError> {
+    let mut nodes = Vec::new(alloc);
+    let body = list(alloc, &[1, 2, 6])?;
+    push(&mut nodes, Kind::Item(Item::Program { body }))?;
+    push(&mut nodes, export_all(alloc, "a")?)?;
+    push(&mut nodes, Kind::Item(Item::ExportDecl { decl: NodeId(3) }))?;
+    let decls = list(alloc, &[4])?;
+    push(&mut nodes, Kind::Decl(Decl::VarDecl { decls }))?;
+    let declarator = Decl::VarDeclarator {
+        name: NodeId(5),
+        init: None,
+    };
+    push(&mut nodes, Kind::Decl(declarator))?;
+    let ident = Pat::BindingIdent {
+        sym: id(alloc, "x", 1)?,
+        type_ann: None,
+    };
+    push(&mut nodes, Kind::Pat(ident))?;
+    push(&mut nodes, export_all(alloc, "b")?)?;
+    Ok(Tree {
+        declaration: false,
+        nodes,
+    })
+}
+
+/// The graph of the module `m`, which has the tree, and of the JSON module `j`.
+fn graph(alloc: Global) -> Result<ModuleGraph, GraphFault> {
+    let mut modules = Vec::new(alloc);
+    modules.push(RawModule {
+        specifier: String::from_str(alloc, "m")?,
+        kind: RawModuleKind::Esm {
+            text: String::new(alloc),
+            tree: Some(tree(alloc)?),
+            types: None,
+        },
+    })?;
+    modules.push(RawModule {
+        specifier: String::from_str(alloc, "j")?,
+        kind: RawModuleKind::Json {
+            text: String::from_str(alloc, " {} ")?,
+        },
+    })?;
+    let raw = RawGraph {
+        modules,
+        redirects: Vec::new(alloc),
+        resolutions: Vec::new(alloc),
+    };
+    ModuleGraph::new(alloc, raw)
+}
+
+/// The number of the next statement.
+fn next_number(nodes: &mut ReExportNodes<'_, '_>) -> Option<usize> {
+    Some(nodes.next()?.node_id().index())
+}
+
+/// A module with a tree: its statements `export *`, and its names.
+fn lends_a_tree(rt: &impl Abort, alloc: Global, info: ModuleInfoRef<'_, '_>) -> Result<(), Fail> {
+    let esm = info.esm().ok_or("no tree")?;
+    assert!(rt; info.json().is_none());
+    assert_eq!(rt; info.text(), "");
+    let mut nodes = info.re_export_all_nodes().ok_or("no statements")?;
+    assert_eq!(rt; next_number(&mut nodes), Some(1));
+    assert_eq!(rt; next_number(&mut nodes), Some(6));
+    assert_eq!(rt; next_number(&mut nodes), None);
+    let symbol = esm.symbol_from_swc(&id(alloc, "x", 1)?).ok_or("no symbol")?;
+    assert_eq!(rt; symbol.symbol_id(), SymbolId::from_number(1));
+    assert!(rt; esm.symbol_from_swc(&id(alloc, "x", 2)?).is_none());
+    Ok(())
+}
+
+/// A JSON module: its text, without the white space at its ends, is both symbols' declaration.
+fn lends_a_text(rt: &impl Abort, info: ModuleInfoRef<'_, '_>) -> Result<(), Fail> {
+    let json = info.json().ok_or("no JSON")?;
+    assert!(rt; info.esm().is_none());
+    assert!(rt; info.re_export_all_nodes().is_none());
+    assert_eq!(rt; info.text(), " {} ");
+    assert_eq!(rt; json.specifier(), "j");
+    assert_eq!(rt; info.symbols().count(), 2);
+    let default = info.module_symbol().export("default");
+    assert_eq!(rt; default, Some(SymbolId::from_number(1)));
+    for symbol in json.symbols() {
+        let decl = symbol.decls().first().ok_or("no declaration")?;
+        assert_eq!(rt; decl.range, SourceRange { start: 1, end: 3 });
+    }
+    Ok(())
+}
+
+fn lends(rt: &impl Abort, alloc: Global, module: Option<&GraphModule>) -> Result<(), Fail> {
+    let module = module.ok_or("no module")?;
+    let found = analyze(alloc, ModuleId::from_number(0), module, u32::MAX)?;
+    match &found {
+        Some(info) if module.is_json() => lends_a_text(rt, info.as_ref()),
+        Some(info) => lends_a_tree(rt, alloc, info.as_ref()),
+        None => Err("no symbols")?,
+    }
+}
+
+// A value that is owned is let go anew on each way out of a function: few ways lead out of one that
+// owns a graph or its symbols.
+#[test]
+fn lends_trees_and_texts(rt: HostRuntime) -> Result<(), Fail> {
+    let graph = graph(rt.alloc())?;
+    lends(&rt, rt.alloc(), graph.get("m"))?;
+    lends(&rt, rt.alloc(), graph.get("j"))
+}
