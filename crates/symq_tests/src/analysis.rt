@@ -1,30 +1,14 @@
 //! A small module, analysed.
 
+use crate::trees::{graph_of, id, list, module_of, push, push_declarator};
 use std::alloc::{AllocError, Global};
 use std::process::Abort;
 use std::test::Fail;
 use symbols_table::analyze;
 use symbols_table::info::{ModuleInfoRef, SymbolsFault};
-use symbols_tree::check::{
-    GraphFault, GraphModule, ModuleGraph, RawGraph, RawModule, RawModuleKind,
-};
+use symbols_tree::check::{GraphFault, GraphModule, ModuleGraph};
 use symbols_tree::ids::{ModuleId, SymbolId};
-use symbols_tree::tree::{Decl, Id, Item, Kind, Node, NodeId, Pat, SourceRange, Tree};
-
-fn push(nodes: &mut Vec<Node>, kind: Kind) -> Result<(), AllocError> {
-    let range = SourceRange { start: 0, end: 0 };
-    nodes.push(Node { kind, range })?;
-    Ok(())
-}
-
-/// A list of these nodes.
-fn list(alloc: Global, numbers: &[u32]) -> Result<Vec<NodeId>, AllocError> {
-    let mut list = Vec::new(alloc);
-    for number in numbers {
-        list.push(NodeId(*number))?;
-    }
-    Ok(list)
-}
+use symbols_tree::tree::{Decl, Item, Kind, NodeId, Tree};
 
 /// The text `export var a, a, a;`, where each `a` is of a scope of its own.
 fn tree(alloc: Global) -> Result<Tree, AllocError> {
@@ -35,20 +19,7 @@ fn tree(alloc: Global) -> Result<Tree, AllocError> {
     let decls = list(alloc, &[3, 5, 7])?;
     push(&mut nodes, Kind::Decl(Decl::VarDecl { decls }))?;
     for number in [4, 6, 8] {
-        let declarator = Decl::VarDeclarator {
-            name: NodeId(number),
-            init: None,
-        };
-        push(&mut nodes, Kind::Decl(declarator))?;
-        let name = String::from_str(alloc, "a")?;
-        let ident = Pat::BindingIdent {
-            sym: Id {
-                name,
-                scope: number,
-            },
-            type_ann: None,
-        };
-        push(&mut nodes, Kind::Pat(ident))?;
+        push_declarator(&mut nodes, NodeId(number), id(alloc, "a", number)?)?;
     }
     Ok(Tree {
         declaration: false,
@@ -59,20 +30,8 @@ fn tree(alloc: Global) -> Result<Tree, AllocError> {
 /// The graph of the module `m` alone.
 fn graph(alloc: Global) -> Result<ModuleGraph, GraphFault> {
     let mut modules = Vec::new(alloc);
-    modules.push(RawModule {
-        specifier: String::from_str(alloc, "m")?,
-        kind: RawModuleKind::Esm {
-            text: String::new(alloc),
-            tree: Some(tree(alloc)?),
-            types: None,
-        },
-    })?;
-    let raw = RawGraph {
-        modules,
-        redirects: Vec::new(alloc),
-        resolutions: Vec::new(alloc),
-    };
-    ModuleGraph::new(alloc, raw)
+    modules.push(module_of(alloc, "m", tree(alloc)?)?)?;
+    graph_of(alloc, modules)
 }
 
 /// Whether the module `m` is refused, by its specifier, for its many symbols.

@@ -19,4 +19,6 @@ mod stops;
 #[cfg(test)]
 mod symbols;
 #[cfg(test)]
+mod trees;
+#[cfg(test)]
 mod views;

@@ -1,22 +1,20 @@
 //! Nodes of declarations, in a tree without kinds, and in one of which no table tells. Most of what they tell is told
 //! by runs of `symq_tables`.
 
+use crate::trees::push;
 use std::alloc::{AllocError, Global};
 use std::borrow::CowStr;
 use std::process::Abort;
 use std::test::Fail;
 use symbols_nodes::nodes::{ExportDeclRef, SymbolNode, SymbolNodeRef};
-use symbols_tree::tree::{Decl, Expr, Kind, Node, NodeId, NodeRef, Pat, SourceRange, Tree};
+use symbols_tree::tree::{Decl, Expr, Kind, NodeId, NodeRef, Pat, Tree};
 
 /// Three nodes of no kind of their own.
 fn tree(alloc: Global) -> Result<Tree, AllocError> {
     let mut nodes = Vec::new(alloc);
     for _ in 0..3 {
-        let kind = Kind::Pat(Pat::Other {
-            children: Vec::new(alloc),
-        });
-        let range = SourceRange { start: 0, end: 0 };
-        nodes.push(Node { kind, range })?;
+        let children = Vec::new(alloc);
+        push(&mut nodes, Kind::Pat(Pat::Other { children }))?;
     }
     Ok(Tree {
         declaration: false,
@@ -80,21 +78,15 @@ fn tells_what_a_node_is(rt: HostRuntime) -> Result<(), Fail> {
 
 /// `declare module "m";`, which no table of a module has.
 fn tree_of_a_named_module(alloc: Global) -> Result<Tree, AllocError> {
-    let range = SourceRange { start: 0, end: 0 };
-    let id = NodeId(1);
-    let module = Kind::Decl(Decl::TsModuleDecl {
-        id,
+    let module = Decl::TsModuleDecl {
+        id: NodeId(1),
         declare: true,
         body: None,
-    });
+    };
     let value = String::from_str(alloc, "m")?;
-    let name = Kind::Expr(Expr::Str { value });
     let mut nodes = Vec::new(alloc);
-    nodes.push(Node {
-        kind: module,
-        range,
-    })?;
-    nodes.push(Node { kind: name, range })?;
+    push(&mut nodes, Kind::Decl(module))?;
+    push(&mut nodes, Kind::Expr(Expr::Str { value }))?;
     Ok(Tree {
         declaration: true,
         nodes,

@@ -1,39 +1,18 @@
 //! What an analysed module lends, of both kinds.
 
+use crate::trees::{graph_of, id, list, module_of, push, push_declarator};
 use std::alloc::{AllocError, Global};
 use std::process::Abort;
 use std::test::Fail;
 use symbols_table::analyze;
 use symbols_table::info::{ModuleInfoRef, ReExportNodes};
-use symbols_tree::check::{
-    GraphFault, GraphModule, ModuleGraph, RawGraph, RawModule, RawModuleKind,
-};
+use symbols_tree::check::{GraphFault, GraphModule, ModuleGraph, RawModule, RawModuleKind};
 use symbols_tree::ids::{ModuleId, SymbolId};
-use symbols_tree::tree::{Decl, Id, Item, Kind, Node, NodeId, Pat, SourceRange, Tree};
+use symbols_tree::tree::{Decl, Item, Kind, Node, NodeId, SourceRange, Tree};
 
-fn push(nodes: &mut Vec<Node>, kind: Kind) -> Result<(), AllocError> {
-    let range = SourceRange { start: 0, end: 0 };
-    nodes.push(Node { kind, range })?;
-    Ok(())
-}
-
-fn export_all(alloc: Global, src: &str) -> Result<Kind, AllocError> {
+fn push_export_all(alloc: Global, nodes: &mut Vec<Node>, src: &str) -> Result<(), AllocError> {
     let src = String::from_str(alloc, src)?;
-    Ok(Kind::Item(Item::ExportAll { src }))
-}
-
-fn id(alloc: Global, name: &str, scope: u32) -> Result<Id, AllocError> {
-    let name = String::from_str(alloc, name)?;
-    Ok(Id { name, scope })
-}
-
-/// A list of these nodes.
-fn list(alloc: Global, numbers: &[u32]) -> Result<Vec<NodeId>, AllocError> {
-    let mut list = Vec::new(alloc);
-    for number in numbers {
-        list.push(NodeId(*number))?;
-    }
-    Ok(list)
+    push(nodes, Kind::Item(Item::ExportAll { src }))
 }
 
 /// The text `export * from "a"; export var x; export * from "b";`.
@@ -41,50 +20,34 @@ fn tree(alloc: Global) -> Result<Tree, AllocError> {
     let mut nodes = Vec::new(alloc);
     let body = list(alloc, &[1, 2, 6])?;
     push(&mut nodes, Kind::Item(Item::Program { body }))?;
-    push(&mut nodes, export_all(alloc, "a")?)?;
+    push_export_all(alloc, &mut nodes, "a")?;
     push(&mut nodes, Kind::Item(Item::ExportDecl { decl: NodeId(3) }))?;
     let decls = list(alloc, &[4])?;
     push(&mut nodes, Kind::Decl(Decl::VarDecl { decls }))?;
-    let declarator = Decl::VarDeclarator {
-        name: NodeId(5),
-        init: None,
-    };
-    push(&mut nodes, Kind::Decl(declarator))?;
-    let ident = Pat::BindingIdent {
-        sym: id(alloc, "x", 1)?,
-        type_ann: None,
-    };
-    push(&mut nodes, Kind::Pat(ident))?;
-    push(&mut nodes, export_all(alloc, "b")?)?;
+    push_declarator(&mut nodes, NodeId(5), id(alloc, "x", 1)?)?;
+    push_export_all(alloc, &mut nodes, "b")?;
     Ok(Tree {
         declaration: false,
         nodes,
     })
 }
 
-/// The graph of the module `m`, which has the tree, and of the JSON module `j`.
-fn graph(alloc: Global) -> Result<ModuleGraph, GraphFault> {
-    let mut modules = Vec::new(alloc);
-    modules.push(RawModule {
-        specifier: String::from_str(alloc, "m")?,
-        kind: RawModuleKind::Esm {
-            text: String::new(alloc),
-            tree: Some(tree(alloc)?),
-            types: None,
-        },
-    })?;
-    modules.push(RawModule {
+/// The module `j` of the JSON text ` {} `.
+fn json(alloc: Global) -> Result<RawModule, AllocError> {
+    Ok(RawModule {
         specifier: String::from_str(alloc, "j")?,
         kind: RawModuleKind::Json {
             text: String::from_str(alloc, " {} ")?,
         },
-    })?;
-    let raw = RawGraph {
-        modules,
-        redirects: Vec::new(alloc),
-        resolutions: Vec::new(alloc),
-    };
-    ModuleGraph::new(alloc, raw)
+    })
+}
+
+/// The graph of the module `m`, which has the tree, and of the JSON module `j`.
+fn graph(alloc: Global) -> Result<ModuleGraph, GraphFault> {
+    let mut modules = Vec::new(alloc);
+    modules.push(module_of(alloc, "m", tree(alloc)?)?)?;
+    modules.push(json(alloc)?)?;
+    graph_of(alloc, modules)
 }
 
 /// The number of the next statement.

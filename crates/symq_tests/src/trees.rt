@@ -1,0 +1,66 @@
+//! What the tests' graphs are made of.
+
+use std::alloc::{AllocError, Global};
+use symbols_tree::check::{GraphFault, ModuleGraph, RawGraph, RawModule, RawModuleKind};
+use symbols_tree::tree::{Decl, Id, Kind, Node, NodeId, Pat, SourceRange, Tree};
+
+/// Adds a node that stands in the empty range.
+pub(crate) fn push(nodes: &mut Vec<Node>, kind: Kind) -> Result<(), AllocError> {
+    let range = SourceRange { start: 0, end: 0 };
+    nodes.push(Node { kind, range })?;
+    Ok(())
+}
+
+/// A list of these nodes.
+pub(crate) fn list(alloc: Global, numbers: &[u32]) -> Result<Vec<NodeId>, AllocError> {
+    let mut list = Vec::new(alloc);
+    for number in numbers {
+        list.push(NodeId(*number))?;
+    }
+    Ok(list)
+}
+
+pub(crate) fn id(alloc: Global, name: &str, scope: u32) -> Result<Id, AllocError> {
+    let name = String::from_str(alloc, name)?;
+    Ok(Id { name, scope })
+}
+
+/// Adds a declarator, and behind it the name that it declares, which is the node of this number.
+pub(crate) fn push_declarator(
+    nodes: &mut Vec<Node>,
+    name: NodeId,
+    sym: Id,
+) -> Result<(), AllocError> {
+    push(nodes, Kind::Decl(Decl::VarDeclarator { name, init: None }))?;
+    let ident = Pat::BindingIdent {
+        sym,
+        type_ann: None,
+    };
+    push(nodes, Kind::Pat(ident))
+}
+
+/// A module that has the tree, and no text.
+pub(crate) fn module_of(
+    alloc: Global,
+    specifier: &str,
+    tree: Tree,
+) -> Result<RawModule, AllocError> {
+    Ok(RawModule {
+        specifier: String::from_str(alloc, specifier)?,
+        kind: RawModuleKind::Esm {
+            text: String::new(alloc),
+            tree: Some(tree),
+            types: None,
+        },
+    })
+}
+
+/// The graph of these modules alone.
+pub(crate) fn graph_of(alloc: Global, modules: Vec<RawModule>) -> Result<ModuleGraph, GraphFault> {
+    let raw = RawGraph {
+        modules,
+        redirects: Vec::new(alloc),
+        resolutions: Vec::new(alloc),
+    };
+    ModuleGraph::new(alloc, raw)
+}
