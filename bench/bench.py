@@ -11,6 +11,8 @@ It prints a table with a row for each graph and stage. In counts the stages are
     read      a run on the graph with a module's specifier twice, which is refused before its trees are looked at
     check     a run without queries, less read
     analyse   a run with a query for each module, less one without queries
+    depend    a run with a query for what the first symbol of each module depends on, less one with the queries of
+              analyse: of the graph of references alone
 
 and what is counted of a run:
 
@@ -21,12 +23,12 @@ and what is counted of a run:
 
 'growth' is the figure of 2n by that of n. 'of other' is by the figure of the other program, for n and for 2n: its read
 is its whole run without queries, which like ours starts, reads the file, makes the graph and lets all go; its analyse
-is taken like ours; it has no checker. A dash stands where the count to divide by is below 100, or the time below 1 ms.
+and its depend are taken like ours; it has no checker. A dash stands where the count to divide by is below 100, or the time below 1 ms.
 
 ms is processor time, of n, the least of some runs; those of both programs and of n and 2n are taken in turn, so that a
 slow minute of the machine falls on each, and one of over ten seconds is taken once. A time illustrates and shows
 nothing: it varies with what else the machine does. Its analyse is a run with eleven queries a module less one with one,
-by ten, beside the timer 'analysis' that OTHER prints (below); check is too short for a difference of times.
+by ten, beside the timer 'analysis' that OTHER prints (below); check and depend are too short for a difference of times.
 
 OTHER takes the same graphs and lines, and prints with `--bench RUNS` a JSON object of its stages, in which
 `analysis` has `min_cpu_ms`, the least processor time of analysing all modules.
@@ -126,11 +128,40 @@ def interface_of(n):
     return {'modules': [tree.module('m', [at])]}
 
 
+def references_of(n):
+    """An alias of n references: names, names with parts, imported names, and names behind a `typeof`."""
+    tree = Tree()
+    at = tree.add('TsTypeAliasDecl')
+    tree.nodes[at].update(id=tree.add('Ident', sym=['T', 1]), type_ann=tree.add('Type'))
+    children = [reference(tree, i) for i in range(n)]
+    tree.nodes[tree.nodes[at]['type_ann']]['children'] = children
+    return {'modules': [tree.module('m', [at])]}
+
+
+def reference(tree, i):
+    if i % 4 == 1:
+        at = tree.add('TsQualifiedName', right='right%d' % i)
+        tree.nodes[at]['left'] = tree.add('Ident', sym=['left%d' % i, 1])
+        return at
+    if i % 4 == 2:
+        at = tree.add('TsImportType', arg='./module%d' % i)
+        tree.nodes[at]['qualifier'] = tree.add('Ident', sym=['name%d' % i, 1])
+        return at
+    if i % 4 == 3:
+        at = tree.add('TsTypeQuery')
+        tree.nodes[at]['expr_name'] = tree.add('Ident', sym=['name%d' % i, 1])
+        return at
+    return tree.add('Ident', sym=['name%d' % i, 1])
+
+
+STAGES = ('read', 'check', 'analyse')
+
 MADE = [
     ('many modules', 2000, lambda n: {'modules': [declarations('m%d' % i, 20) for i in range(n)]}),
     ('one module of declarations', 50000, lambda n: {'modules': [declarations('m', n)]}),
     ('one class of members', 20000, class_of),
     ('one interface of members', 20000, interface_of),
+    ('one alias of references', 20000, references_of),
 ]
 
 
@@ -142,7 +173,12 @@ class Files:
         self.path, self.refused = (os.path.join(folder, name) for name in ('graph.json', 'refused.json'))
         write(self.path, graph)
         write(self.refused, dict(graph, modules=modules + [{'specifier': modules[0]['specifier'], 'kind': 'external'}]))
-        self.queries = b''.join(json.dumps(['symbol', m['specifier'], '', 0]).encode() + b'\n' for m in modules)
+        self.queries = b''.join(line('symbol', m['specifier'], '', 0) for m in modules)
+        self.depends = b''.join(line('deps', m['specifier'], 1, 'all') for m in modules)
+
+
+def line(*query):
+    return json.dumps(query).encode() + b'\n'
 
 
 def write(path, graph):
@@ -177,12 +213,16 @@ def counts(count, program, other, files):
     """By stage, the program's count and the other's."""
     read = count([program, files.refused])
     idle = count([program, files.path])
-    found = {'read': [read], 'check': [idle - read], 'analyse': [count([program, files.path], files.queries) - idle]}
+    asked = count([program, files.path], files.queries)
+    depend = count([program, files.path], files.depends) - asked
+    found = {'read': [read], 'check': [idle - read], 'analyse': [asked - idle], 'depend': [depend]}
     if other:
         idle = count([other, files.path])
         found['read'].append(idle)
         if count is instructions:
-            found['analyse'].append(count([other, files.path], files.queries) - idle)
+            asked = count([other, files.path], files.queries)
+            found['analyse'].append(asked - idle)
+            found['depend'].append(count([other, files.path], files.depends) - asked)
     return found
 
 
@@ -216,7 +256,7 @@ def times(program, other, sizes):
     for i in range(len(sizes)):
         read = reads[i * len(reads) // len(sizes) :][: len(reads) // len(sizes)]
         one, eleven, *theirs = asks[i * len(asks) // len(sizes) :][: len(asks) // len(sizes)]
-        found.append({'read': read, 'check': [], 'analyse': [(eleven - one) / 10] + theirs})
+        found.append({'read': read, 'check': [], 'analyse': [(eleven - one) / 10] + theirs, 'depend': []})
     return found
 
 
@@ -233,7 +273,7 @@ def cells(form, stage, sizes, least_divisor=100):
     return [form(figures[0][0]), growth, of_other]
 
 
-def measure(a, name, makers, small):
+def measure(a, name, makers, small, stages=STAGES):
     """Prints the rows of a graph of some sizes; `small` has smaller ones to count instructions on."""
     with tempfile.TemporaryDirectory() as top:
         def files(make):
@@ -245,7 +285,7 @@ def measure(a, name, makers, small):
             touched = [counts(pages, a.program, a.beside, it) for it in sizes]
         if a.only != 'counts':
             timed = times(a.program, a.beside, sizes)
-    for stage in ('read', 'check', 'analyse'):
+    for stage in stages:
         row = [name, stage] + cells(lambda n: '%.1f' % (n / 1e6), stage, executed) + cells(str, stage, touched)
         time, _, of_other = cells('{:.1f}'.format, stage, timed, 1)
         print('| %s |' % ' | '.join(row + [time, of_other]), flush=True)
@@ -261,7 +301,8 @@ def main():
     print('| %s |\n|%s' % (' | '.join(COLUMNS), '---|' * len(COLUMNS)))
     for name, n, make in MADE:
         sizes = [partial(make, it) for it in (n, 2 * n)]
-        measure(a, '%s, %d' % (name, n), sizes, [partial(make, it) for it in (n // 10, n // 5)])
+        stages = STAGES + ('depend',) if make is references_of else STAGES
+        measure(a, '%s, %d' % (name, n), sizes, [partial(make, it) for it in (n // 10, n // 5)], stages)
     for file in a.graph:
         with open(file) as f:
             graph = json.load(f)

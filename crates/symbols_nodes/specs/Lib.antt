@@ -5,3 +5,14 @@ pub mod NodeNames
 pub mod NodeTests
 pub mod NodeMembers
 pub mod NodeNamespaces
+pub mod Readings
+pub mod DottedNames
+pub mod Annotations
+pub mod References
+pub mod EdgeRules
+pub mod EdgeTable
+pub mod TableParts
+pub mod DepPaths
+pub mod Dependencies
+pub mod DepViews
+pub mod KnownFacts

@@ -1,6 +1,6 @@
 -- A builder that has read a whole tree, or a JSON text.
-use Rattle.std.proofs.Common.{◌≡◌, ℕ, ◌<◌, ◌≤◌, inl, inr, List, [], ◌∷◌, ◌++◌, length, map, None, Some, true, sym, ◌∙◌, ap, subst, refl, arith}
-use Rattle.std.specs.Prelude.{Result, Ok, Err, IsErrAnd, IfErr, slice_get}
+use Rattle.std.proofs.Common.{◌≡◌, ℕ, ◌<◌, ◌≤◌, inl, inr, List, [], ◌∷◌, ◌++◌, length, None, Some, true, sym, ◌∙◌, ap, subst, refl, arith}
+use Rattle.std.specs.Prelude.{Result, Ok, Err, IsErrAnd, IfErr}
 use Rattle.std.specs.Option.{option_map}
 use Rattle.std.proofs.lemmas.Option.{slice_get_cases, slice_get_past}
 use Rattle.symbols_syntax.specs.declared.tree.arena.Node.{Node}

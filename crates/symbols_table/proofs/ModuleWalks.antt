@@ -1,10 +1,8 @@
 -- The events of imports and exports, read one after another.
-use Rattle.std.proofs.Common.{◌≡◌, ℕ, zero, suc, inl, inr, ◌+◌, ◌<◌, ◌≤◌, List, [], ◌∷◌, ◌++◌, length, Option, None, Some, refl, sym, ◌∙◌, ap, subst, arith}
+use Rattle.std.proofs.Common.{◌≡◌, ℕ, ◌+◌, ◌<◌, List, [], ◌∷◌, ◌++◌, length, Option, None, Some, refl, sym, ◌∙◌, ap, subst, arith}
 use Rattle.std.specs.Prelude.{Bool, String, string_bytes, Result, Ok, Err, IsErrAnd, IfErr, OnOk}
 use Rattle.std.specs.Option.{option_map, option_and_then}
 use Rattle.std.specs.Global.{Global}
-use Rattle.std.proofs.lemmas.Bool.{cases_lt, lt-ltb}
-use Rattle.std.proofs.lemmas.Option.{slice_get_past}
 use Rattle.std.proofs.lemmas.List.{append-nil, length_push}
 use Rattle.symbols_syntax.specs.declared.tree.arena.Tree.{Tree}
 use Rattle.symbols_syntax.specs.declared.tree.arena.Id.{Id}
@@ -20,8 +18,7 @@ use Rattle.symbols_nodes.specs.NodeViews.{expando_property, export_default_decl}
 use Rattle.symbols_table.specs.declared.builder.table.Builder.{Builder}
 use Rattle.symbols_table.specs.declared.builder.table.BuildFault.{BuildFault}
 use Rattle.symbols_table.specs.declared.builder.table.BuildFault.TheVariants.{OutOfMemory, TooManySymbols}
-use Rattle.symbols_table.specs.DeclViews.{Declaration, DepName, DeclKind, declaration_at, defined, file_ref, qualified_target}
-use Rattle.symbols_table.specs.Patterns.{Entity, entity_within}
+use Rattle.symbols_table.specs.DeclViews.{Declaration, DepName, DeclKind, declaration_at, defined, file_ref}
 use Rattle.symbols_table.specs.Changes.{makes, declares, maps, parents_after}
 use Rattle.symbols_table.specs.Events.{Event, Row, declare, alias, default, expando, binds, of_symbol, new_row, row_of, changes_of, symbol_at, rows_after}
 use Rattle.symbols_table.specs.Walks.{Walk, on, each, range_in, sym_in}
@@ -177,24 +174,6 @@ default_decl_rows rows node decl range d row h place is_decl reads =
     ∙ rows_of_three rows (default h d) row (binds_if (own_name decl) (length rows)) (each (member_at decl.tree) (member_nodes decl)) (length rows) reads
 
 -- ---- `import a = ..`
-
-no_node_past : (tree : Tree) (n : ℕ) → node_in tree (Some n) ≡ None → length tree.nodes.items ≤ n
-no_node_past tree n no_node = elim (cases_lt n (length tree.nodes.items)) [
-  | inl lt ↦ absurd (none_some (record { tree = tree; number = n }) (sym no_node ∙ rw (lt-ltb n (length tree.nodes.items) lt) refl))
-  | inr le ↦ le
-]
-  where
-    none_some : (node : TreeNode) → None ≡ Some node → ⊥
-    none_some node e = cc
-
--- what is no node is no dotted name
-pub no_entity : (tree : Tree) (levels n : ℕ) → node_in tree (Some n) ≡ None → entity_within tree levels n ≡ None
-unfolding entity_within
-no_entity tree zero n no_node = refl
-no_entity tree (suc levels) n no_node = rw (slice_get_past tree.nodes.items n (no_node_past tree n no_node)) refl
-
-pub no_alias : (node : TreeNode) (entity : Option ℕ) (n : ℕ) (external : Option (String Global)) → entity ≡ Some n → node_in node.tree (Some n) ≡ None → alias_kind node entity external ≡ None
-no_alias node entity n external is no_node = rw is (ap (λ (e : Option Entity). option_map (λ (x : Entity). qualified_target x.leftmost x.parts) e) (no_entity node.tree (length node.tree.nodes.items) n no_node))
 
 pub alias_one : (node : TreeNode) (test : Bool) (entity : Option ℕ) (external : Option (String Global)) (id : Id) (kind : DeclKind) (range : SourceRange) (decl : Declaration) (h start : ℕ) → sym_in id_of node ≡ Some id → alias_kind node entity external ≡ Some kind
     → range_of node ≡ Some range → decl ≡ declaration_at kind range → import_equals_events node test entity external h start ≡ alias h (id_view id) decl ∷ export_if test h (string_bytes id.name) start

@@ -15,6 +15,7 @@ use Rattle.symbols_syntax.specs.declared.tree.kinds.Expr.TheVariants as Expr
 use Rattle.symbols_syntax.specs.NodeRefs.{TreeNode, kind_of, node_in, child_of, list_of}
 use Rattle.symbols_syntax.specs.ChildFields.{body_of, body_node_of, decl_of, decls_of, expr_of, orig_of, local_of, id_of, name_of}
 use Rattle.symbols_syntax.specs.Ids.{IdView, id_view, sym_of}
+use Rattle.symbols_nodes.specs.DottedNames.{DottedName, entity_name}
 use Rattle.symbols_nodes.specs.Expando.{Expando, expando_in}
 use Rattle.symbols_nodes.specs.NodeViews.{NodeView, ExportDeclView, nodes_of, exported_nodes, exported_class, exported_fn, exported_var, exported_ts_enum, exported_ts_interface, exported_ts_module, exported_ts_type_alias, class_param_prop, constructor, export_default_decl, expando_property, ts_namespace}
 use Rattle.symbols_table.specs.declared.builder.scope.Scope.{Scope}
@@ -22,7 +23,7 @@ use Rattle.symbols_table.specs.DeclViews.{Declaration, DeclKind, defined, declar
 use Rattle.symbols_table.specs.Events.{Event, begins, declare, alias, fresh, default, binds, member, expando, export, child, star}
 use Rattle.symbols_table.specs.Laws.{IsNodeOf, IsDeclaredIn, IsStarOf}
 use Rattle.symbols_table.specs.Walks.{Walk, none, on, each, range_in, sym_in}
-use Rattle.symbols_table.specs.Patterns.{Entity, entity_at, leaves_of}
+use Rattle.symbols_table.specs.Patterns.{leaves_of}
 use Rattle.symbols_table.specs.MemberEvents.{member_nodes, one_member, param_events, param_at, simple_member, member_events, member_at}
 use Rattle.symbols_table.specs.DeclarationEvents.{declared_as, plain, whole_range, is_exported, variable_form, export_if, added, declared, Variables, binding_events, binding_at, declarator_events, declarator_at, variables_events, named_form, own_name, named_events, declaration_events}
 use Rattle.symbols_table.specs.ModuleEvents.{import_name, imported, import_events, import_at, named_export, orig_name, orig_kind, specifier_events, export_events, export_at, binds_if, default_decl_events, default_at, default_expr, assignment_events, alias_kind, alias_events, import_equals_events, expando_events, module_events}
@@ -270,11 +271,11 @@ module _ (tree : Tree) where
   own_assignment expr _ = own_none
 
   alias_own : (node : TreeNode) (entity : Option ℕ) (external : Option (String Global)) → IfSome (alias_kind node entity external) (AreNodesOf tree)
-  alias_own node (Some entity) external = by (entity_at node.tree entity)
+  alias_own node (Some entity) external = by (option_and_then entity_name (node_in node.tree (Some entity)))
     where
-      by : (o : Option Entity) → IfSome (option_map (λ (e : Entity). DeclKind.qualified_target e.leftmost e.parts) o) (AreNodesOf tree)
+      by : (o : Option DottedName) → IfSome (option_map (λ (name : DottedName). DeclKind.qualified_target name.leftmost name.parts) o) (AreNodesOf tree)
       by None = tt
-      by (Some e) = no_nodes
+      by (Some name) = no_nodes
   alias_own node None None = tt
   alias_own node None (Some text) = no_nodes
 

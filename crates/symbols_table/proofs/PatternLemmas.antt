@@ -1,6 +1,5 @@
--- Nodes below one another, patterns and dotted names level by level.
-use Rattle.std.proofs.Common.{◌≡◌, ℕ, suc, zero, ◌+◌, ◌<◌, ◌≤◌, Bool, true, false, List, [], ◌∷◌, ◌++◌, length, Option, None, Some, refl, sym, ◌∙◌, ap, arith, append_assoc, String}
-use Rattle.std.specs.Global.{Global}
+-- Nodes below one another, and patterns level by level.
+use Rattle.std.proofs.Common.{◌≡◌, ℕ, suc, zero, ◌+◌, ◌<◌, ◌≤◌, Bool, true, false, List, [], ◌∷◌, ◌++◌, length, None, Some, refl, sym, ◌∙◌, ap, arith, append_assoc}
 use Rattle.std.specs.Prelude.{Contains, nat_lt, if◌then◌else◌}
 use Rattle.std.specs.List.{flat_map}
 use Rattle.std.specs.Option.{option_to_list}
@@ -12,11 +11,10 @@ use Rattle.std.proofs.lemmas.List.Elements.{Contains-append_left, Contains-appen
 use Rattle.symbols_syntax.specs.declared.tree.arena.Tree.{Tree}
 use Rattle.symbols_syntax.specs.declared.tree.kinds.Kind.{Kind}
 use Rattle.symbols_syntax.specs.declared.tree.kinds.Pat.TheVariants as Pat
-use Rattle.symbols_syntax.specs.declared.tree.kinds.Ty.TheVariants as Ty
 use Rattle.symbols_syntax.specs.Nodes.{kind_at, children, child_numbers}
 use Rattle.symbols_syntax.specs.NodeRefs.{TreeNode, kind_of, node_in}
 use Rattle.symbols_syntax.specs.WellFormed.{IsWellFormed}
-use Rattle.symbols_table.specs.Patterns.{is_binding, pattern_parts, leaves_below, leaves_within, Entity, entity_above, entity_within}
+use Rattle.symbols_table.specs.Patterns.{is_binding, pattern_parts, leaves_below, leaves_within}
 
 -- ---- nodes
 
@@ -94,26 +92,3 @@ leaves_outside tree (suc levels) n is = rw is refl
 pub leaves_more : (inner : ℕ → List ℕ) (parts : List ℕ) (n : ℕ) (old so_far new : List ℕ) → so_far ≡ old ++ flat_map inner parts → new ≡ so_far ++ inner n → new ≡ old ++ flat_map inner (parts ++ n ∷ [])
 leaves_more inner parts n old so_far new before here =
     rw (flat_map-append inner parts (n ∷ []), append-nil (inner n)) (here ∙ rw before (append_assoc old (flat_map inner parts) (inner n)))
-
--- ---- dotted names
-
-pub entity_opened : (tree : Tree) (levels left n : ℕ) (kind : Kind) → levels ≡ suc left → kind_at tree.nodes.items n ≡ Some kind → entity_within tree levels n ≡ entity_above (entity_within tree left) kind
-unfolding entity_within
-entity_opened tree levels left n kind more is = rw (more, is) refl
-
-pub entity_outside : (tree : Tree) (levels n : ℕ) → kind_at tree.nodes.items n ≡ None → entity_within tree levels n ≡ None
-unfolding entity_within
-entity_outside tree zero n is = refl
-entity_outside tree (suc levels) n is = rw is refl
-
--- the name before a part has a higher number than the whole
-pub left_above : (node : TreeNode) (kind : Kind) (left : ℕ) (right : String Global) → IsWellFormed node.tree.nodes.items → node.number < length node.tree.nodes.items → kind_of node ≡ Some kind → kind ≡ Kind.Ty (Ty.TsQualifiedName left right) → node.number < left
-left_above node kind left right formed inside is qualified =
-    let has : Contains (child_numbers (Kind.Ty (Ty.TsQualifiedName left right))) left = (0, omega arith, refl) in
-    is_above node kind left formed inside is (rw qualified has)
-
--- a name alone, a name with a part more, and what is neither
-pub entity_at_name : (tree : Tree) (levels n : ℕ) (kind : Kind) (entity : Option Entity) → n < length tree.nodes.items → length tree.nodes.items ≤ n + levels → kind_at tree.nodes.items n ≡ Some kind
-    → ((left : ℕ) → length tree.nodes.items ≤ n + suc left → entity ≡ entity_above (entity_within tree left) kind) → entity ≡ entity_within tree levels n
-entity_at_name tree zero n kind entity inside enough is read = absurd (omega arith)
-entity_at_name tree (suc levels) n kind entity inside enough is read = read levels enough ∙ sym (entity_opened tree (suc levels) levels n kind refl is)

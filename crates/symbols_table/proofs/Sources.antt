@@ -1,9 +1,8 @@
 -- The source of symbols that a module of a graph has.
-use Rattle.std.proofs.Common.{◌≡◌, ℕ, List, Option, None, Some, true, sym, ap, ◌∙◌, refl}
-use Rattle.std.proofs.lemmas.Option.{same_Some}
+use Rattle.std.proofs.Common.{◌≡◌, ℕ, List, Some, true, sym, ap, refl}
 use Rattle.symbols_syntax.specs.declared.tree.arena.Tree.{Tree}
 use Rattle.symbols_syntax.specs.Graph.{Content, esm, json, external, text_of, tree_of, is_json}
-use Rattle.symbols_table.specs.Modules.{Source, parsed, json_text, source_of}
+use Rattle.symbols_table.specs.Modules.{parsed, json_text, source_of}
 
 pub tree_source : (content : Content) (text : List ℕ) (tree : Tree) → text ≡ text_of content → Some tree ≡ tree_of content → source_of content ≡ Some (parsed text tree)
 tree_source (esm own found types) text tree same has = rw (← has, same) refl

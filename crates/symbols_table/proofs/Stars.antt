@@ -1,5 +1,5 @@
 -- The statements `export *` that an iterator has left.
-use Rattle.std.proofs.Common.{◌≡◌, ℕ, suc, zero, ◌<◌, ◌≤◌, List, ◌∷◌, length, map, All, Iter, Option, None, Some, Bor, sym, ap, ◌∙◌, subst, arith}
+use Rattle.std.proofs.Common.{◌≡◌, suc, ◌<◌, ◌≤◌, List, ◌∷◌, length, map, All, Iter, Option, None, Some, Bor, sym, ap, ◌∙◌, subst, arith}
 use Rattle.std.specs.Slice.Iter.{iter_rest, iter_steps}
 use Rattle.std.specs.Option.{option_and_then, option_map}
 use Rattle.std.proofs.lemmas.Option.{slice_get_past}

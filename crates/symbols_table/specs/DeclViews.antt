@@ -12,6 +12,9 @@ use Rattle.symbols_nodes.specs.NodeViews.{NodeView, symbol_node_view, source_of}
 use Rattle.symbols_nodes.specs.NodeNames.{node_name}
 use Rattle.symbols_nodes.specs.NodeTests.{is_function, has_body, is_method}
 use Rattle.symbols_nodes.specs.NodeNamespaces.{namespaces, value_and_type}
+use Rattle.symbols_nodes.specs.declared.deps.dep.ResolveDepsMode.{ResolveDepsMode}
+use Rattle.symbols_nodes.specs.References.{Dependency}
+use Rattle.symbols_nodes.specs.Dependencies.{dependencies}
 use Rattle.symbols_table.specs.declared.decl.dep.FileDep.{FileDep}
 use Rattle.symbols_table.specs.declared.decl.dep.FileDepName.{FileDepName}
 use Rattle.symbols_table.specs.declared.decl.symbol_decl.SymbolDeclKind.{SymbolDeclKind}
@@ -89,6 +92,10 @@ decl_name decl = option_and_then node_name (node_of_kind decl.kind)
 -- a declaration is in the namespaces that its node is in; without a node it is in both
 abbrev pub decl_namespaces : Declaration → Bool × Bool
 decl_namespaces decl = option_map_or namespaces (node_of_kind decl.kind) value_and_type
+
+-- a declaration depends on what its node depends on; without a node on nothing
+abbrev pub decl_dependencies : ResolveDepsMode → Declaration → List Dependency
+decl_dependencies mode decl = option_map_or (dependencies mode) (node_of_kind decl.kind) []
 
 abbrev pub is_definition : DeclKind → Bool
 is_definition (definition _) = true

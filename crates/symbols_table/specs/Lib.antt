@@ -3,7 +3,6 @@ pub mod Changes
 pub mod Events
 pub mod Walks
 pub mod Patterns
-pub mod EntityViews
 pub mod MemberEvents
 pub mod MemberViews
 pub mod DeclarationEvents

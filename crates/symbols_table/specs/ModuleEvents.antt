@@ -10,12 +10,12 @@ use Rattle.symbols_syntax.specs.declared.tree.kinds.Expr.TheVariants as Expr
 use Rattle.symbols_syntax.specs.NodeRefs.{TreeNode, kind_of, node_in, child_of}
 use Rattle.symbols_syntax.specs.ChildFields.{local_of, orig_of, expr_of, decl_of, id_of}
 use Rattle.symbols_syntax.specs.Ids.{id_view, sym_of}
+use Rattle.symbols_nodes.specs.DottedNames.{DottedName, entity_name}
 use Rattle.symbols_nodes.specs.Expando.{Expando, expando_in}
 use Rattle.symbols_nodes.specs.NodeViews.{export_default_decl, export_default_expr, expando_property}
 use Rattle.symbols_table.specs.DeclViews.{Declaration, DepName, DeclKind, all_names, one_name, target, qualified_target, file_ref, declaration_at, defined}
 use Rattle.symbols_table.specs.Events.{Event, declare, alias, fresh, default, binds, expando, export, star, default_text}
 use Rattle.symbols_table.specs.Walks.{Walk, none, on, with_next, each, range_in, sym_in}
-use Rattle.symbols_table.specs.Patterns.{Entity, entity_at}
 use Rattle.symbols_table.specs.MemberEvents.{member_at, member_nodes}
 use Rattle.symbols_table.specs.DeclarationEvents.{own_name, export_if}
 
@@ -102,9 +102,9 @@ assignment_events expr _ = none
 
 -- ---- import a = b.c, import a = require("src")
 
--- what the name is: the parts of an entity, or the default of another module
+-- what the name is: the parts of a dotted name, or the default of another module
 abbrev pub alias_kind : TreeNode → Option ℕ → Option (String Global) → Option DeclKind
-alias_kind node (Some entity) external = option_map (λ (e : Entity). qualified_target e.leftmost e.parts) (entity_at node.tree entity)
+alias_kind node (Some entity) external = option_map (λ (name : DottedName). qualified_target name.leftmost name.parts) (option_and_then entity_name (node_in node.tree (Some entity)))
 alias_kind node None external = option_map (λ (text : String Global). file_ref (one_name default_text) (string_bytes text)) external
 
 abbrev pub alias_events : TreeNode → Bool → Id → DeclKind → Walk

@@ -1,14 +1,11 @@
--- The names that a pattern binds, and the parts of a dotted name.
-use Rattle.std.specs.Prelude.{ℕ, suc, zero, Bool, true, false, List, [], ◌∷◌, ◌++◌, length, Option, None, Some, string_bytes}
-use Rattle.std.specs.Option.{option_map, option_map_or, option_and_then}
+-- The names that a pattern binds.
+use Rattle.std.specs.Prelude.{ℕ, suc, zero, Bool, true, false, List, [], ◌∷◌, length}
+use Rattle.std.specs.Option.{option_map_or}
 use Rattle.std.specs.List.{flat_map}
 use Rattle.symbols_syntax.specs.declared.tree.arena.Tree.{Tree}
 use Rattle.symbols_syntax.specs.declared.tree.kinds.Kind.{Kind}
-use Rattle.symbols_syntax.specs.declared.tree.kinds.Ty.TheVariants as Ty
-use Rattle.symbols_syntax.specs.declared.tree.kinds.Expr.TheVariants as Expr
 use Rattle.symbols_syntax.specs.declared.tree.kinds.Pat.TheVariants as Pat
 use Rattle.symbols_syntax.specs.Nodes.{kind_at}
-use Rattle.symbols_syntax.specs.Ids.{IdView, id_view}
 
 -- the parts of a pattern that bind names: of a property its value, or its key where it stands alone
 abbrev pub pattern_parts : Kind → List ℕ
@@ -37,23 +34,3 @@ leaves_within tree (suc levels) n = option_map_or (leaves_below (leaves_within t
 -- all of them: no way down is longer than the tree
 abbrev pub leaves_of : Tree → ℕ → List ℕ
 leaves_of tree n = leaves_within tree (length tree.nodes.items) n
-
--- a dotted name: its first name, and the parts after it
-pub record Entity : Type 0 where
-  pub leftmost : IdView
-  pub parts : List (List ℕ)
-
-abbrev pub with_part : List ℕ → Entity → Entity
-with_part part entity = record entity { parts = entity.parts ++ part ∷ [] }
-
-abbrev pub entity_above : (ℕ → Option Entity) → Kind → Option Entity
-entity_above inner (Kind.Expr (Expr.Ident sym)) = Some (record { leftmost = id_view sym; parts = [] })
-entity_above inner (Kind.Ty (Ty.TsQualifiedName left right)) = option_map (with_part (string_bytes right)) (inner left)
-entity_above inner _ = None
-
-unfoldable pub entity_within : Tree → ℕ → ℕ → Option Entity
-entity_within tree zero n = None
-entity_within tree (suc levels) n = option_and_then (entity_above (entity_within tree levels)) (kind_at tree.nodes.items n)
-
-abbrev pub entity_at : Tree → ℕ → Option Entity
-entity_at tree n = entity_within tree (length tree.nodes.items) n

@@ -1,5 +1,5 @@
 -- What a symbol is called in full: the names on the path from the module down to it.
-use Rattle.std.specs.Prelude.{ℕ, zero, suc, Bool, true, false, not, if◌then◌else◌, ◌==◌, List, [], ◌∷◌, ◌++◌, length, map, Option, None, Some, codes, slice_get}
+use Rattle.std.specs.Prelude.{ℕ, zero, suc, Bool, not, if◌then◌else◌, ◌==◌, List, [], ◌∷◌, ◌++◌, Option, None, Some, codes}
 use Rattle.std.specs.Bool.{⊤}
 use Rattle.std.specs.List.{list_any, flat_map}
 use Rattle.std.specs.Str.{chars, encode_utf8_all}

@@ -2,7 +2,7 @@
 use Rattle.std.proofs.Common.{◌≡◌, ◌<◌, List, [], ◌∷◌, length, None, refl, arith}
 use Rattle.serde_json.specs.View.{items_view}
 use Rattle.serde_json.specs.declared.value.Value.{Value}
-use Rattle.symq_core.specs.Queries.{two_and_rest, exports_question, symbol_question, name_question}
+use Rattle.symq_core.specs.Queries.{two_and_rest, exports_question, symbol_question, name_question, deps_question}
 
 pub two_short : (values : List Value) → length values < 2 → two_and_rest (items_view values) ≡ None
 two_short [] h = refl
@@ -32,3 +32,14 @@ pub name_long : (values : List Value) → 1 < length values → name_question (i
 name_long [] h = refl
 name_long (a ∷ []) h = absurd (omega arith)
 name_long (a ∷ b ∷ values) h = refl
+
+pub deps_short : (values : List Value) → length values < 2 → deps_question (items_view values) ≡ None
+deps_short [] h = refl
+deps_short (a ∷ []) h = refl
+deps_short (a ∷ b ∷ values) h = absurd (omega arith)
+
+pub deps_long : (values : List Value) → 2 < length values → deps_question (items_view values) ≡ None
+deps_long [] h = refl
+deps_long (a ∷ []) h = absurd (omega arith)
+deps_long (a ∷ b ∷ []) h = absurd (omega arith)
+deps_long (a ∷ b ∷ c ∷ values) h = refl

@@ -1,5 +1,5 @@
 -- The answer on a module, from its tables.
-use Rattle.std.proofs.Common.{◌≡◌, ℕ, zero, suc, ◌<◌, ◌≤◌, List, [], ◌∷◌, ◌++◌, true, false, Option, None, Some, sym, ap, ◌∙◌, subst, refl, arith}
+use Rattle.std.proofs.Common.{◌≡◌, ℕ, zero, suc, ◌<◌, ◌≤◌, List, [], ◌∷◌, ◌++◌, true, false, Option, None, Some, sym, ap, ◌∙◌, refl, arith}
 use Rattle.std.specs.Prelude.{nat_lt, slice_get, Result, Ok, Err, IfOk, IfSome, IsSome}
 use Rattle.std.specs.Option.{option_map, option_map_or}
 use Rattle.std.specs.declared.alloc.AllocError.{AllocError}
@@ -10,21 +10,22 @@ use Rattle.serde_json.specs.View.{view}
 use Rattle.symbols_syntax.specs.declared.ids.ModuleId.{ModuleId}
 use Rattle.symbols_syntax.specs.declared.ids.SymbolId.{SymbolId}
 use Rattle.symbols_syntax.specs.Graph.{ModuleView}
+use Rattle.symbols_nodes.specs.declared.deps.dep.ResolveDepsMode.{ResolveDepsMode}
 use Rattle.symbols_table.specs.declared.decl.symbol.Symbol.{Symbol}
 use Rattle.symbols_table.specs.declared.info.module_info.ModuleInfo.{ModuleInfo}
 use Rattle.symbols_table.specs.declared.info.fault.SymbolsFault.{SymbolsFault}
 use Rattle.symbols_table.specs.declared.info.fault.SymbolsFault.TheVariants as fault
-use Rattle.symbols_table.specs.Analysis.{IsAnalysis, IsAnalysisFault, HasTables, source_changes, symbol_count}
-use Rattle.symbols_table.specs.Changes.{Change, parents_after, exports_after}
+use Rattle.symbols_table.specs.Analysis.{IsAnalysis, IsAnalysisFault, source_changes, symbol_count}
+use Rattle.symbols_table.specs.Changes.{Change, exports_after}
 use Rattle.symbols_table.specs.SymbolViews.{SymbolView, symbol_view, symbol_made, symbol_after}
 use Rattle.symbols_table.specs.QualifiedNames.{SymbolAt, path_below, path_within, qualified_name}
 use Rattle.symbols_table.specs.Modules.{table_of, symbol_in}
 use Rattle.symbols_table.specs.Symbols.{exports_in}
-use Rattle.symq_core.specs.Queries.{QuestionView, asks_exports, asks_name}
+use Rattle.symq_core.specs.Queries.{QuestionView, asks_exports, asks_name, asks_deps}
 use Rattle.symq_core.specs.AnswerViews.{too_many_symbols, tells_fault, tells_exports}
 use Rattle.symq_core.specs.AnswerData.{answer_data}
 use Rattle.symq_core.specs.Answering.{fault_view, IsAnswerByTables}
-use Rattle.symq_core.specs.Answers.{own_entries, named_answer, changes_answer, module_symbol, counted_answer, module_answer}
+use Rattle.symq_core.specs.Answers.{own_entries, named_answer, deps_answer, changes_answer, module_symbol, counted_answer, module_answer}
 
 counted_answer-within : (question : QuestionView) (specifier : List ℕ) (changes : List Change) → symbol_count changes ≤ 4294967295 → counted_answer question specifier changes ≡ changes_answer question specifier changes
 unfolding counted_answer
@@ -70,6 +71,11 @@ name_told (Ok value) info s is = λ changes tables.
     let path = path_same (symbol_in (table_of info)) (symbol_after changes) tables.symbols (suc s.0) s in
     is ∙ rw (tables.symbols s, path) refl
 name_told (Err e) info s is = tt
+
+pub deps_told : (r : Result Value AllocError) (info : ModuleInfo) (s : SymbolId) (mode : ResolveDepsMode) → IfOk r (λ value. view value ≡ answer_data (deps_answer mode (symbol_in (table_of info) s)))
+    → IfOk r (λ value. IsAnswerByTables (asks_deps s mode) info (view value))
+deps_told (Ok value) info s mode is = λ changes tables. is ∙ rw (tables.symbols s) refl
+deps_told (Err e) info s mode is = tt
 
 abbrev IsAnswer : QuestionView → ModuleView → Value → Type 0
 IsAnswer question m value = view value ≡ answer_data (module_answer question m)

@@ -3,7 +3,10 @@ use Rattle.std.specs.Prelude.{ℕ, List, map, Option, Some, None, codes}
 use Rattle.serde_json.specs.Data.{Data, null, number, unsigned, string, array, object, no_items, item, no_members, member}
 use Rattle.serde_json.specs.View.{items_of}
 use Rattle.symbols_syntax.specs.declared.ids.SymbolId.{SymbolId}
-use Rattle.symq_core.specs.AnswerViews.{AnswerFault, bad_query, too_many_modules, too_many_symbols, unknown_module, unknown_symbol, ExportEntry, AnswerView, tells_nothing, tells_fault, tells_exports, tells_symbol, tells_name}
+use Rattle.symbols_nodes.specs.declared.deps.dep.ReferenceNamespace.{ReferenceNamespace}
+use Rattle.symbols_nodes.specs.declared.deps.dep.ReferenceNamespace.TheVariants as In
+use Rattle.symbols_nodes.specs.References.{Reference, id, qualified_id, import_type, Dependency}
+use Rattle.symq_core.specs.AnswerViews.{AnswerFault, bad_query, too_many_modules, too_many_symbols, unknown_module, unknown_symbol, ExportEntry, AnswerView, tells_nothing, tells_fault, tells_exports, tells_symbol, tells_name, tells_deps}
 
 abbrev pub fault_words : AnswerFault → List ℕ
 fault_words bad_query = codes "bad query"
@@ -34,6 +37,27 @@ abbrev pub name_text : Option (List ℕ) → Data
 name_text None = null
 name_text (Some name) = string name
 
+abbrev pub texts_data : List (List ℕ) → Data
+texts_data texts = array (items_of (map string texts))
+
+-- a name with its scope, a name with the parts after it, or the text of a module with the parts after it
+abbrev pub reference_data : Reference → Data
+reference_data (id name) = array (item (string (codes "id")) (item (string name.name) (item (number (unsigned name.scope)) no_items)))
+reference_data (qualified_id name parts) = array (item (string (codes "qualified")) (item (string name.name) (item (number (unsigned name.scope)) (item (texts_data parts) no_items))))
+reference_data (import_type text parts) = array (item (string (codes "import")) (item (string text) (item (texts_data parts) no_items)))
+
+abbrev pub namespace_words : ReferenceNamespace → List ℕ
+namespace_words In.Value = codes "value"
+namespace_words In.Type = codes "type"
+namespace_words In.Both = codes "both"
+
+abbrev pub dependency_data : Dependency → Data
+dependency_data dependency = array (item (reference_data dependency.reference) (item (string (namespace_words dependency.namespace)) no_items))
+
+-- what one declaration depends on
+abbrev pub dependencies_data : List Dependency → Data
+dependencies_data dependencies = array (items_of (map dependency_data dependencies))
+
 -- each answer's value, its keys in the order of their bytes
 abbrev pub answer_data : AnswerView → Data
 answer_data tells_nothing = null
@@ -41,3 +65,4 @@ answer_data (tells_fault fault) = object (member (codes "fault") (string (fault_
 answer_data (tells_exports entries unresolved) = object (member (codes "exports") (array (items_of (map entry_data entries))) (member (codes "unresolved") (statements_data unresolved) no_members))
 answer_data (tells_symbol found) = object (member (codes "symbol") (symbol_number found) no_members)
 answer_data (tells_name name) = object (member (codes "name") (name_text name) no_members)
+answer_data (tells_deps lists) = object (member (codes "deps") (array (items_of (map dependencies_data lists))) no_members)

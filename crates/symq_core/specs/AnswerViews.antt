@@ -1,6 +1,7 @@
 -- What an answer says.
 use Rattle.std.specs.Prelude.{ℕ, List, Option}
 use Rattle.symbols_syntax.specs.declared.ids.SymbolId.{SymbolId}
+use Rattle.symbols_nodes.specs.References.{Dependency}
 
 -- why a line has no other answer
 pub data AnswerFault : Type 0 where
@@ -19,10 +20,12 @@ pub record ExportEntry : Type 0 where
   pub symbol : SymbolId
 
 -- nothing, where no module is named or it has no symbols; why there is no other answer; what is exported, and the statements `export *` that
--- lead to no module; which symbol a name stands for, if any; what a symbol is called in full, if it has a name
+-- lead to no module; which symbol a name stands for, if any; what a symbol is called in full, if it has a name; what each declaration of a
+-- symbol depends on
 pub data AnswerView : Type 0 where
   tells_nothing : AnswerView
   tells_fault : AnswerFault → AnswerView
   tells_exports : List ExportEntry → List (List ℕ × List ℕ) → AnswerView
   tells_symbol : Option SymbolId → AnswerView
   tells_name : Option (List ℕ) → AnswerView
+  tells_deps : List (List Dependency) → AnswerView

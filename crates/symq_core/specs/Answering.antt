@@ -8,7 +8,7 @@ use Rattle.symbols_table.specs.declared.info.fault.SymbolsFault.TheVariants as f
 use Rattle.symbols_table.specs.Changes.{Change}
 use Rattle.symbols_table.specs.Analysis.{HasTables}
 use Rattle.symbols_table.specs.Modules.{table_of}
-use Rattle.symq_core.specs.Queries.{QuestionView, asks_exports, asks_symbol, asks_name, QueryView}
+use Rattle.symq_core.specs.Queries.{QuestionView, asks_exports, asks_symbol, asks_name, asks_deps, QueryView}
 use Rattle.symq_core.specs.AnswerViews.{AnswerFault, too_many_modules, too_many_symbols, unknown_module, unknown_symbol}
 use Rattle.symq_core.specs.AnswerData.{answer_data}
 use Rattle.symq_core.specs.Answers.{changes_answer}
@@ -20,6 +20,7 @@ abbrev pub question_view : Question → QuestionView
 question_view Question.Exports = asks_exports
 question_view (Question.Symbol id) = asks_symbol (id_view id)
 question_view (Question.Name symbol) = asks_name symbol
+question_view (Question.Deps symbol mode) = asks_deps symbol mode
 
 abbrev pub query_view : Query → QueryView
 query_view query = record { specifier = query.specifier.now; question = question_view query.question }

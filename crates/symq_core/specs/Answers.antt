@@ -2,13 +2,15 @@
 use Rattle.std.specs.Prelude.{ℕ, nat_lt, if◌then◌else◌, List, [], map, Option, Some, None, option_map}
 use Rattle.symbols_syntax.specs.declared.ids.SymbolId.{SymbolId}
 use Rattle.symbols_syntax.specs.Graph.{GraphView, ModuleView, module_of}
+use Rattle.symbols_nodes.specs.declared.deps.dep.ResolveDepsMode.{ResolveDepsMode}
 use Rattle.symbols_table.specs.Changes.{Change, exports_after, mapped_after}
+use Rattle.symbols_table.specs.DeclViews.{decl_dependencies}
 use Rattle.symbols_table.specs.SymbolViews.{SymbolView, symbol_after}
 use Rattle.symbols_table.specs.QualifiedNames.{qualified_name}
 use Rattle.symbols_table.specs.Modules.{source_of}
 use Rattle.symbols_table.specs.Analysis.{source_changes, symbol_count}
-use Rattle.symq_core.specs.Queries.{QuestionView, asks_exports, asks_symbol, asks_name, QueryView}
-use Rattle.symq_core.specs.AnswerViews.{bad_query, too_many_symbols, unknown_symbol, ExportEntry, AnswerView, tells_nothing, tells_fault, tells_exports, tells_symbol, tells_name}
+use Rattle.symq_core.specs.Queries.{QuestionView, asks_exports, asks_symbol, asks_name, asks_deps, QueryView}
+use Rattle.symq_core.specs.AnswerViews.{bad_query, too_many_symbols, unknown_symbol, ExportEntry, AnswerView, tells_nothing, tells_fault, tells_exports, tells_symbol, tells_name, tells_deps}
 
 -- the symbol of the module itself
 abbrev pub module_symbol : SymbolId
@@ -26,11 +28,17 @@ abbrev pub named_answer : Option SymbolView → Option (List ℕ) → AnswerView
 named_answer None name = tells_fault unknown_symbol
 named_answer (Some _) name = tells_name name
 
+-- what each declaration of a symbol depends on, and a fault where there is no such symbol
+abbrev pub deps_answer : ResolveDepsMode → Option SymbolView → AnswerView
+deps_answer mode None = tells_fault unknown_symbol
+deps_answer mode (Some symbol) = tells_deps (map (decl_dependencies mode) symbol.decls)
+
 -- the answer to a question on a module with these changes
 abbrev pub changes_answer : QuestionView → List ℕ → List Change → AnswerView
 changes_answer asks_exports specifier changes = tells_exports (own_entries specifier (exports_after changes module_symbol)) []
 changes_answer (asks_symbol id) specifier changes = tells_symbol (mapped_after changes id)
 changes_answer (asks_name s) specifier changes = named_answer (symbol_after changes s) (qualified_name (symbol_after changes) s)
+changes_answer (asks_deps s mode) specifier changes = deps_answer mode (symbol_after changes s)
 
 -- the same, unless the changes make more symbols than there are ids
 unfoldable pub counted_answer : QuestionView → List ℕ → List Change → AnswerView

@@ -1,17 +1,21 @@
 -- What a line asks.
-use Rattle.std.specs.Prelude.{ℕ, List, [], ◌∷◌, find, codes, Option, Some, None, option_map, option_and_then}
+use Rattle.std.specs.Prelude.{ℕ, if◌then◌else◌, List, [], ◌∷◌, find, codes, Option, Some, None, option_map, option_and_then}
 use Rattle.std.specs.Str.{bytes_eq}
 use Rattle.serde_json.specs.Data.{Data, Items, no_items, item}
 use Rattle.serde_json.specs.Find.{as_array, as_str}
 use Rattle.symbols_syntax.specs.declared.ids.SymbolId.{SymbolId}
 use Rattle.symbols_syntax.specs.Ids.{IdView}
+use Rattle.symbols_nodes.specs.declared.deps.dep.ResolveDepsMode.{ResolveDepsMode}
+use Rattle.symbols_nodes.specs.declared.deps.dep.ResolveDepsMode.TheVariants.{TypesOnly, TypesAndExpressions}
 use Rattle.symq_reader.specs.UnderKeys.{as_u32}
 
--- what is asked of a module: what it exports; which symbol a name stands for in it; what a symbol of it is called in full
+-- what is asked of a module: what it exports; which symbol a name stands for in it; what a symbol of it is called in full; what the declarations of a symbol
+-- depend on
 pub data QuestionView : Type 0 where
   asks_exports : QuestionView
   asks_symbol : IdView → QuestionView
   asks_name : SymbolId → QuestionView
+  asks_deps : SymbolId → ResolveDepsMode → QuestionView
 
 -- a question, and the specifier of the module that it is asked of
 pub record QueryView : Type 0 where
@@ -37,9 +41,18 @@ abbrev pub name_question : Items → Option QuestionView
 name_question (item symbol no_items) = option_map (λ n. asks_name (record { 0 = n })) (as_u32 symbol)
 name_question _ = None
 
+-- the word of a mode
+abbrev pub mode_named : List ℕ → Option ResolveDepsMode
+mode_named word = if bytes_eq word (codes "types") then Some TypesOnly else if bytes_eq word (codes "all") then Some TypesAndExpressions else None
+
+-- the form `["deps", specifier, number, mode]`, behind its specifier
+abbrev pub deps_question : Items → Option QuestionView
+deps_question (item symbol (item mode no_items)) = option_and_then (λ n. option_map (asks_deps (record { 0 = n })) (option_and_then mode_named (as_str mode))) (as_u32 symbol)
+deps_question _ = None
+
 -- the forms by their words
 abbrev pub forms : List (List ℕ × (Items → Option QuestionView))
-forms = (codes "exports", exports_question) ∷ (codes "symbol", symbol_question) ∷ (codes "name", name_question) ∷ []
+forms = (codes "exports", exports_question) ∷ (codes "symbol", symbol_question) ∷ (codes "name", name_question) ∷ (codes "deps", deps_question) ∷ []
 
 abbrev pub question_named : List ℕ → Items → Option QuestionView
 question_named word items = option_and_then (λ form. form.1 items) (find (λ form. bytes_eq word form.0) forms)

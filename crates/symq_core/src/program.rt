@@ -1,6 +1,7 @@
 //! The program: the text of a graph, queries on it line by line, and why it stops.
 
 mod answer;
+mod dependencies;
 mod device;
 mod engine;
 mod fault;

@@ -5,6 +5,8 @@
 #[cfg(test)]
 mod analysis;
 #[cfg(test)]
+mod deps;
+#[cfg(test)]
 mod graphs;
 #[cfg(test)]
 mod ids;

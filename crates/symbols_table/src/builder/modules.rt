@@ -14,10 +14,10 @@ ghost use Rattle.symbols_table.specs.ModuleEvents.{import_name, import_at, named
 use crate::builder::declarations::own_name;
 use crate::builder::events::DEFAULT;
 use crate::builder::members::member_nodes;
-use crate::builder::patterns::entity_name;
 use crate::builder::table::{BuildFault, Builder};
 use crate::decl::{FileDep, FileDepName, SymbolDecl, SymbolDeclKind};
 use std::alloc::{AllocError, Global};
+use symbols_nodes::deps::entity_name;
 use symbols_nodes::nodes::{ExpandoPropertyRef, SymbolNodeRef};
 use symbols_syntax::ids::SymbolId;
 use symbols_syntax::tree::{Expr, Id, Item, Kind, NodeId, NodeRef};
@@ -89,7 +89,6 @@ fn alias_kind<'a>(
     entity: Option<NodeId>,
     external: &'a Option<String>,
 ) -> Result<Option<SymbolDeclKind<'a>>, AllocError>
-    requires { IsWellFormed node.tree.now.nodes.items }
     ensures { IfOk result (λ kind. option_map decl_kind_view kind ≡ alias_kind (node_view node.entry) entity external.now) }
 {
     let Some(entity) = entity else {

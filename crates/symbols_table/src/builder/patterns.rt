@@ -1,14 +1,12 @@
-//! The names that a pattern binds, and the parts of a dotted name.
+//! The names that a pattern binds.
 
-ghost use Rattle.std.specs.Prelude.{◌≡◌, ℕ, ◌+◌, ◌≤◌, ◌++◌, length, IfOk, OnOk};
-ghost use Rattle.std.specs.Option.{option_map};
+ghost use Rattle.std.specs.Prelude.{◌≡◌, ◌≤◌, ◌+◌, ◌++◌, ℕ, length, IfOk, OnOk};
 ghost use Rattle.symbols_syntax.specs.WellFormed.{IsWellFormed};
-ghost use Rattle.symbols_table.specs.Patterns.{is_binding, pattern_parts, leaves_within, leaves_of, entity_within};
-ghost use Rattle.symbols_table.specs.EntityViews.{entity_view};
+ghost use Rattle.symbols_table.specs.Patterns.{is_binding, pattern_parts, leaves_within, leaves_of};
 
 use std::alloc::{AllocError, Global};
 use std::slice;
-use symbols_syntax::tree::{Expr, Id, Kind, NodeId, NodeRef, Pat, Ty};
+use symbols_syntax::tree::{Kind, NodeId, NodeRef, Pat};
 
 /// Whether a pattern is a name.
 fn is_binding(kind: &Kind) -> bool
@@ -58,38 +56,4 @@ pub(crate) fn leaves(alloc: Global, pattern: NodeRef<'_>) -> Result<Vec<NodeId>,
     let mut leaves = Vec::new(alloc);
     add_leaves(pattern, &mut leaves)?;
     Ok(leaves)
-}
-
-/// A dotted name: its first name, and the parts after it.
-#[derive(Drop)]
-pub(crate) struct EntityName<'a> {
-    pub(crate) leftmost: &'a Id,
-    pub(crate) parts: Vec<&'a str>,
-}
-
-/// The dotted name that a node is, if it is one.
-pub(crate) fn entity_name<'a>(
-    alloc: Global,
-    node: NodeRef<'a>,
-) -> Result<Option<EntityName<'a>>, AllocError>
-    requires { IsWellFormed node.tree.now.nodes.items }
-    ensures { IfOk result (λ name. (levels : ℕ) → length node.entry.tree.now.nodes.items ≤ node.entry.number + levels → option_map entity_view name ≡ entity_within node.entry.tree.now levels node.entry.number) }
-{
-    match node.kind() {
-        Kind::Expr(Expr::Ident { sym }) => Ok(Some(EntityName {
-            leftmost: sym,
-            parts: Vec::new(alloc),
-        })),
-        Kind::Ty(Ty::TsQualifiedName { left, right }) => {
-            let Some(left) = node.node(*left) else {
-                return Ok(None);
-            };
-            let Some(mut name) = entity_name(alloc, left)? else {
-                return Ok(None);
-            };
-            name.parts.push(right.as_str())?;
-            Ok(Some(name))
-        }
-        _ => Ok(None),
-    }
 }

@@ -4,12 +4,14 @@ ghost use Rattle.std.specs.Prelude.{◌≡◌, map, IfOk, None};
 ghost use Rattle.std.specs.Cow.{cow_str_bytes};
 ghost use Rattle.std.specs.Option.{option_copied, option_map};
 ghost use Rattle.symbols_nodes.specs.NodeViews.{symbol_node_view};
+ghost use Rattle.symbols_nodes.specs.References.{Dependency, reference_view};
 ghost use Rattle.symbols_nodes.specs.NodeTests.{is_class, is_function, is_interface, is_var, is_ctor, has_body, is_method};
-ghost use Rattle.symbols_table.specs.DeclViews.{decl_view, decl_kind_view, decl_name, declaration_at, defined, definition, decl_namespaces, dep_view, is_definition, node_of_kind, source_of_kind, dep_of_kind, node_test, last_decl, is_overload_after};
+ghost use Rattle.symbols_table.specs.DeclViews.{decl_view, decl_kind_view, decl_name, decl_dependencies, declaration_at, defined, definition, decl_namespaces, dep_view, is_definition, node_of_kind, source_of_kind, dep_of_kind, node_test, last_decl, is_overload_after};
 
 use crate::decl::dep::FileDep;
 use std::alloc::{AllocError, Global};
 use std::borrow::CowStr;
+use symbols_nodes::deps::{ResolveDepsMode, SymbolNodeDep};
 use symbols_nodes::nodes::{SymbolNode, SymbolNodeRef};
 use symbols_syntax::tree::{Id, SourceRange, Tree};
 
@@ -159,6 +161,25 @@ impl<'a> SymbolDecl<'a> {
         match self.maybe_node() {
             Some(node) => node.namespaces(),
             None => (true, true),
+        }
+    }
+
+    /// What it depends on, in the order of its tree (as deno_graph): the references that its node
+    /// depends on; none without a node.
+    ///
+    /// # Errors
+    ///
+    /// Memory was refused.
+    pub fn deps(
+        &self,
+        alloc: Global,
+        mode: ResolveDepsMode,
+    ) -> Result<Vec<SymbolNodeDep>, AllocError>
+        ensures { IfOk result (λ deps. map reference_view deps.items ≡ map (λ (d : Dependency). d.reference) (decl_dependencies mode (decl_view self.now))) }
+    {
+        match self.maybe_node() {
+            Some(node) => node.deps(alloc, mode),
+            None => Ok(Vec::new(alloc)),
         }
     }
 

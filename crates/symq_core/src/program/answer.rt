@@ -15,6 +15,7 @@ ghost use Rattle.symq_core.specs.Answers.{own_entry, own_entries, named_answer, 
 ghost use Rattle.symq_core.specs.AnswerTexts.{answer_text};
 ghost use Rattle.symq_core.specs.Answering.{question_view, query_view, IsAnswerByTables, fault_view};
 
+use crate::program::dependencies::deps_value;
 use crate::program::query::{Query, Question, line_value, read_query};
 use indexmap::IndexMap;
 use serde_json::{Value, json};
@@ -129,6 +130,7 @@ fn info_answer(
         }
         Question::Symbol(id) => symbol_value(alloc, mapped_symbol(info, id)),
         Question::Name(symbol) => name_value(alloc, info, *symbol),
+        Question::Deps(symbol, mode) => deps_value(alloc, info, *symbol, *mode),
     }
 }
 

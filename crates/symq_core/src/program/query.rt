@@ -3,11 +3,12 @@
 ghost use Rattle.std.specs.Prelude.{◌≡◌, option_map, IfOk};
 ghost use Rattle.serde_json.specs.View.{view, items_view};
 ghost use Rattle.symq_reader.specs.GraphText.{json_of};
-ghost use Rattle.symq_core.specs.Queries.{query_of, parts_of_query, exports_question, symbol_question, name_question};
+ghost use Rattle.symq_core.specs.Queries.{query_of, parts_of_query, exports_question, symbol_question, name_question, mode_named, deps_question};
 ghost use Rattle.symq_core.specs.Answering.{question_view, query_view};
 
 use serde_json::Value;
 use std::alloc::{AllocError, Global};
+use symbols_nodes::deps::ResolveDepsMode;
 use symbols_tree::ids::SymbolId;
 use symbols_tree::tree::Id;
 use symq_reader::as_u32;
@@ -21,6 +22,8 @@ pub(crate) enum Question {
     Symbol(Id),
     /// What a symbol of it is called in full.
     Name(SymbolId),
+    /// What the declarations of a symbol of it depend on.
+    Deps(SymbolId, ResolveDepsMode),
 }
 
 /// What a line asks: a question, and the specifier of the module that it is asked of.
@@ -89,6 +92,30 @@ fn name_question(items: &[Value]) -> Option<Question>
     }
 }
 
+/// The mode of a word.
+fn mode_named(word: &str) -> Option<ResolveDepsMode>
+    ensures { result ≡ mode_named word.now }
+{
+    match word {
+        "types" => Some(ResolveDepsMode::TypesOnly),
+        "all" => Some(ResolveDepsMode::TypesAndExpressions),
+        _ => None,
+    }
+}
+
+/// The items behind the word `deps` and a specifier: the number of a symbol, and the word of a mode.
+#[tactic(auto, using(crate::proofs::Forms::deps_short, crate::proofs::Forms::deps_long))]
+fn deps_question(items: &[Value]) -> Option<Question>
+    ensures { option_map question_view result ≡ deps_question (items_view items.now) }
+{
+    let [number, mode] = items else {
+        return None;
+    };
+    let symbol = SymbolId::from_number(as_u32(number)?);
+    let mode = mode_named(mode.as_str()?)?;
+    Some(Question::Deps(symbol, mode))
+}
+
 /// The query that a value is, if it is one.
 pub(crate) fn read_query(alloc: Global, value: &Value) -> Result<Option<Query<'_>>, AllocError>
     ensures { IfOk result (λ query. option_map query_view query ≡ query_of (view value.now)) }
@@ -100,6 +127,7 @@ pub(crate) fn read_query(alloc: Global, value: &Value) -> Result<Option<Query<'_
         "exports" => exports_question(items),
         "symbol" => symbol_question(alloc, items)?,
         "name" => name_question(items),
+        "deps" => deps_question(items),
         _ => None,
     };
     Ok(question.map(|question| Query {

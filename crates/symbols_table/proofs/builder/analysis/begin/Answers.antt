@@ -1,6 +1,4 @@
-use Rattle.std.proofs.Common.{ap}
 use Rattle.symbols_table.specs.DeclViews.{decl_view}
-use Rattle.symbols_table.specs.Tables.{IsTableOf}
 use Rattle.symbols_table.proofs.Built.{begun}
 use Rattle.symbols_table.proofs.builder.analysis.begin.Goals as goal
 

@@ -2,7 +2,7 @@ use Rattle.std.proofs.Common.{◌≡◌, [], ◌∷◌, length, refl, sym, ap, �
 use Rattle.symbols_syntax.specs.NodeRefs.{list_of}
 use Rattle.symbols_syntax.specs.ChildFields.{body_of}
 use Rattle.symbols_table.specs.declared.builder.table.Setting.{Setting}
-use Rattle.symbols_table.specs.DeclViews.{Declaration, decl_view}
+use Rattle.symbols_table.specs.DeclViews.{decl_view}
 use Rattle.symbols_table.specs.Events.{changes_of}
 use Rattle.symbols_table.specs.TreeEvents.{root_of, root_decl}
 use Rattle.symbols_table.specs.Analysis.{tree_changes}

@@ -1,4 +1,3 @@
-use Rattle.std.proofs.Common.{refl, sym}
 use Rattle.symbols_table.specs.Modules.{parsed, json_text}
 use Rattle.symbols_table.proofs.Built.{err_if}
 use Rattle.symbols_table.proofs.Sources.{tree_source, json_source}
