@@ -1,0 +1,4 @@
+pub mod Specifiers
+pub mod TypesChains
+pub mod Roots
+pub mod StoredModules

@@ -1,0 +1,8 @@
+//! Which module a specifier stands for, and modules that are stored.
+
+mod limits;
+mod root_symbol;
+mod types_chain;
+
+pub use limits::Limits;
+pub use root_symbol::RootSymbol;
