@@ -19,7 +19,7 @@ pub record RootView : Type 0 where
 abbrev pub empty_root : GraphView → Limits → RootView
 empty_root graph limits = record { graph = graph; limits = limits; stored = [] }
 
--- limits that no graph of no more modules can meet
+-- the widest limits: numbers are below 2 ^ 32
 abbrev pub widest : Limits
 widest = record { modules = 2 ^ 32 - 1; symbols = 2 ^ 32 - 1 }
 
@@ -52,7 +52,7 @@ IsMissing root needed specifier = (needed ≡ Some specifier) × (is_among root.
 abbrev pub HasRoom : RootView → Type 0
 HasRoom root = length root.stored < root.limits.modules
 
--- why the module that is needed isn't stored. The two faults of numbers never come
+-- why the module that is needed isn't stored: no room for it, or room and too many symbols in it. Unknown numbers are no reason
 abbrev pub IsRefusal : RootView → Option (List ℕ) → SymbolsFault → Type 0
 IsRefusal root needed fault.OutOfMemory = Unit {0}
 IsRefusal root needed fault.TooManyModules = (specifier : List ℕ) × IsMissing root needed specifier × (root.limits.modules ≤ length root.stored)

@@ -36,13 +36,13 @@ pub record IsOnlyTypesChain (graph : GraphView) (specifier : List ℕ) (chain : 
   pub is_chain : IsTypesChain graph specifier chain
   pub only : (other : List ModuleView) → IsTypesChain graph specifier other → other ≡ chain
 
--- what follows in it at the module that was looked up, behind modules of these specifiers: it ends before one of them. The number is one of modules that are enough
+-- it is made step by step: what follows at the module that was looked up, behind modules of these specifiers, and ends before one of them. The number is one of steps that are enough
 unfoldable pub chain_from : GraphView → ℕ → List (List ℕ) → Option ModuleView → List ModuleView
 chain_from graph zero before found = []
 chain_from graph (suc n) before None = []
 chain_from graph (suc n) before (Some m) = if is_among before m.specifier then [] else m ∷ chain_from graph n (before ++ m.specifier ∷ []) (types_module graph m)
 
--- the types chain
+-- the types chain: `IsOnlyTypesChain` holds of it
 abbrev pub types_chain : GraphView → List ℕ → List ModuleView
 types_chain graph specifier = chain_from graph (length graph.modules) [] (module_of graph specifier)
 
