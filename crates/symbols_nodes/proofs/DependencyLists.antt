@@ -1,24 +1,19 @@
 -- The list of a declaration's dependencies: it has exactly those, and those of types stand among all.
-use Rattle.std.proofs.Common.{◌≡◌, List, map, ◌∙◌, ap, le_refl}
+use Rattle.std.proofs.Common.{◌≡◌, List, le_refl}
 use Rattle.symbols_nodes.specs.declared.deps.dep.ReferenceNamespace.TheVariants as In
 use Rattle.symbols_nodes.specs.declared.deps.dep.ResolveDepsMode.{ResolveDepsMode}
 use Rattle.symbols_nodes.specs.declared.deps.dep.ResolveDepsMode.TheVariants.{TypesAndExpressions}
-use Rattle.symbols_nodes.specs.DepPaths.{Step, Occurrence, AreDependencies, IsSubsequence, occurrences_within, levels_of}
+use Rattle.symbols_nodes.specs.DepPaths.{Step, AreDependencies, IsSubsequence, occurrences_within, levels_of}
 use Rattle.symbols_nodes.specs.Dependencies.{reference_graph, without_path, dependencies_by, IsListOf}
 use Rattle.symbols_nodes.specs.References.{Dependency}
-use Rattle.symbols_nodes.proofs.PathOrders.{same_lists, fewer_among_all, subsequence_mapped}
+use Rattle.symbols_nodes.proofs.PathOrders.{fewer_among_all, subsequence_mapped}
 use Rattle.symbols_nodes.proofs.StepLemmas.{leads_below}
 use Rattle.symbols_nodes.proofs.WholeLists.{computed_are}
 
 listed_are : (mode : ResolveDepsMode) (starts : List Step) → AreDependencies reference_graph mode In.Value starts (occurrences_within reference_graph mode (levels_of starts) In.Value starts)
 listed_are mode starts = computed_are reference_graph mode leads_below (levels_of starts) In.Value starts (le_refl (levels_of starts))
 
--- what has exactly the dependencies is the list
-pub equals_list : (mode : ResolveDepsMode) (starts : List Step) (list : List Dependency) (all : List Occurrence) → AreDependencies reference_graph mode In.Value starts all → list ≡ map without_path all → list ≡ dependencies_by mode starts
-unfolding dependencies_by
-equals_list mode starts list all are listed = listed ∙ ap (λ (found : List Occurrence). map without_path found) (same_lists reference_graph mode In.Value starts all _ are (listed_are mode starts))
-
--- and the list has exactly them
+-- the list has exactly the dependencies
 pub has_exactly : (mode : ResolveDepsMode) (starts : List Step) (list : List Dependency) → list ≡ dependencies_by mode starts → IsListOf mode starts list
 unfolding dependencies_by
 has_exactly mode starts list is = record { all = occurrences_within reference_graph mode (levels_of starts) In.Value starts; are = listed_are mode starts; listed = is }

@@ -2,14 +2,16 @@
 use Rattle.std.proofs.Common.{◌≡◌, ℕ, true, false, List, Option, None, Some, refl, sym, ◌∙◌, ap}
 use Rattle.std.specs.Prelude.{is_some}
 use Rattle.std.specs.Option.{option_map, option_and_then}
-use Rattle.symbols_syntax.specs.declared.tree.kinds.Kind.TheVariants as Kind
-use Rattle.symbols_syntax.specs.declared.tree.kinds.Expr.TheVariants as Expr
-use Rattle.symbols_syntax.specs.declared.tree.kinds.Pat.TheVariants as Pat
+use Rattle.symbols_syntax.specs.declared.tree.kinds.Kind.{Kind}
+use Rattle.symbols_syntax.specs.declared.tree.kinds.Ty.{Ty}
+use Rattle.symbols_syntax.specs.declared.tree.kinds.Expr.{Expr}
+use Rattle.symbols_syntax.specs.declared.tree.kinds.Pat.{Pat}
 use Rattle.symbols_syntax.specs.NodeRefs.{TreeNode, kind_of}
 use Rattle.symbols_nodes.specs.Annotations.{annotation_reading, annotation_of, has_annotation}
 use Rattle.symbols_nodes.specs.DottedNames.{DottedName, then_part, member_part, member_reading, member_name}
 use Rattle.symbols_nodes.specs.Readings.{node_below, read_below}
-use Rattle.symbols_nodes.specs.References.{by_name, reference_at}
+use Rattle.symbols_nodes.specs.KnownFacts.{may_refer}
+use Rattle.symbols_nodes.specs.References.{by_name, reference_in, reference_at}
 use Rattle.symbols_nodes.proofs.ReadingLemmas.{read_by_kind_of}
 
 none_mapped : {A B : Type 0} (f : A → B) (o : Option A) → is_some (option_map f o) ≡ false → o ≡ None
@@ -47,3 +49,20 @@ is_none_if (Some x) is = absurd (let no : ⊥ = cc in no)
 -- what is known to be no name is none
 pub unnamed_none : (node : TreeNode) → false ≡ is_some (member_name node) → member_name node ≡ None
 unnamed_none node is = is_none_if (member_name node) is
+
+-- a node of another kind is no reference
+nothing_in : (node : TreeNode) (kind : Kind) → may_refer kind ≡ false → reference_in node kind ≡ None
+nothing_in node (Kind.Item item) is = refl
+nothing_in node (Kind.Decl decl) is = refl
+nothing_in node (Kind.Member member) is = refl
+nothing_in node (Kind.Pat pat) is = refl
+nothing_in node (Kind.Expr (Expr.Ident name)) is = absurd (let no : ⊥ = cc in no)
+nothing_in node (Kind.Expr (Expr.Member obj prop)) is = absurd (let no : ⊥ = cc in no)
+nothing_in node (Kind.Expr expr) is = refl
+nothing_in node (Kind.Ty (Ty.TsQualifiedName left right)) is = absurd (let no : ⊥ = cc in no)
+nothing_in node (Kind.Ty (Ty.TsImportType arg qualifier type_args)) is = absurd (let no : ⊥ = cc in no)
+nothing_in node (Kind.Ty ty) is = refl
+
+pub refers_to_nothing : (node : TreeNode) (kind : Kind) → kind_of node ≡ Some kind → may_refer kind ≡ false → reference_at node ≡ None
+unfolding reference_at
+refers_to_nothing node kind is not_so = rw is (nothing_in node kind not_so)

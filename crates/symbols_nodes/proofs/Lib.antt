@@ -4,4 +4,5 @@ pub mod PathLists
 pub mod PathOrders
 pub mod StepLemmas
 pub mod WholeLists
+pub mod VisitLists
 pub mod DependencyLists

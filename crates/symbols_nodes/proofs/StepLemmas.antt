@@ -1,20 +1,18 @@
--- Steps: that each leads to a greater number of the same tree, and those that the program holds.
-use Rattle.std.proofs.Common.{◌≡◌, ℕ, suc, zero, ◌+◌, ◌-◌, ◌<◌, ◌≤◌, Bool, true, false, get_or, List, [], ◌∷◌, ◌++◌, map, length, take, Option, None, Some, refl, sym, ◌∙◌, ap, subst, append_assoc, arith}
+-- Steps: that each leads to a greater number of the same tree, and how many levels are below it.
+use Rattle.std.proofs.Common.{◌≡◌, ℕ, suc, zero, ◌+◌, ◌-◌, ◌<◌, ◌≤◌, Bool, true, false, get_or, List, [], ◌∷◌, ◌++◌, map, length, take, Option, None, Some, refl, sym, ◌∙◌, ap, subst, arith}
 use Rattle.std.specs.Prelude.{All, nat_lt, if◌then◌else◌, slice_get, is_some}
 use Rattle.std.specs.Option.{option_map, option_and_then, option_to_list, option_map_or}
 use Rattle.std.specs.List.{filter_map, flat_map, cons_option}
-use Rattle.std.proofs.lemmas.List.Elements.{All-nil, All-cons, All-append, filter_map-append}
+use Rattle.std.proofs.lemmas.List.Elements.{All-nil, All-cons, All-append}
 use Rattle.std.proofs.lemmas.Bool.{ltb-true}
-use Rattle.std.proofs.lemmas.List.{take_more, map-append}
-use Rattle.std.proofs.lemmas.Option.{slice_get-map, slice_get_read, slice_get_within, get_or_from_slice_get}
+use Rattle.std.proofs.lemmas.List.{take_more}
+use Rattle.std.proofs.lemmas.Option.{slice_get_within, get_or_from_slice_get}
 use Rattle.symbols_syntax.specs.declared.tree.kinds.Kind.{Kind}
 use Rattle.symbols_syntax.specs.NodeRefs.{TreeNode, kind_of}
 use Rattle.symbols_nodes.specs.declared.deps.dep.ReferenceNamespace.{ReferenceNamespace}
 use Rattle.symbols_nodes.specs.declared.deps.dep.SymbolNodeDep.{SymbolNodeDep}
-use Rattle.symbols_nodes.specs.declared.deps.known.Step.{Step as HeldStep}
 use Rattle.symbols_nodes.specs.Annotations.{has_annotation}
 use Rattle.symbols_nodes.specs.DepPaths.{Place, Step, Occurrence, own_occurrences, after_step, levels_of}
-use Rattle.symbols_nodes.specs.DepViews.{step_view}
 use Rattle.symbols_nodes.specs.Dependencies.{step_by_kind, step_along, step_to_child, steps_of_edge, steps_along, steps_of_kind, steps_from, first_steps, without_path}
 use Rattle.symbols_nodes.specs.EdgeRules.{EdgeView}
 use Rattle.symbols_nodes.specs.EdgeTable.{edges, first_edges}
@@ -97,30 +95,10 @@ levels_below node (step ∷ steps) below =
     let low : node.number < step.to.node.number = here.greater in
     rw here.same_tree (omega arith)
 
--- ---- lists of steps in the program
+-- ---- lists
 
-pub held_step : (steps : List HeldStep) (i : ℕ) (step : HeldStep) → i < length steps → step ≡ get_or steps i step → slice_get (map step_view steps) i ≡ Some (step_view step)
-held_step steps i step low is = rw (slice_get-map step_view steps i, slice_get_read steps (length steps) i step refl low is) refl
-
-take_one_more : {A : Type 0} (xs : List A) (i : ℕ) (x : A) → i < length xs → x ≡ get_or xs i x → take (i + 1) xs ≡ take i xs ++ x ∷ []
+pub take_one_more : {A : Type 0} (xs : List A) (i : ℕ) (x : A) → i < length xs → x ≡ get_or xs i x → take (i + 1) xs ≡ take i xs ++ x ∷ []
 take_one_more xs i x low is = take_more xs i x low ∙ ap (λ y. take i xs ++ y ∷ []) (sym is)
-
-cons_option_nil : {A : Type 0} (o : Option A) → cons_option o [] ≡ option_to_list o
-cons_option_nil None = refl
-cons_option_nil (Some x) = refl
-
--- the next child is added
-pub filter_map_take_more : {A B : Type 0} (h : A → Option B) (xs : List A) (i : ℕ) (x : A) → i < length xs → x ≡ get_or xs i x
-    → (old so_far new : List B) → so_far ≡ old ++ filter_map h (take i xs) → new ≡ so_far ++ option_to_list (h x) → new ≡ old ++ filter_map h (take (i + 1) xs)
-filter_map_take_more h xs i x low is old so_far new before here =
-    rw (take_one_more xs i x low is, filter_map-append h (take i xs) (x ∷ []), cons_option_nil (h x))
-    (here ∙ (ap (λ ys. ys ++ option_to_list (h x)) before ∙ append_assoc old (filter_map h (take i xs)) (option_to_list (h x))))
-
--- places without an edge add nothing
-pub flat_map_slots : {X Y A : Type 0} (f : Y → List A) (v : X → Y) (slots : List (Option X)) → flat_map (λ slot. option_map_or f (option_map v slot) []) slots ≡ flat_map f (filter_map (option_map v) slots)
-flat_map_slots f v [] = refl
-flat_map_slots f v (None ∷ slots) = flat_map_slots f v slots
-flat_map_slots f v (Some x ∷ slots) = ap (λ ys. f (v x) ++ ys) (flat_map_slots f v slots)
 
 pub steps_from_kind : (place : Place) (kind : Kind) → kind_of place.node ≡ Some kind → steps_from place ≡ steps_of_kind place kind
 unfolding steps_from
@@ -140,22 +118,6 @@ pub first_parts_view : (xs : List (SymbolNodeDep × ReferenceNamespace)) → map
 first_parts_view [] = refl
 first_parts_view (x ∷ xs) = ap (λ rest. reference_view x.0 ∷ rest) (first_parts_view xs)
 
-without_path_after_step : (i : ℕ) (xs : List Occurrence) → map without_path (map (after_step i) xs) ≡ map without_path xs
+pub without_path_after_step : (i : ℕ) (xs : List Occurrence) → map without_path (map (after_step i) xs) ≡ map without_path xs
 without_path_after_step i [] = refl
 without_path_after_step i (x ∷ xs) = ap (λ rest. x.dependency ∷ rest) (without_path_after_step i xs)
-
--- the dependencies behind one step more
-pub listed_with_step : (old now mine new : List Dependency) (i : ℕ) (all own rest : List Occurrence) → now ≡ old ++ map without_path all → mine ≡ now ++ map without_path own → new ≡ mine ++ map without_path rest
-    → new ≡ old ++ map without_path (all ++ map (after_step i) (own ++ rest))
-listed_with_step old now mine new i all own rest before here behind_here =
-    rw (
-      map-append without_path all (map (after_step i) (own ++ rest)),
-      without_path_after_step i (own ++ rest),
-      map-append without_path own rest,
-      behind_here,
-      here,
-      before,
-      append_assoc old (map without_path all) (map without_path own),
-      append_assoc old (map without_path all ++ map without_path own) (map without_path rest),
-      append_assoc (map without_path all) (map without_path own) (map without_path rest),
-    ) refl

@@ -16,3 +16,4 @@ pub mod DepPaths
 pub mod Dependencies
 pub mod DepViews
 pub mod KnownFacts
+pub mod Visits

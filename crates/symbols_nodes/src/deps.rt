@@ -4,14 +4,12 @@ mod annotations;
 mod dep;
 mod dotted_names;
 mod edge_table;
-mod edges;
 mod known;
 mod node_deps;
 mod references;
 mod rules;
 mod starts;
-mod steps;
-mod walk;
+mod visit;
 
 pub use dep::{ReferenceNamespace, ResolveDepsMode, SymbolNodeDep};
 pub use dotted_names::{EntityName, entity_name};

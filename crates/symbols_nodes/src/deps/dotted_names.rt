@@ -79,15 +79,15 @@ impl Part<'_> {
     fn to_string(self, alloc: Global) -> Result<String, AllocError>
         ensures { IfOk result (λ text. string_bytes text ≡ part_view self.entry) }
     {
-        let mut copy = String::new(alloc);
         match self {
-            Part::Text(text) => copy.push_str(text)?,
+            Part::Text(text) => String::from_str(alloc, text),
             Part::Private(name) => {
+                let mut copy = String::with_capacity(alloc, name.len().saturating_add(1))?;
                 copy.push('#')?;
                 copy.push_str(name)?;
+                Ok(copy)
             }
         }
-        Ok(copy)
     }
 }
 

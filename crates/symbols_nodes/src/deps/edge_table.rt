@@ -1,39 +1,22 @@
 //! The table of edges: in which children of a node references are looked for.
 
-ghost use Rattle.std.specs.Prelude.{◌≡◌};
-ghost use Rattle.symbols_syntax.specs.NodeRefs.{node_view};
-ghost use Rattle.symbols_nodes.specs.DepViews.{edge_view, edge_views};
-ghost use Rattle.symbols_nodes.specs.EdgeTable.{signature_rules, key_rules, to_computed, item_edges, decl_edges, member_edges, ty_edges, expr_edges, pat_edges, signature_edges, asserts, property_edges, form_edges, edges, first_edges};
-ghost use Rattle.symbols_nodes.specs.TableParts.{statement_edges, function_edges, keyed_edges};
+ghost use Rattle.std.specs.Prelude.{◌≡◌, ◌++◌, map, OnOk, Some, is_some};
+ghost use Rattle.symbols_syntax.specs.NodeRefs.{node_view, kind_of};
+ghost use Rattle.symbols_nodes.specs.Annotations.{has_annotation};
+ghost use Rattle.symbols_nodes.specs.EdgeTable.{signature_rules, key_rules, decl_edges, member_edges, ty_edges, expr_edges, pat_edges, signature_edges, asserts, property_edges, edges, first_edges};
+ghost use Rattle.symbols_nodes.specs.KnownFacts.{is_known, IsExpr, IsPat};
+ghost use Rattle.symbols_nodes.specs.References.{dependency_view, reference_at};
+ghost use Rattle.symbols_nodes.specs.TableParts.{statement_edges, function_edges, keyed_edges, initializer_rules};
 
-use crate::deps::annotations::is_annotated;
+use crate::deps::annotations::{has_annotation, is_annotated};
 use crate::deps::dep::ReferenceNamespace;
 use crate::deps::dotted_names::node_below;
-use crate::deps::edges::{
-    Edge, Edges, to_child, to_child_if, to_each, to_initializer, to_optional,
-};
-use crate::deps::known::Asked;
+use crate::deps::known::{Known, known_of_object};
+use crate::deps::references::Found;
 use crate::deps::rules::{Form, FormRule, Guard, MarkRule, Rules, is_assertion};
+use crate::deps::visit::{Visit, only_if, unless};
+use std::alloc::AllocError;
 use symbols_syntax::tree::{Decl, Expr, Item, Kind, Member, NodeId, NodeRef, Pat, Ty};
-
-/// As many edges as are given, in four places.
-macro_rules! up_to_four {
-    () => {
-        [None, None, None, None]
-    };
-    ($a:expr) => {
-        [Some($a), None, None, None]
-    };
-    ($a:expr, $b:expr) => {
-        [Some($a), Some($b), None, None]
-    };
-    ($a:expr, $b:expr, $c:expr) => {
-        [Some($a), Some($b), Some($c), None]
-    };
-    ($a:expr, $b:expr, $c:expr, $d:expr) => {
-        [Some($a), Some($b), Some($c), Some($d)]
-    };
-}
 
 /// Of the patterns of a signature.
 fn signature_rules() -> Rules
@@ -49,301 +32,11 @@ fn key_rules() -> Rules
     Rules::open().with_mark(MarkRule::ValueIfComputed)
 }
 
-/// To a key of an interface's element.
-fn to_computed<'a>(computed: bool, key: &NodeId) -> Edge<'a>
-    ensures { edge_view result ≡ to_computed computed key.now }
+/// Of an expression that a variable, a property or a pattern starts with.
+fn initializer_rules() -> Rules
+    ensures { result ≡ initializer_rules }
 {
-    to_child_if(computed, Rules::marking(ReferenceNamespace::Value), key)
-}
-
-fn item_edges<'a>(item: &'a Item) -> Edges<'a>
-    ensures { edge_views result ≡ item_edges item.now }
-{
-    match item {
-        Item::ExprStmt { expr } => up_to_four![to_child(Rules::open(), expr)],
-        _ => up_to_four![],
-    }
-}
-
-/// Of declarations that are statements, and of their parts.
-fn statement_edges<'a>(node: NodeRef<'a>, decl: &'a Decl) -> Edges<'a>
-    ensures { edge_views result ≡ statement_edges (node_view node.entry) decl.now }
-{
-    match decl {
-        Decl::VarDecl { decls } | Decl::UsingDecl { decls } => {
-            up_to_four![to_each(Rules::open(), decls)]
-        }
-        Decl::VarDeclarator { name, init } => up_to_four![
-            to_child(Rules::open(), name),
-            to_initializer(is_annotated(node, *name), *init)
-        ],
-        Decl::TsInterfaceDecl {
-            type_params,
-            extends,
-            ..
-        } => up_to_four![
-            to_optional(Rules::open(), type_params),
-            to_each(Rules::open(), extends)
-        ],
-        Decl::TsTypeAliasDecl {
-            type_params,
-            type_ann,
-            ..
-        } => up_to_four![
-            to_optional(Rules::open(), type_params),
-            to_child(Rules::marking(ReferenceNamespace::Type), type_ann)
-        ],
-        Decl::TsEnumDecl { members, .. } => up_to_four![to_each(Rules::open(), members)],
-        Decl::TsEnumMember { init } => up_to_four![to_optional(Rules::open(), init)],
-        _ => up_to_four![],
-    }
-}
-
-/// Of functions, and of what stands above.
-fn function_edges<'a>(node: NodeRef<'a>, decl: &'a Decl) -> Edges<'a>
-    ensures { edge_views result ≡ function_edges (node_view node.entry) decl.now }
-{
-    let open = Rules::open();
-    match decl {
-        Decl::FnDecl { ident, function } => up_to_four![
-            to_child(open, ident),
-            to_child(open, function)
-        ],
-        Decl::FnExpr { ident, function } => up_to_four![
-            to_optional(open, ident),
-            to_child(open, function)
-        ],
-        Decl::Function {
-            type_params,
-            params,
-            return_type,
-            ..
-        } => up_to_four![
-            to_optional(open, type_params),
-            to_each(open, params),
-            to_optional(open, return_type)
-        ],
-        _ => statement_edges(node, decl),
-    }
-}
-
-/// Of classes, and of what stands above: of all declarations.
-fn decl_edges<'a>(node: NodeRef<'a>, decl: &'a Decl) -> Edges<'a>
-    ensures { edge_views result ≡ decl_edges (node_view node.entry) decl.now }
-{
-    let open = Rules::open();
-    match decl {
-        Decl::ClassDecl { ident, class } => up_to_four![
-            to_child(open, ident),
-            to_child(open, class)
-        ],
-        Decl::ClassExpr { ident, class } => up_to_four![
-            to_optional(open, ident),
-            to_child(open, class)
-        ],
-        Decl::Class {
-            type_params,
-            super_class,
-            super_type_params,
-            implements,
-            ..
-        } => up_to_four![
-            to_optional(open, type_params),
-            to_optional(open, super_class),
-            to_optional(open, super_type_params),
-            to_each(open, implements)
-        ],
-        _ => function_edges(node, decl),
-    }
-}
-
-/// Of the elements of an interface that have a key.
-fn keyed_edges<'a>(member: &'a Member) -> Edges<'a>
-    ensures { edge_views result ≡ keyed_edges member.now }
-{
-    let open = Rules::open();
-    match member {
-        Member::TsPropertySignature {
-            key,
-            computed,
-            type_ann,
-        }
-        | Member::TsGetterSignature {
-            key,
-            computed,
-            type_ann,
-        } => up_to_four![to_computed(*computed, key), to_optional(open, type_ann)],
-        Member::TsSetterSignature {
-            key,
-            computed,
-            param,
-        } => up_to_four![
-            to_computed(*computed, key),
-            to_child(signature_rules(), param)
-        ],
-        Member::TsMethodSignature {
-            key,
-            computed,
-            type_params,
-            params,
-            type_ann,
-        } => up_to_four![
-            to_computed(*computed, key),
-            to_optional(open, type_params),
-            to_each(signature_rules(), params),
-            to_optional(open, type_ann)
-        ],
-        _ => up_to_four![],
-    }
-}
-
-fn member_edges<'a>(member: &'a Member) -> Edges<'a>
-    ensures { edge_views result ≡ member_edges member.now }
-{
-    let open = Rules::open();
-    match member {
-        Member::TsParamProp { param, .. } => {
-            up_to_four![to_child(open.in_form(FormRule::Property), param)]
-        }
-        Member::TsIndexSignature {
-            params,
-            type_ann,
-            ..
-        } => up_to_four![
-            to_each(signature_rules(), params),
-            to_optional(open, type_ann)
-        ],
-        Member::TsCallSignatureDecl {
-            type_params,
-            params,
-            type_ann,
-        }
-        | Member::TsConstructSignatureDecl {
-            type_params,
-            params,
-            type_ann,
-        } => up_to_four![
-            to_optional(open, type_params),
-            to_each(signature_rules(), params),
-            to_optional(open, type_ann)
-        ],
-        _ => keyed_edges(member),
-    }
-}
-
-fn ty_edges<'a>(ty: &'a Ty) -> Edges<'a>
-    ensures { edge_views result ≡ ty_edges ty.now }
-{
-    let open = Rules::open();
-    let of_types = Rules::marking(ReferenceNamespace::Type);
-    match ty {
-        Ty::TsTypeParamDecl { params } => up_to_four![to_each(open, params)],
-        Ty::TsTypeParam {
-            constraint,
-            default,
-        } => up_to_four![
-            to_optional(of_types, constraint),
-            to_optional(of_types, default)
-        ],
-        Ty::TsTypeParamInstantiation { params } => up_to_four![to_each(of_types, params)],
-        Ty::TsTypeAnn { ty }
-        | Ty::TsAsExpr { ty, .. }
-        | Ty::TsTypeAssertion { ty, .. }
-        | Ty::TsTupleElement { ty, .. } => up_to_four![to_child(of_types, ty)],
-        Ty::TsExprWithTypeArgs { expr, type_args } => up_to_four![
-            to_optional(open, type_args),
-            to_child(Rules::marking(ReferenceNamespace::Both), expr)
-        ],
-        Ty::TsTypeQuery {
-            expr_name,
-            type_args,
-        } => up_to_four![
-            to_child(Rules::marking(ReferenceNamespace::Value), expr_name),
-            to_optional(open, type_args)
-        ],
-        Ty::TsImportType { type_args, .. } => up_to_four![to_optional(open, type_args)],
-        Ty::TsQualifiedName { .. } => up_to_four![],
-    }
-}
-
-/// `refers`: the node is a reference itself.
-fn expr_edges<'a>(refers: bool, expr: &'a Expr) -> Edges<'a>
-    ensures { edge_views result ≡ expr_edges refers expr.now }
-{
-    let open = Rules::open();
-    match expr {
-        Expr::Member { obj, prop } => up_to_four![
-            to_child_if(!refers, open, obj),
-            to_child_if(!refers, open, prop)
-        ],
-        Expr::Computed { expr } => up_to_four![to_child(open, expr)],
-        Expr::Assign { left, right, .. } => up_to_four![
-            to_child(open, left),
-            to_child(open, right)
-        ],
-        Expr::Arrow {
-            type_params,
-            params,
-            return_type,
-            is_block,
-            body,
-        } => up_to_four![
-            to_optional(open, type_params),
-            to_each(open, params),
-            to_optional(open, return_type),
-            to_child_if(!(*is_block || return_type.is_some()), open, body)
-        ],
-        _ => up_to_four![],
-    }
-}
-
-/// `annotated`: the pattern has a type annotation.
-fn pat_edges<'a>(annotated: bool, pat: &'a Pat) -> Edges<'a>
-    ensures { edge_views result ≡ pat_edges annotated pat.now }
-{
-    let open = Rules::open();
-    let by_kind = open.with_mark(MarkRule::ByKind);
-    match pat {
-        Pat::BindingIdent { type_ann, .. }
-        | Pat::ArrayPat { type_ann, .. }
-        | Pat::ObjectPat { type_ann, .. }
-        | Pat::RestPat { type_ann, .. } => up_to_four![to_optional(open, type_ann)],
-        Pat::KeyValuePatProp { key, value } => {
-            up_to_four![to_child(key_rules(), key), to_child(open, value)]
-        }
-        Pat::AssignPatProp { key, value } => {
-            up_to_four![to_child(open, key), to_optional(open, value)]
-        }
-        Pat::AssignPat { left, right } => up_to_four![
-            to_child(open, left),
-            to_initializer(annotated, Some(*right))
-        ],
-        Pat::ExprPat { expr } => up_to_four![to_child(open.with_guard(Guard::Expressions), expr)],
-        Pat::Plain { children } => {
-            up_to_four![to_each(by_kind.in_form(FormRule::SignatureKinds), children)]
-        }
-        Pat::Other { children } => up_to_four![to_each(by_kind, children)],
-    }
-}
-
-/// Of a pattern that is a parameter of a signature.
-fn signature_edges<'a>(annotated: bool, pat: &'a Pat) -> Edges<'a>
-    ensures { edge_views result ≡ signature_edges annotated pat.now }
-{
-    let open = Rules::open();
-    match pat {
-        Pat::ArrayPat { elems, type_ann } => {
-            up_to_four![to_each(open, elems), to_optional(open, type_ann)]
-        }
-        Pat::ObjectPat { props, type_ann } => up_to_four![
-            to_each(open.in_form(FormRule::SignatureRest), props),
-            to_optional(open, type_ann)
-        ],
-        Pat::RestPat { arg, type_ann } => {
-            up_to_four![to_child(open, arg), to_optional(open, type_ann)]
-        }
-        _ => pat_edges(annotated, pat),
-    }
+    Rules::open().with_guard(Guard::Initializer)
 }
 
 fn asserts(node: NodeRef<'_>, expr: NodeId) -> bool
@@ -355,79 +48,412 @@ fn asserts(node: NodeRef<'_>, expr: NodeId) -> bool
     }
 }
 
-/// Of a parameter that is a property: its default value only where that asserts a type and the
-/// parameter has no annotation.
-fn property_edges<'a>(node: NodeRef<'a>, annotated: bool, pat: &'a Pat) -> Edges<'a>
-    ensures { edge_views result ≡ property_edges (node_view node.entry) annotated pat.now }
-{
-    let open = Rules::open();
-    match pat {
-        Pat::BindingIdent { type_ann, .. } => up_to_four![to_optional(open, type_ann)],
-        Pat::AssignPat { left, right } => {
-            let alone = !annotated && asserts(node, *right);
-            up_to_four![to_child(open, left), to_child_if(alone, open, right)]
-        }
-        _ => up_to_four![],
-    }
-}
+impl Visit<'_> {
+    ghost use Rattle.symbols_nodes.specs.Visits.{along_edges};
 
-fn form_edges<'a>(node: NodeRef<'a>, form: Form, annotated: bool, pat: &'a Pat) -> Edges<'a>
-    ensures { edge_views result ≡ form_edges (node_view node.entry) form annotated pat.now }
-{
-    match form {
-        Form::Usual => pat_edges(annotated, pat),
-        Form::Signature => signature_edges(annotated, pat),
-        Form::Property => property_edges(node, annotated, pat),
-    }
-}
-
-/// The edges of a node that is come to in a form.
-pub(crate) fn edges<'a>(asked: Asked<'a>, form: Form, kind: &'a Kind) -> Edges<'a>
-    ensures { edge_views result ≡ edges (node_view asked.entry.node) form asked.entry.refers asked.entry.annotated kind.now }
-{
-    let Asked {
-        node,
-        refers,
-        annotated,
-    } = asked;
-    match kind {
-        Kind::Item(item) => item_edges(item),
-        Kind::Decl(decl) => decl_edges(node, decl),
-        Kind::Member(member) => member_edges(member),
-        Kind::Ty(ty) => ty_edges(ty),
-        Kind::Expr(expr) => expr_edges(refers, expr),
-        Kind::Pat(pat) => form_edges(node, form, annotated, pat),
-    }
-}
-
-/// The edges with which the walk begins at the node of a declaration, if not with its own.
-pub(crate) fn first_edges<'a>(kind: &'a Kind) -> Edges<'a>
-    ensures { edge_views result ≡ first_edges kind.now }
-{
-    let open = Rules::open();
-    let in_expressions = key_rules().with_guard(Guard::Expressions);
-    match kind {
-        Kind::Item(Item::ExportDefaultExpr { expr }) => up_to_four![to_child(open, expr)],
-        Kind::Member(Member::Constructor { params, .. }) => up_to_four![to_each(open, params)],
-        Kind::Member(Member::ClassMethod { key, .. }) => up_to_four![to_child(in_expressions, key)],
-        Kind::Member(
-            Member::ClassProp {
-                key,
-                type_ann,
-                value,
+    /// Declarations that are statements, and their parts.
+    #[cycle(walk)]
+    fn visit_statement(&self, decl: &Decl, found: &mut Found) -> Result<(), AllocError>
+        ensures { OnOk result (map dependency_view found.new.items ≡ map dependency_view found.old.items ++ along_edges self.now (statement_edges (node_view self.now.node) decl.now)) }
+    {
+        let open = Rules::open();
+        match decl {
+            Decl::VarDecl { decls } | Decl::UsingDecl { decls } => {
+                self.visit_each(open, decls, found)
+            }
+            Decl::VarDeclarator { name, init } => {
+                self.visit_child(open, *name, found)?;
+                let init = unless(is_annotated(self.node, *name), *init);
+                self.visit_optional(initializer_rules(), init, found)
+            }
+            Decl::TsInterfaceDecl {
+                type_params,
+                extends,
                 ..
+            } => {
+                self.visit_optional(open, *type_params, found)?;
+                self.visit_each(open, extends, found)
+            }
+            Decl::TsTypeAliasDecl {
+                type_params,
+                type_ann,
+                ..
+            } => {
+                self.visit_optional(open, *type_params, found)?;
+                self.visit_child(Rules::marking(ReferenceNamespace::Type), *type_ann, found)
+            }
+            Decl::TsEnumDecl { members, .. } => self.visit_each(open, members, found),
+            Decl::TsEnumMember { init } => self.visit_optional(open, *init, found),
+            _ => Ok(()),
+        }
+    }
+
+    /// Functions, and what stands above.
+    #[cycle(walk)]
+    fn visit_function(&self, decl: &Decl, found: &mut Found) -> Result<(), AllocError>
+        ensures { OnOk result (map dependency_view found.new.items ≡ map dependency_view found.old.items ++ along_edges self.now (function_edges (node_view self.now.node) decl.now)) }
+    {
+        let open = Rules::open();
+        match decl {
+            Decl::FnDecl { ident, function } => {
+                self.visit_child(open, *ident, found)?;
+                self.visit_child(open, *function, found)
+            }
+            Decl::FnExpr { ident, function } => {
+                self.visit_optional(open, *ident, found)?;
+                self.visit_child(open, *function, found)
+            }
+            Decl::Function {
+                type_params,
+                params,
+                return_type,
+                ..
+            } => {
+                self.visit_optional(open, *type_params, found)?;
+                self.visit_each(open, params, found)?;
+                self.visit_optional(open, *return_type, found)
+            }
+            _ => self.visit_statement(decl, found),
+        }
+    }
+
+    /// Classes, and what stands above: all declarations.
+    #[cycle(walk)]
+    fn visit_decl(&self, decl: &Decl, found: &mut Found) -> Result<(), AllocError>
+        ensures { OnOk result (map dependency_view found.new.items ≡ map dependency_view found.old.items ++ along_edges self.now (decl_edges (node_view self.now.node) decl.now)) }
+    {
+        let open = Rules::open();
+        match decl {
+            Decl::ClassDecl { ident, class } => {
+                self.visit_child(open, *ident, found)?;
+                self.visit_child(open, *class, found)
+            }
+            Decl::ClassExpr { ident, class } => {
+                self.visit_optional(open, *ident, found)?;
+                self.visit_child(open, *class, found)
+            }
+            Decl::Class {
+                type_params,
+                super_class,
+                super_type_params,
+                implements,
+                ..
+            } => {
+                self.visit_optional(open, *type_params, found)?;
+                self.visit_optional(open, *super_class, found)?;
+                self.visit_optional(open, *super_type_params, found)?;
+                self.visit_each(open, implements, found)
+            }
+            _ => self.visit_function(decl, found),
+        }
+    }
+
+    /// The elements of an interface that have a key.
+    #[cycle(walk)]
+    fn visit_keyed(&self, member: &Member, found: &mut Found) -> Result<(), AllocError>
+        ensures { OnOk result (map dependency_view found.new.items ≡ map dependency_view found.old.items ++ along_edges self.now (keyed_edges member.now)) }
+    {
+        let open = Rules::open();
+        let value = Rules::marking(ReferenceNamespace::Value);
+        match member {
+            Member::TsPropertySignature {
+                key,
+                computed,
+                type_ann,
+            }
+            | Member::TsGetterSignature {
+                key,
+                computed,
+                type_ann,
+            } => {
+                self.visit_optional(value, only_if(*computed, *key), found)?;
+                self.visit_optional(open, *type_ann, found)
+            }
+            Member::TsSetterSignature {
+                key,
+                computed,
+                param,
+            } => {
+                self.visit_optional(value, only_if(*computed, *key), found)?;
+                self.visit_child(signature_rules(), *param, found)
+            }
+            Member::TsMethodSignature {
+                key,
+                computed,
+                type_params,
+                params,
+                type_ann,
+            } => {
+                self.visit_optional(value, only_if(*computed, *key), found)?;
+                self.visit_optional(open, *type_params, found)?;
+                self.visit_each(signature_rules(), params, found)?;
+                self.visit_optional(open, *type_ann, found)
+            }
+            _ => Ok(()),
+        }
+    }
+
+    /// Members of classes and interfaces.
+    #[cycle(walk)]
+    fn visit_member(&self, member: &Member, found: &mut Found) -> Result<(), AllocError>
+        ensures { OnOk result (map dependency_view found.new.items ≡ map dependency_view found.old.items ++ along_edges self.now (member_edges member.now)) }
+    {
+        let open = Rules::open();
+        match member {
+            Member::TsParamProp { param, .. } => {
+                self.visit_child(open.in_form(FormRule::Property), *param, found)
+            }
+            Member::TsIndexSignature {
+                params,
+                type_ann,
+                ..
+            } => {
+                self.visit_each(signature_rules(), params, found)?;
+                self.visit_optional(open, *type_ann, found)
+            }
+            Member::TsCallSignatureDecl {
+                type_params,
+                params,
+                type_ann,
+            }
+            | Member::TsConstructSignatureDecl {
+                type_params,
+                params,
+                type_ann,
+            } => {
+                self.visit_optional(open, *type_params, found)?;
+                self.visit_each(signature_rules(), params, found)?;
+                self.visit_optional(open, *type_ann, found)
+            }
+            _ => self.visit_keyed(member, found),
+        }
+    }
+
+    /// Types and what holds them.
+    #[cycle(walk)]
+    fn visit_ty(&self, ty: &Ty, found: &mut Found) -> Result<(), AllocError>
+        ensures { OnOk result (map dependency_view found.new.items ≡ map dependency_view found.old.items ++ along_edges self.now (ty_edges ty.now)) }
+    {
+        let open = Rules::open();
+        let of_types = Rules::marking(ReferenceNamespace::Type);
+        match ty {
+            Ty::TsTypeParamDecl { params } => self.visit_each(open, params, found),
+            Ty::TsTypeParam {
+                constraint,
+                default,
+            } => {
+                self.visit_optional(of_types, *constraint, found)?;
+                self.visit_optional(of_types, *default, found)
+            }
+            Ty::TsTypeParamInstantiation { params } => self.visit_each(of_types, params, found),
+            Ty::TsTypeAnn { ty }
+            | Ty::TsAsExpr { ty, .. }
+            | Ty::TsTypeAssertion { ty, .. }
+            | Ty::TsTupleElement { ty, .. } => self.visit_child(of_types, *ty, found),
+            Ty::TsExprWithTypeArgs { expr, type_args } => {
+                self.visit_optional(open, *type_args, found)?;
+                self.visit_child(Rules::marking(ReferenceNamespace::Both), *expr, found)
+            }
+            Ty::TsTypeQuery {
+                expr_name,
+                type_args,
+            } => {
+                self.visit_child(Rules::marking(ReferenceNamespace::Value), *expr_name, found)?;
+                self.visit_optional(open, *type_args, found)
+            }
+            Ty::TsImportType { type_args, .. } => self.visit_optional(open, *type_args, found),
+            Ty::TsQualifiedName { .. } => Ok(()),
+        }
+    }
+
+    /// Expressions and names. `refers`: the node is a reference itself.
+    #[cycle(walk)]
+    fn visit_expr(&self, refers: bool, expr: &Expr, found: &mut Found) -> Result<(), AllocError>
+        requires kind { IsExpr (node_view self.now.node) expr.now }
+        requires refers { refers ≡ is_some (reference_at (node_view self.now.node)) }
+        ensures { OnOk result (map dependency_view found.new.items ≡ map dependency_view found.old.items ++ along_edges self.now (expr_edges refers expr.now)) }
+    {
+        let open = Rules::open();
+        match expr {
+            Expr::Member { .. } if refers => Ok(()),
+            Expr::Member { obj, prop } => {
+                let known = known_of_object(self.node, *obj, *prop);
+                self.visit_known(open, *obj, known, found)?;
+                self.visit_child(open, *prop, found)
+            }
+            Expr::Computed { expr } => self.visit_child(open, *expr, found),
+            Expr::Assign { left, right, .. } => {
+                self.visit_child(open, *left, found)?;
+                self.visit_child(open, *right, found)
+            }
+            Expr::Arrow {
+                type_params,
+                params,
+                return_type,
+                is_block,
+                body,
+            } => {
+                self.visit_optional(open, *type_params, found)?;
+                self.visit_each(open, params, found)?;
+                self.visit_optional(open, *return_type, found)?;
+                let alone = !(*is_block || return_type.is_some());
+                self.visit_optional(open, only_if(alone, *body), found)
+            }
+            _ => Ok(()),
+        }
+    }
+
+    /// Patterns, other types, and all else.
+    #[cycle(walk)]
+    fn visit_pat(&self, known: Known, pat: &Pat, found: &mut Found) -> Result<(), AllocError>
+        requires kind { IsPat (node_view self.now.node) pat.now }
+        requires known { is_known known (node_view self.now.node) }
+        ensures { OnOk result (map dependency_view found.new.items ≡ map dependency_view found.old.items ++ along_edges self.now (pat_edges (has_annotation (node_view self.now.node)) pat.now)) }
+    {
+        let open = Rules::open();
+        let by_kind = open.with_mark(MarkRule::ByKind);
+        match pat {
+            Pat::BindingIdent { type_ann, .. }
+            | Pat::ArrayPat { type_ann, .. }
+            | Pat::ObjectPat { type_ann, .. }
+            | Pat::RestPat { type_ann, .. } => self.visit_optional(open, *type_ann, found),
+            Pat::KeyValuePatProp { key, value } => {
+                self.visit_child(key_rules(), *key, found)?;
+                self.visit_child(open, *value, found)
+            }
+            Pat::AssignPatProp { key, value } => {
+                self.visit_child(open, *key, found)?;
+                self.visit_optional(open, *value, found)
+            }
+            Pat::AssignPat { left, right } => {
+                let annotated = has_annotation(self.node, known);
+                self.visit_known(open, *left, Known::Annotated(annotated), found)?;
+                self.visit_optional(initializer_rules(), unless(annotated, Some(*right)), found)
+            }
+            Pat::ExprPat { expr } => {
+                self.visit_child(open.with_guard(Guard::Expressions), *expr, found)
+            }
+            Pat::Plain { children } => {
+                self.visit_each(by_kind.in_form(FormRule::SignatureKinds), children, found)
+            }
+            Pat::Other { children } => self.visit_each(by_kind, children, found),
+        }
+    }
+
+    /// A pattern that is a parameter of a signature.
+    #[cycle(walk)]
+    fn visit_signature(&self, known: Known, pat: &Pat, found: &mut Found) -> Result<(), AllocError>
+        requires kind { IsPat (node_view self.now.node) pat.now }
+        requires known { is_known known (node_view self.now.node) }
+        ensures { OnOk result (map dependency_view found.new.items ≡ map dependency_view found.old.items ++ along_edges self.now (signature_edges (has_annotation (node_view self.now.node)) pat.now)) }
+    {
+        let open = Rules::open();
+        match pat {
+            Pat::ArrayPat { elems, type_ann } => {
+                self.visit_each(open, elems, found)?;
+                self.visit_optional(open, *type_ann, found)
+            }
+            Pat::ObjectPat { props, type_ann } => {
+                self.visit_each(open.in_form(FormRule::SignatureRest), props, found)?;
+                self.visit_optional(open, *type_ann, found)
+            }
+            Pat::RestPat { arg, type_ann } => {
+                self.visit_child(open, *arg, found)?;
+                self.visit_optional(open, *type_ann, found)
+            }
+            _ => self.visit_pat(known, pat, found),
+        }
+    }
+
+    /// A parameter that is a property: its default value only where that asserts a type and the
+    /// parameter has no annotation.
+    #[cycle(walk)]
+    fn visit_property(&self, known: Known, pat: &Pat, found: &mut Found) -> Result<(), AllocError>
+        requires kind { IsPat (node_view self.now.node) pat.now }
+        requires known { is_known known (node_view self.now.node) }
+        ensures { OnOk result (map dependency_view found.new.items ≡ map dependency_view found.old.items ++ along_edges self.now (property_edges (node_view self.now.node) (has_annotation (node_view self.now.node)) pat.now)) }
+    {
+        let open = Rules::open();
+        match pat {
+            Pat::BindingIdent { type_ann, .. } => self.visit_optional(open, *type_ann, found),
+            Pat::AssignPat { left, right } => {
+                let annotated = has_annotation(self.node, known);
+                self.visit_known(open, *left, Known::Annotated(annotated), found)?;
+                let alone = !annotated && asserts(self.node, *right);
+                self.visit_optional(open, only_if(alone, *right), found)
+            }
+            _ => Ok(()),
+        }
+    }
+
+    /// Adds what stands along the edges of the node, which is come to in a form. `refers`: it is
+    /// a reference itself.
+    #[cycle(walk)]
+    pub(crate) fn visit_edges(
+        &self,
+        kind: &Kind,
+        form: Form,
+        refers: bool,
+        known: Known,
+        found: &mut Found,
+    ) -> Result<(), AllocError>
+        requires kind { kind_of (node_view self.now.node) ≡ Some kind.now }
+        requires refers { refers ≡ is_some (reference_at (node_view self.now.node)) }
+        requires known { is_known known (node_view self.now.node) }
+        ensures { OnOk result (map dependency_view found.new.items ≡ map dependency_view found.old.items ++ along_edges self.now (edges (node_view self.now.node) form refers (has_annotation (node_view self.now.node)) kind.now)) }
+    {
+        match kind {
+            Kind::Item(item) => match item {
+                Item::ExprStmt { expr } => self.visit_child(Rules::open(), *expr, found),
+                _ => Ok(()),
             },
-        ) => up_to_four![
-            to_child(in_expressions, key),
-            to_optional(open, type_ann),
-            to_initializer(type_ann.is_some(), *value)
-        ],
-        Kind::Member(Member::AutoAccessor { type_ann, .. }) => {
-            up_to_four![to_optional(open, type_ann)]
+            Kind::Decl(decl) => self.visit_decl(decl, found),
+            Kind::Member(member) => self.visit_member(member, found),
+            Kind::Ty(ty) => self.visit_ty(ty, found),
+            Kind::Expr(expr) => self.visit_expr(refers, expr, found),
+            Kind::Pat(pat) => match form {
+                Form::Usual => self.visit_pat(known, pat, found),
+                Form::Signature => self.visit_signature(known, pat, found),
+                Form::Property => self.visit_property(known, pat, found),
+            },
         }
-        Kind::Expr(Expr::Assign { right, .. }) => {
-            up_to_four![to_child(open.with_guard(Guard::Expressions), right)]
+    }
+
+    /// Adds what stands along the edges with which the walk begins at the node of a declaration,
+    /// if not at its own.
+    pub(crate) fn visit_first_edges(&self, kind: &Kind, found: &mut Found) -> Result<(), AllocError>
+        ensures { OnOk result (map dependency_view found.new.items ≡ map dependency_view found.old.items ++ along_edges self.now (first_edges kind.now)) }
+    {
+        let open = Rules::open();
+        let in_expressions = key_rules().with_guard(Guard::Expressions);
+        match kind {
+            Kind::Item(Item::ExportDefaultExpr { expr }) => self.visit_child(open, *expr, found),
+            Kind::Member(Member::Constructor { params, .. }) => {
+                self.visit_each(open, params, found)
+            }
+            Kind::Member(Member::ClassMethod { key, .. }) => {
+                self.visit_child(in_expressions, *key, found)
+            }
+            Kind::Member(
+                Member::ClassProp {
+                    key,
+                    type_ann,
+                    value,
+                    ..
+                },
+            ) => {
+                self.visit_child(in_expressions, *key, found)?;
+                self.visit_optional(open, *type_ann, found)?;
+                let value = unless(type_ann.is_some(), *value);
+                self.visit_optional(initializer_rules(), value, found)
+            }
+            Kind::Member(Member::AutoAccessor { type_ann, .. }) => {
+                self.visit_optional(open, *type_ann, found)
+            }
+            Kind::Expr(Expr::Assign { right, .. }) => {
+                self.visit_child(open.with_guard(Guard::Expressions), *right, found)
+            }
+            _ => Ok(()),
         }
-        _ => up_to_four![],
     }
 }

@@ -8,10 +8,19 @@ ghost use Rattle.symbols_nodes.specs.References.{Dependency, dependency_view, re
 ghost use Rattle.symbols_nodes.specs.declared.deps.dep.ResolveDepsMode.TheVariants.{TypesAndExpressions};
 
 use crate::deps::dep::{ReferenceNamespace, ResolveDepsMode, SymbolNodeDep};
-use crate::deps::starts::{push_exported, push_starts};
-use crate::deps::walk::{dependencies_by, first_parts};
+use crate::deps::starts::{push_dependencies, push_exported};
 use crate::nodes::{ExportDeclRef, SymbolNodeRef};
 use std::alloc::{AllocError, Global};
+
+/// The same without namespaces.
+fn first_parts(
+    alloc: Global,
+    all: Vec<(SymbolNodeDep, ReferenceNamespace)>,
+) -> Result<Vec<SymbolNodeDep>, AllocError>
+    ensures { IfOk result (λ list. list.items ≡ map (λ d. d.0) all.items) }
+{
+    all.into_iter().map(|found| found.0).collect(alloc)
+}
 
 impl ExportDeclRef<'_> {
     /// What the declaration refers to (as deno_graph), each reference with its namespace, in the
@@ -30,9 +39,9 @@ impl ExportDeclRef<'_> {
         ensures value { IfOk result (λ list. map dependency_view list.items ≡ exported_dependencies mode (export_decl_view self.entry)) }
         ensures subsequence { IsSubsequence (exported_dependencies mode (export_decl_view self.entry)) (exported_dependencies TypesAndExpressions (export_decl_view self.entry)) }
     {
-        let mut steps = Vec::new(alloc);
-        push_exported(alloc, self, &mut steps)?;
-        dependencies_by(alloc, mode, &steps)
+        let mut found = Vec::new(alloc);
+        push_exported(alloc, mode, self, &mut found)?;
+        Ok(found)
     }
 
     /// What the declaration refers to (as deno_graph), without the namespaces.
@@ -72,9 +81,9 @@ impl SymbolNodeRef<'_> {
         ensures value { IfOk result (λ list. map dependency_view list.items ≡ dependencies mode (symbol_node_view self.entry)) }
         ensures subsequence { IsSubsequence (dependencies mode (symbol_node_view self.entry)) (dependencies TypesAndExpressions (symbol_node_view self.entry)) }
     {
-        let mut steps = Vec::new(alloc);
-        push_starts(alloc, self, &mut steps)?;
-        dependencies_by(alloc, mode, &steps)
+        let mut found = Vec::new(alloc);
+        push_dependencies(alloc, mode, self, &mut found)?;
+        Ok(found)
     }
 
     /// What the declaration refers to (as deno_graph), without the namespaces.

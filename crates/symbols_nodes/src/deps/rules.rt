@@ -1,12 +1,13 @@
 //! What holds of the edges of a field: how they lead on, what they mark, and when they are open.
 
-ghost use Rattle.std.specs.Prelude.{◌≡◌};
+ghost use Rattle.std.specs.Prelude.{◌≡◌, ◌||◌, not};
 ghost use Rattle.symbols_syntax.specs.NodeRefs.{node_view};
 ghost use Rattle.symbols_nodes.specs.Dependencies.{is_computed, is_rest, signature_if, form_of, value_if, mark_of, is_guarded};
 ghost use Rattle.symbols_nodes.specs.EdgeRules.{open_rules, in_form, with_mark, with_guard, marking};
 ghost use Rattle.symbols_nodes.specs.EdgeTable.{is_assertion};
+ghost use Rattle.symbols_nodes.specs.References.{visits_expressions};
 
-use crate::deps::dep::ReferenceNamespace;
+use crate::deps::dep::{ReferenceNamespace, ResolveDepsMode};
 use symbols_syntax::tree::{Category, Expr, Kind, Pat, Ty};
 
 /// How a node is come to.
@@ -94,6 +95,13 @@ impl Rules {
         ensures { result ≡ with_guard guard self }
     {
         Rules { guard, ..self }
+    }
+
+    /// Whether the edge to a child of a kind is taken in the mode.
+    pub(crate) fn is_open(self, mode: ResolveDepsMode, kind: &Kind) -> bool
+        ensures { result ≡ (visits_expressions mode || not (is_guarded self.guard kind.now)) }
+    {
+        mode.visit_exprs() || !self.guard.needs_expressions(kind)
     }
 }
 

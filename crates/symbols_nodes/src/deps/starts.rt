@@ -1,154 +1,172 @@
 //! Where the walk begins at each form of declaration.
 
-ghost use Rattle.std.specs.Prelude.{◌≡◌, ◌++◌, map, IfOk, OnOk, [], Option};
+ghost use Rattle.std.specs.Prelude.{◌≡◌, ◌++◌, map, OnOk, [], Option};
 ghost use Rattle.std.specs.Option.{option_map, option_map_or};
 ghost use Rattle.symbols_syntax.specs.NodeRefs.{TreeNode, node_view, kind_of, child_of};
 ghost use Rattle.symbols_syntax.specs.ChildFields.{decl_of};
-ghost use Rattle.symbols_nodes.specs.DepViews.{step_view};
-ghost use Rattle.symbols_nodes.specs.Dependencies.{node_steps, class_steps, function_steps, exported_steps, default_steps, starts, first_steps};
+ghost use Rattle.symbols_nodes.specs.Dependencies.{dependencies_by, node_steps, function_steps, exported_steps, default_steps, starts, first_steps};
 ghost use Rattle.symbols_nodes.specs.NodeViews.{export_decl_view, symbol_node_view};
+ghost use Rattle.symbols_nodes.specs.References.{dependency_view};
 
-use crate::deps::annotations::has_annotation;
-use crate::deps::known::{Asked, Known, Step};
-use crate::deps::references::reference_at;
+use crate::deps::dep::{ReferenceNamespace, ResolveDepsMode};
+use crate::deps::known::Known;
+use crate::deps::references::{Found, reference_at};
 use crate::deps::rules::Form;
-use crate::deps::steps::{push_first_steps, push_steps};
+use crate::deps::visit::Visit;
 use crate::nodes::{ExportDeclRef, SymbolNodeRef};
 use std::alloc::{AllocError, Global};
 use symbols_syntax::tree::{Decl, Kind, NodeRef};
 
-/// Asks a node of which nothing is known.
-fn ask<'a>(alloc: Global, node: NodeRef<'a>) -> Result<Asked<'a>, AllocError>
-    ensures { IfOk result (λ asked. asked.node ≡ node.entry) }
+/// Adds what stands along the edges with which the walk begins at a node, if not at its own.
+fn push_first(
+    alloc: Global,
+    mode: ResolveDepsMode,
+    node: NodeRef<'_>,
+    found: &mut Found,
+) -> Result<(), AllocError>
+    ensures { OnOk result (map dependency_view found.new.items ≡ map dependency_view found.old.items ++ dependencies_by mode (first_steps (node_view node.entry))) }
+{
+    let namespace = ReferenceNamespace::Value;
+    let visit = Visit {
+        alloc,
+        mode,
+        node,
+        namespace,
+    };
+    visit.visit_first_edges(node.kind(), found)?;
+    Ok(())
+}
+
+/// Adds what stands along a node's own edges.
+fn push_node(
+    alloc: Global,
+    mode: ResolveDepsMode,
+    node: NodeRef<'_>,
+    found: &mut Found,
+) -> Result<(), AllocError>
+    ensures { OnOk result (map dependency_view found.new.items ≡ map dependency_view found.old.items ++ dependencies_by mode (node_steps (node_view node.entry))) }
 {
     let refers = reference_at(alloc, node, Known::Nothing)?.is_some();
-    let annotated = has_annotation(node, Known::Nothing);
-    Ok(Asked {
+    let namespace = ReferenceNamespace::Value;
+    let visit = Visit {
+        alloc,
+        mode,
         node,
-        refers,
-        annotated,
-    })
+        namespace,
+    };
+    visit.visit_edges(node.kind(), Form::Usual, refers, Known::Nothing, found)?;
+    Ok(())
 }
 
-/// Adds the steps with which the walk begins at a node, if not with its own.
-fn push_first<'a>(
+/// Adds what stands along a child's own edges, if the child is there.
+#[tactic(auto, using(crate::proofs::VisitLists::adds_nothing))]
+fn push_child(
     alloc: Global,
-    node: NodeRef<'a>,
-    steps: &mut Vec<Step<'a>>,
+    mode: ResolveDepsMode,
+    child: Option<NodeRef<'_>>,
+    found: &mut Found,
 ) -> Result<(), AllocError>
-    ensures { OnOk result (map step_view steps.new.items ≡ map step_view steps.old.items ++ first_steps (node_view node.entry)) }
-{
-    let asked = ask(alloc, node)?;
-    push_first_steps(asked, steps)
-}
-
-/// Adds a node's own steps.
-fn push_node<'a>(
-    alloc: Global,
-    node: NodeRef<'a>,
-    steps: &mut Vec<Step<'a>>,
-) -> Result<(), AllocError>
-    ensures { OnOk result (map step_view steps.new.items ≡ map step_view steps.old.items ++ node_steps (node_view node.entry)) }
-{
-    let asked = ask(alloc, node)?;
-    push_steps(asked, Form::Usual, steps)
-}
-
-/// Adds a child's own steps, if the child is there.
-fn push_child<'a>(
-    alloc: Global,
-    child: Option<NodeRef<'a>>,
-    steps: &mut Vec<Step<'a>>,
-) -> Result<(), AllocError>
-    ensures { OnOk result (map step_view steps.new.items ≡ map step_view steps.old.items ++ option_map_or node_steps (option_map node_view child.entry) []) }
+    ensures { OnOk result (map dependency_view found.new.items ≡ map dependency_view found.old.items ++ dependencies_by mode (option_map_or node_steps (option_map node_view child.entry) [])) }
 {
     match child {
-        Some(child) => push_node(alloc, child, steps),
+        Some(child) => push_node(alloc, mode, child, found),
         None => Ok(()),
     }
 }
 
-/// Adds the steps of a declaration after `export`.
-pub(crate) fn push_exported<'a>(
+/// Adds what a declaration after `export` depends on.
+#[tactic(auto, using(crate::proofs::VisitLists::adds_nothing))]
+pub(crate) fn push_exported(
     alloc: Global,
-    decl: ExportDeclRef<'a>,
-    steps: &mut Vec<Step<'a>>,
+    mode: ResolveDepsMode,
+    decl: ExportDeclRef<'_>,
+    found: &mut Found,
 ) -> Result<(), AllocError>
-    ensures { OnOk result (map step_view steps.new.items ≡ map step_view steps.old.items ++ exported_steps (export_decl_view decl.entry)) }
+    ensures { OnOk result (map dependency_view found.new.items ≡ map dependency_view found.old.items ++ dependencies_by mode (exported_steps (export_decl_view decl.entry))) }
 {
     match decl {
-        ExportDeclRef::Class(node) => push_child(alloc, node.class(), steps),
-        ExportDeclRef::Fn(node) => push_child(alloc, node.function(), steps),
+        ExportDeclRef::Class(node) => push_child(alloc, mode, node.class(), found),
+        ExportDeclRef::Fn(node) => push_child(alloc, mode, node.function(), found),
         ExportDeclRef::Var(_, node, _)
         | ExportDeclRef::TsEnum(node)
         | ExportDeclRef::TsInterface(node)
-        | ExportDeclRef::TsTypeAlias(node) => push_node(alloc, node, steps),
+        | ExportDeclRef::TsTypeAlias(node) => push_node(alloc, mode, node, found),
         ExportDeclRef::TsModule(_) => Ok(()),
     }
 }
 
-/// Adds the steps of a declaration after `export default`.
-fn push_default<'a>(
+/// Adds what a declaration after `export default` depends on.
+#[tactic(auto, using(crate::proofs::VisitLists::adds_nothing))]
+fn push_default(
     alloc: Global,
-    decl: NodeRef<'a>,
-    steps: &mut Vec<Step<'a>>,
+    mode: ResolveDepsMode,
+    decl: NodeRef<'_>,
+    found: &mut Found,
 ) -> Result<(), AllocError>
-    ensures { OnOk result (map step_view steps.new.items ≡ map step_view steps.old.items ++ default_steps (node_view decl.entry) (kind_of (node_view decl.entry))) }
+    ensures { OnOk result (map dependency_view found.new.items ≡ map dependency_view found.old.items ++ dependencies_by mode (default_steps (node_view decl.entry) (kind_of (node_view decl.entry)))) }
 {
     match decl.kind() {
-        Kind::Decl(Decl::ClassExpr { .. }) => push_child(alloc, decl.class(), steps),
-        Kind::Decl(Decl::FnExpr { .. }) => push_child(alloc, decl.function(), steps),
-        Kind::Decl(Decl::TsInterfaceDecl { .. }) => push_node(alloc, decl, steps),
+        Kind::Decl(Decl::ClassExpr { .. }) => push_child(alloc, mode, decl.class(), found),
+        Kind::Decl(Decl::FnExpr { .. }) => push_child(alloc, mode, decl.function(), found),
+        Kind::Decl(Decl::TsInterfaceDecl { .. }) => push_node(alloc, mode, decl, found),
         _ => Ok(()),
     }
 }
 
 /// The same from the node of `export default`.
-fn push_default_of<'a>(
+#[tactic(auto, using(crate::proofs::VisitLists::adds_nothing))]
+fn push_default_of(
     alloc: Global,
-    node: NodeRef<'a>,
-    steps: &mut Vec<Step<'a>>,
+    mode: ResolveDepsMode,
+    node: NodeRef<'_>,
+    found: &mut Found,
 ) -> Result<(), AllocError>
-    ensures { OnOk result (map step_view steps.new.items ≡ map step_view steps.old.items ++ option_map_or (λ (decl : TreeNode). default_steps decl (kind_of decl)) (child_of (node_view node.entry) decl_of) []) }
+    ensures { OnOk result (map dependency_view found.new.items ≡ map dependency_view found.old.items ++ dependencies_by mode (option_map_or (λ (decl : TreeNode). default_steps decl (kind_of decl)) (child_of (node_view node.entry) decl_of) [])) }
 {
     match node.decl() {
-        Some(decl) => push_default(alloc, decl, steps),
+        Some(decl) => push_default(alloc, mode, decl, found),
         None => Ok(()),
     }
 }
 
-/// Adds the steps of a method of a class: to its key, and those of its function.
-fn push_method<'a>(
+/// Adds what a method of a class depends on: what its key does, and its function.
+#[tactic(auto, using(crate::proofs::VisitLists::adds_in_turn))]
+fn push_method(
     alloc: Global,
-    node: NodeRef<'a>,
-    steps: &mut Vec<Step<'a>>,
+    mode: ResolveDepsMode,
+    node: NodeRef<'_>,
+    found: &mut Found,
 ) -> Result<(), AllocError>
-    ensures { OnOk result (map step_view steps.new.items ≡ map step_view steps.old.items ++ (first_steps (node_view node.entry) ++ function_steps (node_view node.entry))) }
+    ensures { OnOk result (map dependency_view found.new.items ≡ map dependency_view found.old.items ++ dependencies_by mode (first_steps (node_view node.entry) ++ function_steps (node_view node.entry))) }
 {
-    push_first(alloc, node, steps)?;
-    push_child(alloc, node.function(), steps)
+    push_first(alloc, mode, node, found)?;
+    push_child(alloc, mode, node.function(), found)
 }
 
-/// Adds the steps with which the paths of a declaration begin.
-pub(crate) fn push_starts<'a>(
+/// Adds what a declaration depends on.
+#[tactic(auto, using(crate::proofs::VisitLists::adds_nothing))]
+pub(crate) fn push_dependencies(
     alloc: Global,
-    node: SymbolNodeRef<'a>,
-    steps: &mut Vec<Step<'a>>,
+    mode: ResolveDepsMode,
+    node: SymbolNodeRef<'_>,
+    found: &mut Found,
 ) -> Result<(), AllocError>
-    ensures { OnOk result (map step_view steps.new.items ≡ map step_view steps.old.items ++ starts (symbol_node_view node.entry)) }
+    ensures { OnOk result (map dependency_view found.new.items ≡ map dependency_view found.old.items ++ dependencies_by mode (starts (symbol_node_view node.entry))) }
 {
     match node {
         SymbolNodeRef::Module(_) | SymbolNodeRef::TsNamespace(_) => Ok(()),
-        SymbolNodeRef::ExportDecl(_, decl) => push_exported(alloc, decl, steps),
-        SymbolNodeRef::ExportDefaultDecl(node) => push_default_of(alloc, node, steps),
-        SymbolNodeRef::ClassDecl(node) => push_child(alloc, node.class(), steps),
-        SymbolNodeRef::FnDecl(node) => push_child(alloc, node.function(), steps),
-        SymbolNodeRef::ClassMethod(node) => push_method(alloc, node, steps),
-        SymbolNodeRef::ExpandoProperty(expando) => push_first(alloc, expando.inner(), steps),
+        SymbolNodeRef::ExportDecl(_, decl) => push_exported(alloc, mode, decl, found),
+        SymbolNodeRef::ExportDefaultDecl(node) => push_default_of(alloc, mode, node, found),
+        SymbolNodeRef::ClassDecl(node) => push_child(alloc, mode, node.class(), found),
+        SymbolNodeRef::FnDecl(node) => push_child(alloc, mode, node.function(), found),
+        SymbolNodeRef::ClassMethod(node) => push_method(alloc, mode, node, found),
+        SymbolNodeRef::ExpandoProperty(expando) => {
+            push_first(alloc, mode, expando.inner(), found)
+        }
         SymbolNodeRef::ExportDefaultExpr(node)
         | SymbolNodeRef::AutoAccessor(node)
         | SymbolNodeRef::ClassProp(node)
-        | SymbolNodeRef::Constructor(node) => push_first(alloc, node, steps),
+        | SymbolNodeRef::Constructor(node) => push_first(alloc, mode, node, found),
         SymbolNodeRef::TsEnum(node)
         | SymbolNodeRef::TsInterface(node)
         | SymbolNodeRef::TsTypeAlias(node)
@@ -161,6 +179,6 @@ pub(crate) fn push_starts<'a>(
         | SymbolNodeRef::TsPropertySignature(node)
         | SymbolNodeRef::TsGetterSignature(node)
         | SymbolNodeRef::TsSetterSignature(node)
-        | SymbolNodeRef::TsMethodSignature(node) => push_node(alloc, node, steps),
+        | SymbolNodeRef::TsMethodSignature(node) => push_node(alloc, mode, node, found),
     }
 }

@@ -1,0 +1,16 @@
+use Rattle.std.proofs.Common.{◌≡◌, false, refl, sym, map, append-nil, rules}
+use Rattle.symbols_syntax.specs.NodeRefs.{node_view}
+use Rattle.symbols_nodes.specs.KnownFacts.{may_refer}
+use Rattle.symbols_nodes.specs.References.{dependency_view}
+use Rattle.symbols_nodes.proofs.KnownLemmas.{refers_to_nothing}
+use Rattle.symbols_nodes.proofs.deps.references.push_reference.Goals as goal
+
+pub returns-then-not-may_refer-clause-refers : goal.returns-then-not-may_refer-clause-refers
+returns-then-not-may_refer-clause-refers c =
+    let not_so : may_refer c.args.kind.now ≡ false = search rules in
+    rw (refers_to_nothing (node_view c.args.node) c.args.kind.now c.requires.kind not_so) refl
+
+pub returns-then-not-may_refer-clause-added : goal.returns-then-not-may_refer-clause-added
+returns-then-not-may_refer-clause-added c =
+    let not_so : may_refer c.args.kind.now ≡ false = search rules in
+    rw (refers_to_nothing (node_view c.args.node) c.args.kind.now c.requires.kind not_so) (sym (append-nil (map dependency_view c.args.found.now.items)))
