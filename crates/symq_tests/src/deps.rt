@@ -53,6 +53,41 @@ const NODES: [&str; 36] = [
     r#""kind":"Ident","sym":["d",1]"#,
 ];
 
+/// The nodes of `const f = (a: A = b) => c; const g = (): R => c;` and
+/// `type T = { [s]: never }; import { q } from "./m";`.
+const ARROWS: [&str; 30] = [
+    r#""kind":"Program","body":[1,12,20,27]"#,
+    r#""kind":"VarDecl","decls":[2]"#,
+    r#""kind":"VarDeclarator","name":3,"init":4"#,
+    r#""kind":"BindingIdent","sym":["f",1]"#,
+    r#""kind":"Arrow","params":[5],"body":11"#,
+    r#""kind":"AssignPat","left":6,"right":10"#,
+    r#""kind":"BindingIdent","sym":["a",1],"type_ann":7"#,
+    r#""kind":"TsTypeAnn","ty":8"#,
+    r#""kind":"Type","children":[9]"#,
+    r#""kind":"Ident","sym":["A",1]"#,
+    r#""kind":"Ident","sym":["b",1]"#,
+    r#""kind":"Ident","sym":["c",1]"#,
+    r#""kind":"VarDecl","decls":[13]"#,
+    r#""kind":"VarDeclarator","name":14,"init":15"#,
+    r#""kind":"BindingIdent","sym":["g",1]"#,
+    r#""kind":"Arrow","return_type":16,"body":19"#,
+    r#""kind":"TsTypeAnn","ty":17"#,
+    r#""kind":"Type","children":[18]"#,
+    r#""kind":"Ident","sym":["R",1]"#,
+    r#""kind":"Ident","sym":["c",1]"#,
+    r#""kind":"TsTypeAliasDecl","id":21,"type_ann":22"#,
+    r#""kind":"Ident","sym":["T",1]"#,
+    r#""kind":"Type","children":[23]"#,
+    r#""kind":"TsPropertySignature","key":24,"computed":true,"type_ann":25"#,
+    r#""kind":"Ident","sym":["s",1]"#,
+    r#""kind":"TsTypeAnn","ty":26"#,
+    r#""kind":"Type""#,
+    r#""kind":"Import","specifiers":[28],"src":"./m""#,
+    r#""kind":"ImportNamed","local":29"#,
+    r#""kind":"Ident","sym":["q",1]"#,
+];
+
 /// The graph of the module `m` of these nodes, each in the empty range.
 fn graph(alloc: Global, nodes: &[&str]) -> Result<ModuleGraph, Fail> {
     let mut text = String::from_str(
@@ -84,14 +119,18 @@ fn are_first_parts(list: &[SymbolNodeDep], all: &[(SymbolNodeDep, ReferenceNames
     firsts.next().is_none()
 }
 
-/// How much a declaration depends on, where the declaration and its node say the same.
+/// How much a declaration depends on, where the declaration and its node say the same; nothing where
+/// it has no node.
 fn count_of(
     rt: &impl Abort,
     alloc: Global,
     decl: &SymbolDecl<'_>,
     mode: ResolveDepsMode,
 ) -> Result<usize, Fail> {
-    let node = decl.maybe_node().ok_or("no node")?;
+    let Some(node) = decl.maybe_node() else {
+        assert!(rt; decl.deps(alloc, mode)?.is_empty());
+        return Ok(0);
+    };
     let all = node.deps_with_namespace(alloc, mode)?;
     assert!(rt; are_first_parts(&node.deps(alloc, mode)?, &all));
     assert!(rt; are_first_parts(&decl.deps(alloc, mode)?, &all));
@@ -114,22 +153,44 @@ fn counts(
     Ok(counts)
 }
 
-/// The module, `v`, `E`, `N`, `P`, the constructor and the property `a`.
-fn agrees(rt: &impl Abort, alloc: Global, module: Option<&GraphModule>) -> Result<(), Fail> {
+/// Whether the declarations of a module depend on so much, without expressions and with them.
+fn agrees(
+    rt: &impl Abort,
+    alloc: Global,
+    module: Option<&GraphModule>,
+    types: &[usize],
+    all: &[usize],
+) -> Result<(), Fail> {
     let module = module.ok_or("no module")?;
     let found = analyze(alloc, ModuleId::from_number(0), module, u32::MAX)?;
     let info = found.as_ref().ok_or("no symbols")?.as_ref();
-    let types = counts(rt, alloc, info, ResolveDepsMode::TypesOnly)?;
-    assert!(rt; matches!(types.as_slice(), [0, 1, 1, 2, 0, 1, 1]));
-    let all = counts(rt, alloc, info, ResolveDepsMode::TypesAndExpressions)?;
-    assert!(rt; matches!(all.as_slice(), [0, 1, 1, 2, 0, 2, 1]));
+    let counted = counts(rt, alloc, info, ResolveDepsMode::TypesOnly)?;
+    assert!(rt; counted.as_slice() == types);
+    let counted = counts(rt, alloc, info, ResolveDepsMode::TypesAndExpressions)?;
+    assert!(rt; counted.as_slice() == all);
     Ok(())
 }
 
+/// The module, `v`, `E`, `N`, `P`, the constructor and the property `a`.
 #[test]
 fn gives_what_is_referred_to(rt: HostRuntime) -> Result<(), Fail> {
     let graph = graph(rt.alloc(), &NODES)?;
-    agrees(&rt, rt.alloc(), graph.get("m"))
+    let module = graph.get("m");
+    agrees(
+        &rt,
+        rt.alloc(),
+        module,
+        &[0, 1, 1, 2, 0, 1, 1],
+        &[0, 1, 1, 2, 0, 2, 1],
+    )
+}
+
+/// The module, `f`, `g`, `T` and `q`, which has no node.
+#[test]
+fn gives_what_arrows_types_and_imports_refer_to(rt: HostRuntime) -> Result<(), Fail> {
+    let graph = graph(rt.alloc(), &ARROWS)?;
+    let module = graph.get("m");
+    agrees(&rt, rt.alloc(), module, &[0, 0, 0, 1, 0], &[0, 2, 1, 1, 0])
 }
 
 #[test]
