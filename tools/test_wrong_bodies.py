@@ -47,10 +47,50 @@ pub fn as_digit(x: u8) -> Digit
     Digit { value: x }
 }
 
+/// At most the number.
+#[cycle(down)]
+pub fn below(x: u8) -> u8
+    ensures { result ≤ x }
+{
+    if x == 0 {
+        0
+    } else {
+        far_below(x - 1)
+    }
+}
+
+/// At most the number, by turns.
+#[cycle(down)]
+pub fn far_below(y: u8) -> u8
+    ensures { result ≤ y }
+{
+    if y == 0 {
+        0
+    } else {
+        below(y - 1)
+    }
+}
+
 /// Says nothing of its result.
 pub fn any(x: u8) -> u8 {
     x
 }
+'''
+
+# what the cycle's proof says by itself: that the calls end, and one goal
+MEASURES = '''use Rattle.small.proofs.+down.Given as goal
+
+abbrev pub decreases-below : goal.decreases-below
+decreases-below l = l.x
+
+abbrev pub decreases-far_below : goal.decreases-far_below
+decreases-far_below l = l.y
+'''
+ANSWERS = '''use Rattle.std.proofs.Common.{arith}
+use Rattle.small.proofs.+down.Goals as goal
+
+pub below-returns-else-x-eq0 : goal.below-returns-else-x-eq0
+below-returns-else-x-eq0 t c = let lower = c.far_below.ensures in omega arith
 '''
 
 # a name, what is changed into what, and how the edit has to end
@@ -63,6 +103,11 @@ EDITS = [
     ('a_name_that_is_not_there', [('next(next(x))', 'next(next(y))')], 'not reached'),
     ('of_a_function_without_a_promise', [('u8 {', 'u8 { let x = 0;')], 'let through'),
     ('against_a_law_of_its_type', [('Digit { value: x }', 'Digit { value: 10 }')], 'refused'),
+    ('another_test', [('x == 0', 'x < 1')], 'undecided'),
+    ('a_sum_in_the_cycle', [('below(y - 1)', 'below(y - 1) + 0')], 'let through'),
+    ('more_by_turns', [('below(y - 1)', 'below(y - 1) + 2')], 'refused'),
+    ('more_in_the_cycle', [('far_below(x - 1)', 'far_below(x - 1) + 2')], 'refused'),
+    ('without_an_end', [('far_below(x - 1)', 'far_below(x)')], 'refused'),
     ('another_text', [('next(next(z))', 'next(z)')], 'not reached'),
     ('a_text_that_stands_twice', [('requires', 'ensures')], 'not reached'),
     ('two_functions', [('    x + 1', '    x + 2'), ('next(next(x))', 'next(x)')], 'not reached'),
@@ -75,6 +120,8 @@ def lay(folder, source):
     wrong_bodies.write(os.path.join(folder, 'crates.txt'), 'small:\n')
     crate = os.path.join(folder, 'crates', 'small')
     wrong_bodies.write(os.path.join(crate, 'src', 'lib.rt'), source)
+    for name, text in (('Invariants', MEASURES), ('Answers', ANSWERS)):
+        wrong_bodies.write(os.path.join(crate, 'proofs', '+down', name + '.antt'), text)
     for name, pairs, _ in EDITS:
         text = 'file: src/lib.rt\n' + ''.join('old: %s\nnew: %s\n' % pair for pair in pairs)
         wrong_bodies.write(os.path.join(crate, 'wrong', name + '.edit'), text)

@@ -13,11 +13,13 @@ edit changes lies in one function.
 
 A check proves function by function, from the contracts of what a function calls. So one check tries an edit in each of
 many functions: on a copy of the crate in which each other function has a hole in place of its proof, which
-`rattle check --allow-holes` takes by its contract. A batch has at most one edit for a function, or for a cycle of
-calls, whose functions share a proof. An edit is
+`rattle check --allow-holes` takes by its contract. A batch has at most one edit for a function. The functions of a cycle
+of calls share a proof, but each has goals of its own, which say of the others only what their contracts promise, and
+which bear its name: so each of them may have an edit in one batch. An edit is
 
     refused         where the check names a goal of the changed function that isn't proved, or of a closure in it, or an
-                    error in the function's own proof file, other than that a name is gone
+                    error in the function's own proof file, other than that a name is gone; in the proof file of a cycle
+                    only one at a goal of the function
     let through     where the function is proved with the edit
     not reached     where the text doesn't apply, or the batch doesn't compile: it is halved until the edit is found
     undecided       where neither a goal was named nor the function proved; such an edit is tried once more, alone
@@ -71,10 +73,6 @@ class Function:
 
     def name(self):
         return '::'.join(self.path)
-
-    def unit(self):
-        """What shares a proof: the function, or its cycle."""
-        return ('cycle', self.cycle) if self.cycle else ('function', self.path)
 
     def proofs(self):
         return 'proofs/' + '/'.join(self.path)
@@ -312,7 +310,7 @@ class Room:
 
     def lay(self, edits, asked):
         """Lays the crate with these edits, and a hole for each function that isn't asked for."""
-        room, units = os.path.join(self.folder, 'crate'), {it.unit() for it in asked}
+        room, paths = os.path.join(self.folder, 'crate'), {it.path for it in asked}
         shutil.rmtree(room, ignore_errors=True)
         for part in ('src', 'specs', 'proofs'):
             if os.path.isdir(os.path.join(self.crate.folder, part)):
@@ -320,7 +318,7 @@ class Room:
         for file, text in self.crate.edited(edits).items():
             write(os.path.join(room, file), text)
         for function in self.crate.functions:
-            if function.unit() not in units and self.has_holes(function):
+            if function.path not in paths and self.has_holes(function):
                 proofs = os.path.join(room, function.proofs())
                 for name in ('Answers.antt', 'Invariants.antt'):
                     if os.path.isfile(os.path.join(proofs, name)):
@@ -359,12 +357,18 @@ def statuses(said):
     return re.findall(r'^fn (\S+): (.*)', said, re.M)
 
 
+def is_at_goal(message, function):
+    """Whether a message is of a goal of the function: in a cycle a goal's name begins with that of its function."""
+    goal = r'(?:\(|: error: )`(?:{0}-|(?:decreases|invariant)-{0}[-`])'.format(re.escape(function.path[-1]))
+    return not function.cycle or bool(re.search(goal, message.split('\n')[0]))
+
+
 def goals_of(said, crate, function):
     """The goals of the function, and of its closures, that aren't proved, and errors in its own proof files."""
     found, notes = [], []
     folders = [function.proofs()]
     if function.cycle:
-        folders.append('proofs/%s/+%s' % ('/'.join(function.path[:-1]), function.cycle))
+        folders.append('/'.join(['proofs', *function.path[:-1], '+' + function.cycle]))
     own = re.compile(r'(?:\./)?(?:%s)/(?:fn/.*/)?[+\w]+\.antt:' % '|'.join(map(re.escape, folders)))
     at, name = os.path.split(function.proofs())
     own_recursion = '%s/+%s/' % (at, name)
@@ -372,9 +376,10 @@ def goals_of(said, crate, function):
     for line in re.split(r'\n(?!\s)', said):
         status = re.match(r'fn (\S+): (.*)', line)
         is_own = own.match(line) or line.removeprefix('./').startswith(own_recursion)
-        if line.startswith('note: src/') and ('it is not proved that' in line or 'found no proof (' in line):
+        is_goal = line.startswith('note: src/') and ('it is not proved that' in line or 'found no proof (' in line)
+        if is_goal and is_at_goal(line, function):
             notes.append(line)
-        elif is_own and ': error: ' in line and not GONE.search(line):
+        elif is_own and ': error: ' in line and is_at_goal(line, function) and not GONE.search(line):
             found.append(line)
         if status:
             found += notes if is_of(status[1], crate, function) else []
@@ -401,11 +406,11 @@ def judged(said, edit):
 
 
 def batches_of(edits):
-    """Puts the edits into batches, none with two for one proof."""
+    """Puts the edits into batches, none with two for one function."""
     batches = []
     for edit in edits:
-        unit = edit.function.unit()
-        batch = next((it for it in batches if all(other.function.unit() != unit for other in it)), None)
+        path = edit.function.path
+        batch = next((it for it in batches if all(other.function.path != path for other in it)), None)
         if batch is None:
             batches.append(batch := [])
         batch.append(edit)
@@ -462,7 +467,7 @@ def try_crate(crate, names, words, lanes):
     edits, verdicts = read_edits(crate, names)
     with tempfile.TemporaryDirectory(prefix='wrong-bodies-') as folder:
         room = Room(crate, words, folder, lanes)
-        functions = list({it.function.unit(): it.function for it in edits}.values())
+        functions = list({it.function.path: it.function for it in edits}.values())
         wrong = proved_without(room, functions) if edits else []
         if not wrong:
             verdicts.update({edit.name: it for edit, it in tried_all(room, edits).items()})
