@@ -27,8 +27,8 @@ and its depend are taken like ours; it has no checker. A dash stands where the c
 
 ms is processor time, of n, the least of some runs; those of both programs and of n and 2n are taken in turn, so that a
 slow minute of the machine falls on each, and one of over ten seconds is taken once. A time illustrates and shows
-nothing: it varies with what else the machine does. Its analyse is a run with eleven queries a module less one with one,
-by ten, beside the timer 'analysis' that OTHER prints (below); check and depend are too short for a difference of times.
+nothing: it varies with what else the machine does. Its analyse is a run with a query a module less one without queries,
+beside the timer 'analysis' that OTHER prints (below); check and depend are too short for a difference of times.
 
 OTHER takes the same graphs and lines, and prints with `--bench RUNS` a JSON object of its stages, in which
 `analysis` has `min_cpu_ms`, the least processor time of analysing all modules.
@@ -43,8 +43,8 @@ import sys
 import tempfile
 from functools import partial
 
-# the runs of each command: for the pages, for the times of reading and for those of analysing
-PAGES, READS, ANALYSES = 3, 15, 3
+# the runs of each command: for the pages, and for the times
+PAGES, RUNS = 3, 15
 
 COLUMNS = ['graph', 'stage', 'million instructions', 'growth', 'of other', 'pages', 'growth', 'of other']
 COLUMNS += ['ms', 'of other']
@@ -244,19 +244,16 @@ def least(measures, rounds):
 
 def times(program, other, sizes):
     """For each size, by stage, the program's time and the other's."""
-    reads, asks = [], []
+    measures = []
     for files in sizes:
-        reads.append(partial(cpu_time, [program, files.refused]))
-        asks += [partial(cpu_time, [program, files.path], files.queries * n) for n in (1, 11)]
+        measures += [partial(cpu_time, [program, path]) for path in (files.refused, files.path)]
+        measures.append(partial(cpu_time, [program, files.path], files.queries))
         if other:
-            reads.append(partial(cpu_time, [other, files.path]))
-            asks.append(partial(timer, other, files.path))
-    reads, asks = least(reads, READS), least(asks, ANALYSES)
-    found = []
+            measures += [partial(cpu_time, [other, files.path]), partial(timer, other, files.path)]
+    figures, found = least(measures, RUNS), []
     for i in range(len(sizes)):
-        read = reads[i * len(reads) // len(sizes) :][: len(reads) // len(sizes)]
-        one, eleven, *theirs = asks[i * len(asks) // len(sizes) :][: len(asks) // len(sizes)]
-        found.append({'read': read, 'check': [], 'analyse': [(eleven - one) / 10] + theirs, 'depend': []})
+        refused, idle, asked, *theirs = figures[i * len(figures) // len(sizes) :][: len(figures) // len(sizes)]
+        found.append({'read': [refused] + theirs[:1], 'check': [], 'analyse': [asked - idle] + theirs[1:], 'depend': []})
     return found
 
 

@@ -19,6 +19,7 @@ pub mod CountsFields
 pub mod CountsParts
 pub mod CountsItems
 pub mod Counts
+pub mod Bounds
 pub mod CountsDecls
 pub mod CountsSound
 pub mod OwnEvents

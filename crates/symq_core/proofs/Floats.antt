@@ -5,7 +5,7 @@ use Rattle.serde_json.specs.Written.{has_float, items_have_float}
 use Rattle.symbols_syntax.specs.declared.ids.SymbolId.{SymbolId}
 use Rattle.serde_json.specs.Data.{string}
 use Rattle.symbols_nodes.specs.References.{Reference, id, qualified_id, import_type, Dependency}
-use Rattle.symq_core.specs.AnswerViews.{ExportEntry, AnswerView, tells_nothing, tells_fault, tells_exports, tells_symbol, tells_name, tells_deps}
+use Rattle.symq_core.specs.AnswerViews.{ExportEntry, AnswerView, tells_nothing, tells_module, tells_fault, tells_exports, tells_symbol, tells_name, tells_deps}
 use Rattle.symq_core.specs.AnswerData.{statement_data, entry_data, symbol_number, name_text, reference_data, dependency_data, dependencies_data, answer_data}
 
 in_statements : (statements : List (List ℕ × List ℕ)) → items_have_float (items_of (map statement_data statements)) ≡ false
@@ -49,6 +49,7 @@ in_lists (dependencies ∷ lists) = rw (in_dependencies dependencies, in_lists l
 
 pub no_float : (answer : AnswerView) → has_float (answer_data answer) ≡ false
 no_float tells_nothing = refl
+no_float (tells_module specifier) = refl
 no_float (tells_fault fault) = refl
 no_float (tells_exports entries unresolved) = rw (in_entries entries, in_statements unresolved) refl
 no_float (tells_symbol found) = rw (in_number found) refl

@@ -2,12 +2,16 @@
 use Rattle.std.proofs.Common.{◌≡◌, ◌<◌, List, [], ◌∷◌, length, None, refl, arith}
 use Rattle.serde_json.specs.View.{items_view}
 use Rattle.serde_json.specs.declared.value.Value.{Value}
-use Rattle.symq_core.specs.Queries.{two_and_rest, exports_question, symbol_question, name_question, deps_question}
+use Rattle.symq_core.specs.Queries.{two_and_rest, module_question, exports_question, symbol_question, name_question, deps_question}
 
 pub two_short : (values : List Value) → length values < 2 → two_and_rest (items_view values) ≡ None
 two_short [] h = refl
 two_short (a ∷ []) h = refl
 two_short (a ∷ b ∷ values) h = absurd (omega arith)
+
+pub module_long : (values : List Value) → 0 < length values → module_question (items_view values) ≡ None
+module_long [] h = absurd (omega arith)
+module_long (a ∷ values) h = refl
 
 pub exports_long : (values : List Value) → 0 < length values → exports_question (items_view values) ≡ None
 exports_long [] h = absurd (omega arith)

@@ -1,5 +1,5 @@
 -- What was written of the whole output when serving stopped.
-use Rattle.std.proofs.Common.{◌≡◌, ℕ, List, [], ◌++◌, Option, Some, None, Result, Ok, Err, IfErr, sym, ap, ◌∙◌, subst, append_assoc, append-nil}
+use Rattle.std.proofs.Common.{◌≡◌, ◌≤◌, ℕ, arith, length, length-append, IfSome, List, [], ◌++◌, Option, Some, None, Result, Ok, Err, IfErr, sym, ap, ◌∙◌, subst, append_assoc, append-nil}
 use Rattle.std.specs.Io.KnownBytes.{Appends, Consumes, IsAtEnd}
 use Rattle.std.proofs.KnownBytes.{Appends-trans}
 use Rattle.symq_core.specs.declared.program.fault.EngineFault.{EngineFault}
@@ -50,17 +50,33 @@ begun_output answer (Some bytes) (Some ys) a c read h p =
     let whole = output_begins answer read ys in
     subst (AppendsBeginning a c) (sym (ap (output_of answer) h ∙ whole.1)) (begins_longer a c (answers_to answer (ended_lines read)) whole.0 p)
 
--- the same at the end of the input, with the last line
+-- at the end of the input the answers to the last line complete the output
+output_at_end : (answer : List ℕ → List ℕ) (bytes left read line waiting : List ℕ) → Consumes (Some bytes) (Some left) read → left ≡ [] → waiting ≡ [] → line ≡ last_part (parts_of read)
+    → answers_to answer (ended_lines read) ++ (waiting ++ answers_to answer (line_in line)) ≡ output_of answer bytes
+output_at_end answer bytes left read line waiting h end e f =
+    let all : bytes ≡ read = h ∙ ap (λ t. read ++ t) end ∙ append-nil read in
+    ap (λ t. answers_to answer (ended_lines read) ++ (t ++ answers_to answer (line_in line))) e ∙ ap (λ t. answers_to answer (ended_lines read) ++ answers_to answer (line_in t)) f
+    ∙ sym (answers_to-append answer (ended_lines read) (line_in (last_part (parts_of read)))) ∙ ap (output_of answer) (sym all)
+
+pub served_at_end : (answer : List ℕ → List ℕ) (input left a b c : Option (List ℕ)) (read line waiting : List ℕ) → Consumes input left read → IsAtEnd left → waiting ≡ [] → line ≡ last_part (parts_of read)
+    → Appends a b (answers_to answer (ended_lines read)) → Appends b c (waiting ++ answers_to answer (line_in line)) → IfSome input (λ bytes. Appends a c (output_of answer bytes))
+served_at_end answer None left a b c read line waiting h end e f p q = tt
+served_at_end answer (Some bytes) None a b c read line waiting h end e f p q = absurd h
+served_at_end answer (Some bytes) (Some ys) a b c read line waiting h end e f p q =
+    subst (Appends a c) (output_at_end answer bytes ys read line waiting h end e f) (Appends-trans a b c _ _ p q)
+
 pub begun_at_end : (answer : List ℕ → List ℕ) (input left a b c : Option (List ℕ)) (read line waiting : List ℕ) → Consumes input left read → IsAtEnd left → waiting ≡ [] → line ≡ last_part (parts_of read)
     → Appends a b (answers_to answer (ended_lines read)) → AppendsBeginning b c (waiting ++ answers_to answer (line_in line)) → BeginsOutput answer input a c
 begun_at_end answer None left a b c read line waiting h end e f p q = tt
 begun_at_end answer (Some bytes) None a b c read line waiting h end e f p q = absurd h
 begun_at_end answer (Some bytes) (Some ys) a b c read line waiting h end e f p q =
-    let all : bytes ≡ read = h ∙ ap (λ t. read ++ t) end ∙ append-nil read in
-    let text : answers_to answer (ended_lines read) ++ (waiting ++ answers_to answer (line_in line)) ≡ output_of answer bytes =
-    ap (λ t. answers_to answer (ended_lines read) ++ (t ++ answers_to answer (line_in line))) e ∙ ap (λ t. answers_to answer (ended_lines read) ++ answers_to answer (line_in t)) f
-    ∙ sym (answers_to-append answer (ended_lines read) (line_in (last_part (parts_of read)))) ∙ ap (output_of answer) (sym all) in
-    subst (AppendsBeginning a c) text (begins_after a b c _ _ p q)
+    subst (AppendsBeginning a c) (output_at_end answer bytes ys read line waiting h end e f) (begins_after a b c _ _ p q)
+
+-- an input of which so much was read is as long
+pub read_within : (n : ℕ) (input left : Option (List ℕ)) (read : List ℕ) → Consumes input left read → n ≤ length read → IfSome input (λ bytes. n ≤ length bytes)
+read_within n None left read h le = tt
+read_within n (Some bytes) None read h le = absurd h
+read_within n (Some bytes) (Some ys) read h le = omega (arith, le, ap length h, length-append read ys)
 
 -- a fault of an answer stops serving
 pub stops_from : (answer : List ℕ → List ℕ) (fault : EngineFault) (old new : ℕ) (input left a c : Option (List ℕ)) → IsAnswerFault fault old new → BeginsOutput answer input a c → Stops answer fault input left a c

@@ -1,39 +1,31 @@
 -- The answer on a module, from its tables.
-use Rattle.std.proofs.Common.{◌≡◌, ℕ, zero, suc, ◌<◌, ◌≤◌, List, [], ◌∷◌, ◌++◌, true, false, Option, None, Some, sym, ap, ◌∙◌, refl, arith}
-use Rattle.std.specs.Prelude.{nat_lt, slice_get, Result, Ok, Err, IfOk, IfSome, IsSome}
+use Rattle.std.proofs.Common.{◌≡◌, ℕ, zero, suc, List, [], ◌∷◌, ◌++◌, true, false, Option, None, Some, sym, ap, ◌∙◌, subst, refl}
+use Rattle.std.specs.Prelude.{slice_get, Result, Ok, Err, IfOk, IfSome, IsSome}
 use Rattle.std.specs.Option.{option_map, option_map_or}
 use Rattle.std.specs.declared.alloc.AllocError.{AllocError}
-use Rattle.std.proofs.lemmas.Bool.Decides.{nat_tests}
-use Rattle.std.proofs.lemmas.Option.{same_Some}
+use Rattle.std.proofs.lemmas.Option.{none-some, same_Some}
 use Rattle.serde_json.specs.declared.value.Value.{Value}
 use Rattle.serde_json.specs.View.{view}
 use Rattle.symbols_syntax.specs.declared.ids.ModuleId.{ModuleId}
 use Rattle.symbols_syntax.specs.declared.ids.SymbolId.{SymbolId}
-use Rattle.symbols_syntax.specs.Graph.{ModuleView}
+use Rattle.symbols_syntax.specs.Graph.{GraphView, ModuleView}
 use Rattle.symbols_nodes.specs.declared.deps.dep.ResolveDepsMode.{ResolveDepsMode}
 use Rattle.symbols_table.specs.declared.decl.symbol.Symbol.{Symbol}
-use Rattle.symbols_table.specs.declared.info.module_info.ModuleInfo.{ModuleInfo}
 use Rattle.symbols_table.specs.declared.info.fault.SymbolsFault.{SymbolsFault}
 use Rattle.symbols_table.specs.declared.info.fault.SymbolsFault.TheVariants as fault
-use Rattle.symbols_table.specs.Analysis.{IsAnalysis, IsAnalysisFault, source_changes, symbol_count}
+use Rattle.symbols_table.specs.Analysis.{source_changes}
 use Rattle.symbols_table.specs.Changes.{Change, exports_after}
 use Rattle.symbols_table.specs.SymbolViews.{SymbolView, symbol_view, symbol_made, symbol_after}
 use Rattle.symbols_table.specs.QualifiedNames.{SymbolAt, path_below, path_within, qualified_name}
-use Rattle.symbols_table.specs.Modules.{table_of, symbol_in}
+use Rattle.symbols_table.specs.Modules.{Table, source_of, symbol_in}
+use Rattle.deno_symbols.specs.Specifiers.{module_under}
+use Rattle.deno_symbols.specs.Roots.{RootView, specifier_under, IsStoredTable}
 use Rattle.symbols_table.specs.Symbols.{exports_in}
-use Rattle.symq_core.specs.Queries.{QuestionView, asks_exports, asks_name, asks_deps}
-use Rattle.symq_core.specs.AnswerViews.{too_many_symbols, tells_fault, tells_exports}
+use Rattle.symq_core.specs.Queries.{QuestionView, asks_module, asks_exports, asks_name, asks_deps}
+use Rattle.symq_core.specs.AnswerViews.{tells_nothing, tells_module, tells_fault, tells_exports}
 use Rattle.symq_core.specs.AnswerData.{answer_data}
 use Rattle.symq_core.specs.Answering.{fault_view, IsAnswerByTables}
-use Rattle.symq_core.specs.Answers.{own_entries, named_answer, deps_answer, changes_answer, module_symbol, counted_answer, module_answer}
-
-counted_answer-within : (question : QuestionView) (specifier : List ℕ) (changes : List Change) → symbol_count changes ≤ 4294967295 → counted_answer question specifier changes ≡ changes_answer question specifier changes
-unfolding counted_answer
-counted_answer-within question specifier changes le = let test : nat_lt (4294967295) (symbol_count changes) ≡ false = grind (arith, nat_tests) in rw test refl
-
-counted_answer-past : (question : QuestionView) (specifier : List ℕ) (changes : List Change) → 4294967295 < symbol_count changes → counted_answer question specifier changes ≡ tells_fault too_many_symbols
-unfolding counted_answer
-counted_answer-past question specifier changes lt = let test : nat_lt (4294967295) (symbol_count changes) ≡ true = grind (arith, nat_tests) in rw test refl
+use Rattle.symq_core.specs.Answers.{own_entries, named_answer, deps_answer, changes_answer, module_symbol, found_answer}
 
 -- a symbol that is shown is one of the changes
 exports_shown : (o : Option (Option SymbolId)) (s : SymbolId) (symbol : SymbolView) (changes : List Change) → Some symbol ≡ option_map (symbol_made changes s) o → symbol.exports ≡ exports_after changes s
@@ -41,12 +33,12 @@ exports_shown None s symbol changes e = absurd (let none : ⊥ = cc in none)
 exports_shown (Some parent) s symbol changes e = ap (λ (shown : SymbolView). shown.exports) (same_Some symbol (symbol_made changes s parent) e)
 
 -- the exports that the module's symbol shows are those of the changes
-pub exports_told : (r : Result Value AllocError) (info : ModuleInfo) (symbol : Symbol) (specifier : List ℕ) (exports : List (List ℕ × SymbolId)) → slice_get (table_of info).symbols 0 ≡ Some symbol → specifier ≡ (table_of info).specifier
-    → exports ≡ exports_in symbol → IfOk r (λ value. view value ≡ answer_data (tells_exports (own_entries specifier exports) [])) → IfOk r (λ value. IsAnswerByTables asks_exports info (view value))
-exports_told (Ok value) info symbol specifier exports at named same is = λ changes tables.
+pub exports_told : (r : Result Value AllocError) (table : Table) (symbol : Symbol) (specifier : List ℕ) (exports : List (List ℕ × SymbolId)) → slice_get table.symbols 0 ≡ Some symbol → specifier ≡ table.specifier
+    → exports ≡ exports_in symbol → IfOk r (λ value. view value ≡ answer_data (tells_exports (own_entries specifier exports) [])) → IfOk r (λ value. IsAnswerByTables asks_exports table (view value))
+exports_told (Ok value) table symbol specifier exports at named same is = λ changes tables.
     let shown = exports_shown _ module_symbol (symbol_view symbol) changes (sym (ap (option_map symbol_view) at) ∙ tables.symbols module_symbol) in
     is ∙ rw (named, same, shown) refl
-exports_told (Err e) info symbol specifier exports at named same is = tt
+exports_told (Err e) table symbol specifier exports at named same is = tt
 
 -- what is called the same by two ways to find symbols that find the same
 path_same : (f g : SymbolAt) → ((s : SymbolId) → f s ≡ g s) → (n : ℕ) (s : SymbolId) → path_within f n s ≡ path_within g n s
@@ -65,36 +57,48 @@ path_same f g same (suc n) s = ap (up f) (same s) ∙ by (λ k. path_same f g sa
     by above None = refl
     by above (Some symbol) = below above symbol symbol.parent
 
-pub name_told : (r : Result Value AllocError) (info : ModuleInfo) (s : SymbolId) → IfOk r (λ value. view value ≡ answer_data (named_answer (symbol_in (table_of info) s) (qualified_name (symbol_in (table_of info)) s)))
-    → IfOk r (λ value. IsAnswerByTables (asks_name s) info (view value))
-name_told (Ok value) info s is = λ changes tables.
-    let path = path_same (symbol_in (table_of info)) (symbol_after changes) tables.symbols (suc s.0) s in
+pub name_told : (r : Result Value AllocError) (table : Table) (s : SymbolId) → IfOk r (λ value. view value ≡ answer_data (named_answer (symbol_in table s) (qualified_name (symbol_in table) s)))
+    → IfOk r (λ value. IsAnswerByTables (asks_name s) table (view value))
+name_told (Ok value) table s is = λ changes tables.
+    let path = path_same (symbol_in table) (symbol_after changes) tables.symbols (suc s.0) s in
     is ∙ rw (tables.symbols s, path) refl
-name_told (Err e) info s is = tt
+name_told (Err e) table s is = tt
 
-pub deps_told : (r : Result Value AllocError) (info : ModuleInfo) (s : SymbolId) (mode : ResolveDepsMode) → IfOk r (λ value. view value ≡ answer_data (deps_answer mode (symbol_in (table_of info) s)))
-    → IfOk r (λ value. IsAnswerByTables (asks_deps s mode) info (view value))
-deps_told (Ok value) info s mode is = λ changes tables. is ∙ rw (tables.symbols s) refl
-deps_told (Err e) info s mode is = tt
+pub deps_told : (r : Result Value AllocError) (table : Table) (s : SymbolId) (mode : ResolveDepsMode) → IfOk r (λ value. view value ≡ answer_data (deps_answer mode (symbol_in table s)))
+    → IfOk r (λ value. IsAnswerByTables (asks_deps s mode) table (view value))
+deps_told (Ok value) table s mode is = λ changes tables. is ∙ rw (tables.symbols s) refl
+deps_told (Err e) table s mode is = tt
 
-abbrev IsAnswer : QuestionView → ModuleView → Value → Type 0
-IsAnswer question m value = view value ≡ answer_data (module_answer question m)
+-- which module it is, by the specifier of the tables
+pub module_told : (r : Result Value AllocError) (table : Table) (specifier : List ℕ) → specifier ≡ table.specifier → IfOk r (λ value. view value ≡ answer_data (tells_module specifier)) → IfOk r (λ value. IsAnswerByTables asks_module table (view value))
+module_told (Ok value) table specifier named is = λ changes tables. is ∙ ap (λ (s : List ℕ). answer_data (tells_module s)) named
+module_told (Err e) table specifier named is = tt
 
-pub info_answered : (r : Result Value AllocError) (question : QuestionView) (number : ModuleId) (m : ModuleView) (info : ModuleInfo) → IsAnalysis number m 4294967295 (Some info) → IfOk r (λ value. IsAnswerByTables question info (view value)) → IfOk r (IsAnswer question m)
-info_answered (Ok value) question number m info (source, has, is) told =
-    let changes = source_changes source in
-    let answer = sym (counted_answer-within question m.specifier changes is.within) in
-    told changes is.tables ∙ rw (has, is.specifier) (ap answer_data answer)
-info_answered (Err e) question number m info is told = tt
+-- what a stored module's tables answer is the answer on the module that stands
+pub stored_answered : (r : Result Value AllocError) (question : QuestionView) (standing : Option ModuleView) (graph : GraphView) (root : RootView) (id : ModuleId) (table : Table) → root.graph ≡ graph
+    → Some (specifier_under root id) ≡ option_map (λ (s : List ℕ). Some s) (option_map (λ (m : ModuleView). m.specifier) standing) → IfSome standing (λ m. module_under graph m.specifier ≡ Some m) → IsStoredTable root id table
+    → IfOk r (λ value. IsAnswerByTables question table (view value)) → IfOk r (λ value. view value ≡ answer_data (found_answer question standing))
+stored_answered (Err e) question standing graph root id table same gives under stored told = tt
+stored_answered (Ok value) question None graph root id table same gives under stored told = absurd (none-some (specifier_under root id) (sym gives))
+stored_answered (Ok value) question (Some m) graph root id table same gives under (s, is, whole) told =
+    let at : specifier_under root id ≡ Some m.specifier = same_Some (specifier_under root id) (Some m.specifier) gives in
+    let named : s ≡ m.specifier = same_Some s m.specifier (sym is ∙ at) in
+    let found : module_under graph m.specifier ≡ Some whole.graph_module = ap (module_under graph) (sym named) ∙ (ap (λ (g : GraphView). module_under g s) (sym same) ∙ whole.under) in
+    let is_m : whole.graph_module ≡ m = same_Some whole.graph_module m (sym found ∙ under) in
+    let source : source_of m.content ≡ Some whole.source = ap (λ (x : ModuleView). source_of x.content) (sym is_m) ∙ whole.source_is in
+    let specifier : table.specifier ≡ m.specifier = whole.analyzed.specifier ∙ named in
+    told (source_changes whole.source) whole.analyzed.tables ∙ rw (source, specifier) refl
 
--- the value that a fault gives is the answer
+pub nothing_answered : (question : QuestionView) (standing : Option ModuleView) → None ≡ option_map (λ (s : List ℕ). Some s) (option_map (λ (m : ModuleView). m.specifier) standing) → answer_data tells_nothing ≡ answer_data (found_answer question standing)
+nothing_answered question None gives = refl
+nothing_answered question (Some m) gives = absurd (none-some (Some m.specifier) gives)
+
+-- a fault of memory gives no value
 abbrev GivesFault : SymbolsFault → Value → Type 0
 GivesFault f value = IfSome (fault_view f) (λ told. view value ≡ answer_data (tells_fault told)) × IsSome (fault_view f)
 
-pub fault_answer : (r : Result Value AllocError) (question : QuestionView) (m : ModuleView) (f : SymbolsFault) → IsAnalysisFault m (4294967295) f → IfOk r (GivesFault f) → IfOk r (IsAnswer question m)
-fault_answer (Err e) question m f is gives = tt
-fault_answer (Ok value) question m fault.OutOfMemory is gives = let none : false ≡ true = gives.1 in cc
-fault_answer (Ok value) question m fault.TooManyModules is gives = absurd is
-fault_answer (Ok value) question m fault.UnknownModule is gives = absurd is
-fault_answer (Ok value) question m fault.UnknownSymbol is gives = absurd is
-fault_answer (Ok value) question m (fault.TooManySymbols specifier) (named, (source, has, past)) gives = gives.0 ∙ rw has (sym (ap answer_data (counted_answer-past question m.specifier (source_changes source) past)))
+pub no_value : (r : Result Value AllocError) (f : SymbolsFault) (P : Value → Type 0) → f ≡ fault.OutOfMemory → IfOk r (GivesFault f) → IfOk r P
+no_value (Err e) f P is gives = tt
+no_value (Ok value) f P is gives =
+    let none : false ≡ true = subst (λ (g : SymbolsFault). IsSome (fault_view g)) is gives.1 in
+    absurd (let no : ⊥ = cc in no)

@@ -6,7 +6,7 @@ use Rattle.symbols_syntax.specs.declared.ids.SymbolId.{SymbolId}
 use Rattle.symbols_nodes.specs.declared.deps.dep.ReferenceNamespace.{ReferenceNamespace}
 use Rattle.symbols_nodes.specs.declared.deps.dep.ReferenceNamespace.TheVariants as In
 use Rattle.symbols_nodes.specs.References.{Reference, id, qualified_id, import_type, Dependency}
-use Rattle.symq_core.specs.AnswerViews.{AnswerFault, bad_query, too_many_modules, too_many_symbols, unknown_module, unknown_symbol, ExportEntry, AnswerView, tells_nothing, tells_fault, tells_exports, tells_symbol, tells_name, tells_deps}
+use Rattle.symq_core.specs.AnswerViews.{AnswerFault, bad_query, too_many_modules, too_many_symbols, unknown_module, unknown_symbol, ExportEntry, AnswerView, tells_nothing, tells_module, tells_fault, tells_exports, tells_symbol, tells_name, tells_deps}
 
 abbrev pub fault_words : AnswerFault → List ℕ
 fault_words bad_query = codes "bad query"
@@ -61,6 +61,7 @@ dependencies_data dependencies = array (items_of (map dependency_data dependenci
 -- each answer's value, its keys in the order of their bytes
 abbrev pub answer_data : AnswerView → Data
 answer_data tells_nothing = null
+answer_data (tells_module specifier) = object (member (codes "module") (string specifier) no_members)
 answer_data (tells_fault fault) = object (member (codes "fault") (string (fault_words fault)) no_members)
 answer_data (tells_exports entries unresolved) = object (member (codes "exports") (array (items_of (map entry_data entries))) (member (codes "unresolved") (statements_data unresolved) no_members))
 answer_data (tells_symbol found) = object (member (codes "symbol") (symbol_number found) no_members)

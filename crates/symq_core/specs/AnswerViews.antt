@@ -19,11 +19,12 @@ pub record ExportEntry : Type 0 where
   pub name : List ℕ
   pub symbol : SymbolId
 
--- nothing, where no module is named or it has no symbols; why there is no other answer; what is exported, and the statements `export *` that
+-- nothing, where the specifier stands for no module; which module it stands for; why there is no other answer; what is exported, and the statements `export *` that
 -- lead to no module; which symbol a name stands for, if any; what a symbol is called in full, if it has a name; what each declaration of a
 -- symbol depends on
 pub data AnswerView : Type 0 where
   tells_nothing : AnswerView
+  tells_module : List ℕ → AnswerView
   tells_fault : AnswerFault → AnswerView
   tells_exports : List ExportEntry → List (List ℕ × List ℕ) → AnswerView
   tells_symbol : Option SymbolId → AnswerView

@@ -2,13 +2,12 @@
 use Rattle.std.specs.Prelude.{◌≡◌, List, Option, Some, None}
 use Rattle.serde_json.specs.Data.{Data}
 use Rattle.symbols_syntax.specs.Ids.{id_view}
-use Rattle.symbols_table.specs.declared.info.module_info.ModuleInfo.{ModuleInfo}
 use Rattle.symbols_table.specs.declared.info.fault.SymbolsFault.{SymbolsFault}
 use Rattle.symbols_table.specs.declared.info.fault.SymbolsFault.TheVariants as fault
 use Rattle.symbols_table.specs.Changes.{Change}
 use Rattle.symbols_table.specs.Analysis.{HasTables}
-use Rattle.symbols_table.specs.Modules.{table_of}
-use Rattle.symq_core.specs.Queries.{QuestionView, asks_exports, asks_symbol, asks_name, asks_deps, QueryView}
+use Rattle.symbols_table.specs.Modules.{Table}
+use Rattle.symq_core.specs.Queries.{QuestionView, asks_module, asks_exports, asks_symbol, asks_name, asks_deps, QueryView}
 use Rattle.symq_core.specs.AnswerViews.{AnswerFault, too_many_modules, too_many_symbols, unknown_module, unknown_symbol}
 use Rattle.symq_core.specs.AnswerData.{answer_data}
 use Rattle.symq_core.specs.Answers.{changes_answer}
@@ -17,6 +16,7 @@ use Rattle.symq_core.specs.declared.program.query.Query.{Query}
 
 -- what a query of the program asks
 abbrev pub question_view : Question → QuestionView
+question_view Question.Module = asks_module
 question_view Question.Exports = asks_exports
 question_view (Question.Symbol id) = asks_symbol (id_view id)
 question_view (Question.Name symbol) = asks_name symbol
@@ -25,9 +25,9 @@ question_view (Question.Deps symbol mode) = asks_deps symbol mode
 abbrev pub query_view : Query → QueryView
 query_view query = record { specifier = query.specifier.now; question = question_view query.question }
 
--- the value is that of the answer by the changes whose tables the module has
-abbrev pub IsAnswerByTables : QuestionView → ModuleInfo → Data → Type 0
-IsAnswerByTables question info value = (changes : List Change) → HasTables (table_of info) changes → value ≡ answer_data (changes_answer question (table_of info).specifier changes)
+-- the value is that of the answer by the changes whose tables these are
+abbrev pub IsAnswerByTables : QuestionView → Table → Data → Type 0
+IsAnswerByTables question table value = (changes : List Change) → HasTables table changes → value ≡ answer_data (changes_answer question table.specifier changes)
 
 -- why a call on symbols gave nothing; want of memory is no answer
 abbrev pub fault_view : SymbolsFault → Option AnswerFault

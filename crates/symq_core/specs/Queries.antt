@@ -9,9 +9,10 @@ use Rattle.symbols_nodes.specs.declared.deps.dep.ResolveDepsMode.{ResolveDepsMod
 use Rattle.symbols_nodes.specs.declared.deps.dep.ResolveDepsMode.TheVariants.{TypesOnly, TypesAndExpressions}
 use Rattle.symq_reader.specs.UnderKeys.{as_u32}
 
--- what is asked of a module: what it exports; which symbol a name stands for in it; what a symbol of it is called in full; what the declarations of a symbol
+-- what is asked of a specifier: which module it stands for; and of that module: what it exports; which symbol a name stands for in it; what a symbol of it is called in full; what the declarations of a symbol
 -- depend on
 pub data QuestionView : Type 0 where
+  asks_module : QuestionView
   asks_exports : QuestionView
   asks_symbol : IdView → QuestionView
   asks_name : SymbolId → QuestionView
@@ -21,6 +22,11 @@ pub data QuestionView : Type 0 where
 pub record QueryView : Type 0 where
   pub specifier : List ℕ
   pub question : QuestionView
+
+-- the form `["module", specifier]`, behind its specifier
+abbrev pub module_question : Items → Option QuestionView
+module_question no_items = Some asks_module
+module_question _ = None
 
 -- the form `["exports", specifier]`, behind its specifier
 abbrev pub exports_question : Items → Option QuestionView
@@ -52,7 +58,7 @@ deps_question _ = None
 
 -- the forms by their words
 abbrev pub forms : List (List ℕ × (Items → Option QuestionView))
-forms = (codes "exports", exports_question) ∷ (codes "symbol", symbol_question) ∷ (codes "name", name_question) ∷ (codes "deps", deps_question) ∷ []
+forms = (codes "module", module_question) ∷ (codes "exports", exports_question) ∷ (codes "symbol", symbol_question) ∷ (codes "name", name_question) ∷ (codes "deps", deps_question) ∷ []
 
 abbrev pub question_named : List ℕ → Items → Option QuestionView
 question_named word items = option_and_then (λ form. form.1 items) (find (λ form. bytes_eq word form.0) forms)

@@ -18,7 +18,6 @@ use Rattle.symq_reader.specs.declared.faults.FormatFault.TheVariants.{OutOfMemor
 use Rattle.symq_reader.specs.UnderKeys.{required_under, optional_under, list_under, flag_under, as_offset, as_pair, as_triple}
 use Rattle.symq_reader.specs.Numbers.{is_whole}
 use Rattle.symq_reader.specs.KindShapes.{KindShape, read_kind, kind_shape}
-use Rattle.symq_reader.specs.Withheld.{is_withheld_module}
 
 -- ---- what is read, with texts as their bytes
 
@@ -68,7 +67,6 @@ esm_of d = option_and_then (λ text. option_and_then (λ tree. option_map (λ ty
 -- a module's kind by its text, with the fields of that kind alone
 abbrev pub module_kind_of : List ℕ → Data → Option ModuleKindShape
 module_kind_of kind d =
-    if is_withheld_module kind d then None else
     if bytes_eq kind (codes "esm") then esm_of d else
     if bytes_eq kind (codes "json") then option_map json (required_under as_str (codes "text") d) else
     if bytes_eq kind (codes "external") then Some external else None

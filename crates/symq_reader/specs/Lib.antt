@@ -4,5 +4,4 @@ pub mod Numbers
 pub mod Words
 pub mod Kinds
 pub mod KindShapes
-pub mod Withheld
 pub mod GraphText

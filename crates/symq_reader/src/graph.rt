@@ -8,7 +8,7 @@ ghost use Rattle.symq_reader.specs.UnderKeys.{list_under};
 ghost use Rattle.symq_reader.specs.GraphText.{esm_of, module_kind_of, module_kind_shape, as_module, module_shape, as_redirect, redirect_shape, as_resolution, resolution_shape, graph_of, graph_shape, IsOutcome, outcome_of};
 
 use crate::faults::FormatFault;
-use crate::{fields, nodes, numbers, withheld};
+use crate::{fields, nodes, numbers};
 use serde_json::Value;
 use std::alloc::Global;
 use symbols_syntax::graph::{RawGraph, RawModule, RawModuleKind, RawResolution};
@@ -27,9 +27,6 @@ fn esm(alloc: Global, value: &Value) -> Result<RawModuleKind, FormatFault>
 fn kind_named(alloc: Global, kind: &str, value: &Value) -> Result<RawModuleKind, FormatFault>
     ensures { Gives module_kind_shape result (module_kind_of kind.now (view value.now)) }
 {
-    if withheld::is_withheld_module(kind, value) {
-        return Err(FormatFault::BadForm);
-    }
     match kind {
         "esm" => esm(alloc, value),
         "json" => Ok(RawModuleKind::Json {

@@ -10,7 +10,6 @@ mod graph;
 mod kinds;
 mod nodes;
 mod numbers;
-mod withheld;
 mod words;
 
 pub use faults::FormatFault;

@@ -15,6 +15,10 @@ mod nodes;
 #[cfg(test)]
 mod reading;
 #[cfg(test)]
+mod refusals;
+#[cfg(test)]
+mod roots;
+#[cfg(test)]
 mod serving;
 #[cfg(test)]
 mod stops;

@@ -1,14 +1,14 @@
 //! A graph with the modules of it that were analysed so far.
 
-ghost use Rattle.std.specs.Prelude.{◌≡◌, ◌<◌, ◌≤◌, ◌^◌, ◌↔◌, ℕ, true, List, length, Some, IsSome, IfSome, IfOk, IfErr, OnOk, OnErr};
+ghost use Rattle.std.specs.Prelude.{◌≡◌, ◌<◌, ◌≤◌, ◌↔◌, ℕ, true, List, length, Some, IsSome, IfSome, IfOk, IfErr, OnOk, OnErr};
 ghost use Rattle.std.specs.List.{IsDistinct};
 ghost use Rattle.std.specs.Option.{option_map};
 ghost use Rattle.std.specs.Str.{bytes_eq};
-ghost use Rattle.symbols_syntax.specs.Graph.{ModuleView, IsChecked};
+ghost use Rattle.symbols_syntax.specs.Graph.{ModuleView};
 ghost use Rattle.symbols_table.specs.Modules.{lent_table};
 ghost use Rattle.symbols_table.specs.declared.info.fault.SymbolsFault.TheVariants.{OutOfMemory};
 ghost use Rattle.deno_symbols.specs.Specifiers.{module_under, is_among};
-ghost use Rattle.deno_symbols.specs.TypesChains.{is_analyzable, types_chain, stands_for, IsOnlyTypesChain};
+ghost use Rattle.deno_symbols.specs.TypesChains.{is_analyzable, types_chain, standing_module, stands_for, IsOnlyTypesChain};
 ghost use Rattle.deno_symbols.specs.Roots.{empty_root, widest, with_stored, specifier_under, IsStoredTable, IsMissing, IsRefusal, IsWithinLimits};
 
 use crate::root::limits::Limits;
@@ -71,6 +71,13 @@ impl<'a> RootSymbol<'a> {
         }
     }
 
+    /// The graph that it is over (own rule; the crate's root lends it nowhere).
+    pub fn graph(&self) -> &'a ModuleGraph
+        ensures { result.now ≡ self.now.graph }
+    {
+        self.graph
+    }
+
     /// Whether a module is stored that has this very specifier; redirects and types dependencies
     /// are not followed (as deno_graph).
     pub fn has_analyzed(&self, specifier: &str) -> bool
@@ -96,13 +103,12 @@ impl<'a> RootSymbol<'a> {
     fn store(&mut self, graph_module: &'a GraphModule) -> Result<ModuleId, SymbolsFault>
         requires under { module_under self.old.graph graph_module.now.specifier ≡ Some graph_module.now }
         requires analyzable { is_analyzable graph_module.now ≡ true }
-        requires checked { IsChecked graph_module.now.content }
         ensures gives { IfOk result (λ id. specifier_under self.new id ≡ Some graph_module.now.specifier) }
         ensures stored { OnOk result (self.new ≡ with_stored self.old (Some graph_module.now.specifier)) }
         ensures allowed { OnOk result ((specifier : List ℕ) → IsMissing self.old (Some graph_module.now.specifier) specifier → IsWithinLimits self.old specifier) }
         ensures unchanged { OnErr result (self.new ≡ self.old) }
         ensures refused { IfErr result (IsRefusal self.old (Some graph_module.now.specifier)) }
-        ensures enough { self.old.limits ≡ widest → length self.old.graph.modules < 2 ^ 32 → IfErr result (λ fault. fault ≡ OutOfMemory) }
+        ensures enough { self.old.limits ≡ widest → length self.old.graph.modules < 4294967296 → IfErr result (λ fault. fault ≡ OutOfMemory) }
     {
         let specifier = graph_module.specifier();
         let Limits { modules, symbols } = self.limits;
@@ -141,7 +147,8 @@ impl<'a> RootSymbol<'a> {
         ensures allowed { OnOk result ((needed : List ℕ) → IsMissing self.old (stands_for self.old.graph specifier.now) needed → IsWithinLimits self.old needed) }
         ensures unchanged { OnErr result (self.new ≡ self.old) }
         ensures refused { IfErr result (IsRefusal self.old (stands_for self.old.graph specifier.now)) }
-        ensures enough { self.old.limits ≡ widest → length self.old.graph.modules < 2 ^ 32 → IfErr result (λ fault. fault ≡ OutOfMemory) }
+        ensures enough { self.old.limits ≡ widest → IfErr result (λ fault. fault ≡ OutOfMemory) }
+        ensures under { IfOk result (λ _. IfSome (standing_module self.old.graph specifier.now) (λ m. module_under self.old.graph m.specifier ≡ Some m)) }
         ensures chain { IsOnlyTypesChain self.old.graph specifier.now (types_chain self.old.graph specifier.now) }
     {
         match standing_module(self.alloc, self.graph, specifier)? {

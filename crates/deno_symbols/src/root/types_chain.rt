@@ -1,6 +1,6 @@
 //! Which module a specifier stands for.
 
-ghost use Rattle.std.specs.Prelude.{◌≡◌, ◌↔◌, List, Some, if◌then◌else◌, IfOk, IfSome};
+ghost use Rattle.std.specs.Prelude.{◌≡◌, ◌<◌, ◌↔◌, List, length, Some, if◌then◌else◌, IfOk, IfSome};
 ghost use Rattle.std.specs.Option.{option_copied};
 ghost use Rattle.symbols_syntax.specs.Graph.{ModuleView, IsChecked};
 ghost use Rattle.deno_symbols.specs.Specifiers.{module_under};
@@ -44,6 +44,7 @@ pub(crate) fn standing_module<'a>(
     ensures under { IfOk result (λ found. IfSome found (λ m. module_under graph.now m.now.specifier ≡ Some m.now)) }
     ensures checked { IfOk result (λ found. IfSome found (λ m. IsChecked m.now.content)) }
     ensures chain { IsOnlyTypesChain graph.now specifier.now (types_chain graph.now specifier.now) }
+    ensures few { length graph.now.modules < 4294967296 }
 {
     let mut before: IndexSet<&'a str> = IndexSet::new(alloc);
     let mut standing = None;

@@ -10,6 +10,7 @@ ghost use Rattle.symbols_table.specs.Tables.{IsTableOf};
 ghost use Rattle.symbols_table.specs.Modules.{parsed, json_text, esm_table, json_table};
 ghost use Rattle.symbols_table.specs.Analysis.{tree_changes, json_changes, symbol_count, IsAnalyzed, IsTooMany, IsAnalysis, IsAnalysisFault};
 ghost use Rattle.symbols_table.specs.declared.builder.table.BuildFault.TheVariants.{TooManySymbols};
+ghost use Rattle.symbols_table.specs.declared.info.fault.SymbolsFault.TheVariants as fault;
 
 use crate::builder::scope::Scope;
 use crate::builder::table::{BuildFault, Builder, Setting};
@@ -128,6 +129,7 @@ fn build_module<'a>(
 ) -> Result<Option<ModuleInfo<'a>>, BuildFault>
     ensures table { IfOk result (IsAnalysis setting.module_id graph_module.now setting.limit) }
     ensures too_many { IfErr result (λ fault. fault ≡ TooManySymbols → IsTooMany graph_module.now setting.limit) }
+    ensures enough { IfErr result (λ fault. fault ≡ TooManySymbols → setting.limit < 4294967295) }
 {
     let specifier = graph_module.specifier();
     let text = graph_module.text();
@@ -149,8 +151,8 @@ fn build_module<'a>(
 ///
 /// # Errors
 ///
-/// `TooManySymbols` where the module has more symbols than the limit, `OutOfMemory` where memory was
-/// refused; nothing is left then.
+/// `TooManySymbols` where the module has more symbols than the limit, which none has where the limit
+/// is `u32::MAX`; `OutOfMemory` where memory was refused. Nothing is left then.
 pub fn analyze<'a>(
     alloc: Global,
     module_id: ModuleId,
@@ -159,6 +161,7 @@ pub fn analyze<'a>(
 ) -> Result<Option<ModuleInfo<'a>>, SymbolsFault>
     ensures table { IfOk result (IsAnalysis module_id graph_module.now limit) }
     ensures fault { IfErr result (IsAnalysisFault graph_module.now limit) }
+    ensures enough { limit ≡ 4294967295 → IfErr result (λ why. why ≡ fault.OutOfMemory) }
 {
     let setting = Setting {
         alloc,

@@ -1,6 +1,6 @@
 //! Graphs that were accepted.
 
-ghost use Rattle.std.specs.Prelude.{◌≡◌, ◌≢◌, ℕ, IfErr, IfOk, List, OnOk};
+ghost use Rattle.std.specs.Prelude.{◌≡◌, ◌≢◌, ◌<◌, ℕ, length, IfErr, IfOk, List, OnOk};
 ghost use Rattle.std.specs.Option.{option_copied};
 ghost use Rattle.symbols_syntax.specs.declared.graph.faults.GraphFault.TheVariants.{OutOfMemory};
 ghost use Rattle.symbols_syntax.specs.Graph.{graph_view, module_of, resolution_of};
@@ -22,6 +22,7 @@ pub struct ModuleGraph {
 }
 
 impl Model for ModuleGraph {
+    ghost use Rattle.std.specs.Prelude.{◌<◌, length};
     ghost use Rattle.std.specs.String.{string_eq};
     ghost use Rattle.indexmap.specs.IndexMap.{values, IsUnique};
     ghost use Rattle.symbols_syntax.specs.Graph.{GraphView};
@@ -31,7 +32,7 @@ impl Model for ModuleGraph {
 
     ghost view = { λ g. record { modules = values g.modules; redirects = text_pairs g.redirects.entries; resolutions = rows g.resolutions.entries } };
 
-    ghost invariant = { λ g. AreKeyed g.modules.entries × IsUnique string_eq g.resolutions };
+    ghost invariant = { λ g. AreKeyed g.modules.entries × IsUnique string_eq g.resolutions × (length g.modules.entries < 4294967296) };
 }
 
 impl ModuleGraph {
@@ -69,7 +70,8 @@ impl ModuleGraph {
     /// The module that a specifier names, after one redirect: where the specifier is the source
     /// of a redirect, the module of the target, even if a module has the specifier itself.
     pub fn get(&self, specifier: &str) -> Option<&GraphModule>
-        ensures { option_copied result ≡ module_of self.now specifier.now }
+        ensures found { option_copied result ≡ module_of self.now specifier.now }
+        ensures few { length self.now.modules < 4294967296 }
     {
         match self.redirects.get(specifier) {
             Some(target) => self.modules.get(target.as_str()),

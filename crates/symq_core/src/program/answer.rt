@@ -5,25 +5,25 @@ ghost use Rattle.serde_json.specs.View.{view};
 ghost use Rattle.std.specs.Option.{option_and_then};
 ghost use Rattle.symbols_syntax.specs.Ids.{id_view};
 ghost use Rattle.symbols_table.specs.DeclViews.{exports_view};
-ghost use Rattle.symbols_table.specs.Modules.{table_of, symbol_in, mapped_in};
+ghost use Rattle.symbols_table.specs.Modules.{lent_table, symbol_in, mapped_in};
 ghost use Rattle.symbols_table.specs.QualifiedNames.{qualified_name};
+ghost use Rattle.deno_symbols.specs.Roots.{widest};
 ghost use Rattle.symq_reader.specs.GraphText.{json_of};
 ghost use Rattle.symq_core.specs.Queries.{query_of};
-ghost use Rattle.symq_core.specs.AnswerViews.{tells_fault, tells_exports, tells_symbol};
+ghost use Rattle.symq_core.specs.AnswerViews.{tells_module, tells_fault, tells_exports, tells_symbol};
 ghost use Rattle.symq_core.specs.AnswerData.{entry_data, answer_data};
-ghost use Rattle.symq_core.specs.Answers.{own_entry, own_entries, named_answer, module_answer, query_answer, asked_answer};
+ghost use Rattle.symq_core.specs.Answers.{own_entry, own_entries, named_answer, query_answer, asked_answer};
 ghost use Rattle.symq_core.specs.AnswerTexts.{answer_text};
 ghost use Rattle.symq_core.specs.Answering.{question_view, query_view, IsAnswerByTables, fault_view};
 
 use crate::program::dependencies::deps_value;
 use crate::program::query::{Query, Question, line_value, read_query};
+use deno_symbols::root::RootSymbol;
 use indexmap::IndexMap;
 use serde_json::{Value, json};
 use std::alloc::{AllocError, Global};
-use symbols_table::analyze;
-use symbols_table::info::{ModuleInfo, SymbolsFault};
-use symbols_tree::check::{GraphModule, ModuleGraph};
-use symbols_tree::ids::{ModuleId, SymbolId};
+use symbols_table::info::{ModuleInfoRef, SymbolsFault};
+use symbols_tree::ids::SymbolId;
 use symbols_tree::tree::Id;
 
 /// The value of an export of a module: its name, and the symbol that it leads to.
@@ -91,21 +91,32 @@ fn fault_value(alloc: Global, fault: &SymbolsFault) -> Result<Value, AllocError>
     json!(in alloc; {"fault": text})
 }
 
+/// Which module a specifier stands for, by that module's own specifier.
+fn module_value(alloc: Global, specifier: &str) -> Result<Value, AllocError>
+    ensures { IfOk result (λ value. view value ≡ answer_data (tells_module specifier.now)) }
+{
+    json!(in alloc; {"module": specifier})
+}
+
 /// The symbol that a name stands for in a module.
-fn mapped_symbol(info: &ModuleInfo<'_>, id: &Id) -> Option<SymbolId>
-    ensures { result ≡ mapped_in (table_of info.now) (id_view id.now) }
+fn mapped_symbol(info: ModuleInfoRef<'_, '_>, id: &Id) -> Option<SymbolId>
+    ensures { result ≡ mapped_in (lent_table info.entry) (id_view id.now) }
 {
     match info {
-        ModuleInfo::Esm(esm) => esm.symbol_id_from_swc(id),
-        ModuleInfo::Json(_) => None,
+        ModuleInfoRef::Esm(esm) => esm.symbol_id_from_swc(id),
+        ModuleInfoRef::Json(_) => None,
     }
 }
 
 /// What a symbol of a module is called in full.
-fn name_value(alloc: Global, info: &ModuleInfo<'_>, symbol: SymbolId) -> Result<Value, AllocError>
-    ensures { IfOk result (λ value. view value ≡ answer_data (named_answer (symbol_in (table_of info.now) symbol) (qualified_name (symbol_in (table_of info.now)) symbol))) }
+fn name_value(
+    alloc: Global,
+    info: ModuleInfoRef<'_, '_>,
+    symbol: SymbolId,
+) -> Result<Value, AllocError>
+    ensures { IfOk result (λ value. view value ≡ answer_data (named_answer (symbol_in (lent_table info.entry) symbol) (qualified_name (symbol_in (lent_table info.entry)) symbol))) }
 {
-    match info.as_ref().fully_qualified_symbol_name(alloc, symbol) {
+    match info.fully_qualified_symbol_name(alloc, symbol) {
         Ok(Some(name)) => json!(in alloc; {"name": name}),
         Ok(None) => json!(in alloc; {"name": null}),
         Err(fault) => fault_value(alloc, &fault),
@@ -115,18 +126,15 @@ fn name_value(alloc: Global, info: &ModuleInfo<'_>, symbol: SymbolId) -> Result<
 /// The answer to a question on a module with its symbols.
 fn info_answer(
     alloc: Global,
-    info: &ModuleInfo<'_>,
+    info: ModuleInfoRef<'_, '_>,
     question: &Question,
 ) -> Result<Value, AllocError>
-    ensures { IfOk result (λ value. IsAnswerByTables (question_view question.now) info.now (view value)) }
+    ensures { IfOk result (λ value. IsAnswerByTables (question_view question.now) (lent_table info.entry) (view value)) }
 {
     match question {
+        Question::Module => module_value(alloc, info.specifier()),
         Question::Exports => {
-            exports_value(
-                alloc,
-                info.specifier(),
-                info.as_ref().module_symbol().exports(),
-            )
+            exports_value(alloc, info.specifier(), info.module_symbol().exports())
         }
         Question::Symbol(id) => symbol_value(alloc, mapped_symbol(info, id)),
         Question::Name(symbol) => name_value(alloc, info, *symbol),
@@ -134,35 +142,33 @@ fn info_answer(
     }
 }
 
-/// The answer to a question on a module of the graph, which is analysed anew for each query until modules
-/// are stored.
-fn module_answer(
+/// The answer to a query over a root, whose limits no checked graph meets: null where the specifier
+/// stands for no module.
+fn query_answer(
     alloc: Global,
-    graph_module: &GraphModule,
-    question: &Question,
+    root: &mut RootSymbol<'_>,
+    query: &Query<'_>,
 ) -> Result<Value, AllocError>
-    ensures { IfOk result (λ value. view value ≡ answer_data (module_answer (question_view question.now) graph_module.now)) }
+    requires { root.old.limits ≡ widest }
+    ensures kept { (root.new.graph ≡ root.old.graph) × (root.new.limits ≡ root.old.limits) }
+    ensures value { IfOk result (λ value. view value ≡ answer_data (query_answer root.old.graph (query_view query.now))) }
 {
-    match analyze(alloc, ModuleId::from_number(0), graph_module, u32::MAX) {
-        Ok(Some(info)) => info_answer(alloc, &info, question),
-        Ok(None) => Ok(Value::Null),
-        Err(fault) => fault_value(alloc, &fault),
-    }
-}
-
-/// The answer to a query on a graph: null where its specifier names no module.
-fn query_answer(alloc: Global, graph: &ModuleGraph, query: &Query<'_>) -> Result<Value, AllocError>
-    ensures { IfOk result (λ value. view value ≡ answer_data (query_answer graph.now (query_view query.now))) }
-{
-    match graph.get(query.specifier) {
-        Some(module) => module_answer(alloc, module, &query.question),
-        None => Ok(Value::Null),
+    let module_id = match root.module_from_specifier(query.specifier) {
+        Ok(Some(module_id)) => module_id,
+        Ok(None) => return Ok(Value::Null),
+        Err(fault) => return fault_value(alloc, &fault),
+    };
+    match root.module_from_id(module_id) {
+        Some(info) => info_answer(alloc, info, &query.question),
+        None => unreachable!(),
     }
 }
 
 /// The answer to a line as a value, be it a query or none.
-fn line_answer(alloc: Global, graph: &ModuleGraph, line: &[u8]) -> Result<Value, AllocError>
-    ensures { IfOk result (λ value. view value ≡ answer_data (asked_answer graph.now (option_and_then query_of (json_of line.now)))) }
+fn line_answer(alloc: Global, root: &mut RootSymbol<'_>, line: &[u8]) -> Result<Value, AllocError>
+    requires { root.old.limits ≡ widest }
+    ensures kept { (root.new.graph ≡ root.old.graph) × (root.new.limits ≡ root.old.limits) }
+    ensures value { IfOk result (λ value. view value ≡ answer_data (asked_answer root.old.graph (option_and_then query_of (json_of line.now)))) }
 {
     let value = line_value(alloc, line)?;
     let query = match &value {
@@ -170,16 +176,22 @@ fn line_answer(alloc: Global, graph: &ModuleGraph, line: &[u8]) -> Result<Value,
         None => None,
     };
     match query {
-        Some(query) => query_answer(alloc, graph, &query),
+        Some(query) => query_answer(alloc, root, &query),
         None => json!(in alloc; {"fault": "bad query"}),
     }
 }
 
 /// The text of the answer to a line, without a line end.
 #[tactic(auto, using(crate::proofs::Floats::no_float), unfolding(crate::specs::AnswerTexts::answer_text))]
-pub(crate) fn answer(alloc: Global, graph: &ModuleGraph, line: &[u8]) -> Result<String, AllocError>
-    ensures { IfOk result (λ text. string_bytes text ≡ answer_text graph.now line.now) }
+pub(crate) fn answer(
+    alloc: Global,
+    root: &mut RootSymbol<'_>,
+    line: &[u8],
+) -> Result<String, AllocError>
+    requires { root.old.limits ≡ widest }
+    ensures kept { (root.new.graph ≡ root.old.graph) × (root.new.limits ≡ root.old.limits) }
+    ensures text { IfOk result (λ text. string_bytes text ≡ answer_text root.old.graph line.now) }
 {
-    let value = line_answer(alloc, graph, line)?;
+    let value = line_answer(alloc, root, line)?;
     value.to_string(alloc)
 }

@@ -4,7 +4,7 @@ ghost use Rattle.std.specs.Prelude.{◌≡◌, map, string_bytes, IfOk};
 ghost use Rattle.serde_json.specs.View.{view};
 ghost use Rattle.symbols_nodes.specs.References.{reference_view, dependency_view};
 ghost use Rattle.symbols_table.specs.DeclViews.{decl_view, decl_dependencies};
-ghost use Rattle.symbols_table.specs.Modules.{table_of, symbol_in};
+ghost use Rattle.symbols_table.specs.Modules.{lent_table, symbol_in};
 ghost use Rattle.symq_core.specs.AnswerData.{texts_data, reference_data, namespace_words, dependency_data, dependencies_data, answer_data};
 ghost use Rattle.symq_core.specs.Answers.{deps_answer};
 
@@ -12,7 +12,7 @@ use serde_json::{Value, json};
 use std::alloc::{AllocError, Global};
 use symbols_nodes::deps::{ReferenceNamespace, ResolveDepsMode, SymbolNodeDep};
 use symbols_table::decl::SymbolDecl;
-use symbols_table::info::ModuleInfo;
+use symbols_table::info::ModuleInfoRef;
 use symbols_tree::ids::SymbolId;
 
 /// The value of a list of texts.
@@ -113,11 +113,11 @@ fn decl_values(
 /// What each declaration of a symbol of a module depends on.
 pub(crate) fn deps_value(
     alloc: Global,
-    info: &ModuleInfo<'_>,
+    info: ModuleInfoRef<'_, '_>,
     symbol: SymbolId,
     mode: ResolveDepsMode,
 ) -> Result<Value, AllocError>
-    ensures { IfOk result (λ value. view value ≡ answer_data (deps_answer mode (symbol_in (table_of info.now) symbol))) }
+    ensures { IfOk result (λ value. view value ≡ answer_data (deps_answer mode (symbol_in (lent_table info.entry) symbol))) }
 {
     match info.symbol(symbol) {
         Some(symbol) => {

@@ -3,7 +3,7 @@
 ghost use Rattle.std.specs.Prelude.{◌≡◌, option_map, IfOk};
 ghost use Rattle.serde_json.specs.View.{view, items_view};
 ghost use Rattle.symq_reader.specs.GraphText.{json_of};
-ghost use Rattle.symq_core.specs.Queries.{query_of, parts_of_query, exports_question, symbol_question, name_question, mode_named, deps_question};
+ghost use Rattle.symq_core.specs.Queries.{query_of, parts_of_query, module_question, exports_question, symbol_question, name_question, mode_named, deps_question};
 ghost use Rattle.symq_core.specs.Answering.{question_view, query_view};
 
 use serde_json::Value;
@@ -13,9 +13,11 @@ use symbols_tree::ids::SymbolId;
 use symbols_tree::tree::Id;
 use symq_reader::as_u32;
 
-/// What is asked of a module.
+/// What is asked of a specifier, and of the module that it stands for.
 #[derive(Drop)]
 pub(crate) enum Question {
+    /// Which module it stands for.
+    Module,
     /// What it exports.
     Exports,
     /// The symbol that a name stands for in it.
@@ -51,6 +53,17 @@ fn parts_of_query(value: &Value) -> Option<(&str, &str, &[Value])>
 {
     match value.as_array()?.as_slice() {
         [word, specifier, rest @ ..] => Some((word.as_str()?, specifier.as_str()?, rest)),
+        _ => None,
+    }
+}
+
+/// The items behind the word `module` and a specifier: none.
+#[tactic(auto, using(crate::proofs::Forms::module_long))]
+fn module_question(items: &[Value]) -> Option<Question>
+    ensures { option_map question_view result ≡ module_question (items_view items.now) }
+{
+    match items {
+        [] => Some(Question::Module),
         _ => None,
     }
 }
@@ -124,6 +137,7 @@ pub(crate) fn read_query(alloc: Global, value: &Value) -> Result<Option<Query<'_
         return Ok(None);
     };
     let question = match word {
+        "module" => module_question(items),
         "exports" => exports_question(items),
         "symbol" => symbol_question(alloc, items)?,
         "name" => name_question(items),

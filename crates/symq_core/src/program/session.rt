@@ -2,6 +2,7 @@
 
 ghost use Rattle.std.specs.Prelude.{◌≡◌, ◌+◌, ◌<◌, ◌++◌, ◌∷◌, [], OnOk, IfErr};
 ghost use Rattle.std.specs.Io.KnownBytes.{Appends};
+ghost use Rattle.deno_symbols.specs.Roots.{widest};
 ghost use Rattle.symq_core.specs.AnswerTexts.{answer_text};
 ghost use Rattle.symq_core.specs.Devices.{COUNT_LIMIT};
 ghost use Rattle.symq_core.specs.Lines.{line_end, all_but_last, last_part, line_in, answers_to};
@@ -13,33 +14,36 @@ use crate::program::device::Output;
 use crate::program::fault::EngineFault;
 use crate::program::lines::split_line;
 use crate::program::writing::write_all;
+use deno_symbols::root::RootSymbol;
 use std::alloc::{AllocError, Global};
 use symbols_tree::check::ModuleGraph;
 
 /// How many bytes are read at once, and after how many the waiting answers are written.
 pub(crate) const BLOCK: usize = 65536;
 
-/// The graph that lines ask about, and what waits between two blocks of input.
+/// The modules that lines ask about, stored as they are asked for, and what waits between two blocks
+/// of input.
 #[derive(Drop)]
 pub(crate) struct Session<'g> {
     alloc: Global,
-    graph: &'g ModuleGraph,
+    root: RootSymbol<'g>,
     /// The front of a line whose end isn't read yet.
     line: Vec<u8>,
     /// Answers that aren't written yet.
     answers: Vec<u8>,
+    ghost widest: { root.limits ≡ widest },
 }
 
 impl<'g> Session<'g> {
     /// A session in which nothing waits.
     pub(crate) fn new(alloc: Global, graph: &'g ModuleGraph) -> Session<'g>
-        ensures graph { result.graph.now ≡ graph.now }
+        ensures graph { result.root.graph ≡ graph.now }
         ensures line { result.line.items ≡ [] }
         ensures answers { result.answers.items ≡ [] }
     {
         Session {
             alloc,
-            graph,
+            root: RootSymbol::new(alloc, graph),
             line: Vec::new(alloc),
             answers: Vec::new(alloc),
         }
@@ -48,7 +52,7 @@ impl<'g> Session<'g> {
     /// Writes the answers that wait.
     fn flush<W: Output>(&mut self, writer: &mut W) -> Result<(), EngineFault>
         requires { W.failures writer.old < COUNT_LIMIT }
-        ensures kept { (self.new.graph ≡ self.old.graph) × (self.new.line ≡ self.old.line) }
+        ensures kept { (self.new.root.graph ≡ self.old.root.graph) × (self.new.line ≡ self.old.line) }
         ensures ok { OnOk result (Appends (W.written writer.old) (W.written writer.new) self.old.answers.items
             × (self.new.answers.items ≡ []) × (W.failures writer.new ≡ W.failures writer.old)) }
         ensures err { IfErr result (λ fault. (fault ≡ EngineFault.OutputFailed)
@@ -62,7 +66,7 @@ impl<'g> Session<'g> {
 
     /// Adds an answer to those that wait, and ends its line.
     fn add_answer(&mut self, text: &str) -> Result<(), AllocError>
-        ensures kept { (self.new.graph ≡ self.old.graph) × (self.new.line ≡ self.old.line) }
+        ensures kept { (self.new.root.graph ≡ self.old.root.graph) × (self.new.line ≡ self.old.line) }
         ensures added { OnOk result (self.new.answers.items ≡ self.old.answers.items ++ (text.now ++ line_end ∷ [])) }
     {
         self.answers.extend_from_slice(text.as_bytes())?;
@@ -72,16 +76,16 @@ impl<'g> Session<'g> {
 
     /// Answers the line that ends with these bytes, and clears it.
     fn end_line(&mut self, tail: &[u8]) -> Result<(), AllocError>
-        ensures graph { self.new.graph ≡ self.old.graph }
+        ensures graph { self.new.root.graph ≡ self.old.root.graph }
         ensures ended { OnOk result ((self.new.line.items ≡ []) × (self.new.answers.items
-            ≡ self.old.answers.items ++ (answer_text self.old.graph.now (self.old.line.items ++ tail.now) ++ line_end ∷ []))) }
+            ≡ self.old.answers.items ++ (answer_text self.old.root.graph (self.old.line.items ++ tail.now) ++ line_end ∷ []))) }
     {
         if self.line.is_empty() {
-            let text = answer(self.alloc, self.graph, tail)?;
+            let text = answer(self.alloc, &mut self.root, tail)?;
             return self.add_answer(text.as_str());
         }
         self.line.extend_from_slice(tail)?;
-        let text = answer(self.alloc, self.graph, self.line.as_slice())?;
+        let text = answer(self.alloc, &mut self.root, self.line.as_slice())?;
         self.line.clear();
         self.add_answer(text.as_str())
     }
@@ -90,14 +94,14 @@ impl<'g> Session<'g> {
     /// a block.
     fn take_line<W: Output>(&mut self, writer: &mut W, tail: &[u8]) -> Result<(), EngineFault>
         requires { W.failures writer.old < COUNT_LIMIT }
-        ensures graph { self.new.graph ≡ self.old.graph }
+        ensures graph { self.new.root.graph ≡ self.old.root.graph }
         ensures ok { OnOk result (Sends (W.written writer.old) (W.written writer.new)
             self.old.answers.items self.new.answers.items
-            (answers_to (answer_text self.old.graph.now) ((self.old.line.items ++ tail.now) ∷ []))
+            (answers_to (answer_text self.old.root.graph) ((self.old.line.items ++ tail.now) ∷ []))
             × (self.new.line.items ≡ []) × (W.failures writer.new ≡ W.failures writer.old)) }
         ensures err { IfErr result (λ fault. IsAnswerFault fault (W.failures writer.old) (W.failures writer.new)
             × AppendsBeginning (W.written writer.old) (W.written writer.new) (self.old.answers.items
-            ++ answers_to (answer_text self.old.graph.now) ((self.old.line.items ++ tail.now) ∷ []))) }
+            ++ answers_to (answer_text self.old.root.graph) ((self.old.line.items ++ tail.now) ∷ []))) }
     {
         self.end_line(tail)?;
         if BLOCK <= self.answers.len() {
@@ -113,15 +117,15 @@ impl<'g> Session<'g> {
         block: &[u8],
     ) -> Result<(), EngineFault>
         requires { W.failures writer.old < COUNT_LIMIT }
-        ensures graph { self.new.graph ≡ self.old.graph }
+        ensures graph { self.new.root.graph ≡ self.old.root.graph }
         ensures ok { OnOk result (Appends (W.written writer.old) (W.written writer.new) (self.old.answers.items
-            ++ answers_to (answer_text self.old.graph.now) (all_but_last (parts_after self.old.line.items block.now)))
+            ++ answers_to (answer_text self.old.root.graph) (all_but_last (parts_after self.old.line.items block.now)))
             × (self.new.answers.items ≡ [])
             × (self.new.line.items ≡ last_part (parts_after self.old.line.items block.now))
             × (W.failures writer.new ≡ W.failures writer.old)) }
         ensures err { IfErr result (λ fault. IsAnswerFault fault (W.failures writer.old) (W.failures writer.new)
             × AppendsBeginning (W.written writer.old) (W.written writer.new) (self.old.answers.items
-            ++ answers_to (answer_text self.old.graph.now) (all_but_last (parts_after self.old.line.items block.now)))) }
+            ++ answers_to (answer_text self.old.root.graph) (all_but_last (parts_after self.old.line.items block.now)))) }
     {
         let mut rest = block;
         'lines: while let Some((line, more)) = split_line(rest) {
@@ -136,11 +140,11 @@ impl<'g> Session<'g> {
     pub(crate) fn finish<W: Output>(&mut self, writer: &mut W) -> Result<(), EngineFault>
         requires { W.failures writer.old < COUNT_LIMIT }
         ensures ok { OnOk result (Appends (W.written writer.old) (W.written writer.new) (self.old.answers.items
-            ++ answers_to (answer_text self.old.graph.now) (line_in self.old.line.items))
+            ++ answers_to (answer_text self.old.root.graph) (line_in self.old.line.items))
             × (W.failures writer.new ≡ W.failures writer.old)) }
         ensures err { IfErr result (λ fault. IsAnswerFault fault (W.failures writer.old) (W.failures writer.new)
             × AppendsBeginning (W.written writer.old) (W.written writer.new) (self.old.answers.items
-            ++ answers_to (answer_text self.old.graph.now) (line_in self.old.line.items))) }
+            ++ answers_to (answer_text self.old.root.graph) (line_in self.old.line.items))) }
     {
         if self.line.is_empty() {
             return self.flush(writer);

@@ -6,7 +6,7 @@ use Rattle.deno_symbols.proofs.Following.{IsFollowing, lent_specifiers, met_is, 
 use Rattle.deno_symbols.proofs.root.types_chain.standing_module.Goals as goal
 
 pub types-init : goal.types-init
-types-init c = rw (c.new-before.ensures.empty, c.get-found.ensures) (following_first c.args.graph.now c.args.specifier.now)
+types-init c = rw (c.new-before.ensures.empty, c.get-found.ensures.found) (following_first c.args.graph.now c.args.specifier.now)
 
 pub returns-then-contains-clause-standing : goal.returns-then-contains-clause-standing
 returns-then-contains-clause-standing c =
@@ -35,7 +35,7 @@ types-preserved c =
     let new = met_is c.types.before.keys c.specifier.result.now m.specifier false (sym c.if-contains.false ∙ c.contains.ensures) c.specifier.ensures in
     let more = met_push c.types.before.keys c.insert.new.self.keys c.specifier-in-Some.result m.specifier c.in_ok-insert.ensures.keys c.specifier-in-Some.ensures new in
     let types : types_of m.content ≡ Some c.in-Some-types_dependency.types.now = sym c.types_dependency.ensures ∙ ap option_copied c.in-Some-types_dependency.is in
-    following_step m c.in-Some-types_dependency.types.now (lent_specifiers c.insert.new.self.keys) (option_copied c.later-standing.result) (option_copied c.get-found-in-Some.result) c.types.invariant (ap option_copied c.in-Some.is) new c.later-standing.ensures.checked types more c.later-standing.ensures.value c.get-found-in-Some.ensures
+    following_step m c.in-Some-types_dependency.types.now (lent_specifiers c.insert.new.self.keys) (option_copied c.later-standing.result) (option_copied c.get-found-in-Some.result) c.types.invariant (ap option_copied c.in-Some.is) new c.later-standing.ensures.checked types more c.later-standing.ensures.value c.get-found-in-Some.ensures.found
 
 pub returns-clause-standing : goal.returns-clause-standing
 returns-clause-standing c = following_over (subst (IsFollowing c.args.graph.now c.args.specifier.now (lent_specifiers c.types.before.keys) (option_copied c.types.standing)) (ap option_copied c.in_default.is) c.types.invariant)

@@ -1,11 +1,12 @@
-use Rattle.std.proofs.Common.{◌≡◌, ◌<◌, ◌++◌, take, length, ap, subst, ◌∙◌, arith, append-nil}
-use Rattle.std.proofs.lemmas.Result.{err_from_is_err_and}
+use Rattle.std.proofs.Common.{◌≡◌, ◌<◌, ◌≤◌, ◌++◌, take, length, ap, subst, ◌∙◌, arith, append-nil}
+use Rattle.std.proofs.lemmas.Result.{err_from_is_err_and, on_ok_weaker}
 use Rattle.std.proofs.lemmas.Grind.{common_steps}
 use Rattle.std.proofs.KnownBytes.{Consumes-trans}
 use Rattle.std.specs.Io.KnownBytes.{Consumes}
 use Rattle.symq_core.specs.AnswerTexts.{answer_text}
 use Rattle.symq_core.specs.Lines.{answers_to, line_in}
-use Rattle.symq_core.proofs.Outputs.{block_sent, block_line, block_begun, begun_output, begun_at_end, stops_from, stops_if}
+use Rattle.symq_core.specs.Devices.{COUNT_LIMIT}
+use Rattle.symq_core.proofs.Outputs.{block_sent, block_line, block_begun, begun_output, served_at_end, begun_at_end, read_within, stops_from, stops_if}
 use Rattle.symq_core.proofs.program.engine.serve.Goals as goal
 
 pub returns-then-read-eq0-clause-stopped : goal.returns-then-read-eq0-clause-stopped
@@ -22,6 +23,29 @@ returns-then-read-eq0-clause-stopped g c =
     let room : 0 < length c.read.new.buffer = grind (arith, common_steps) in
     stops_if answer c.finish.result _ _ start left before (g.W.Output.written l.writer) after (l.session.answers.items ++ answers_to answer (line_in l.session.line.items)) (rw v.8 at c.finish.ensures.err)
     (λ q. begun_at_end answer start left before (g.W.Output.written l.writer) after v.0 l.session.line.items l.session.answers.items all (c.in-Ok.ensures.consumed.1 c.if-read-eq0.true room) v.3 v.4 v.2 q)
+
+pub returns-then-read-eq0-clause-served : goal.returns-then-read-eq0-clause-served
+returns-then-read-eq0-clause-served g c =
+    let l = c.loop-turn in
+    let v = l.invariant in
+    let answer = answer_text c.args.graph.now in
+    let start = g.R.Input.remaining c.args.reader.now in
+    let left = g.R.Input.remaining c.read.new.self in
+    let before = g.W.Output.written c.args.writer.now in
+    let after = g.W.Output.written c.finish.new.writer in
+    let none : v.0 ++ take c.in-Ok.read c.read.new.buffer ≡ v.0 = ap (λ k. v.0 ++ take k c.read.new.buffer) c.if-read-eq0.true ∙ append-nil v.0 in
+    let all : Consumes start left v.0 = subst (Consumes start left) none (Consumes-trans start (g.R.Input.remaining l.reader) left v.0 (take c.in-Ok.read c.read.new.buffer) v.1 c.in-Ok.ensures.consumed.0) in
+    let room : 0 < length c.read.new.buffer = grind (arith, common_steps) in
+    on_ok_weaker c.finish.result
+    (λ sent. served_at_end answer start left before (g.W.Output.written l.writer) after v.0 l.session.line.items l.session.answers.items all (c.in-Ok.ensures.consumed.1 c.if-read-eq0.true room) v.3 v.4 v.2 sent.0)
+    (rw v.8 at c.finish.ensures.ok)
+
+pub returns-clause-stopped : goal.returns-clause-stopped
+returns-clause-stopped g c =
+    let l = c.loop-turn in
+    let v = l.invariant in
+    let long : COUNT_LIMIT ≤ length v.0 = grind (arith, common_steps) in
+    ((v.0, v.1, v.2), read_within COUNT_LIMIT (g.R.Input.remaining c.args.reader.now) (g.R.Input.remaining l.reader) v.0 v.1 long)
 
 pub returns-in_err-take_block-clause-stopped : goal.returns-in_err-take_block-clause-stopped
 returns-in_err-take_block-clause-stopped g c =
@@ -55,5 +79,5 @@ loop-turn-preserved g c =
       grind (arith, common_steps),
       grind arith,
       done.3 ∙ v.7,
-      ap (λ t. t.now) c.in_ok-take_block.ensures.graph ∙ v.8,
+      c.in_ok-take_block.ensures.graph ∙ v.8,
     )

@@ -10,4 +10,4 @@ invariant-loop-turn g l =
     × Appends (g.W.Output.written l.initial.writer) (g.W.Output.written l.writer) (answers_to (answer_text l.graph) (ended_lines read))
     × (l.session.answers.items ≡ []) × (l.session.line.items ≡ last_part (parts_of read)) × (l.turn ≤ length read)
     × (g.R.Input.failures l.reader ≡ g.R.Input.failures l.initial.reader) × (g.W.Output.failures l.writer ≡ g.W.Output.failures l.initial.writer)
-    × (l.session.graph.now ≡ l.graph)
+    × (l.session.root.graph ≡ l.graph)

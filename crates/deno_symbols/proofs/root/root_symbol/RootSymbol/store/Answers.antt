@@ -7,13 +7,13 @@ use Rattle.std.proofs.lemmas.Map.Keys.{IsDistinct-push}
 use Rattle.indexmap.specs.IndexMap.{insert_entry}
 use Rattle.symbols_table.specs.Analysis.{IsAnalysis}
 use Rattle.symbols_table.specs.declared.info.module_info.ModuleInfo.{ModuleInfo}
-use Rattle.symbols_table.specs.declared.info.fault.SymbolsFault.TheVariants as fault
 use Rattle.deno_symbols.specs.Specifiers.{module_under, is_among}
-use Rattle.deno_symbols.specs.Roots.{RootView, with_stored, IsMissing, IsRefusal}
+use Rattle.deno_symbols.specs.declared.root.limits.Limits.{Limits}
+use Rattle.deno_symbols.specs.Roots.{RootView, widest, with_stored, IsMissing, IsRefusal}
 use Rattle.deno_symbols.specs.StoredModules.{StoredModule, stored_specifiers}
 use Rattle.deno_symbols.proofs.Among.{laws, place_among}
 use Rattle.deno_symbols.proofs.Storing.{stored_is, place_stored, length-stored, stored_push, insert_last, get_last, whole_push, with_old, with_new, none_missing, refused_analysis, table_under}
-use Rattle.deno_symbols.proofs.Enough.{enough_within}
+use Rattle.deno_symbols.proofs.Enough.{room_within}
 use Rattle.deno_symbols.proofs.root.root_symbol.RootSymbol.store.Goals as goal
 
 -- ---- it is stored already
@@ -112,14 +112,9 @@ returns-then-count-modules-clause-enough c =
     let m = c.args.graph_module.now in
     let new = stored_is entries c.specifier-specifier.result.now m.specifier false (sym c.get_index_of.ensures.found ∙ ap is_some c.in_default.is) c.specifier-specifier.ensures in
     let full : c.self.inside.limits.modules ≤ length (stored_specifiers entries) = omega (arith, length-stored entries, c.len-count.ensures.len, c.if-count-modules.true) in
-    λ wide few. enough_within c.self.inside.graph.now c.self.inside.limits entries c.args.self.now m fault.TooManyModules c.self.view_is c.self.invariant.0 c.self.invariant.2 wide few c.requires.under c.requires.checked (m.specifier, (refl, new), full)
+    λ wide few. absurd (room_within c.self.inside.graph.now c.self.inside.limits entries c.args.self.now m c.self.view_is c.self.invariant.0 c.self.invariant.2 wide few c.requires.under new full)
 
 pub returns-in-Err-clause-enough : goal.returns-in-Err-clause-enough
-returns-in-Err-clause-enough c =
-    let entries = c.self.inside.modules.entries in
-    let m = c.args.graph_module.now in
-    let new = stored_is entries c.specifier-specifier.result.now m.specifier false (sym c.get_index_of.ensures.found ∙ ap is_some c.in_default.is) c.specifier-specifier.ensures in
-    let room : length (stored_specifiers entries) < c.self.inside.limits.modules = omega (arith, length-stored entries, c.len-count.ensures.len, c.if-count-modules.false) in
-    let before : RootView = record { graph = c.self.inside.graph.now; limits = c.self.inside.limits; stored = stored_specifiers entries } in
-    let under : module_under before.graph m.specifier ≡ Some m = subst (λ (r : RootView). module_under r.graph m.specifier ≡ Some m) (sym c.self.view_is) c.requires.under in
-    λ wide few. enough_within c.self.inside.graph.now c.self.inside.limits entries c.args.self.now m c.in-Err.fault c.self.view_is c.self.invariant.0 c.self.invariant.2 wide few c.requires.under c.requires.checked (refused_analysis before m c.in-Err.fault under new room c.in-Err.ensures.fault)
+returns-in-Err-clause-enough c = λ wide few.
+    let limits : c.self.inside.limits ≡ widest = ap (λ (r : RootView). r.limits) c.self.view_is ∙ wide in
+    c.in-Err.ensures.enough (ap (λ (l : Limits). l.symbols) limits)

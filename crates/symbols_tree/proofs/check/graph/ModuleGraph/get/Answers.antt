@@ -6,14 +6,14 @@ use Rattle.symbols_tree.specs.Tables.{rows}
 use Rattle.symbols_tree.proofs.GraphLookups.{module_found}
 use Rattle.symbols_tree.proofs.check.graph.ModuleGraph.get.Goals as goal
 
-pub returns-in-Some : goal.returns-in-Some
-returns-in-Some c =
+pub returns-in-Some-clause-found : goal.returns-in-Some-clause-found
+returns-in-Some-clause-found c =
     let g = c.self.inside in
     let name : Option (String Global) → List ℕ = λ o. unwrap_or (option_map string_bytes o) c.args.specifier.now in
     rw (← c.self.view_is) (c.get-in-Some.ensures.value ∙ module_found g.modules.entries g.redirects.entries (rows g.resolutions.entries) c.self.invariant.0 c.args.specifier.now c.as_str.result.now (ap name (sym c.get.ensures.value ∙ ap option_copied c.in-Some.is) ∙ sym c.as_str.ensures.value))
 
-pub returns-in-None : goal.returns-in-None
-returns-in-None c =
+pub returns-in-None-clause-found : goal.returns-in-None-clause-found
+returns-in-None-clause-found c =
     let g = c.self.inside in
     let name : Option (String Global) → List ℕ = λ o. unwrap_or (option_map string_bytes o) c.args.specifier.now in
     rw (← c.self.view_is) (c.get-in-None.ensures.value ∙ module_found g.modules.entries g.redirects.entries (rows g.resolutions.entries) c.self.invariant.0 c.args.specifier.now c.args.specifier.now (ap name (sym c.get.ensures.value ∙ ap option_copied c.in-None.is)))

@@ -1,4 +1,10 @@
-use Rattle.std.proofs.Common.{sym, ◌∙◌}
+use Rattle.std.proofs.Common.{◌<◌, ◌^◌, List, inl, inr, length, sym, ap, ◌∙◌, arith}
+use Rattle.std.proofs.lemmas.List.{length-map}
+use Rattle.std.proofs.lemmas.Bool.{cases_lt}
+use Rattle.symbols_syntax.specs.declared.graph.faults.GraphFault.TheVariants.{TooManyModules}
+use Rattle.symbols_syntax.specs.declared.graph.raw.RawGraph.{RawGraph}
+use Rattle.symbols_syntax.specs.Graph.{ModuleView, graph_view}
+use Rattle.symbols_tree.specs.GraphFaults.{IsFaultlessGraph}
 use Rattle.symbols_tree.proofs.DistinctEntries.{distinct_specifiers, distinct_sources, distinct_asked}
 use Rattle.symbols_tree.proofs.GraphLookups.{rows_found}
 use Rattle.symbols_tree.proofs.check.graph.ModuleGraph.new.Goals as goal
@@ -14,3 +20,15 @@ keyed_resolutions-requires c = distinct_asked c.args.raw c.in_ok-check.ensures.a
 
 pub returns-clause-resolutions : goal.returns-clause-resolutions
 returns-clause-resolutions c = λ r t. sym (rows_found r t c.in_ok-resolutions.resolutions.entries c.in_ok-resolutions.ensures.unique) ∙ c.in_ok-resolutions.ensures.found r t
+
+few_modules : (raw : RawGraph) → IsFaultlessGraph (graph_view raw) → length (graph_view raw).modules < 2 ^ 32
+few_modules raw none = elim (cases_lt (length (graph_view raw).modules) (2 ^ 32)) [
+  | inl few ↦ few
+  | inr many ↦ absurd (none 0 TooManyModules many)
+]
+
+pub invariant_of-result : goal.invariant_of-result
+invariant_of-result c =
+    let few = few_modules c.args.raw c.in_ok-check.ensures.accepted in
+    let count = ap (λ (ms : List ModuleView). length ms) c.in_ok-modules.ensures.modules in
+    (c.in_ok-modules.ensures.keyed, c.in_ok-resolutions.ensures.unique, omega (arith, few, count, length-map c.in_ok-modules.modules.entries (λ e. e.1)))

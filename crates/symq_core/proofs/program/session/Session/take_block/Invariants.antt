@@ -7,8 +7,8 @@ use Rattle.symq_core.proofs.program.session.Session.take_block.Given as goal
 abbrev pub invariant-lines : goal.invariant-lines
 invariant-lines g l =
     (ended : List (List ℕ)) × (parts_after l.initial.self.line.items l.block ≡ ended ++ parts_after l.self.line.items l.rest)
-    × Sends (g.W.Output.written l.initial.writer) (g.W.Output.written l.writer) l.initial.self.answers.items l.self.answers.items (answers_to (answer_text l.initial.self.graph.now) ended)
-    × (g.W.Output.failures l.writer ≡ g.W.Output.failures l.initial.writer) × (l.self.graph ≡ l.initial.self.graph)
+    × Sends (g.W.Output.written l.initial.writer) (g.W.Output.written l.writer) l.initial.self.answers.items l.self.answers.items (answers_to (answer_text l.initial.self.root.graph) ended)
+    × (g.W.Output.failures l.writer ≡ g.W.Output.failures l.initial.writer) × (l.self.root.graph ≡ l.initial.self.root.graph)
 
 abbrev pub decreases-lines : goal.decreases-lines
 decreases-lines g l = length l.rest
