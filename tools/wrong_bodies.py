@@ -120,7 +120,8 @@ def functions_of(file, text, types):
     lines, found, impl, cycle = text.split('\n'), [], None, ''
     for first, line in enumerate(lines):
         impl = IMPL.match(line) or (None if line.startswith('}') else impl)
-        cycle = (CYCLE.match(line) or [cycle, cycle])[1]
+        # (the types of a cycle name it as functions do)
+        cycle = '' if TYPE.match(line) else (CYCLE.match(line) or [cycle, cycle])[1]
         head = FUNCTION.match(line)
         if not head:
             continue

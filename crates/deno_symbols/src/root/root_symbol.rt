@@ -78,6 +78,11 @@ impl<'a> RootSymbol<'a> {
         self.graph
     }
 
+    /// What it allocates with (own rule).
+    pub fn alloc(&self) -> Global {
+        self.alloc
+    }
+
     /// Whether a module is stored that has this very specifier; redirects and types dependencies
     /// are not followed (as deno_graph).
     pub fn has_analyzed(&self, specifier: &str) -> bool

@@ -1,6 +1,6 @@
 //! A module of any kind with its symbols, owned or lent.
 
-ghost use Rattle.std.specs.Prelude.{◌≡◌, ◌<◌, length, Some, slice_get};
+ghost use Rattle.std.specs.Prelude.{◌≡◌, ◌<◌, ◌^◌, length, Some, slice_get};
 ghost use Rattle.std.specs.Option.{option_copied, option_map};
 ghost use Rattle.std.specs.Slice.Iter.{iter_rest};
 ghost use Rattle.symbols_table.specs.Laws.{AreLawful};
@@ -175,6 +175,21 @@ impl<'r, 'a> ModuleInfoRef<'r, 'a> {
         ensures { slice_get (lent_table self.entry).symbols 0 ≡ Some result.now }
     {
         &self.all_symbols()[0]
+    }
+
+    /// The text of a statement `export *`, by its place among them; none where there is none, as in
+    /// a JSON module (own rule).
+    pub fn re_export_all_text(self, place: usize) -> Option<&'a str>
+        ensures text { option_map (λ text. text.now) result ≡ option_map (λ star. star.text) (slice_get (lent_table self.entry).stars place) }
+        ensures few { length (lent_table self.entry).stars < 2 ^ 63 }
+    {
+        match self {
+            ModuleInfoRef::Json(_) => None,
+            ModuleInfoRef::Esm(esm) => match esm.stars.get(place) {
+                Some(star) => Some(star.src),
+                None => None,
+            },
+        }
     }
 
     /// The nodes of the statements `export *`, in order; none of a JSON module.

@@ -1,0 +1,199 @@
+-- Lists that are sorted by a relation, and the first of each sort in them.
+use Rattle.std.proofs.Common.{◌≡◌, ℕ, zero, suc, ◌<◌, ◌⊎◌, ◌↔◌, inl, inr, Bool, true, false, not, List, [], ◌∷◌, ◌++◌, length, map, get_or, refl, sym, ap, subst, ◌∙◌, arith, true≢false}
+use Rattle.std.specs.Prelude.{Contains, AllPairs, filter, if◌then◌else◌}
+use Rattle.std.specs.Bool.{Decides}
+use Rattle.symbols_exports.specs.Ways.{first_of_each}
+
+-- ---- what a list contains
+
+pub first_or_later : {A : Type 0} (x : A) (xs : List A) (y : A) → Contains (x ∷ xs) y → (x ≡ y) ⊎ Contains xs y
+first_or_later x xs y has = by has.0 has.1 has.2
+  where
+    by : (k : ℕ) → k < length (x ∷ xs) → get_or (x ∷ xs) k y ≡ y → (x ≡ y) ⊎ Contains xs y
+    by zero within same = inl same
+    by (suc k) within same = inr (k, omega (arith, within), same)
+
+pub contains_first : {A : Type 0} (x : A) (xs : List A) → Contains (x ∷ xs) x
+contains_first x xs = (0, omega arith, refl)
+
+pub contains_later : {A : Type 0} (x : A) (xs : List A) (y : A) → Contains xs y → Contains (x ∷ xs) y
+contains_later x xs y has = (suc has.0, omega (arith, has.1), has.2)
+
+pub contains_nothing : {A : Type 0} (y : A) → Contains {X = A} [] y → ⊥
+contains_nothing y has = omega (arith, has.1)
+
+pub contains_left : {A : Type 0} (xs ys : List A) (z : A) → Contains xs z → Contains (xs ++ ys) z
+contains_left [] ys z has = absurd (contains_nothing z has)
+contains_left (x ∷ xs) ys z has = elim (first_or_later x xs z has) [
+  | inl same ↦ subst (Contains (x ∷ (xs ++ ys))) same (contains_first x (xs ++ ys))
+  | inr later ↦ contains_later x (xs ++ ys) z (contains_left xs ys z later)
+]
+
+pub contains_right : {A : Type 0} (xs ys : List A) (z : A) → Contains ys z → Contains (xs ++ ys) z
+contains_right [] ys z has = has
+contains_right (x ∷ xs) ys z has = contains_later x (xs ++ ys) z (contains_right xs ys z has)
+
+pub contains_either : {A : Type 0} (xs ys : List A) (z : A) → Contains (xs ++ ys) z → Contains xs z ⊎ Contains ys z
+contains_either [] ys z has = inr has
+contains_either (x ∷ xs) ys z has = elim (first_or_later x (xs ++ ys) z has) [
+  | inl same ↦ inl (subst (Contains (x ∷ xs)) same (contains_first x xs))
+  | inr later ↦ elim (contains_either xs ys z later) [
+    | inl left ↦ inl (contains_later x xs z left)
+    | inr right ↦ inr right
+  ]
+]
+
+pub contains_mapped : {A B : Type 0} (f : A → B) (xs : List A) (x : A) → Contains xs x → Contains (map f xs) (f x)
+contains_mapped f [] x has = absurd (contains_nothing x has)
+contains_mapped f (y ∷ xs) x has = elim (first_or_later y xs x has) [
+  | inl same ↦ subst (λ z. Contains (f y ∷ map f xs) (f z)) same (contains_first (f y) (map f xs))
+  | inr later ↦ contains_later (f y) (map f xs) (f x) (contains_mapped f xs x later)
+]
+
+pub mapped_from : {A B : Type 0} (f : A → B) (xs : List A) (y : B) → Contains (map f xs) y → (x : A) × Contains xs x × (f x ≡ y)
+mapped_from f [] y has = absurd (contains_nothing y has)
+mapped_from f (x ∷ xs) y has = elim (first_or_later (f x) (map f xs) y has) [
+  | inl same ↦ (x, contains_first x xs, same)
+  | inr later ↦ let from = mapped_from f xs y later in (from.0, contains_later x xs from.0 from.1, from.2)
+]
+
+pub filtered_from : {A : Type 0} (p : A → Bool) (xs : List A) (y : A) → Contains (filter p xs) y → Contains xs y × (p y ≡ true)
+filtered_from p [] y has = absurd (contains_nothing y has)
+filtered_from p (x ∷ xs) y has = by (p x) refl has (filtered_from p xs y)
+  where
+    by : (b : Bool) → p x ≡ b → Contains (if b then x ∷ filter p xs else filter p xs) y → (Contains (filter p xs) y → Contains xs y × (p y ≡ true)) → Contains (x ∷ xs) y × (p y ≡ true)
+    by true is has rest = elim (first_or_later x (filter p xs) y has) [
+      | inl same ↦ (subst (Contains (x ∷ xs)) same (contains_first x xs), subst (λ z. p z ≡ true) same is)
+      | inr later ↦ let from = rest later in (contains_later x xs y from.0, from.1)
+    ]
+    by false is has rest = let from = rest has in (contains_later x xs y from.0, from.1)
+
+pub contains_filtered : {A : Type 0} (p : A → Bool) (xs : List A) (y : A) → Contains xs y → p y ≡ true → Contains (filter p xs) y
+contains_filtered p [] y has passes = absurd (contains_nothing y has)
+contains_filtered p (x ∷ xs) y has passes = by (p x) refl (first_or_later x xs y has) (λ later. contains_filtered p xs y later passes)
+  where
+    by : (b : Bool) → p x ≡ b → (x ≡ y) ⊎ Contains xs y → (Contains xs y → Contains (filter p xs) y) → Contains (if b then x ∷ filter p xs else filter p xs) y
+    by true is (inl same) rest = subst (Contains (x ∷ filter p xs)) same (contains_first x (filter p xs))
+    by true is (inr later) rest = contains_later x (filter p xs) y (rest later)
+    by false is (inl same) rest = absurd (true≢false (sym passes ∙ (ap p (sym same) ∙ is)))
+    by false is (inr later) rest = rest later
+
+-- ---- sorted lists
+
+abbrev pub IsSorted : {A : Type 0} → (A → A → Type 0) → List A → Type 0
+IsSorted R [] = Unit {0}
+IsSorted {A} R (x ∷ xs) = ((y : A) → Contains xs y → R x y) × IsSorted R xs
+
+pub sorted_pairs : {A : Type 0} (R : A → A → Type 0) (xs : List A) → IsSorted R xs → AllPairs R xs
+sorted_pairs R [] sorted i j d less within = absurd (omega (arith, within))
+sorted_pairs R (x ∷ xs) sorted zero zero d less within = absurd (omega (arith, less))
+sorted_pairs {A} R (x ∷ xs) sorted zero (suc j) d less within = sorted.0 (get_or xs j d) (at xs j d (omega (arith, within)))
+  where
+    at : (ys : List A) (k : ℕ) (e : A) → k < length ys → Contains ys (get_or ys k e)
+    at [] k e short = absurd (omega (arith, short))
+    at (y ∷ ys) zero e short = contains_first y ys
+    at (y ∷ ys) (suc k) e short = contains_later y ys (get_or ys k e) (at ys k e (omega (arith, short)))
+sorted_pairs R (x ∷ xs) sorted (suc i) zero d less within = absurd (omega (arith, less))
+sorted_pairs R (x ∷ xs) sorted (suc i) (suc j) d less within = sorted_pairs R xs sorted.1 i j d (omega (arith, less)) (omega (arith, within))
+
+pub pairs_sorted : {A : Type 0} (R : A → A → Type 0) (xs : List A) → AllPairs R xs → IsSorted R xs
+pairs_sorted R [] pairs = tt
+pairs_sorted R (x ∷ xs) pairs =
+    (λ y has. subst (R x) has.2 (pairs 0 (suc has.0) y (omega arith) (omega (arith, has.1))), pairs_sorted R xs (λ i j d less within. pairs (suc i) (suc j) d (omega (arith, less)) (omega (arith, within))))
+
+pub sorted_both : {A : Type 0} (R : A → A → Type 0) (xs ys : List A) → IsSorted R xs → IsSorted R ys → ((x y : A) → Contains xs x → Contains ys y → R x y) → IsSorted R (xs ++ ys)
+sorted_both R [] ys left right across = right
+sorted_both {A} R (x ∷ xs) ys left right across = (first, sorted_both R xs ys left.1 right (λ a b has_a has_b. across a b (contains_later x xs a has_a) has_b))
+  where
+    first : (z : A) → Contains (xs ++ ys) z → R x z
+    first z has = elim (contains_either xs ys z has) [
+      | inl in_xs ↦ left.0 z in_xs
+      | inr in_ys ↦ across x z (contains_first x xs) in_ys
+    ]
+
+pub sorted_map : {A B : Type 0} (R : A → A → Type 0) (S : B → B → Type 0) (f : A → B) → ((x y : A) → R x y → S (f x) (f y)) → (xs : List A) → IsSorted R xs → IsSorted S (map f xs)
+sorted_map R S f keeps [] sorted = tt
+sorted_map R S f keeps (x ∷ xs) sorted = (λ y has. let from = mapped_from f xs y has in subst (S (f x)) from.2 (keeps x from.0 (sorted.0 from.0 from.1)), sorted_map R S f keeps xs sorted.1)
+
+pub sorted_filter : {A : Type 0} (R : A → A → Type 0) (p : A → Bool) (xs : List A) → IsSorted R xs → IsSorted R (filter p xs)
+sorted_filter R p [] sorted = tt
+sorted_filter R p (x ∷ xs) sorted = by (p x) (sorted_filter R p xs sorted.1)
+  where
+    by : (b : Bool) → IsSorted R (filter p xs) → IsSorted R (if b then x ∷ filter p xs else filter p xs)
+    by true rest = (λ y has. sorted.0 y (filtered_from p xs y has).0, rest)
+    by false rest = rest
+
+-- two sorted lists of the same elements are one, where no two of them stand either way
+pub same_sorted : {A : Type 0} (R : A → A → Type 0) (xs ys : List A) → ((x y : A) → Contains xs x → Contains xs y → R x y → R y x → ⊥) → IsSorted R xs → IsSorted R ys → ((z : A) → Contains xs z ↔ Contains ys z) → xs ≡ ys
+same_sorted R [] [] apart left right same = refl
+same_sorted R [] (y ∷ ys) apart left right same = absurd (contains_nothing y ((same y).1 (contains_first y ys)))
+same_sorted R (x ∷ xs) [] apart left right same = absurd (contains_nothing x ((same x).0 (contains_first x xs)))
+same_sorted {A} R (x ∷ xs) (y ∷ ys) apart left right same =
+    let rests = same_sorted R xs ys (λ a b has_a has_b. apart a b (contains_later x xs a has_a) (contains_later x xs b has_b)) left.1 right.1 (λ z. (to_right z, to_left z)) in
+    λ i. firsts i ∷ rests i
+  where
+    not_itself : (z : A) → Contains (x ∷ xs) z → R z z → ⊥
+    not_itself z has before = apart z z has has before before
+
+    firsts : x ≡ y
+    firsts = elim (first_or_later y ys x ((same x).0 (contains_first x xs))) [
+      | inl is ↦ sym is
+      | inr later ↦ elim (first_or_later x xs y ((same y).1 (contains_first y ys))) [
+        | inl is ↦ is
+        | inr behind ↦ absurd (apart x y (contains_first x xs) (contains_later x xs y behind) (left.0 y behind) (right.0 x later))
+      ]
+    ]
+
+    to_right : (z : A) → Contains xs z → Contains ys z
+    to_right z has = elim (first_or_later y ys z ((same z).0 (contains_later x xs z has))) [
+      | inl is ↦ absurd (not_itself x (contains_first x xs) (subst (R x) (sym is ∙ sym firsts) (left.0 z has)))
+      | inr later ↦ later
+    ]
+
+    to_left : (z : A) → Contains ys z → Contains xs z
+    to_left z has = elim (first_or_later x xs z ((same z).1 (contains_later y ys z has))) [
+      | inl is ↦ absurd (not_itself x (contains_first x xs) (subst (λ w. R w x) (sym firsts) (subst (R y) (sym is) (right.0 z has))))
+      | inr later ↦ later
+    ]
+
+-- ---- the first of each sort
+
+module _ {A K : Type 0} (same : A → A → Bool) (key : A → K) (decides : (x y : A) → Decides (same x y) (key x ≡ key y)) where
+  not_same : (x y : A) → not (same x y) ≡ true → key x ≡ key y → ⊥
+  not_same x y other equal = true≢false (sym other ∙ ap not ((decides x y).1 equal))
+
+  pub first_is_one : (xs : List A) (y : A) → Contains (first_of_each same xs) y → Contains xs y
+  first_is_one [] y has = absurd (contains_nothing y has)
+  first_is_one (x ∷ xs) y has = elim (first_or_later x (filter (λ z. not (same x z)) (first_of_each same xs)) y has) [
+    | inl is ↦ subst (Contains (x ∷ xs)) is (contains_first x xs)
+    | inr later ↦ contains_later x xs y (first_is_one xs y (filtered_from (λ z. not (same x z)) (first_of_each same xs) y later).0)
+  ]
+
+  pub first_sorted : (R : A → A → Type 0) (xs : List A) → IsSorted R xs → IsSorted R (first_of_each same xs)
+  first_sorted R [] sorted = tt
+  first_sorted R (x ∷ xs) sorted = (λ y has. sorted.0 y (first_is_one xs y (filtered_from (λ z. not (same x z)) (first_of_each same xs) y has).0), sorted_filter R (λ z. not (same x z)) (first_of_each same xs) (first_sorted R xs sorted.1))
+
+  pub first_once : (xs : List A) (x y : A) → Contains (first_of_each same xs) x → Contains (first_of_each same xs) y → key x ≡ key y → x ≡ y
+  first_once [] x y has_x has_y equal = absurd (contains_nothing x has_x)
+  first_once (w ∷ xs) x y has_x has_y equal = by (first_or_later w rest x has_x) (first_or_later w rest y has_y) (first_once xs x y)
+    where
+      rest : List A
+      rest = filter (λ z. not (same w z)) (first_of_each same xs)
+
+      by : (w ≡ x) ⊎ Contains rest x → (w ≡ y) ⊎ Contains rest y → (Contains (first_of_each same xs) x → Contains (first_of_each same xs) y → key x ≡ key y → x ≡ y) → x ≡ y
+      by (inl is_x) (inl is_y) later = sym is_x ∙ is_y
+      by (inl is_x) (inr in_y) later = absurd (not_same w y (filtered_from (λ z. not (same w z)) (first_of_each same xs) y in_y).1 (ap key is_x ∙ equal))
+      by (inr in_x) (inl is_y) later = absurd (not_same w x (filtered_from (λ z. not (same w z)) (first_of_each same xs) x in_x).1 (ap key is_y ∙ sym equal))
+      by (inr in_x) (inr in_y) later = later (filtered_from (λ z. not (same w z)) (first_of_each same xs) x in_x).0 (filtered_from (λ z. not (same w z)) (first_of_each same xs) y in_y).0 equal
+
+  pub first_covers : (R : A → A → Type 0) (xs : List A) → IsSorted R xs → (z : A) → Contains xs z → (f : A) × Contains (first_of_each same xs) f × (key f ≡ key z) × ((f ≡ z) ⊎ R f z)
+  first_covers R [] sorted z has = absurd (contains_nothing z has)
+  first_covers R (x ∷ xs) sorted z has = by (first_or_later x xs z has) (first_covers R xs sorted.1 z)
+    where
+      by : (x ≡ z) ⊎ Contains xs z → (Contains xs z → (f : A) × Contains (first_of_each same xs) f × (key f ≡ key z) × ((f ≡ z) ⊎ R f z)) → (f : A) × Contains (first_of_each same (x ∷ xs)) f × (key f ≡ key z) × ((f ≡ z) ⊎ R f z)
+      by (inl is) rest = (x, contains_first x (filter (λ w. not (same x w)) (first_of_each same xs)), ap key is, inl is)
+      by (inr later) rest = kept (rest later) (same x (rest later).0) refl
+        where
+          kept : (found : (f : A) × Contains (first_of_each same xs) f × (key f ≡ key z) × ((f ≡ z) ⊎ R f z)) → (b : Bool) → same x found.0 ≡ b → (f : A) × Contains (first_of_each same (x ∷ xs)) f × (key f ≡ key z) × ((f ≡ z) ⊎ R f z)
+          kept found true is = (x, contains_first x (filter (λ w. not (same x w)) (first_of_each same xs)), (decides x found.0).0 is ∙ found.2, inr (sorted.0 z later))
+          kept found false is = (found.0, contains_later x (filter (λ w. not (same x w)) (first_of_each same xs)) found.0 (contains_filtered (λ w. not (same x w)) (first_of_each same xs) found.0 found.1 (ap not is)), found.2, found.3)

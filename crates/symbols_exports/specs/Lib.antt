@@ -1,0 +1,9 @@
+pub mod Paths
+pub mod Told
+pub mod Exporting
+pub mod Taking
+pub mod Chains
+pub mod Exports
+pub mod StarStatements
+pub mod Answers
+pub mod Ways

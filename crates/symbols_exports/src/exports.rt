@@ -1,0 +1,16 @@
+//! Which names a module exports, its own and those along `export *`.
+
+mod module_exports;
+mod names;
+mod path;
+mod statements;
+mod steps;
+mod turn;
+mod walk;
+
+pub use module_exports::{ModuleExports, UnresolvedSpecifier};
+pub use path::{
+    PathIter, ResolvedExport, ResolvedExportOrReExportAllPath, ResolvedReExportAllPath,
+};
+pub use steps::Steps;
+pub use walk::{exports, exports_counted};

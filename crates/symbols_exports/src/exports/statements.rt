@@ -1,0 +1,85 @@
+//! What a stored module exports itself, and its statements `export *` with where they lead.
+
+ghost use Rattle.std.specs.Prelude.{◌≡◌, ◌<◌, ◌+◌, ◌≤◌, ◌^◌, ℕ, List, length, slice_get, Some, IfOk, IfErr, OnOk, OnErr};
+ghost use Rattle.std.specs.List.{IsDistinct};
+ghost use Rattle.std.specs.Option.{option_map};
+ghost use Rattle.std.specs.Str.{bytes_eq};
+ghost use Rattle.symbols_syntax.specs.Graph.{ModuleView};
+ghost use Rattle.symbols_table.specs.DeclViews.{exports_view};
+ghost use Rattle.deno_symbols.specs.Specifiers.{module_under};
+ghost use Rattle.deno_symbols.specs.Roots.{with_stored, specifier_under, IsRefusal};
+ghost use Rattle.symbols_exports.specs.Exporting.{specifier_in};
+ghost use Rattle.symbols_exports.specs.StarStatements.{star_texts, text_target, owned_of};
+
+use crate::exports::steps::Steps;
+use deno_symbols::root::RootSymbol;
+use indexmap::IndexMap;
+use symbols_table::info::SymbolsFault;
+use symbols_tree::ids::{ModuleId, SymbolId};
+
+/// The text of a statement `export *` of a stored module, by its place among them.
+pub(crate) fn statement_text<'a>(
+    root: &RootSymbol<'a>,
+    referrer: ModuleId,
+    place: usize,
+) -> Option<&'a str>
+    requires { referrer.0 < length root.now.stored }
+    ensures text { option_map (λ text. text.now) result ≡ slice_get (star_texts root.now.graph (specifier_in root.now referrer)) place }
+    ensures few { length (star_texts root.now.graph (specifier_in root.now referrer)) < 2 ^ 63 }
+    ensures once { IsDistinct bytes_eq root.now.stored }
+{
+    let Some(info) = root.module_from_id(referrer) else {
+        return None;
+    };
+    info.re_export_all_text(place)
+}
+
+/// The names that a stored module exports itself, with their symbols.
+pub(crate) fn own_names<'r>(
+    root: &'r RootSymbol<'_>,
+    module_id: ModuleId,
+) -> &'r IndexMap<String, SymbolId>
+    requires { module_id.0 < length root.now.stored }
+    ensures { exports_view result.now.entries ≡ owned_of root.now.graph (specifier_in root.now module_id) }
+{
+    match root.module_from_id(module_id) {
+        Some(info) => info.module_symbol().exports(),
+        None => unreachable!(),
+    }
+}
+
+/// The specifier of a stored module.
+pub(crate) fn specifier_of<'a>(root: &RootSymbol<'a>, module_id: ModuleId) -> &'a str
+    requires { module_id.0 < length root.now.stored }
+    ensures { result.now ≡ specifier_in root.now module_id }
+{
+    match root.module_from_id(module_id) {
+        Some(info) => info.specifier(),
+        None => unreachable!(),
+    }
+}
+
+/// The module that a text of a stored module stands for, stored now if it wasn't before; none where
+/// it stands for none. The table of resolutions is asked once, which is a step.
+pub(crate) fn text_target(
+    root: &mut RootSymbol<'_>,
+    referrer: ModuleId,
+    text: &str,
+    steps: &mut Steps,
+) -> Result<Option<ModuleId>, SymbolsFault>
+    requires known { referrer.0 < length root.old.stored }
+    requires room { steps.old.count + 1 < 2 ^ 128 }
+    ensures gives { IfOk result (λ id. option_map (specifier_under root.new) id ≡ option_map (λ s. Some s) (text_target root.old.graph (specifier_in root.old referrer) text.now)) }
+    ensures stored { OnOk result (root.new ≡ with_stored root.old (text_target root.old.graph (specifier_in root.old referrer) text.now)) }
+    ensures unchanged { OnErr result (root.new ≡ root.old) }
+    ensures refused { IfErr result (IsRefusal root.old (text_target root.old.graph (specifier_in root.old referrer) text.now)) }
+    ensures there { OnOk result ((v : List ℕ) → text_target root.old.graph (specifier_in root.old referrer) text.now ≡ Some v → (m : ModuleView) × (module_under root.old.graph v ≡ Some m)) }
+    ensures counted { steps.new.count ≡ steps.old.count + 1 }
+{
+    let specifier = specifier_of(root, referrer);
+    steps.tick();
+    match root.graph().resolve_dependency(text, specifier) {
+        Some(target) => root.module_from_specifier(target),
+        None => Ok(None),
+    }
+}

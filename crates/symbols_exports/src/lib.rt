@@ -1,0 +1,4 @@
+//! Which names a module exports, along `export *`.
+#![tactic(auto)]
+
+pub mod exports;
