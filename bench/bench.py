@@ -13,6 +13,8 @@ It prints a table with a row for each graph and stage. In counts the stages are
     analyse   a run with a query for each module, less one without queries
     depend    a run with a query for what the first symbol of each module depends on, less one with the queries of
               analyse: of the graph of references alone
+    export    a run with a query for what each module exports, less one with the queries of analyse: of the graph of
+              webs, which is taken of 4n too, and of graphs of files
 
 and what is counted of a run:
 
@@ -21,14 +23,14 @@ and what is counted of a run:
     pages          of 4096 bytes, that were touched for the first time (minor faults, the least of three runs); not
                    taken of the other program's analyse
 
-'growth' is the figure of 2n by that of n. 'of other' is by the figure of the other program, for n and for 2n: its read
-is its whole run without queries, which like ours starts, reads the file, makes the graph and lets all go; its analyse
-and its depend are taken like ours; it has no checker. A dash stands where the count to divide by is below 100, or the time below 1 ms.
+'growth' is the figure of 2n by that of n, and that of 4n by that of 2n. 'of other' is by the figure of the other program, for n and for 2n: its read
+is its whole run without queries, which like ours starts, reads the file, makes the graph and lets all go; its analyse,
+its depend and its export are taken like ours; it has no checker. A dash stands where the count to divide by is below 100, or the time below 1 ms.
 
 ms is processor time, of n, the least of some runs; those of both programs and of n and 2n are taken in turn, so that a
 slow minute of the machine falls on each, and one of over ten seconds is taken once. A time illustrates and shows
 nothing: it varies with what else the machine does. Its analyse is a run with a query a module less one without queries,
-beside the timer 'analysis' that OTHER prints (below); check and depend are too short for a difference of times.
+beside the timer 'analysis' that OTHER prints (below); check, depend and export are too short for a difference of times.
 
 OTHER takes the same graphs and lines, and prints with `--bench RUNS` a JSON object of its stages, in which
 `analysis` has `min_cpu_ms`, the least processor time of analysing all modules.
@@ -154,14 +156,34 @@ def reference(tree, i):
     return tree.add('Ident', sym=['name%d' % i, 1])
 
 
+def web(specifiers, names):
+    """Modules that each own some names, and re-export all the others."""
+    modules = []
+    for specifier in specifiers:
+        tree = Tree()
+        body = [variable(tree, '%s_%d' % (specifier, i)) for i in range(names)]
+        body += [tree.add('ExportAll', src=it) for it in specifiers if it != specifier]
+        modules.append(tree.module(specifier, body))
+    return modules
+
+
+def webs_of(n):
+    """n modules in webs of ten, of which each owns five names."""
+    webs = [['m%d' % i for i in range(at, at + 10)] for at in range(0, n, 10)]
+    resolutions = [[m, it, it] for specifiers in webs for m in specifiers for it in specifiers if it != m]
+    return {'modules': [it for specifiers in webs for it in web(specifiers, 5)], 'resolutions': resolutions}
+
+
 STAGES = ('read', 'check', 'analyse')
 
+# a graph's name, its n, how it is made, what is asked beyond the stages, and the multiples of n
 MADE = [
-    ('many modules', 2000, lambda n: {'modules': [declarations('m%d' % i, 20) for i in range(n)]}),
-    ('one module of declarations', 50000, lambda n: {'modules': [declarations('m', n)]}),
-    ('one class of members', 20000, class_of),
-    ('one interface of members', 20000, interface_of),
-    ('one alias of references', 20000, references_of),
+    ('many modules', 2000, lambda n: {'modules': [declarations('m%d' % i, 20) for i in range(n)]}, (), (1, 2)),
+    ('one module of declarations', 50000, lambda n: {'modules': [declarations('m', n)]}, (), (1, 2)),
+    ('one class of members', 20000, class_of, (), (1, 2)),
+    ('one interface of members', 20000, interface_of, (), (1, 2)),
+    ('one alias of references', 20000, references_of, ('depend',), (1, 2)),
+    ('webs of ten modules', 2000, webs_of, ('export',), (1, 2, 4)),
 ]
 
 
@@ -174,7 +196,10 @@ class Files:
         write(self.path, graph)
         write(self.refused, dict(graph, modules=modules + [{'specifier': modules[0]['specifier'], 'kind': 'external'}]))
         self.queries = b''.join(line('symbol', m['specifier'], '', 0) for m in modules)
-        self.depends = b''.join(line('deps', m['specifier'], 1, 'all') for m in modules)
+        self.asked = {
+            'depend': b''.join(line('deps', m['specifier'], 1, 'all') for m in modules),
+            'export': b''.join(line('exports', m['specifier']) for m in modules),
+        }
 
 
 def line(*query):
@@ -209,20 +234,22 @@ def instructions(command, lines=b''):
     return int(re.search(rb'I +refs: +([\d,]+)', p.stderr)[1].replace(b',', b''))
 
 
-def counts(count, program, other, files):
+def counts(count, program, other, files, stages):
     """By stage, the program's count and the other's."""
+    further = [it for it in stages if it in files.asked]
     read = count([program, files.refused])
     idle = count([program, files.path])
     asked = count([program, files.path], files.queries)
-    depend = count([program, files.path], files.depends) - asked
-    found = {'read': [read], 'check': [idle - read], 'analyse': [asked - idle], 'depend': [depend]}
+    found = {'read': [read], 'check': [idle - read], 'analyse': [asked - idle]}
+    found.update((it, [count([program, files.path], files.asked[it]) - asked]) for it in further)
     if other:
         idle = count([other, files.path])
         found['read'].append(idle)
         if count is instructions:
             asked = count([other, files.path], files.queries)
             found['analyse'].append(asked - idle)
-            found['depend'].append(count([other, files.path], files.depends) - asked)
+            for stage in further:
+                found[stage].append(count([other, files.path], files.asked[stage]) - asked)
     return found
 
 
@@ -253,7 +280,7 @@ def times(program, other, sizes):
     figures, found = least(measures, RUNS), []
     for i in range(len(sizes)):
         refused, idle, asked, *theirs = figures[i * len(figures) // len(sizes) :][: len(figures) // len(sizes)]
-        found.append({'read': [refused] + theirs[:1], 'check': [], 'analyse': [asked - idle] + theirs[1:], 'depend': []})
+        found.append({'read': [refused] + theirs[:1], 'analyse': [asked - idle] + theirs[1:]})
     return found
 
 
@@ -262,15 +289,15 @@ def cells(form, stage, sizes, least_divisor=100):
     def part(figure, divisor):
         return '%.2f' % (figure / divisor) if divisor >= least_divisor else '-'
 
-    figures = [it[stage] for it in sizes]
+    figures = [it.get(stage) for it in sizes]
     if not figures or not figures[0]:
         return ['', '', '']
-    growth = part(figures[1][0], figures[0][0]) if len(figures) > 1 else ''
+    growth = '; '.join(part(more[0], less[0]) for less, more in zip(figures, figures[1:]))
     of_other = '; '.join(part(ours, theirs[0]) for ours, *theirs in figures if theirs)
     return [form(figures[0][0]), growth, of_other]
 
 
-def measure(a, name, makers, small, stages=STAGES):
+def measure(a, name, makers, small, stages):
     """Prints the rows of a graph of some sizes; `small` has smaller ones to count instructions on."""
     with tempfile.TemporaryDirectory() as top:
         def files(make):
@@ -278,8 +305,8 @@ def measure(a, name, makers, small, stages=STAGES):
         sizes = [files(make) for make in makers]
         executed, touched, timed = [], [], []
         if a.only != 'times':
-            executed = [counts(instructions, a.program, a.beside, files(make)) for make in small]
-            touched = [counts(pages, a.program, a.beside, it) for it in sizes]
+            executed = [counts(instructions, a.program, a.beside, files(make), stages) for make in small]
+            touched = [counts(pages, a.program, a.beside, it, stages) for it in sizes]
         if a.only != 'counts':
             timed = times(a.program, a.beside, sizes)
     for stage in stages:
@@ -294,16 +321,19 @@ def main():
     p.add_argument('--beside', metavar='OTHER', type=os.path.abspath)
     p.add_argument('--graph', nargs='*', default=[])
     p.add_argument('--only', choices=['counts', 'times'])
+    p.add_argument('--made', metavar='REGEX', help='of the made graphs, those with such a name')
     a = p.parse_args()
     print('| %s |\n|%s' % (' | '.join(COLUMNS), '---|' * len(COLUMNS)))
-    for name, n, make in MADE:
-        sizes = [partial(make, it) for it in (n, 2 * n)]
-        stages = STAGES + ('depend',) if make is references_of else STAGES
-        measure(a, '%s, %d' % (name, n), sizes, [partial(make, it) for it in (n // 10, n // 5)], stages)
+    for name, n, make, further, multiples in MADE:
+        if a.made and not re.search(a.made, name):
+            continue
+        sizes = [partial(make, n * it) for it in multiples]
+        small = [partial(make, n * it // 10) for it in multiples]
+        measure(a, '%s, %d' % (name, n), sizes, small, STAGES + further)
     for file in a.graph:
         with open(file) as f:
             graph = json.load(f)
-        measure(a, os.path.basename(file), [lambda: graph], [lambda: graph])
+        measure(a, os.path.basename(file), [lambda: graph], [lambda: graph], STAGES + ('export',))
 
 
 if __name__ == '__main__':

@@ -1,6 +1,6 @@
 #!/usr/bin/env python3
-"""The whole gate: every proof from nothing, the wrong bodies, the table of public names, and the stored cases on the
-proved programs.
+"""The whole gate: every proof from nothing, the wrong bodies, the borrows that the library allows, the table of public
+names, and the stored cases on the proved programs.
 
     python3 tools/gate.py
 
@@ -18,6 +18,7 @@ import threading
 import time
 from concurrent.futures import ThreadPoolExecutor
 
+from run_borrows import with_borrows
 from wrong_bodies import TOP, Crate, libraries_below, libraries_of
 
 HERE = os.path.dirname(os.path.abspath(__file__))
@@ -108,6 +109,14 @@ def wrong_bodies_part(name, libraries, proofs, lanes):
     return part.run(['nice', '-n', '5', *tool('wrong_bodies.py', '--libraries', proofs.folder, '--lanes', lanes, name)])
 
 
+def borrows_part(proofs):
+    """Checks which borrows are allowed, once the crates that they use are proved."""
+    part = Part('borrows')
+    if not proofs.has(libraries_below('borrows', with_borrows(libraries_of(TOP)))):
+        return part
+    return part.run(tool('run_borrows.py', '--libraries', proofs.folder))
+
+
 def tests_part(name):
     return Part('tests of tools/' + name).run(tool('test_' + name))
 
@@ -128,9 +137,9 @@ def all_parts():
     processors, libraries = len(os.sched_getaffinity(0)), libraries_of(TOP)
     os.environ.setdefault('RT_JOBS', str(max(1, processors // 2)))
     names = [name for name in libraries if Crate(TOP, name, libraries).names()]
-    with tempfile.TemporaryDirectory(prefix='gate-') as folder, ThreadPoolExecutor(len(names) + 3) as pool:
+    with tempfile.TemporaryDirectory(prefix='gate-') as folder, ThreadPoolExecutor(len(names) + 4) as pool:
         proofs, lanes = Proofs(laid(folder, 'built')), laid(folder, 'lanes', max(2, processors - 1))
-        tasks = [pool.submit(proofs_part, proofs)]
+        tasks = [pool.submit(proofs_part, proofs), pool.submit(borrows_part, proofs)]
         tasks += [pool.submit(tests_part, name) for name in ('wrong_bodies.py', 'public_names.py')]
         tasks += [pool.submit(wrong_bodies_part, name, libraries, proofs, lanes) for name in names]
         parts = [it.result() for it in tasks]

@@ -122,6 +122,13 @@ module _ (owned : Owned) (met : List Meeting) (now : Meeting) (k : ℕ) (found :
       in_order entry at (inl was) = inl (behind entry.chain entry.owner was.0)
       in_order entry at (inr here) = inr (here.0, (k, rw here.1 at_k, subst (λ u. Contains (take k (owned u)) (entry.name, entry.symbol)) (sym here.1) here.2))
 
+-- where nothing was found before, all was found in the module that is met now
+pub found_here : (owned : Owned) (met : List Meeting) (now : Meeting) (k : ℕ) (found : List Entry) → AreFound owned met now 0 [] → AreFound owned met now k found → (entry : Entry) → Contains found entry → entry.chain ≡ now.0
+found_here owned met now k found nothing are entry at = elim (are.seen entry at) [
+  | inl was ↦ let first = nothing.covers entry (inl was) (are.passed entry at) in absurd (omega (arith, first.1.1))
+  | inr here ↦ here.0
+]
+
 -- behind the last of its names the module counts among those that were met
 pub module_done : (owned : Owned) (met : List Meeting) (now next : Meeting) (k : ℕ) (found : List Entry) → length (owned now.1) ≤ k → AreFound owned met now k found → AreFound owned (met ++ now ∷ []) next 0 found
 module_done owned met now next k found ended are = record {

@@ -8,8 +8,8 @@ use Rattle.std.proofs.lemmas.List.Folds.{find-append}
 use Rattle.std.proofs.lemmas.Option.{none-some, same_Some}
 use Rattle.std.proofs.lemmas.Slice.Eq.{bytes_eq-Decides}
 use Rattle.symbols_syntax.specs.Graph.{GraphView, ModuleView, module_of, types_of, redirected, resolution_of}
-use Rattle.deno_symbols.specs.Specifiers.{module_under, is_among}
-use Rattle.deno_symbols.specs.TypesChains.{is_analyzable, types_module, chain_from, types_chain, standing_module, stands_for}
+use Rattle.symbols_root.specs.Specifiers.{module_under, is_among}
+use Rattle.symbols_root.specs.TypesChains.{is_analyzable, types_module, chain_from, types_chain, standing_module, stands_for}
 use Rattle.symbols_exports.specs.StarStatements.{text_target}
 
 abbrev IsUnder : GraphView → ModuleView → Type 0

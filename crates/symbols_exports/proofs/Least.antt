@@ -54,6 +54,10 @@ module _ (statements : Statements) (start place : List ℕ) (met : List Meeting)
       let same : at_end.0 ≡ end = same_module at_end.0 end (sym at_end.1 ∙ (ap (chain_end statements start) all ∙ simple.leads)) in
       rw (same, all) at at_end.2
 
+-- a module has one least chain
+pub least_is_one : (statements : Statements) (start : List ℕ) (c d u : List ℕ) → IsLeastChain statements start c u → IsLeastChain statements start d u → c ≡ d
+least_is_one statements start c d u least other = same_both_ways c d (least.least d other.is_chain) (other.least c least.is_chain)
+
 -- what was met is least: exactly the modules whose least chain comes before the place, each by that chain
 pub met_are_least : (statements : Statements) (start place : List ℕ) (met : List Meeting) → StandsAt statements start place met → (c u : List ℕ) → Contains met (c, u) ↔ (IsLeastChain statements start c u × IsBefore c place)
 met_are_least statements start place met stands c u = (is_least, is_met)
@@ -75,7 +79,7 @@ met_are_least statements start place met stands c u = (is_least, is_met)
         subst (λ d. Contains met (d, u)) (same_both_ways by.0 c by.2 (least.0.least by.0 (stands.are_chains by.0 u by.1))) by.1
 
 -- behind the start's last statement every chain lies before the place
-all_before : (statements : Statements) (start chain end : List ℕ) (i : ℕ) → length (statements start) ≤ i → chain_end statements start chain ≡ Some end → IsBefore chain (i ∷ [])
+pub all_before : (statements : Statements) (start chain end : List ℕ) (i : ℕ) → length (statements start) ≤ i → chain_end statements start chain ≡ Some end → IsBefore chain (i ∷ [])
 all_before statements start [] end i ended leads = tt
 all_before statements start (k ∷ chain) end i ended leads = inl (omega (arith, ended, first_is_there statements start end k chain leads))
 

@@ -11,6 +11,7 @@ mod Places
 mod Least
 mod Found
 mod Missed
+mod UpTo
 mod Walks
 mod Unmet
 mod Stored
@@ -20,10 +21,16 @@ mod Distinct
 mod Numbers
 mod TakingNames
 mod Telling
+mod Wanting
+mod WantedNames
 mod Walking
 mod WalkingOn
 mod WalkingEntered
 mod WalkingBack
 mod WalkingEnd
 mod WalkingLess
+mod WalkingName
+mod WalkingCut
+mod NamedAnswer
 mod WalkingAsked
+mod NamedExport

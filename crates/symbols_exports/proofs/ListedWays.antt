@@ -2,7 +2,7 @@
 use Rattle.std.proofs.Common.{◌≡◌, ℕ, zero, suc, ◌+◌, ◌<◌, inl, inr, Bool, true, false, List, [], ◌∷◌, ◌++◌, length, Option, None, Some, refl, sym, ap, subst, ◌∙◌, arith}
 use Rattle.std.specs.Prelude.{Contains, if◌then◌else◌}
 use Rattle.symbols_syntax.specs.Graph.{GraphView}
-use Rattle.deno_symbols.specs.Specifiers.{is_among}
+use Rattle.symbols_root.specs.Specifiers.{is_among}
 use Rattle.symbols_exports.specs.Chains.{Statements, target, IsSimpleChain}
 use Rattle.symbols_exports.specs.StarStatements.{statements_of}
 use Rattle.symbols_exports.specs.Ways.{Way, along, ways_from, ways_of}

@@ -10,8 +10,8 @@ use Rattle.std.proofs.lemmas.Map.Keys.{IsDistinct-push}
 use Rattle.std.proofs.lemmas.Slice.Eq.{bytes_eq-Decides}
 use Rattle.std.proofs.Math.ListN.{get_or-map}
 use Rattle.symbols_syntax.specs.declared.ids.ModuleId.{ModuleId}
-use Rattle.deno_symbols.specs.Specifiers.{is_among}
-use Rattle.deno_symbols.specs.Roots.{RootView, with_stored}
+use Rattle.symbols_root.specs.Specifiers.{is_among}
+use Rattle.symbols_root.specs.Roots.{RootView, with_stored}
 use Rattle.symbols_exports.specs.Exporting.{specifier_in}
 use Rattle.symbols_exports.proofs.Places.{Meeting}
 

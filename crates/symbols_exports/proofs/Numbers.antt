@@ -9,8 +9,8 @@ use Rattle.std.proofs.lemmas.Cmp.{nat_list_eq_equiv}
 use Rattle.std.proofs.lemmas.List.{get_or_append_left, length-append}
 use Rattle.std.proofs.lemmas.Slice.Eq.{bytes_eq-Decides}
 use Rattle.symbols_syntax.specs.declared.ids.ModuleId.{ModuleId}
-use Rattle.deno_symbols.specs.Specifiers.{is_among}
-use Rattle.deno_symbols.specs.Roots.{RootView, with_stored}
+use Rattle.symbols_root.specs.Specifiers.{is_among}
+use Rattle.symbols_root.specs.Roots.{RootView, with_stored}
 use Rattle.symbols_exports.specs.Exporting.{specifier_in, all_stored}
 use Rattle.symbols_exports.proofs.Distinct.{same_place}
 

@@ -8,7 +8,7 @@ use Rattle.std.proofs.lemmas.List.Sums.{sum_by-le}
 use Rattle.std.proofs.lemmas.Option.{none-some}
 use Rattle.std.proofs.lemmas.Slice.Eq.{bytes_eq-Decides}
 use Rattle.symbols_syntax.specs.Graph.{GraphView, ModuleView}
-use Rattle.deno_symbols.specs.Specifiers.{module_under, is_among}
+use Rattle.symbols_root.specs.Specifiers.{module_under, is_among}
 use Rattle.symbols_exports.specs.Chains.{Statements, target, chain_end, IsSimpleChain}
 use Rattle.symbols_exports.specs.StarStatements.{statements_of, star_texts, text_target}
 use Rattle.symbols_exports.proofs.Known.{target_known}

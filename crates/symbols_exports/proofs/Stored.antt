@@ -11,7 +11,7 @@ use Rattle.symbols_table.specs.Changes.{parents_after}
 use Rattle.symbols_table.specs.Modules.{Table, source_of, symbol_in}
 use Rattle.symbols_table.specs.Symbols.{exports_in}
 use Rattle.symbols_table.specs.SymbolViews.{SymbolView, symbol_view, symbol_after, symbol_made}
-use Rattle.deno_symbols.specs.Roots.{RootView, IsStoredTable}
+use Rattle.symbols_root.specs.Roots.{RootView, IsStoredTable}
 use Rattle.symbols_exports.specs.Exporting.{specifier_in}
 use Rattle.symbols_exports.specs.StarStatements.{changes_under, owned_of}
 

@@ -9,7 +9,7 @@ use Rattle.std.proofs.lemmas.Slice.Eq.{bytes_eq-Decides}
 use Rattle.symbols_syntax.specs.declared.ids.ModuleId.{ModuleId}
 use Rattle.symbols_syntax.specs.declared.ids.SymbolId.{SymbolId}
 use Rattle.symbols_syntax.specs.Graph.{GraphView}
-use Rattle.deno_symbols.specs.Roots.{RootView}
+use Rattle.symbols_root.specs.Roots.{RootView}
 use Rattle.symbols_exports.specs.Chains.{IsBefore}
 use Rattle.symbols_exports.specs.Exports.{Owned, Entry, default_name}
 use Rattle.symbols_exports.specs.Exporting.{specifier_in}

@@ -6,7 +6,7 @@ use Rattle.std.proofs.lemmas.List.{same_from_push, length_push, get_or_append_le
 use Rattle.symbols_syntax.specs.declared.ids.ModuleId.{ModuleId}
 use Rattle.symbols_syntax.specs.declared.ids.SymbolId.{SymbolId}
 use Rattle.symbols_syntax.specs.Graph.{GraphView}
-use Rattle.deno_symbols.specs.Roots.{RootView, with_stored}
+use Rattle.symbols_root.specs.Roots.{RootView, with_stored}
 use Rattle.symbols_exports.specs.Chains.{target, chain_end}
 use Rattle.symbols_exports.specs.Exports.{default_name}
 use Rattle.symbols_exports.specs.StarStatements.{statements_of}

@@ -8,7 +8,7 @@ use Rattle.std.proofs.lemmas.List.Sums.{sum_by-cons}
 use Rattle.std.proofs.lemmas.Option.{none-some}
 use Rattle.std.proofs.lemmas.Slice.Eq.{bytes_eq-Decides}
 use Rattle.symbols_syntax.specs.Graph.{ModuleView}
-use Rattle.deno_symbols.specs.Specifiers.{is_among}
+use Rattle.symbols_root.specs.Specifiers.{is_among}
 
 -- nothing where the module is among those that were met
 abbrev pub weighed : (List ℕ → ℕ) → List (List ℕ) → ModuleView → ℕ

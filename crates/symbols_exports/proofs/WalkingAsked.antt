@@ -1,5 +1,5 @@
 -- The steps of the walk by what the calls of its body promise, over the root as it stands.
-use Rattle.std.proofs.Common.{◌≡◌, ℕ, zero, suc, ◌+◌, ◌<◌, ◌≤◌, ◌^◌, Bool, true, false, ◌||◌, not, cond, List, [], ◌∷◌, ◌++◌, length, map, get_or, slice_get, Option, None, Some, Bor, nat_eq, refl, sym, ap, subst, ◌∙◌, arith, true≢false}
+use Rattle.std.proofs.Common.{◌≡◌, ℕ, zero, suc, ◌+◌, ◌<◌, ◌≤◌, ◌^◌, Bool, true, false, ◌||◌, not, cond, List, [], ◌∷◌, ◌++◌, length, map, get_or, slice_get, Option, None, Some, Bor, refl, sym, ap, subst, ◌∙◌, arith, true≢false}
 use Rattle.std.specs.Prelude.{Contains, if◌then◌else◌}
 use Rattle.std.specs.List.{IsDistinct, list_any, position_or_len}
 use Rattle.std.specs.Option.{option_map}
@@ -15,31 +15,33 @@ use Rattle.symbols_syntax.specs.declared.ids.ModuleId.{ModuleId}
 use Rattle.symbols_syntax.specs.Graph.{ModuleView}
 use Rattle.symbols_table.specs.declared.info.fault.SymbolsFault.{SymbolsFault}
 use Rattle.symbols_table.specs.declared.info.fault.SymbolsFault.TheVariants.{OutOfMemory}
-use Rattle.deno_symbols.specs.Specifiers.{module_under, is_among}
-use Rattle.deno_symbols.specs.Roots.{RootView, with_stored, specifier_under, IsRefusal}
+use Rattle.symbols_root.specs.Specifiers.{module_under, is_among}
+use Rattle.symbols_root.specs.Roots.{RootView, with_stored, specifier_under, IsRefusal}
 use Rattle.symbols_exports.specs.declared.exports.turn.Turn.{Turn}
-use Rattle.symbols_exports.specs.Answers.{IsBrokenOff}
+use Rattle.symbols_exports.specs.declared.exports.wanted.Wanted.{Wanted}
 use Rattle.symbols_exports.specs.Exporting.{specifier_in}
-use Rattle.symbols_exports.specs.StarStatements.{star_texts, text_target, statements_of, owned_of}
-use Rattle.symbols_exports.specs.Taking.{NameView, turn_told, with_names}
+use Rattle.symbols_exports.specs.StarStatements.{star_texts, text_target, statements_of}
+use Rattle.symbols_exports.specs.Taking.{NameView, is_number, turn_told, with_names}
+use Rattle.symbols_exports.specs.Wanted.{owned_for, is_done}
 use Rattle.symbols_exports.proofs.MetModules.{met_modules, among_is_met, among_stored, stored_already, still_once}
 use Rattle.symbols_exports.proofs.Numbers.{number_kept, number_among, same_under, still_within}
 use Rattle.symbols_exports.proofs.Places.{Meeting}
 use Rattle.symbols_exports.proofs.Walking.{IsWalking, walking_first, all_few, statements_counted}
 use Rattle.symbols_exports.proofs.WalkingOn.{walking_graph, is_one, walking_nowhere, walking_met}
 use Rattle.symbols_exports.proofs.WalkingEntered.{walking_entered}
-use Rattle.symbols_exports.proofs.WalkingEnd.{broken_refused, broken_nowhere, broken_stored, not_met}
+use Rattle.symbols_exports.proofs.WalkingCut.{IsCut, cut_first, cut_refused, cut_nowhere, cut_stored}
+use Rattle.symbols_exports.proofs.WalkingEnd.{not_met}
 use Rattle.symbols_exports.proofs.WalkingLess.{work_left, next_less, entered_less}
 
 -- ---- the start
 
-pub begun : (old : RootView) (start : ModuleId) → start.0 < length old.stored → IsWalking old start old start 0 [] (start ∷ []) (with_names [] start (owned_of old.graph (specifier_in old start)) []) [] 0
-begun old start known = walking_first old start known (stored_already old (specifier_in old start) (list_any_at (bytes_eq (specifier_in old start)) old.stored start.0 [] known (nat_list_eq_equiv.refl (specifier_in old start))))
+pub begun : (wanted : Wanted) (old : RootView) (start : ModuleId) → start.0 < length old.stored → IsWalking wanted old start old start 0 [] (start ∷ []) (with_names [] start (owned_for wanted old.graph (specifier_in old start)) []) [] 0
+begun wanted old start known = walking_first wanted old start known (stored_already old (specifier_in old start) (list_any_at (bytes_eq (specifier_in old start)) old.stored start.0 [] known (nat_list_eq_equiv.refl (specifier_in old start))))
+
+pub begun_cut : (wanted : Wanted) (old : RootView) (start : ModuleId) → start.0 < length old.stored → IsCut wanted old old start OutOfMemory 0
+begun_cut wanted old start known = cut_first wanted old start known (stored_already old (specifier_in old start) (list_any_at (bytes_eq (specifier_in old start)) old.stored start.0 [] known (nat_list_eq_equiv.refl (specifier_in old start))))
 
 -- ---- what a set of numbers says
-
-abbrev pub is_number : ModuleId → ModuleId → Bool
-is_number x y = nat_eq x.0 y.0
 
 pub new_key : (keys after : List ModuleId) (id : ModuleId) (is_new : Bool) → is_new ≡ not (list_any (is_number id) keys) → after ≡ insert_key is_number keys id → is_new ≡ true → (list_any (is_number id) keys ≡ false) × (after ≡ keys ++ id ∷ [])
 new_key keys after id is_new said inserted new = by (list_any (is_number id) keys) (sym said ∙ new) inserted
@@ -64,6 +66,23 @@ new_place (key ∷ keys) id none = by (is_number id key) none (new_place keys id
     by true is rest = absurd (true≢false is)
     by false is rest = omega (arith, rest is)
 
+-- so where its place is a number of 64 bits, they are fewer than 2^64
+pub new_few : (keys : List ModuleId) (id : ModuleId) (is_new : Bool) (place : ℕ) → is_new ≡ not (list_any (is_number id) keys) → place ≡ position_or_len (is_number id) keys → place < 2 ^ 64 → is_new ≡ true → length keys < 2 ^ 64
+new_few keys id is_new place said at fits new = by (list_any (is_number id) keys) (sym said ∙ new) (new_place keys id)
+  where
+    by : (b : Bool) → not b ≡ true → (b ≡ false → position_or_len (is_number id) keys ≡ length keys) → length keys < 2 ^ 64
+    by true is behind = absurd (true≢false (sym is))
+    by false is behind = omega (arith, behind refl, at, fits)
+
+-- what a walk has by whether a module is new
+pub if_new : {A : Type 0} (is_new : Bool) (x y z : A) → x ≡ (if is_new then y else z) → is_new ≡ true → x ≡ y
+if_new true x y z same is = same
+if_new false x y z same is = absurd (true≢false (sym is))
+
+pub if_old : {A : Type 0} (is_new : Bool) (x y z : A) → x ≡ (if is_new then y else z) → is_new ≡ false → x ≡ z
+if_old true x y z same is = absurd (true≢false is)
+if_old false x y z same is = same
+
 -- ---- what an optional target says
 
 gives_none : (f : ModuleId → Option (List ℕ)) (leads : Option (List ℕ)) → option_map f None ≡ option_map (λ (s : List ℕ). Some s) leads → leads ≡ None
@@ -82,7 +101,7 @@ ended_past [] n none = omega arith
 ended_past (x ∷ xs) zero none = absurd (none-some x (sym none))
 ended_past (x ∷ xs) (suc n) none = omega (arith, ended_past xs n none)
 
-module _ {old : RootView} {start : ModuleId} {root : RootView} {here : ModuleId} {next : ℕ} {above : List Turn} {ids : List ModuleId} {names : List NameView} {unresolved : List (ModuleId × List ℕ)} {asked : ℕ} (walk : IsWalking old start root here next above ids names unresolved asked) (few : length (star_texts root.graph (specifier_in root here)) < 2 ^ 63) where
+module _ {wanted : Wanted} {old : RootView} {start : ModuleId} {root : RootView} {here : ModuleId} {next : ℕ} {above : List Turn} {ids : List ModuleId} {names : List NameView} {unresolved : List (ModuleId × List ℕ)} {asked : ℕ} (walk : IsWalking wanted old start root here next above ids names unresolved asked) (few : length (star_texts root.graph (specifier_in root here)) < 2 ^ 63) where
   pub few_here : length (statements_of old.graph (specifier_in root here)) < 2 ^ 63
   few_here = omega (arith, statements_counted old.graph (specifier_in root here), subst (λ g. length (star_texts g (specifier_in root here)) < 2 ^ 63) (walking_graph walk) few)
 
@@ -112,8 +131,8 @@ module _ {old : RootView} {start : ModuleId} {root : RootView} {here : ModuleId}
         at_most m has = omega (arith, all_few walk few_here m.0 m.1 has)
 
     -- the root refused
-    pub asked_refused : (after : RootView) (fault : SymbolsFault) → after ≡ root → IsRefusal root (text_target root.graph (specifier_in root here) text.now) fault → IsBrokenOff old after start fault (asked + 1)
-    asked_refused after fault same refused = subst (λ r. IsBrokenOff old r start fault (asked + 1)) (sym same) (broken_refused turn walk text_is few_here fault (subst (λ g. IsRefusal root (text_target g (specifier_in root here) text.now) fault) (walking_graph walk) refused))
+    pub asked_refused : is_done wanted names ≡ false → (after : RootView) (fault : SymbolsFault) → after ≡ root → IsRefusal root (text_target root.graph (specifier_in root here) text.now) fault → IsCut wanted old after start fault (asked + 1)
+    asked_refused goes after fault same refused = subst (λ r. IsCut wanted old r start fault (asked + 1)) (sym same) (cut_refused wanted turn walk goes text_is few_here fault (subst (λ g. IsRefusal root (text_target g (specifier_in root here) text.now) fault) (walking_graph walk) refused))
 
     -- it leads nowhere
     module _ (after : RootView) (stored : after ≡ with_stored root (text_target root.graph (specifier_in root here) text.now)) (gives : option_map (specifier_under after) None ≡ option_map (λ (s : List ℕ). Some s) (text_target root.graph (specifier_in root here) text.now)) where
@@ -123,11 +142,11 @@ module _ {old : RootView} {start : ModuleId} {root : RootView} {here : ModuleId}
       same_root : after ≡ root
       same_root = stored ∙ ap (with_stored root) leads_nowhere
 
-      pub asked_nowhere : IsWalking old start after here (next + 1) above ids names (unresolved ++ (here, text.now) ∷ []) (asked + 1)
-      asked_nowhere = subst (λ r. IsWalking old start r here (next + 1) above ids names (unresolved ++ (here, text.now) ∷ []) (asked + 1)) (sym same_root) (walking_nowhere walk text.now text_is (subst (λ g. text_target g (specifier_in root here) text.now ≡ None) (walking_graph walk) leads_nowhere))
+      pub asked_nowhere : is_done wanted names ≡ false → IsWalking wanted old start after here (next + 1) above ids names (unresolved ++ (here, text.now) ∷ []) (asked + 1)
+      asked_nowhere goes = subst (λ r. IsWalking wanted old start r here (next + 1) above ids names (unresolved ++ (here, text.now) ∷ []) (asked + 1)) (sym same_root) (walking_nowhere walk text.now text_is goes (subst (λ g. text_target g (specifier_in root here) text.now ≡ None) (walking_graph walk) leads_nowhere))
 
-      pub nowhere_broken : IsBrokenOff old after start OutOfMemory (asked + 1)
-      nowhere_broken = subst (λ r. IsBrokenOff old r start OutOfMemory (asked + 1)) (sym same_root) (broken_nowhere turn walk text_is few_here)
+      pub nowhere_cut : is_done wanted names ≡ false → IsCut wanted old after start OutOfMemory (asked + 1)
+      nowhere_cut goes = subst (λ r. IsCut wanted old r start OutOfMemory (asked + 1)) (sym same_root) (cut_nowhere wanted turn walk goes text_is few_here)
 
       pub nowhere_less : work_left old.graph after here (next + 1) above ids < work_left old.graph root here next above ids
       nowhere_less = subst (λ r. work_left old.graph r here (next + 1) above ids < work_left old.graph root here next above ids) (sym same_root) (next_less old.graph root here next above ids (is_one walk text.now text_is))
@@ -149,8 +168,8 @@ module _ {old : RootView} {start : ModuleId} {root : RootView} {here : ModuleId}
       pub number_in : number.0 < length after.stored
       number_in = slice_get_within after.stored number.0 led.0 led.2
 
-      pub somewhere_broken : IsBrokenOff old after start OutOfMemory (asked + 1)
-      somewhere_broken = subst (λ r. IsBrokenOff old r start OutOfMemory (asked + 1)) (sym more_is) (broken_stored turn walk text_is few_here led.0 leads)
+      pub somewhere_cut : is_done wanted names ≡ false → IsCut wanted old after start OutOfMemory (asked + 1)
+      somewhere_cut goes = subst (λ r. IsCut wanted old r start OutOfMemory (asked + 1)) (sym more_is) (cut_stored wanted turn walk goes text_is few_here led.0 leads)
 
       module _ (once : IsDistinct bytes_eq root.stored) where
         -- the set of numbers tells whether the module was met
@@ -170,10 +189,10 @@ module _ {old : RootView} {start : ModuleId} {root : RootView} {here : ModuleId}
           root_stays : after ≡ root
           root_stays = more_is ∙ stored_already root led.0 (among_stored root ids led.0 walk.inside.ids_in (subst (λ xs. is_among xs led.0 ≡ true) walk.met_are was_met))
 
-          pub asked_met : IsWalking old start after here (next + 1) above ids names unresolved (asked + 1)
-          asked_met =
+          pub asked_met : is_done wanted names ≡ false → IsWalking wanted old start after here (next + 1) above ids names unresolved (asked + 1)
+          asked_met goes =
               let by = among_is_met walk.met led.0 was_met in
-              subst (λ r. IsWalking old start r here (next + 1) above ids names unresolved (asked + 1)) (sym root_stays) (walking_met walk text.now text_is led.0 leads by.0 by.1)
+              subst (λ r. IsWalking wanted old start r here (next + 1) above ids names unresolved (asked + 1)) (sym root_stays) (walking_met walk text.now text_is goes led.0 leads by.0 by.1)
 
           pub met_less : work_left old.graph after here (next + 1) above ids < work_left old.graph root here next above ids
           met_less = subst (λ r. work_left old.graph r here (next + 1) above ids < work_left old.graph root here next above ids) (sym root_stays) (next_less old.graph root here next above ids (is_one walk text.now text_is))
@@ -183,16 +202,16 @@ module _ {old : RootView} {start : ModuleId} {root : RootView} {here : ModuleId}
           fresh = sym met_is ∙ new
 
           abbrev names_too : RootView → List NameView
-          names_too r = with_names (map turn_told (above ++ turn ∷ [])) number (owned_of r.graph (specifier_in r number)) names
+          names_too r = with_names (map turn_told (above ++ turn ∷ [])) number (owned_for wanted r.graph (specifier_in r number)) names
 
-          pub asked_entered : IsWalking old start after number 0 (above ++ turn ∷ []) (ids ++ number ∷ []) (names_too after) unresolved (asked + 1)
-          asked_entered =
+          pub asked_entered : is_done wanted names ≡ false → IsWalking wanted old start after number 0 (above ++ turn ∷ []) (ids ++ number ∷ []) (names_too after) unresolved (asked + 1)
+          asked_entered goes =
               let more : RootView = with_stored root (Some led.0) in
               let called : specifier_in more number ≡ led.0 = get_or_from_slice_get more.stored number.0 led.0 [] number_under in
-              let entered = walking_entered turn walk text_is few_here led.0 leads (not_met turn walk text_is few_here led.0 fresh) number number_under in
-              let owned : owned_of old.graph led.0 ≡ owned_of more.graph (specifier_in more number) = (λ i. owned_of (sym (walking_graph walk) i) (sym called i)) in
-              subst (λ r. IsWalking old start r number 0 (above ++ turn ∷ []) (ids ++ number ∷ []) (names_too r) unresolved (asked + 1)) (sym more_is)
-              (subst (λ own. IsWalking old start more number 0 (above ++ turn ∷ []) (ids ++ number ∷ []) (with_names (map turn_told (above ++ turn ∷ [])) number own names) unresolved (asked + 1)) owned entered)
+              let entered = walking_entered turn walk text_is few_here led.0 leads (not_met turn walk text_is few_here led.0 fresh) number number_under goes in
+              let owned : owned_for wanted old.graph led.0 ≡ owned_for wanted more.graph (specifier_in more number) = (λ i. owned_for wanted (sym (walking_graph walk) i) (sym called i)) in
+              subst (λ r. IsWalking wanted old start r number 0 (above ++ turn ∷ []) (ids ++ number ∷ []) (names_too r) unresolved (asked + 1)) (sym more_is)
+              (subst (λ own. IsWalking wanted old start more number 0 (above ++ turn ∷ []) (ids ++ number ∷ []) (with_names (map turn_told (above ++ turn ∷ [])) number own names) unresolved (asked + 1)) owned entered)
 
           pub asked_less : ((v : List ℕ) → text_target root.graph (specifier_in root here) text.now ≡ Some v → (m : ModuleView) × (module_under root.graph v ≡ Some m)) → work_left old.graph after number 0 (above ++ turn ∷ []) (ids ++ number ∷ []) < work_left old.graph root here next above ids
           asked_less there =

@@ -1,19 +1,22 @@
 -- The walk behind the last statement of a module: back to the one that led there, or at its end.
-use Rattle.std.proofs.Common.{◌≡◌, ℕ, ◌+◌, ◌<◌, ◌≤◌, ◌^◌, inr, List, [], ◌∷◌, ◌++◌, length, map, Some, refl, sym, ◌∙◌, arith}
+use Rattle.std.proofs.Common.{◌≡◌, ℕ, ◌+◌, ◌<◌, ◌≤◌, ◌^◌, inr, List, [], ◌∷◌, ◌++◌, length, map, Some, refl, sym, ◌∙◌, arith, false, true, true≢false}
 use Rattle.std.proofs.lemmas.List.{map-append, length_push, get_or_append_left, get_or_push}
 use Rattle.std.proofs.lemmas.List.Sums.{sum_by_push}
 use Rattle.symbols_syntax.specs.declared.ids.ModuleId.{ModuleId}
-use Rattle.deno_symbols.specs.Roots.{RootView}
+use Rattle.symbols_root.specs.Roots.{RootView}
 use Rattle.symbols_exports.specs.declared.exports.turn.Turn.{Turn}
+use Rattle.symbols_exports.specs.declared.exports.wanted.Wanted.{Wanted}
 use Rattle.symbols_exports.specs.Chains.{chain_end}
 use Rattle.symbols_exports.specs.Exporting.{specifier_in}
 use Rattle.symbols_exports.specs.StarStatements.{statements_of}
 use Rattle.symbols_exports.specs.Taking.{NameView, turn_told}
 use Rattle.symbols_exports.specs.Told.{told_chain, told_number, AreNumbered}
+use Rattle.symbols_exports.specs.Wanted.{is_done}
 use Rattle.symbols_exports.proofs.Ends.{same_module, leads_back, place_is_there}
+use Rattle.symbols_exports.proofs.Missed.{IsThere, LeadsNowhere}
 use Rattle.symbols_exports.proofs.Telling.{told_pop}
 use Rattle.symbols_exports.proofs.Walking.{IsWalking, all_few, fork_in, forks_in, left, left_at, count_met}
-use Rattle.symbols_exports.proofs.Walks.{Fork, chain_of, IsAt, at_back, missed_at_back}
+use Rattle.symbols_exports.proofs.Walks.{Fork, chain_of, IsAt, at_back, kept_at_back}
 
 -- of numbers with one more behind them
 numbered_front : (root : RootView) (statements : List (ModuleId × List ℕ)) (last : ModuleId × List ℕ) → AreNumbered root (statements ++ last ∷ []) → AreNumbered root statements
@@ -26,7 +29,7 @@ numbered_last root statements last are =
     let there : length statements < length (statements ++ last ∷ []) = omega (arith, length_push statements last) in
     rw (get_or_push statements last last (length statements) refl) at (are (length statements) last there)
 
-module _ {old : RootView} {start : ModuleId} {root : RootView} {here : ModuleId} {next : ℕ} (above : List Turn) (turn : Turn) {ids : List ModuleId} {names : List NameView} {unresolved : List (ModuleId × List ℕ)} {asked : ℕ} (walk : IsWalking old start root here next (above ++ turn ∷ []) ids names unresolved asked) (ended : length (statements_of old.graph (specifier_in root here)) ≤ next) (few_here : length (statements_of old.graph (specifier_in root here)) < 2 ^ 63) where
+module _ {wanted : Wanted} {old : RootView} {start : ModuleId} {root : RootView} {here : ModuleId} {next : ℕ} (above : List Turn) (turn : Turn) {ids : List ModuleId} {names : List NameView} {unresolved : List (ModuleId × List ℕ)} {asked : ℕ} (walk : IsWalking wanted old start root here next (above ++ turn ∷ []) ids names unresolved asked) (ended : length (statements_of old.graph (specifier_in root here)) ≤ next) (few_here : length (statements_of old.graph (specifier_in root here)) < 2 ^ 63) where
   pub forks_are : forks_in root (above ++ turn ∷ []) ≡ forks_in root above ++ fork_in root turn ∷ []
   forks_are = map-append (fork_in root) above (turn ∷ [])
 
@@ -66,8 +69,8 @@ module _ {old : RootView} {start : ModuleId} {root : RootView} {here : ModuleId}
   pub turn_fits : turn.position + 1 < 2 ^ 64
   turn_fits = omega (arith, led_here, all_few walk few_here (chain_of (forks_in root above)) (specifier_in root turn.referrer) is_back.here_met)
 
-  pub walking_back : IsWalking old start root turn.referrer (turn.position + 1) above ids names unresolved asked
-  walking_back = record {
+  pub walking_back : is_done wanted names ≡ false → IsWalking wanted old start root turn.referrer (turn.position + 1) above ids names unresolved asked
+  walking_back goes = record {
     known = walk.known;
     stored = walk.stored;
     inside = record {
@@ -85,8 +88,12 @@ module _ {old : RootView} {start : ModuleId} {root : RootView} {here : ModuleId}
     found_are = walk.found_are;
     found_told = walk.found_told;
     missed = walk.missed;
-    missed_are = missed_at_back (forks_in root above) (fork_in root turn) stood_at ended walk.missed (rw forks_are at walk.missed_are);
+    missed_are = kept_at_back (forks_in root above) (fork_in root turn) stood_at ended (LeadsNowhere (statements_of old.graph)) (λ u k none. none.0) walk.missed (rw forks_are at walk.missed_are);
     missed_told = walk.missed_told;
+    behind = walk.behind;
+    behind_are = kept_at_back (forks_in root above) (fork_in root turn) stood_at ended (IsThere (statements_of old.graph)) (λ u k there. there) walk.behind (rw forks_are at walk.behind_are);
+    behind_counted = walk.behind_counted;
+    stops = λ done. absurd (true≢false (sym done ∙ goes));
     next_in = omega (arith, led_here);
     few = λ c u cu. inr (all_few walk few_here c u cu);
     counted = still_counted;

@@ -1,5 +1,5 @@
 -- The walk behind the last statement of the module where it began, and where it is broken off.
-use Rattle.std.proofs.Common.{◌≡◌, ℕ, ◌+◌, ◌<◌, ◌≤◌, ◌^◌, Bool, true, false, List, [], ◌∷◌, ◌++◌, length, slice_get, Option, None, Some, refl, sym, ap, subst, ◌∙◌, arith, true≢false}
+use Rattle.std.proofs.Common.{◌≡◌, ℕ, ◌+◌, ◌<◌, ◌≤◌, ◌^◌, Bool, true, false, inl, inr, Result, Ok, Err, IfOk, IfErr, List, [], ◌∷◌, ◌++◌, length, slice_get, Option, None, Some, refl, sym, ap, subst, ◌∙◌, arith, true≢false}
 use Rattle.std.specs.Prelude.{Contains, map}
 use Rattle.std.proofs.lemmas.List.Sums.{sum_by_push}
 use Rattle.std.proofs.lemmas.Option.{none-some}
@@ -7,23 +7,25 @@ use Rattle.symbols_syntax.specs.declared.ids.ModuleId.{ModuleId}
 use Rattle.symbols_syntax.specs.Graph.{GraphView}
 use Rattle.symbols_table.specs.declared.info.fault.SymbolsFault.{SymbolsFault}
 use Rattle.symbols_table.specs.declared.info.fault.SymbolsFault.TheVariants.{OutOfMemory}
-use Rattle.deno_symbols.specs.Roots.{RootView, with_stored, IsRefusal}
-use Rattle.deno_symbols.specs.Specifiers.{is_among}
+use Rattle.symbols_root.specs.Roots.{RootView, with_stored, IsRefusal}
+use Rattle.symbols_root.specs.Specifiers.{is_among}
 use Rattle.symbols_exports.specs.declared.exports.turn.Turn.{Turn}
+use Rattle.symbols_exports.specs.declared.exports.wanted.Wanted.{Wanted}
+use Rattle.symbols_exports.specs.declared.exports.wanted.Wanted.TheVariants.{AllNames}
 use Rattle.symbols_exports.specs.Answers.{IsAnswer, IsBrokenOff}
 use Rattle.symbols_exports.specs.Chains.{IsReached}
 use Rattle.symbols_exports.specs.Exporting.{specifier_in, all_stored}
 use Rattle.symbols_exports.specs.StarStatements.{star_texts, text_target, statements_of, owned_of}
 use Rattle.symbols_exports.specs.Taking.{NameView}
 use Rattle.symbols_exports.specs.Told.{told_statement, told_export}
-use Rattle.symbols_exports.specs.Answers.{AreListed}
+use Rattle.symbols_exports.specs.Answers.{AreListed, IsFault}
 use Rattle.symbols_exports.proofs.Distinct.{owns_once}
 use Rattle.symbols_exports.proofs.ExportsListed.{exports_are_listed, exports_are_one}
 use Rattle.symbols_exports.proofs.UnresolvedListed.{unresolved_are_listed, unresolved_are_one}
 use Rattle.symbols_exports.proofs.Found.{are_exports}
 use Rattle.symbols_exports.proofs.Least.{met_are_least}
 use Rattle.symbols_exports.proofs.MetModules.{met_modules, met_is_among, among_is_met, among_stored, stored_already}
-use Rattle.symbols_exports.proofs.Numbers.{stored_one_more}
+use Rattle.symbols_exports.proofs.Numbers.{stored_one_more, graph_kept}
 use Rattle.symbols_exports.proofs.Places.{Meeting}
 use Rattle.symbols_exports.proofs.Walking.{IsWalking, forks_in, count_met}
 use Rattle.symbols_exports.proofs.WalkingOn.{is_one, leads_to}
@@ -33,25 +35,9 @@ met_push : (met : List Meeting) (place v : List ℕ) → met_modules (met ++ (pl
 met_push [] place v = refl
 met_push (m ∷ met) place v = ap (λ xs. m.1 ∷ xs) (met_push met place v)
 
-module _ {old : RootView} {start : ModuleId} {root : RootView} {here : ModuleId} {next : ℕ} {above : List Turn} {ids : List ModuleId} {names : List NameView} {unresolved : List (ModuleId × List ℕ)} {asked : ℕ} (walk : IsWalking old start root here next above ids names unresolved asked) where
-  stored_is : root ≡ all_stored old (met_modules walk.met)
+module _ {wanted : Wanted} {old : RootView} {start : ModuleId} {root : RootView} {here : ModuleId} {next : ℕ} {above : List Turn} {ids : List ModuleId} {names : List NameView} {unresolved : List (ModuleId × List ℕ)} {asked : ℕ} (walk : IsWalking wanted old start root here next above ids names unresolved asked) where
+  pub stored_is : root ≡ all_stored old (met_modules walk.met)
   stored_is = walk.stored ∙ ap (all_stored old) (sym walk.met_are)
-
-  pub walking_end : above ≡ [] → length (statements_of old.graph (specifier_in root here)) ≤ next → IsAnswer old root start names unresolved asked
-  walking_end none_above ended =
-      let no_turns : forks_in root above ≡ [] = ap (forks_in root) none_above in
-      let reached = all_reached walk.at ended no_turns in
-      record {
-        known = walk.known;
-        names_tell = sym walk.found_told ∙ ap (map (told_export old.graph (specifier_in old start))) (exports_are_one old.graph (specifier_in old start) walk.found (are_exports (statements_of old.graph) (owned_of old.graph) (specifier_in old start) walk.met ([], []) walk.found (owns_once old.graph) reached (walk.found_are ([], []))));
-        names_stored = walk.inside.names_in;
-        unresolved_tell = sym walk.missed_told ∙ ap (map (told_statement old.graph)) (unresolved_are_one old.graph (specifier_in old start) walk.missed (all_unresolved walk.at ended no_turns walk.missed walk.missed_are));
-        unresolved_stored = walk.inside.unresolved_in;
-        reached = walk.met;
-        are_reached = reached;
-        stored = stored_is;
-        asked_once = omega (arith, rw no_turns at walk.counted, ended);
-      }
 
   -- broken off where it stands
   pub broken : (fault : SymbolsFault) (needed : Option (List ℕ)) (so_far : ℕ) → so_far ≤ count_met (statements_of old.graph) walk.met → ((v : List ℕ) → needed ≡ Some v → IsReached (statements_of old.graph) (specifier_in old start) v) → IsRefusal root needed fault → IsBrokenOff old root start fault so_far
@@ -71,7 +57,25 @@ module _ {old : RootView} {start : ModuleId} {root : RootView} {here : ModuleId}
   pub broken_here : IsBrokenOff old root start OutOfMemory asked
   broken_here = broken OutOfMemory None asked (omega (arith, walk.counted)) (λ v some. absurd (none-some v some)) tt
 
-module _ {old : RootView} {start : ModuleId} {root : RootView} (turn : Turn) {above : List Turn} {ids : List ModuleId} {names : List NameView} {unresolved : List (ModuleId × List ℕ)} {asked : ℕ} (walk : IsWalking old start root turn.referrer turn.position above ids names unresolved asked) (text_is : slice_get (star_texts old.graph (specifier_in root turn.referrer)) turn.position ≡ Some turn.text.now) (few_here : length (statements_of old.graph (specifier_in root turn.referrer)) < 2 ^ 63) where
+-- behind the last statement, where all names were taken
+module _ {old : RootView} {start : ModuleId} {root : RootView} {here : ModuleId} {next : ℕ} {above : List Turn} {ids : List ModuleId} {names : List NameView} {unresolved : List (ModuleId × List ℕ)} {asked : ℕ} (walk : IsWalking AllNames old start root here next above ids names unresolved asked) where
+  pub walking_end : above ≡ [] → length (statements_of old.graph (specifier_in root here)) ≤ next → IsAnswer old root start names unresolved asked
+  walking_end none_above ended =
+      let no_turns : forks_in root above ≡ [] = ap (forks_in root) none_above in
+      let reached = all_reached walk.at ended no_turns in
+      record {
+        known = walk.known;
+        names_tell = sym walk.found_told ∙ ap (map (told_export old.graph (specifier_in old start))) (exports_are_one old.graph (specifier_in old start) walk.found (are_exports (statements_of old.graph) (owned_of old.graph) (specifier_in old start) walk.met ([], []) walk.found (owns_once old.graph) reached (walk.found_are ([], []))));
+        names_stored = walk.inside.names_in;
+        unresolved_tell = sym walk.missed_told ∙ ap (map (told_statement old.graph)) (unresolved_are_one old.graph (specifier_in old start) walk.missed (all_unresolved walk.at ended no_turns walk.missed walk.missed_are));
+        unresolved_stored = walk.inside.unresolved_in;
+        reached = walk.met;
+        are_reached = reached;
+        stored = stored_is walk;
+        asked_once = omega (arith, rw no_turns at walk.counted, ended);
+      }
+
+module _ {wanted : Wanted} {old : RootView} {start : ModuleId} {root : RootView} (turn : Turn) {above : List Turn} {ids : List ModuleId} {names : List NameView} {unresolved : List (ModuleId × List ℕ)} {asked : ℕ} (walk : IsWalking wanted old start root turn.referrer turn.position above ids names unresolved asked) (text_is : slice_get (star_texts old.graph (specifier_in root turn.referrer)) turn.position ≡ Some turn.text.now) (few_here : length (statements_of old.graph (specifier_in root turn.referrer)) < 2 ^ 63) where
   one_more : asked + 1 ≤ count_met (statements_of old.graph) walk.met
   one_more = omega (arith, walk.counted, is_one walk turn.text.now text_is)
 
@@ -86,6 +90,9 @@ module _ {old : RootView} {start : ModuleId} {root : RootView} (turn : Turn) {ab
       by false is =
           let at = at_entered walk.at v (leads_to walk turn.text.now text_is ∙ leads) (not_met v is) in
           (chain_of (forks_in root above ++ record { referrer = specifier_in root turn.referrer; position = turn.position } ∷ []), at.stands.are_chains (chain_of (forks_in root above ++ record { referrer = specifier_in root turn.referrer; position = turn.position } ∷ [])) v at.here_met)
+
+  pub stored_with : (v place : List ℕ) → with_stored root (Some v) ≡ all_stored old (met_modules (walk.met ++ (place, v) ∷ []))
+  stored_with v place = ap (λ (r : RootView). with_stored r (Some v)) (stored_is walk) ∙ (sym (stored_one_more old (met_modules walk.met) v) ∙ ap (all_stored old) (sym (met_push walk.met place v)))
 
   -- where the module that the statement leads to is refused
   pub broken_refused : (fault : SymbolsFault) → IsRefusal root (text_target old.graph (specifier_in root turn.referrer) turn.text.now) fault → IsBrokenOff old root start fault (asked + 1)
@@ -109,15 +116,12 @@ module _ {old : RootView} {start : ModuleId} {root : RootView} (turn : Turn) {ab
             reached = walk.met ++ (place, v) ∷ [];
             are_least = λ c u cu. ((met_are_least (statements_of old.graph) (specifier_in old start) (place_of (forks_in root above ++ record { referrer = specifier_in root turn.referrer; position = turn.position } ∷ []) 0) (walk.met ++ (place, v) ∷ []) at.stands c u).0 cu).0;
             ordered = at.stands.ordered;
-            stored = stored_too place;
+            stored = stored_with v place;
             asked_once = omega (arith, one_more, sum_by_push (λ (m : Meeting). length (statements_of old.graph m.1)) walk.met (place, v));
             needed = None;
             is_reached = λ w some. absurd (none-some w some);
             refused = tt;
           }
-        where
-          stored_too : (place : List ℕ) → with_stored root (Some v) ≡ all_stored old (met_modules (walk.met ++ (place, v) ∷ []))
-          stored_too place = ap (λ (r : RootView). with_stored r (Some v)) (stored_is walk) ∙ (sym (stored_one_more old (met_modules walk.met) v) ∙ ap (all_stored old) (sym (met_push walk.met place v)))
 
 -- the lists are those of the definitions
 pub are_listed : (graph : GraphView) (start : List ℕ) → AreListed graph start
@@ -127,3 +131,18 @@ are_listed graph start = record {
   are_unresolved = unresolved_are_listed graph start;
   only_unresolved = unresolved_are_one graph start;
 }
+
+-- the graph and the limits stay
+kept_by : (old : RootView) (specifiers : List (List ℕ)) (new : RootView) → new ≡ all_stored old specifiers → (new.graph ≡ old.graph) × (new.limits ≡ old.limits)
+kept_by old specifiers new stored = let kept = graph_kept old specifiers in (ap (λ (r : RootView). r.graph) stored ∙ kept.0, ap (λ (r : RootView). r.limits) stored ∙ kept.1)
+
+pub answer_keeps : {old new : RootView} {start : ModuleId} {names : List NameView} {unresolved : List (ModuleId × List ℕ)} {asked : ℕ} → IsAnswer old new start names unresolved asked → (new.graph ≡ old.graph) × (new.limits ≡ old.limits)
+answer_keeps {old} {new} answer = kept_by old (met_modules answer.reached) new answer.stored
+
+pub fault_keeps : {old new : RootView} {start : ModuleId} {fault : SymbolsFault} {asked : ℕ} → IsFault old new start fault asked → (new.graph ≡ old.graph) × (new.limits ≡ old.limits)
+fault_keeps {old} {new} (inl unknown) = (ap (λ (r : RootView). r.graph) unknown.unchanged, ap (λ (r : RootView). r.limits) unknown.unchanged)
+fault_keeps {old} {new} (inr broken) = kept_by old (met_modules broken.reached) new broken.stored
+
+pub all_keep : {A : Type 0} (r : Result A SymbolsFault) (old new : RootView) (start : ModuleId) (before now : ℕ) (names : A → List NameView) (unresolved : A → List (ModuleId × List ℕ)) → IfOk r (λ answer. (asked : ℕ) × (now ≡ before + asked) × IsAnswer old new start (names answer) (unresolved answer) asked) → IfErr r (λ fault. (asked : ℕ) × (now ≡ before + asked) × IsFault old new start fault asked) → (new.graph ≡ old.graph) × (new.limits ≡ old.limits)
+all_keep (Ok answer) old new start before now names unresolved is none = answer_keeps is.2
+all_keep (Err fault) old new start before now names unresolved none is = fault_keeps is.2

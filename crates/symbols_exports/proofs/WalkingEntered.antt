@@ -1,26 +1,29 @@
 -- The step of the walk to a module that wasn't met, which is stored then.
-use Rattle.std.proofs.Common.{◌≡◌, ℕ, suc, ◌+◌, ◌<◌, ◌^◌, ◌⊎◌, inl, inr, List, [], ◌∷◌, ◌++◌, length, map, get_or, slice_get, Option, Some, refl, sym, ap, ◌∙◌, arith}
+use Rattle.std.proofs.Common.{◌≡◌, ℕ, suc, ◌+◌, ◌<◌, ◌^◌, ◌⊎◌, inl, inr, List, [], ◌∷◌, ◌++◌, length, map, get_or, slice_get, Option, Some, refl, sym, ap, ◌∙◌, arith, false, true, true≢false}
 use Rattle.std.specs.Prelude.{Contains}
 use Rattle.std.proofs.lemmas.List.{map-append, length_push, get_or_append_left, get_or_push}
 use Rattle.std.proofs.lemmas.List.Elements.{Contains-push_cases}
 use Rattle.std.proofs.lemmas.List.Sums.{sum_by_push}
-use Rattle.std.proofs.lemmas.Option.{slice_get_within, get_or_from_slice_get}
+use Rattle.std.proofs.lemmas.Option.{none-some, slice_get_within, get_or_from_slice_get}
 use Rattle.symbols_syntax.specs.declared.ids.ModuleId.{ModuleId}
-use Rattle.deno_symbols.specs.Roots.{RootView, with_stored, specifier_under}
+use Rattle.symbols_root.specs.Roots.{RootView, with_stored, specifier_under}
 use Rattle.symbols_exports.specs.declared.exports.turn.Turn.{Turn}
+use Rattle.symbols_exports.specs.declared.exports.wanted.Wanted.{Wanted}
 use Rattle.symbols_exports.specs.Chains.{target}
 use Rattle.symbols_exports.specs.Exports.{Entry}
 use Rattle.symbols_exports.specs.Exporting.{specifier_in, all_stored}
-use Rattle.symbols_exports.specs.StarStatements.{star_texts, text_target, statements_of, owned_of}
+use Rattle.symbols_exports.specs.StarStatements.{star_texts, text_target, statements_of}
 use Rattle.symbols_exports.specs.Taking.{NameView, turn_told, with_names}
 use Rattle.symbols_exports.specs.Told.{told_statement, told_chain, told_export, told_number, told_name, AreNumbered}
+use Rattle.symbols_exports.specs.Wanted.{owned_for, is_done}
 use Rattle.symbols_exports.proofs.Found.{AreFound}
 use Rattle.symbols_exports.proofs.MetModules.{met_modules}
-use Rattle.symbols_exports.proofs.Missed.{missed_entered}
+use Rattle.symbols_exports.proofs.Missed.{IsThere, LeadsNowhere, AreKept, kept_next, kept_added, kept_entered}
 use Rattle.symbols_exports.proofs.Numbers.{number_kept, still_within, same_under, stored_one_more}
 use Rattle.symbols_exports.proofs.Places.{Meeting}
 use Rattle.symbols_exports.proofs.Telling.{told_push, numbered_push, statements_kept, names_kept, numbered_still, names_still, taken_numbered}
-use Rattle.symbols_exports.proofs.Walking.{IsWalking, all_few, names_taken, fork_in, forks_in, left, left_at, count_met, told_at}
+use Rattle.symbols_exports.proofs.Wanting.{newly_done, nothing_told}
+use Rattle.symbols_exports.proofs.Walking.{IsWalking, HasStopped, all_few, names_taken, fork_in, forks_in, left, left_at, count_met, told_at}
 use Rattle.symbols_exports.proofs.WalkingOn.{is_one, leads_to}
 use Rattle.symbols_exports.proofs.Walks.{Fork, chain_of, place_of, IsAt, at_entered}
 
@@ -35,7 +38,7 @@ forks_kept root needed (turn ∷ above) are =
     let rest = forks_kept root needed above (λ i d within. are (suc i) d (omega (arith, within))) in
     λ i. record { referrer = first i; position = turn.position } ∷ rest i
 
-module _ {old : RootView} {start : ModuleId} {root : RootView} (turn : Turn) {above : List Turn} {ids : List ModuleId} {names : List NameView} {unresolved : List (ModuleId × List ℕ)} {asked : ℕ} (walk : IsWalking old start root turn.referrer turn.position above ids names unresolved asked) (text_is : slice_get (star_texts old.graph (specifier_in root turn.referrer)) turn.position ≡ Some turn.text.now) (few_here : length (statements_of old.graph (specifier_in root turn.referrer)) < 2 ^ 63) (v : List ℕ) (leads : text_target old.graph (specifier_in root turn.referrer) turn.text.now ≡ Some v) (fresh : (c : List ℕ) → Contains walk.met (c, v) → ⊥) (entered : ModuleId) (entered_is : specifier_under (with_stored root (Some v)) entered ≡ Some v) where
+module _ {wanted : Wanted} {old : RootView} {start : ModuleId} {root : RootView} (turn : Turn) {above : List Turn} {ids : List ModuleId} {names : List NameView} {unresolved : List (ModuleId × List ℕ)} {asked : ℕ} (walk : IsWalking wanted old start root turn.referrer turn.position above ids names unresolved asked) (text_is : slice_get (star_texts old.graph (specifier_in root turn.referrer)) turn.position ≡ Some turn.text.now) (few_here : length (statements_of old.graph (specifier_in root turn.referrer)) < 2 ^ 63) (v : List ℕ) (leads : text_target old.graph (specifier_in root turn.referrer) turn.text.now ≡ Some v) (fresh : (c : List ℕ) → Contains walk.met (c, v) → ⊥) (entered : ModuleId) (entered_is : specifier_under (with_stored root (Some v)) entered ≡ Some v) where
   abbrev pub more : RootView
   more = with_stored root (Some v)
 
@@ -93,8 +96,8 @@ module _ {old : RootView} {start : ModuleId} {root : RootView} (turn : Turn) {ab
   met_are_too : met_modules met_too ≡ map (specifier_in more) (ids ++ entered ∷ [])
   met_are_too = map-append (λ (m : Meeting). m.1) walk.met ((here_place, v) ∷ []) ∙ (ap (λ xs. xs ++ v ∷ []) walk.met_are ∙ sym ids_are)
 
-  names_too : (found : List Entry) × ((next : Meeting) → AreFound (owned_of old.graph) met_too next 0 found) × (map (told_export old.graph (specifier_in old start)) found ≡ map (told_name more) (with_names (map turn_told (above ++ turn ∷ [])) entered (owned_of old.graph v) names))
-  names_too = names_taken old more (specifier_in old start) walk.met (here_place, v) (above ++ turn ∷ []) entered names walk.found walk.at.stands.before way_too (sym number_is) (walk.found_are (here_place, v)) (walk.found_told ∙ sym (names_kept root (Some v) names walk.inside.names_in))
+  names_too : (more_found : List Entry) × ((next : Meeting) → AreFound (owned_for wanted old.graph) met_too next 0 more_found) × (map (told_export old.graph (specifier_in old start)) more_found ≡ map (told_name more) (with_names (map turn_told (above ++ turn ∷ [])) entered (owned_for wanted old.graph v) names)) × (walk.found ≡ [] → (entry : Entry) → Contains more_found entry → entry.chain ≡ here_place)
+  names_too = names_taken wanted old more (specifier_in old start) walk.met (here_place, v) (above ++ turn ∷ []) entered names walk.found walk.at.stands.before way_too (sym number_is) (walk.found_are (here_place, v)) (walk.found_told ∙ sym (names_kept root (Some v) names walk.inside.names_in))
 
   counted_too : (asked + 1) + left (statements_of old.graph) v 0 (forks_in root above ++ fork_in root turn ∷ []) ≡ count_met (statements_of old.graph) met_too
   counted_too = omega (arith, walk.counted, is_one walk turn.text.now text_is, sum_by_push (left_at (statements_of old.graph)) (forks_in root above) (fork_in root turn), sum_by_push (λ (m : Meeting). length (statements_of old.graph m.1)) walk.met (here_place, v))
@@ -105,15 +108,38 @@ module _ {old : RootView} {start : ModuleId} {root : RootView} (turn : Turn) {ab
     | inr is ↦ inl (sym (ap (λ (m : Meeting). m.1) is) ∙ sym number_is)
   ]
 
-  pub walking_entered : IsWalking old start more entered 0 (above ++ turn ∷ []) (ids ++ entered ∷ []) (with_names (map turn_told (above ++ turn ∷ [])) entered (owned_of old.graph v) names) unresolved (asked + 1)
-  walking_entered = record {
+  missed_next : AreKept (LeadsNowhere (statements_of old.graph)) (place_of (forks_in root above) (turn.position + 1)) walk.met walk.missed
+  missed_next = kept_next (LeadsNowhere (statements_of old.graph)) (statements_of old.graph) (specifier_in old start) (chain_of (forks_in root above)) (specifier_in root turn.referrer) turn.position walk.met walk.missed walk.at.stands walk.at.here_met walk.missed_are (λ none. none-some v (sym none.1 ∙ leads_there))
+
+  missed_too : AreKept (LeadsNowhere (statements_of old.graph)) (here_place ++ 0 ∷ []) met_too walk.missed
+  missed_too = kept_entered (LeadsNowhere (statements_of old.graph)) (statements_of old.graph) (specifier_in old start) (chain_of (forks_in root above)) (specifier_in root turn.referrer) turn.position walk.met walk.missed walk.at.stands walk.at.here_met walk.missed_are v walk.missed missed_next
+
+  -- the statement is one more of those behind
+  behind_next : AreKept (IsThere (statements_of old.graph)) (place_of (forks_in root above) (turn.position + 1)) walk.met (walk.behind ++ (specifier_in root turn.referrer, turn.position) ∷ [])
+  behind_next = kept_added (IsThere (statements_of old.graph)) (statements_of old.graph) (specifier_in old start) (chain_of (forks_in root above)) (specifier_in root turn.referrer) turn.position walk.met walk.behind walk.at.stands walk.at.here_met walk.behind_are (is_one walk turn.text.now text_is)
+
+  behind_too : AreKept (IsThere (statements_of old.graph)) (here_place ++ 0 ∷ []) met_too (walk.behind ++ (specifier_in root turn.referrer, turn.position) ∷ [])
+  behind_too = kept_entered (IsThere (statements_of old.graph)) (statements_of old.graph) (specifier_in old start) (chain_of (forks_in root above)) (specifier_in root turn.referrer) turn.position walk.met walk.behind walk.at.stands walk.at.here_met walk.behind_are v (walk.behind ++ (specifier_in root turn.referrer, turn.position) ∷ []) behind_next
+
+  -- where one name was found here, nothing was before
+  stops_here : is_done wanted names ≡ false → is_done wanted (with_names (map turn_told (above ++ turn ∷ [])) entered (owned_for wanted old.graph v) names) ≡ true → HasStopped wanted 0 (forks_in root above ++ fork_in root turn ∷ []) names_too.0
+  stops_here goes done =
+      let new = newly_done wanted names (with_names (map turn_told (above ++ turn ∷ [])) entered (owned_for wanted old.graph v) names) goes done in
+      record {
+        first_statement = refl;
+        found_here = λ entry at. names_too.3 (nothing_told (told_export old.graph (specifier_in old start)) (told_name root) walk.found names walk.found_told new.0) entry at ∙ sym chain_is;
+        at_start = λ default. absurd (true≢false (sym default ∙ new.1));
+      }
+
+  pub walking_entered : is_done wanted names ≡ false → IsWalking wanted old start more entered 0 (above ++ turn ∷ []) (ids ++ entered ∷ []) (with_names (map turn_told (above ++ turn ∷ [])) entered (owned_for wanted old.graph v) names) unresolved (asked + 1)
+  walking_entered goes = record {
     known = walk.known;
     stored = stored_too;
     inside = record {
       here_in = entered_in;
       above_in = numbered_too;
       ids_in = ids_in_too;
-      names_in = taken_numbered more (map turn_told (above ++ turn ∷ [])) entered numbered_too entered_in (owned_of old.graph v) names (names_still root (Some v) names walk.inside.names_in);
+      names_in = taken_numbered more (map turn_told (above ++ turn ∷ [])) entered numbered_too entered_in (owned_for wanted old.graph v) names (names_still root (Some v) names walk.inside.names_in);
       unresolved_in = numbered_still root (Some v) unresolved walk.inside.unresolved_in;
     };
     met = met_too;
@@ -124,8 +150,12 @@ module _ {old : RootView} {start : ModuleId} {root : RootView} (turn : Turn) {ab
     found_are = names_too.1;
     found_told = names_too.2;
     missed = walk.missed;
-    missed_are = rw (forks_are, chain_is) (missed_entered (statements_of old.graph) (specifier_in old start) (chain_of (forks_in root above)) (specifier_in root turn.referrer) turn.position walk.met walk.missed walk.at.stands walk.at.here_met walk.missed_are v leads_there);
+    missed_are = rw (forks_are, chain_is) missed_too;
     missed_told = walk.missed_told ∙ sym (statements_kept root (Some v) unresolved walk.inside.unresolved_in);
+    behind = walk.behind ++ (specifier_in root turn.referrer, turn.position) ∷ [];
+    behind_are = rw (forks_are, chain_is) behind_too;
+    behind_counted = omega (arith, walk.behind_counted, length_push walk.behind (specifier_in root turn.referrer, turn.position));
+    stops = λ done. rw forks_are (stops_here goes done);
     next_in = omega arith;
     few = few_too;
     counted = rw (forks_are, number_is) counted_too;

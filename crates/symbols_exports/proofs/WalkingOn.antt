@@ -1,25 +1,30 @@
 -- The steps of the walk that store nothing.
-use Rattle.std.proofs.Common.{◌≡◌, ℕ, ◌+◌, ◌<◌, List, [], ◌∷◌, ◌++◌, length, map, slice_get, None, Some, refl, sym, ap, subst, ◌∙◌, arith}
+use Rattle.std.proofs.Common.{◌≡◌, ℕ, ◌+◌, ◌<◌, List, [], ◌∷◌, ◌++◌, length, map, slice_get, None, Some, refl, sym, ap, subst, ◌∙◌, arith, false, true, true≢false}
 use Rattle.std.specs.Prelude.{Contains}
-use Rattle.std.proofs.lemmas.List.{map-append}
+use Rattle.std.proofs.lemmas.List.{map-append, length_push}
 use Rattle.std.proofs.lemmas.Option.{slice_get_within, none-some, same_Some}
 use Rattle.symbols_syntax.specs.declared.ids.ModuleId.{ModuleId}
-use Rattle.deno_symbols.specs.Roots.{RootView}
+use Rattle.symbols_root.specs.Roots.{RootView}
 use Rattle.symbols_exports.specs.declared.exports.turn.Turn.{Turn}
+use Rattle.symbols_exports.specs.declared.exports.wanted.Wanted.{Wanted}
 use Rattle.symbols_exports.specs.Chains.{target}
 use Rattle.symbols_exports.specs.Exporting.{specifier_in}
 use Rattle.symbols_exports.specs.StarStatements.{star_texts, text_target, statements_of}
 use Rattle.symbols_exports.specs.Taking.{NameView}
 use Rattle.symbols_exports.specs.Told.{told_statement, told_number}
-use Rattle.symbols_exports.proofs.Missed.{missed_added, missed_next}
+use Rattle.symbols_exports.specs.Wanted.{is_done}
+use Rattle.symbols_exports.proofs.Missed.{IsThere, LeadsNowhere, AreKept, kept_added, kept_next}
 use Rattle.symbols_exports.proofs.Numbers.{graph_kept}
 use Rattle.symbols_exports.proofs.Telling.{numbered_push}
 use Rattle.symbols_exports.proofs.Walking.{IsWalking, forks_in, left, count_met, statements_counted, target_is, told_at}
-use Rattle.symbols_exports.proofs.Walks.{chain_of, at_next}
+use Rattle.symbols_exports.proofs.Walks.{chain_of, place_of, at_next}
 
-module _ {old : RootView} {start : ModuleId} {root : RootView} {here : ModuleId} {next : ℕ} {above : List Turn} {ids : List ModuleId} {names : List NameView} {unresolved : List (ModuleId × List ℕ)} {asked : ℕ} (walk : IsWalking old start root here next above ids names unresolved asked) where
+module _ {wanted : Wanted} {old : RootView} {start : ModuleId} {root : RootView} {here : ModuleId} {next : ℕ} {above : List Turn} {ids : List ModuleId} {names : List NameView} {unresolved : List (ModuleId × List ℕ)} {asked : ℕ} (walk : IsWalking wanted old start root here next above ids names unresolved asked) where
   pub walking_graph : root.graph ≡ old.graph
   walking_graph = ap (λ (r : RootView). r.graph) walk.stored ∙ (graph_kept old (map (specifier_in root) ids)).0
+
+  pub walking_limits : root.limits ≡ old.limits
+  walking_limits = ap (λ (r : RootView). r.limits) walk.stored ∙ (graph_kept old (map (specifier_in root) ids)).1
 
   -- at a statement of the module here
   module _ (text : List ℕ) (at_next_text : slice_get (star_texts old.graph (specifier_in root here)) next ≡ Some text) where
@@ -32,9 +37,13 @@ module _ {old : RootView} {start : ModuleId} {root : RootView} {here : ModuleId}
     asked_for : (asked + 1) + left (statements_of old.graph) (specifier_in root here) (next + 1) (forks_in root above) ≡ count_met (statements_of old.graph) walk.met
     asked_for = omega (arith, walk.counted, is_one)
 
+    -- it is one more of those behind
+    pub behind_next : AreKept (IsThere (statements_of old.graph)) (place_of (forks_in root above) (next + 1)) walk.met (walk.behind ++ (specifier_in root here, next) ∷ [])
+    behind_next = kept_added (IsThere (statements_of old.graph)) (statements_of old.graph) (specifier_in old start) (chain_of (forks_in root above)) (specifier_in root here) next walk.met walk.behind walk.at.stands walk.at.here_met walk.behind_are is_one
+
     -- that leads nowhere
-    pub walking_nowhere : text_target old.graph (specifier_in root here) text ≡ None → IsWalking old start root here (next + 1) above ids names (unresolved ++ (here, text) ∷ []) (asked + 1)
-    walking_nowhere nowhere = record {
+    pub walking_nowhere : is_done wanted names ≡ false → text_target old.graph (specifier_in root here) text ≡ None → IsWalking wanted old start root here (next + 1) above ids names (unresolved ++ (here, text) ∷ []) (asked + 1)
+    walking_nowhere goes nowhere = record {
       known = walk.known;
       stored = walk.stored;
       inside = record {
@@ -52,8 +61,12 @@ module _ {old : RootView} {start : ModuleId} {root : RootView} {here : ModuleId}
       found_are = walk.found_are;
       found_told = walk.found_told;
       missed = walk.missed ++ (specifier_in root here, next) ∷ [];
-      missed_are = missed_added (statements_of old.graph) (specifier_in old start) (chain_of (forks_in root above)) (specifier_in root here) next walk.met walk.missed walk.at.stands walk.at.here_met walk.missed_are (is_one, leads_to ∙ nowhere);
+      missed_are = kept_added (LeadsNowhere (statements_of old.graph)) (statements_of old.graph) (specifier_in old start) (chain_of (forks_in root above)) (specifier_in root here) next walk.met walk.missed walk.at.stands walk.at.here_met walk.missed_are (is_one, leads_to ∙ nowhere);
       missed_told = missed_too;
+      behind = walk.behind ++ (specifier_in root here, next) ∷ [];
+      behind_are = behind_next;
+      behind_counted = omega (arith, walk.behind_counted, length_push walk.behind (specifier_in root here, next));
+      stops = λ done. absurd (true≢false (sym done ∙ goes));
       next_in = omega (arith, is_one);
       few = walk.few;
       counted = asked_for;
@@ -65,8 +78,8 @@ module _ {old : RootView} {start : ModuleId} {root : RootView} {here : ModuleId}
             map-append (told_statement old.graph) walk.missed ((specifier_in root here, next) ∷ []) ∙ (rw (walk.missed_told, one) refl ∙ sym (map-append (told_number root) unresolved ((here, text) ∷ [])))
 
     -- that leads to a module that was met
-    pub walking_met : (v : List ℕ) → text_target old.graph (specifier_in root here) text ≡ Some v → (c : List ℕ) → Contains walk.met (c, v) → IsWalking old start root here (next + 1) above ids names unresolved (asked + 1)
-    walking_met v leads c was_met = record {
+    pub walking_met : is_done wanted names ≡ false → (v : List ℕ) → text_target old.graph (specifier_in root here) text ≡ Some v → (c : List ℕ) → Contains walk.met (c, v) → IsWalking wanted old start root here (next + 1) above ids names unresolved (asked + 1)
+    walking_met goes v leads c was_met = record {
       known = walk.known;
       stored = walk.stored;
       inside = walk.inside;
@@ -78,8 +91,12 @@ module _ {old : RootView} {start : ModuleId} {root : RootView} {here : ModuleId}
       found_are = walk.found_are;
       found_told = walk.found_told;
       missed = walk.missed;
-      missed_are = missed_next (statements_of old.graph) (specifier_in old start) (chain_of (forks_in root above)) (specifier_in root here) next walk.met walk.missed walk.at.stands walk.at.here_met walk.missed_are v (leads_to ∙ leads);
+      missed_are = kept_next (LeadsNowhere (statements_of old.graph)) (statements_of old.graph) (specifier_in old start) (chain_of (forks_in root above)) (specifier_in root here) next walk.met walk.missed walk.at.stands walk.at.here_met walk.missed_are (λ none. none-some v (sym none.1 ∙ (leads_to ∙ leads)));
       missed_told = walk.missed_told;
+      behind = walk.behind ++ (specifier_in root here, next) ∷ [];
+      behind_are = behind_next;
+      behind_counted = omega (arith, walk.behind_counted, length_push walk.behind (specifier_in root here, next));
+      stops = λ done. absurd (true≢false (sym done ∙ goes));
       next_in = omega (arith, is_one);
       few = walk.few;
       counted = asked_for;

@@ -3,12 +3,14 @@ use Rattle.std.proofs.Common.{◌≡◌, ℕ, ◌+◌, ◌<◌, ◌≤◌, ◌�
 use Rattle.std.specs.Prelude.{Contains}
 use Rattle.std.proofs.lemmas.List.{length-map, map-append, length_push, get_or_past, get_or_append_left, get_or_push, take-append-le, take_at}
 use Rattle.std.proofs.lemmas.List.Elements.{Contains-push, Contains-append_left}
-use Rattle.symbols_exports.specs.Chains.{Statements, target, AreReached}
+use Rattle.symbols_exports.specs.Chains.{Statements, target, chain_end, IsBefore, AreReached}
 use Rattle.symbols_exports.specs.Exports.{Statement, AreUnresolved}
+use Rattle.symbols_exports.specs.OneName.{AreAskedFor}
 use Rattle.symbols_exports.proofs.Ends.{same_module}
 use Rattle.symbols_exports.proofs.Places.{Meeting, StandsAt, stands_first, stands_next, stands_back, stands_entered}
-use Rattle.symbols_exports.proofs.Least.{met_all}
-use Rattle.symbols_exports.proofs.Missed.{AreMissed, missed_back, are_unresolved}
+use Rattle.symbols_exports.proofs.Least.{met_all, all_before}
+use Rattle.symbols_exports.proofs.Missed.{Kept, IsThere, LeadsNowhere, AreKept, kept_back, are_unresolved}
+use Rattle.symbols_exports.proofs.UpTo.{asked_all}
 
 -- a statement that led on: its module and its position there
 pub record Fork : Type 0 where
@@ -88,8 +90,15 @@ module _ {statements : Statements} {start here : List ℕ} {next : ℕ} {above :
     pub all_reached : AreReached statements start met
     all_reached = met_all statements start met next stands_at_end start_ended
 
-    pub all_unresolved : (missed : List Statement) → AreMissed statements (place_of above next) met missed → AreUnresolved statements start missed
-    all_unresolved missed are = are_unresolved statements start next met missed all_reached stands_at_end start_ended (subst (λ turns. AreMissed statements (place_of turns next) met missed) none_above are)
+    pub all_unresolved : (missed : List Statement) → AreKept (LeadsNowhere statements) (place_of above next) met missed → AreUnresolved statements start missed
+    all_unresolved missed are = are_unresolved statements start next met missed all_reached stands_at_end start_ended (subst (λ turns. AreKept (LeadsNowhere statements) (place_of turns next) met missed) none_above are)
+
+    pub all_asked : (kept : List Statement) → AreKept (IsThere statements) (place_of above next) met kept → AreAskedFor statements start None kept
+    all_asked kept they = asked_all statements start next met kept all_reached stands_at_end start_ended (subst (λ turns. AreKept (IsThere statements) (place_of turns next) met kept) none_above they)
+
+    -- each chain that leads somewhere lies before
+    pub ends_behind : (chain end : List ℕ) → chain_end statements start chain ≡ Some end → IsBefore chain (place_of above next)
+    ends_behind chain end leads = subst (λ turns. IsBefore chain (place_of turns next)) (sym none_above) (all_before statements start chain end next start_ended leads)
 
 -- no statement is left: back behind the one that led here
 module _ {statements : Statements} {start here : List ℕ} {next : ℕ} (above : List Fork) (turn : Fork) {met : List Meeting} (at : IsAt statements start here next (above ++ turn ∷ []) met) (ended : length (statements here) ≤ next) where
@@ -118,5 +127,5 @@ module _ {statements : Statements} {start here : List ℕ} {next : ℕ} (above :
           let longer : j < length (above ++ turn ∷ []) = omega (arith, within, last_turn) in
           rw (back_chain, take-append-le j (chain_of above) (turn.position ∷ []) in_chain, get_or_append_left above (turn ∷ []) d j within) at (at.turns_met j d longer)
 
-  pub missed_at_back : (missed : List Statement) → AreMissed statements (place_of (above ++ turn ∷ []) next) met missed → AreMissed statements (place_of above (turn.position + 1)) met missed
-  missed_at_back missed are = missed_back statements start (chain_of above) here turn.position next met missed stood met_there ended (rw back_chain at are)
+  pub kept_at_back : (Keep : Kept) → ((u : List ℕ) (k : ℕ) → Keep u k → k < length (statements u)) → (kept : List Statement) → AreKept Keep (place_of (above ++ turn ∷ []) next) met kept → AreKept Keep (place_of above (turn.position + 1)) met kept
+  kept_at_back Keep there kept they = kept_back Keep statements start there (chain_of above) here turn.position next met kept stood met_there ended (rw back_chain at they)

@@ -2,7 +2,7 @@
 use Rattle.std.proofs.Common.{◌≡◌, ℕ, zero, suc, ◌+◌, ◌<◌, ◌≤◌, ◌⊎◌, inl, inr, Bool, true, false, List, [], ◌∷◌, ◌++◌, length, map, get_or, Option, None, Some, refl, sym, ap, subst, arith}
 use Rattle.std.specs.Prelude.{Contains, if◌then◌else◌}
 use Rattle.std.proofs.lemmas.Option.{none-some}
-use Rattle.deno_symbols.specs.Specifiers.{is_among}
+use Rattle.symbols_root.specs.Specifiers.{is_among}
 use Rattle.symbols_exports.specs.Chains.{Statements, IsBefore}
 use Rattle.symbols_exports.specs.Ways.{Way, behind, along, ways_from}
 use Rattle.symbols_exports.proofs.Sorted.{IsSorted, first_or_later, contains_first, contains_later, contains_nothing, contains_left, contains_right, contains_either, contains_mapped, mapped_from, sorted_both, sorted_map}

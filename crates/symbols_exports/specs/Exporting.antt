@@ -3,7 +3,7 @@ use Rattle.std.specs.Prelude.{ℕ, List, [], fold, Option, Some, slice_index_or}
 use Rattle.std.specs.Option.{option_and_then}
 use Rattle.symbols_syntax.specs.declared.ids.ModuleId.{ModuleId}
 use Rattle.symbols_table.specs.SymbolViews.{SymbolView, symbol_after}
-use Rattle.deno_symbols.specs.Roots.{RootView, with_stored, specifier_under}
+use Rattle.symbols_root.specs.Roots.{RootView, with_stored, specifier_under}
 use Rattle.symbols_exports.specs.declared.exports.path.ResolvedExport.{ResolvedExport}
 use Rattle.symbols_exports.specs.StarStatements.{changes_under}
 

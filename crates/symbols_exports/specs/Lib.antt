@@ -7,3 +7,5 @@ pub mod Exports
 pub mod StarStatements
 pub mod Answers
 pub mod Ways
+pub mod Wanted
+pub mod OneName

@@ -5,8 +5,8 @@ use Rattle.symbols_syntax.specs.Graph.{GraphView, resolution_of}
 use Rattle.symbols_table.specs.Analysis.{source_changes}
 use Rattle.symbols_table.specs.Changes.{Change, stars_after, exports_after}
 use Rattle.symbols_table.specs.Modules.{source_of}
-use Rattle.deno_symbols.specs.Specifiers.{module_under}
-use Rattle.deno_symbols.specs.TypesChains.{stands_for}
+use Rattle.symbols_root.specs.Specifiers.{module_under}
+use Rattle.symbols_root.specs.TypesChains.{stands_for}
 use Rattle.symbols_exports.specs.Chains.{Statements}
 use Rattle.symbols_exports.specs.Exports.{Owned}
 

@@ -1,5 +1,5 @@
 -- Names with the ways that they come by, as a walk keeps them: modules by their numbers.
-use Rattle.std.specs.Prelude.{ℕ, Bool, ◌&&◌, ◌||◌, true, false, List, [], ◌∷◌, ◌++◌, map, fold, if◌then◌else◌, String}
+use Rattle.std.specs.Prelude.{ℕ, Bool, ◌&&◌, ◌||◌, true, false, List, [], ◌∷◌, ◌++◌, map, fold, if◌then◌else◌, nat_eq, String}
 use Rattle.std.specs.Prelude.{string_bytes}
 use Rattle.std.specs.Global.{Global}
 use Rattle.std.specs.List.{list_any}
@@ -12,6 +12,10 @@ use Rattle.symbols_exports.specs.declared.exports.path.ResolvedExportOrReExportA
 use Rattle.symbols_exports.specs.declared.exports.turn.Turn.{Turn}
 use Rattle.symbols_exports.specs.Exports.{default_name}
 use Rattle.symbols_exports.specs.Paths.{resolved_export, statements_on}
+
+-- whether these are one module
+abbrev pub is_number : ModuleId → ModuleId → Bool
+is_number x y = nat_eq x.0 y.0
 
 -- a statement that led on, by the number of its module and its text
 abbrev pub turn_told : Turn → ModuleId × List ℕ

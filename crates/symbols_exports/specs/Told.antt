@@ -3,7 +3,7 @@ use Rattle.std.specs.Prelude.{ℕ, ◌<◌, List, [], ◌∷◌, length, map, Al
 use Rattle.symbols_syntax.specs.declared.ids.ModuleId.{ModuleId}
 use Rattle.symbols_syntax.specs.declared.ids.SymbolId.{SymbolId}
 use Rattle.symbols_syntax.specs.Graph.{GraphView}
-use Rattle.deno_symbols.specs.Roots.{RootView}
+use Rattle.symbols_root.specs.Roots.{RootView}
 use Rattle.symbols_exports.specs.Chains.{target}
 use Rattle.symbols_exports.specs.Exports.{Entry, Statement}
 use Rattle.symbols_exports.specs.Exporting.{specifier_in}

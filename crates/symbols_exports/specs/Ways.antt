@@ -4,7 +4,7 @@ use Rattle.std.specs.Option.{option_map_or}
 use Rattle.std.specs.Str.{bytes_eq}
 use Rattle.symbols_syntax.specs.declared.ids.SymbolId.{SymbolId}
 use Rattle.symbols_syntax.specs.Graph.{GraphView}
-use Rattle.deno_symbols.specs.Specifiers.{is_among}
+use Rattle.symbols_root.specs.Specifiers.{is_among}
 use Rattle.symbols_exports.specs.Chains.{Statements}
 use Rattle.symbols_exports.specs.Exports.{Owned, Entry, Statement, default_name}
 use Rattle.symbols_exports.specs.StarStatements.{statements_of, owned_of}

@@ -7,10 +7,11 @@ mod statements;
 mod steps;
 mod turn;
 mod walk;
+mod wanted;
 
 pub use module_exports::{ModuleExports, UnresolvedSpecifier};
 pub use path::{
     PathIter, ResolvedExport, ResolvedExportOrReExportAllPath, ResolvedReExportAllPath,
 };
 pub use steps::Steps;
-pub use walk::{exports, exports_counted};
+pub use walk::{export_of, export_of_counted, exports, exports_counted};

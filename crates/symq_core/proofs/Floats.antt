@@ -5,17 +5,18 @@ use Rattle.serde_json.specs.Written.{has_float, items_have_float}
 use Rattle.symbols_syntax.specs.declared.ids.SymbolId.{SymbolId}
 use Rattle.serde_json.specs.Data.{string}
 use Rattle.symbols_nodes.specs.References.{Reference, id, qualified_id, import_type, Dependency}
-use Rattle.symq_core.specs.AnswerViews.{ExportEntry, AnswerView, tells_nothing, tells_module, tells_fault, tells_exports, tells_symbol, tells_name, tells_deps}
+use Rattle.symbols_exports.specs.Told.{ToldExport, ToldStatement}
+use Rattle.symq_core.specs.AnswerViews.{AnswerView, tells_nothing, tells_module, tells_fault, tells_exports, tells_symbol, tells_name, tells_deps}
 use Rattle.symq_core.specs.AnswerData.{statement_data, entry_data, symbol_number, name_text, reference_data, dependency_data, dependencies_data, answer_data}
 
-in_statements : (statements : List (List ℕ × List ℕ)) → items_have_float (items_of (map statement_data statements)) ≡ false
+in_statements : (statements : List ToldStatement) → items_have_float (items_of (map statement_data statements)) ≡ false
 in_statements [] = refl
 in_statements (statement ∷ statements) = in_statements statements
 
-in_entry : (entry : ExportEntry) → has_float (entry_data entry) ≡ false
-in_entry entry = rw (in_statements entry.chain) refl
+in_entry : (entry : ToldExport) → has_float (entry_data entry) ≡ false
+in_entry entry = rw (in_statements entry.statements) refl
 
-in_entries : (entries : List ExportEntry) → items_have_float (items_of (map entry_data entries)) ≡ false
+in_entries : (entries : List ToldExport) → items_have_float (items_of (map entry_data entries)) ≡ false
 in_entries [] = refl
 in_entries (entry ∷ entries) = rw (in_entry entry, in_entries entries) refl
 

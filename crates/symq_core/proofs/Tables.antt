@@ -1,9 +1,9 @@
 -- The answer on a module, from its tables.
-use Rattle.std.proofs.Common.{◌≡◌, ℕ, zero, suc, List, [], ◌∷◌, ◌++◌, true, false, Option, None, Some, sym, ap, ◌∙◌, subst, refl}
+use Rattle.std.proofs.Common.{◌≡◌, ℕ, zero, suc, List, [], ◌∷◌, ◌++◌, map, true, false, Option, None, Some, sym, ap, ◌∙◌, subst, refl}
 use Rattle.std.specs.Prelude.{slice_get, Result, Ok, Err, IfOk, IfSome, IsSome}
 use Rattle.std.specs.Option.{option_map, option_map_or}
 use Rattle.std.specs.declared.alloc.AllocError.{AllocError}
-use Rattle.std.proofs.lemmas.Option.{none-some, same_Some}
+use Rattle.std.proofs.lemmas.Option.{none-some, same_Some, get_or_from_slice_get}
 use Rattle.serde_json.specs.declared.value.Value.{Value}
 use Rattle.serde_json.specs.View.{view}
 use Rattle.symbols_syntax.specs.declared.ids.ModuleId.{ModuleId}
@@ -18,27 +18,19 @@ use Rattle.symbols_table.specs.Changes.{Change, exports_after}
 use Rattle.symbols_table.specs.SymbolViews.{SymbolView, symbol_view, symbol_made, symbol_after}
 use Rattle.symbols_table.specs.QualifiedNames.{SymbolAt, path_below, path_within, qualified_name}
 use Rattle.symbols_table.specs.Modules.{Table, source_of, symbol_in}
-use Rattle.deno_symbols.specs.Specifiers.{module_under}
-use Rattle.deno_symbols.specs.Roots.{RootView, specifier_under, IsStoredTable}
+use Rattle.symbols_root.specs.Specifiers.{module_under}
+use Rattle.symbols_root.specs.Roots.{RootView, with_stored, specifier_under, IsStoredTable}
 use Rattle.symbols_table.specs.Symbols.{exports_in}
-use Rattle.symq_core.specs.Queries.{QuestionView, asks_module, asks_exports, asks_name, asks_deps}
+use Rattle.symbols_exports.specs.Answers.{IsAnswer}
+use Rattle.symbols_exports.specs.Exporting.{specifier_in}
+use Rattle.symbols_exports.specs.Taking.{NameView}
+use Rattle.symbols_exports.specs.Told.{told_name, told_number}
+use Rattle.symbols_exports.specs.Ways.{exports_told, unresolved_told_in}
+use Rattle.symq_core.specs.Queries.{TableQuestionView, asks_module, asks_name, asks_deps, QuestionView, asks_exports, asks_table}
 use Rattle.symq_core.specs.AnswerViews.{tells_nothing, tells_module, tells_fault, tells_exports}
 use Rattle.symq_core.specs.AnswerData.{answer_data}
 use Rattle.symq_core.specs.Answering.{fault_view, IsAnswerByTables}
-use Rattle.symq_core.specs.Answers.{own_entries, named_answer, deps_answer, changes_answer, module_symbol, found_answer}
-
--- a symbol that is shown is one of the changes
-exports_shown : (o : Option (Option SymbolId)) (s : SymbolId) (symbol : SymbolView) (changes : List Change) → Some symbol ≡ option_map (symbol_made changes s) o → symbol.exports ≡ exports_after changes s
-exports_shown None s symbol changes e = absurd (let none : ⊥ = cc in none)
-exports_shown (Some parent) s symbol changes e = ap (λ (shown : SymbolView). shown.exports) (same_Some symbol (symbol_made changes s parent) e)
-
--- the exports that the module's symbol shows are those of the changes
-pub exports_told : (r : Result Value AllocError) (table : Table) (symbol : Symbol) (specifier : List ℕ) (exports : List (List ℕ × SymbolId)) → slice_get table.symbols 0 ≡ Some symbol → specifier ≡ table.specifier
-    → exports ≡ exports_in symbol → IfOk r (λ value. view value ≡ answer_data (tells_exports (own_entries specifier exports) [])) → IfOk r (λ value. IsAnswerByTables asks_exports table (view value))
-exports_told (Ok value) table symbol specifier exports at named same is = λ changes tables.
-    let shown = exports_shown _ module_symbol (symbol_view symbol) changes (sym (ap (option_map symbol_view) at) ∙ tables.symbols module_symbol) in
-    is ∙ rw (named, same, shown) refl
-exports_told (Err e) table symbol specifier exports at named same is = tt
+use Rattle.symq_core.specs.Answers.{named_answer, deps_answer, changes_answer, found_answer}
 
 -- what is called the same by two ways to find symbols that find the same
 path_same : (f g : SymbolAt) → ((s : SymbolId) → f s ≡ g s) → (n : ℕ) (s : SymbolId) → path_within f n s ≡ path_within g n s
@@ -75,9 +67,9 @@ module_told (Ok value) table specifier named is = λ changes tables. is ∙ ap (
 module_told (Err e) table specifier named is = tt
 
 -- what a stored module's tables answer is the answer on the module that stands
-pub stored_answered : (r : Result Value AllocError) (question : QuestionView) (standing : Option ModuleView) (graph : GraphView) (root : RootView) (id : ModuleId) (table : Table) → root.graph ≡ graph
+pub stored_answered : (r : Result Value AllocError) (question : TableQuestionView) (standing : Option ModuleView) (graph : GraphView) (root : RootView) (id : ModuleId) (table : Table) → root.graph ≡ graph
     → Some (specifier_under root id) ≡ option_map (λ (s : List ℕ). Some s) (option_map (λ (m : ModuleView). m.specifier) standing) → IfSome standing (λ m. module_under graph m.specifier ≡ Some m) → IsStoredTable root id table
-    → IfOk r (λ value. IsAnswerByTables question table (view value)) → IfOk r (λ value. view value ≡ answer_data (found_answer question standing))
+    → IfOk r (λ value. IsAnswerByTables question table (view value)) → IfOk r (λ value. view value ≡ answer_data (found_answer graph (asks_table question) standing))
 stored_answered (Err e) question standing graph root id table same gives under stored told = tt
 stored_answered (Ok value) question None graph root id table same gives under stored told = absurd (none-some (specifier_under root id) (sym gives))
 stored_answered (Ok value) question (Some m) graph root id table same gives under (s, is, whole) told =
@@ -89,9 +81,30 @@ stored_answered (Ok value) question (Some m) graph root id table same gives unde
     let specifier : table.specifier ≡ m.specifier = whole.analyzed.specifier ∙ named in
     told (source_changes whole.source) whole.analyzed.tables ∙ rw (source, specifier) refl
 
-pub nothing_answered : (question : QuestionView) (standing : Option ModuleView) → None ≡ option_map (λ (s : List ℕ). Some s) (option_map (λ (m : ModuleView). m.specifier) standing) → answer_data tells_nothing ≡ answer_data (found_answer question standing)
-nothing_answered question None gives = refl
-nothing_answered question (Some m) gives = absurd (none-some (Some m.specifier) gives)
+pub nothing_answered : (graph : GraphView) (question : QuestionView) (standing : Option ModuleView) → None ≡ option_map (λ (s : List ℕ). Some s) (option_map (λ (m : ModuleView). m.specifier) standing) → answer_data tells_nothing ≡ answer_data (found_answer graph question standing)
+nothing_answered graph question None gives = refl
+nothing_answered graph question (Some m) gives = absurd (none-some (Some m.specifier) gives)
+
+-- what is stored changes no graph
+pub graph_stays : (root : RootView) (stored : Option (List ℕ)) → (with_stored root stored).graph ≡ root.graph
+graph_stays root None = refl
+graph_stays root (Some specifier) = refl
+
+-- what the root's numbers tell of its exports is what the graph tells
+pub exports_answered : (r : Result Value AllocError) (old new : RootView) (id : ModuleId) (names : List NameView) (unresolved : List (ModuleId × List ℕ)) (asked : ℕ) → IsAnswer old new id names unresolved asked → IfOk r (λ value. view value ≡ answer_data (tells_exports (map (told_name new) names) (map (told_number new) unresolved)))
+    → IfOk r (λ value. view value ≡ answer_data (tells_exports (exports_told old.graph (specifier_in old id)) (unresolved_told_in old.graph (specifier_in old id))))
+exports_answered (Err e) old new id names unresolved asked answer told = tt
+exports_answered (Ok value) old new id names unresolved asked answer told = told ∙ (λ i. answer_data (tells_exports (answer.names_tell i) (answer.unresolved_tell i)))
+
+-- and of the module that stands
+pub exports_stand : (r : Result Value AllocError) (standing : Option ModuleView) (graph : GraphView) (root : RootView) (id : ModuleId) → root.graph ≡ graph → Some (specifier_under root id) ≡ option_map (λ (s : List ℕ). Some s) (option_map (λ (m : ModuleView). m.specifier) standing)
+    → IfOk r (λ value. view value ≡ answer_data (tells_exports (exports_told root.graph (specifier_in root id)) (unresolved_told_in root.graph (specifier_in root id)))) → IfOk r (λ value. view value ≡ answer_data (found_answer graph asks_exports standing))
+exports_stand (Err e) standing graph root id same gives told = tt
+exports_stand (Ok value) None graph root id same gives told = absurd (none-some (specifier_under root id) (sym gives))
+exports_stand (Ok value) (Some m) graph root id same gives told =
+    let at : specifier_under root id ≡ Some m.specifier = same_Some (specifier_under root id) (Some m.specifier) gives in
+    let called : specifier_in root id ≡ m.specifier = get_or_from_slice_get root.stored id.0 m.specifier [] at in
+    told ∙ (λ i. answer_data (tells_exports (exports_told (same i) (called i)) (unresolved_told_in (same i) (called i))))
 
 -- a fault of memory gives no value
 abbrev GivesFault : SymbolsFault → Value → Type 0

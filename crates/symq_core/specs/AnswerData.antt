@@ -6,7 +6,8 @@ use Rattle.symbols_syntax.specs.declared.ids.SymbolId.{SymbolId}
 use Rattle.symbols_nodes.specs.declared.deps.dep.ReferenceNamespace.{ReferenceNamespace}
 use Rattle.symbols_nodes.specs.declared.deps.dep.ReferenceNamespace.TheVariants as In
 use Rattle.symbols_nodes.specs.References.{Reference, id, qualified_id, import_type, Dependency}
-use Rattle.symq_core.specs.AnswerViews.{AnswerFault, bad_query, too_many_modules, too_many_symbols, unknown_module, unknown_symbol, ExportEntry, AnswerView, tells_nothing, tells_module, tells_fault, tells_exports, tells_symbol, tells_name, tells_deps}
+use Rattle.symbols_exports.specs.Told.{ToldExport, ToldStatement}
+use Rattle.symq_core.specs.AnswerViews.{AnswerFault, bad_query, too_many_modules, too_many_symbols, unknown_module, unknown_symbol, AnswerView, tells_nothing, tells_module, tells_fault, tells_exports, tells_symbol, tells_name, tells_deps}
 
 abbrev pub fault_words : AnswerFault → List ℕ
 fault_words bad_query = codes "bad query"
@@ -16,15 +17,16 @@ fault_words unknown_module = codes "unknown module"
 fault_words unknown_symbol = codes "unknown symbol"
 
 -- a statement `export *`, by its referrer and its text
-abbrev pub statement_data : List ℕ × List ℕ → Data
+abbrev pub statement_data : ToldStatement → Data
 statement_data statement = array (item (string statement.0) (item (string statement.1) no_items))
 
-abbrev pub statements_data : List (List ℕ × List ℕ) → Data
+abbrev pub statements_data : List ToldStatement → Data
 statements_data statements = array (items_of (map statement_data statements))
 
-abbrev pub entry_data : ExportEntry → Data
+-- an export: the statements that lead to it, the module that owns it, its name, and its symbol there
+abbrev pub entry_data : ToldExport → Data
 entry_data entry =
-    object (member (codes "chain") (statements_data entry.chain)
+    object (member (codes "chain") (statements_data entry.statements)
     (member (codes "module") (string entry.owner)
     (member (codes "name") (string entry.name)
     (member (codes "symbol") (number (unsigned entry.symbol.0)) no_members))))

@@ -2,6 +2,7 @@
 use Rattle.std.specs.Prelude.{ℕ, List, Option}
 use Rattle.symbols_syntax.specs.declared.ids.SymbolId.{SymbolId}
 use Rattle.symbols_nodes.specs.References.{Dependency}
+use Rattle.symbols_exports.specs.Told.{ToldExport, ToldStatement}
 
 -- why a line has no other answer
 pub data AnswerFault : Type 0 where
@@ -11,14 +12,6 @@ pub data AnswerFault : Type 0 where
   unknown_module : AnswerFault
   unknown_symbol : AnswerFault
 
--- a name that is exported: the statements `export *` that lead to it, each by its referrer and its text, the specifier of the module that
--- owns it, its name, and its symbol there
-pub record ExportEntry : Type 0 where
-  pub chain : List (List ℕ × List ℕ)
-  pub owner : List ℕ
-  pub name : List ℕ
-  pub symbol : SymbolId
-
 -- nothing, where the specifier stands for no module; which module it stands for; why there is no other answer; what is exported, and the statements `export *` that
 -- lead to no module; which symbol a name stands for, if any; what a symbol is called in full, if it has a name; what each declaration of a
 -- symbol depends on
@@ -26,7 +19,7 @@ pub data AnswerView : Type 0 where
   tells_nothing : AnswerView
   tells_module : List ℕ → AnswerView
   tells_fault : AnswerFault → AnswerView
-  tells_exports : List ExportEntry → List (List ℕ × List ℕ) → AnswerView
+  tells_exports : List ToldExport → List ToldStatement → AnswerView
   tells_symbol : Option SymbolId → AnswerView
   tells_name : Option (List ℕ) → AnswerView
   tells_deps : List (List Dependency) → AnswerView

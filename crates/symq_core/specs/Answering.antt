@@ -7,26 +7,30 @@ use Rattle.symbols_table.specs.declared.info.fault.SymbolsFault.TheVariants as f
 use Rattle.symbols_table.specs.Changes.{Change}
 use Rattle.symbols_table.specs.Analysis.{HasTables}
 use Rattle.symbols_table.specs.Modules.{Table}
-use Rattle.symq_core.specs.Queries.{QuestionView, asks_module, asks_exports, asks_symbol, asks_name, asks_deps, QueryView}
+use Rattle.symq_core.specs.Queries.{TableQuestionView, asks_module, asks_symbol, asks_name, asks_deps, QuestionView, asks_exports, asks_table, QueryView}
 use Rattle.symq_core.specs.AnswerViews.{AnswerFault, too_many_modules, too_many_symbols, unknown_module, unknown_symbol}
 use Rattle.symq_core.specs.AnswerData.{answer_data}
 use Rattle.symq_core.specs.Answers.{changes_answer}
 use Rattle.symq_core.specs.declared.program.query.Question.{Question}
+use Rattle.symq_core.specs.declared.program.query.TableQuestion.{TableQuestion}
 use Rattle.symq_core.specs.declared.program.query.Query.{Query}
 
 -- what a query of the program asks
+abbrev pub table_question_view : TableQuestion → TableQuestionView
+table_question_view TableQuestion.Module = asks_module
+table_question_view (TableQuestion.Symbol id) = asks_symbol (id_view id)
+table_question_view (TableQuestion.Name symbol) = asks_name symbol
+table_question_view (TableQuestion.Deps symbol mode) = asks_deps symbol mode
+
 abbrev pub question_view : Question → QuestionView
-question_view Question.Module = asks_module
 question_view Question.Exports = asks_exports
-question_view (Question.Symbol id) = asks_symbol (id_view id)
-question_view (Question.Name symbol) = asks_name symbol
-question_view (Question.Deps symbol mode) = asks_deps symbol mode
+question_view (Question.Table question) = asks_table (table_question_view question)
 
 abbrev pub query_view : Query → QueryView
 query_view query = record { specifier = query.specifier.now; question = question_view query.question }
 
 -- the value is that of the answer by the changes whose tables these are
-abbrev pub IsAnswerByTables : QuestionView → Table → Data → Type 0
+abbrev pub IsAnswerByTables : TableQuestionView → Table → Data → Type 0
 IsAnswerByTables question table value = (changes : List Change) → HasTables table changes → value ≡ answer_data (changes_answer question table.specifier changes)
 
 -- why a call on symbols gave nothing; want of memory is no answer

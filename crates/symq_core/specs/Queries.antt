@@ -9,14 +9,17 @@ use Rattle.symbols_nodes.specs.declared.deps.dep.ResolveDepsMode.{ResolveDepsMod
 use Rattle.symbols_nodes.specs.declared.deps.dep.ResolveDepsMode.TheVariants.{TypesOnly, TypesAndExpressions}
 use Rattle.symq_reader.specs.UnderKeys.{as_u32}
 
--- what is asked of a specifier: which module it stands for; and of that module: what it exports; which symbol a name stands for in it; what a symbol of it is called in full; what the declarations of a symbol
--- depend on
+-- what the table of a module alone tells: which module it is; which symbol a name stands for in it; what a symbol of it is called in full; what the declarations of a symbol depend on
+pub data TableQuestionView : Type 0 where
+  asks_module : TableQuestionView
+  asks_symbol : IdView → TableQuestionView
+  asks_name : SymbolId → TableQuestionView
+  asks_deps : SymbolId → ResolveDepsMode → TableQuestionView
+
+-- what is asked of a specifier, and of the module that it stands for: what it exports; or what its table tells
 pub data QuestionView : Type 0 where
-  asks_module : QuestionView
   asks_exports : QuestionView
-  asks_symbol : IdView → QuestionView
-  asks_name : SymbolId → QuestionView
-  asks_deps : SymbolId → ResolveDepsMode → QuestionView
+  asks_table : TableQuestionView → QuestionView
 
 -- a question, and the specifier of the module that it is asked of
 pub record QueryView : Type 0 where
@@ -25,7 +28,7 @@ pub record QueryView : Type 0 where
 
 -- the form `["module", specifier]`, behind its specifier
 abbrev pub module_question : Items → Option QuestionView
-module_question no_items = Some asks_module
+module_question no_items = Some (asks_table asks_module)
 module_question _ = None
 
 -- the form `["exports", specifier]`, behind its specifier
@@ -39,12 +42,12 @@ read_id name scope = option_and_then (λ n. option_map (λ s. record { name = n;
 
 -- the form `["symbol", specifier, name, scope]`, behind its specifier
 abbrev pub symbol_question : Items → Option QuestionView
-symbol_question (item name (item scope no_items)) = option_map asks_symbol (read_id name scope)
+symbol_question (item name (item scope no_items)) = option_map (λ id. asks_table (asks_symbol id)) (read_id name scope)
 symbol_question _ = None
 
 -- the form `["name", specifier, number]`, behind its specifier
 abbrev pub name_question : Items → Option QuestionView
-name_question (item symbol no_items) = option_map (λ n. asks_name (record { 0 = n })) (as_u32 symbol)
+name_question (item symbol no_items) = option_map (λ n. asks_table (asks_name (record { 0 = n }))) (as_u32 symbol)
 name_question _ = None
 
 -- the word of a mode
@@ -53,7 +56,7 @@ mode_named word = if bytes_eq word (codes "types") then Some TypesOnly else if b
 
 -- the form `["deps", specifier, number, mode]`, behind its specifier
 abbrev pub deps_question : Items → Option QuestionView
-deps_question (item symbol (item mode no_items)) = option_and_then (λ n. option_map (asks_deps (record { 0 = n })) (option_and_then mode_named (as_str mode))) (as_u32 symbol)
+deps_question (item symbol (item mode no_items)) = option_and_then (λ n. option_map (λ m. asks_table (asks_deps (record { 0 = n }) m)) (option_and_then mode_named (as_str mode))) (as_u32 symbol)
 deps_question _ = None
 
 -- the forms by their words

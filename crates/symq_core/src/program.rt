@@ -4,6 +4,7 @@ mod answer;
 mod dependencies;
 mod device;
 mod engine;
+mod exporting;
 mod fault;
 mod lines;
 mod memory;

@@ -139,8 +139,7 @@ fields_of Name.ExprPat = (codes "expr", child) ∷ []
 fields_of Name.Plain = (codes "children", children) ∷ []
 fields_of Name.Other = (codes "children", children) ∷ []
 
--- the text of each kind that is let through, by the enum that has the kind
--- `ExportAll` is not let through yet
+-- the text of each kind, by the enum that has the kind
 abbrev pub item_texts : List (List ℕ × KindName)
 item_texts =
     (codes "Program", Name.Program) ∷
@@ -156,6 +155,7 @@ item_texts =
     (codes "ExportDefaultDecl", Name.ExportDefaultDecl) ∷
     (codes "ExportDefaultExpr", Name.ExportDefaultExpr) ∷
     (codes "TsExportAssignment", Name.TsExportAssignment) ∷
+    (codes "ExportAll", Name.ExportAll) ∷
     (codes "TsImportEqualsDecl", Name.TsImportEqualsDecl) ∷
     (codes "ExprStmt", Name.ExprStmt) ∷
     []

@@ -1,14 +1,14 @@
 //! A small module, analysed.
 
 use crate::trees::{graph_of, id, list, module_of, push, push_declarator};
+use deno_symbols::analyze;
+use deno_symbols::check::{GraphFault, GraphModule, ModuleGraph};
+use deno_symbols::ids::{ModuleId, SymbolId};
+use deno_symbols::info::{ModuleInfoRef, SymbolsFault};
+use deno_symbols::tree::{Decl, Item, Kind, NodeId, Tree};
 use std::alloc::{AllocError, Global};
 use std::process::Abort;
 use std::test::Fail;
-use symbols_table::analyze;
-use symbols_table::info::{ModuleInfoRef, SymbolsFault};
-use symbols_tree::check::{GraphFault, GraphModule, ModuleGraph};
-use symbols_tree::ids::{ModuleId, SymbolId};
-use symbols_tree::tree::{Decl, Item, Kind, NodeId, Tree};
 
 /// The text `export var a, a, a;`, where each `a` is of a scope of its own.
 fn tree(alloc: Global) -> Result<Tree, AllocError> {

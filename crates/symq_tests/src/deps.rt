@@ -1,15 +1,15 @@
 //! Dependencies by calls, which no run shows: those of a declaration and of its node are what a run shows, without the
 //! namespaces.
 
+use deno_symbols::analyze;
+use deno_symbols::check::{GraphModule, ModuleGraph};
+use deno_symbols::decl::SymbolDecl;
+use deno_symbols::deps::{ReferenceNamespace, ResolveDepsMode, SymbolNodeDep};
+use deno_symbols::ids::ModuleId;
+use deno_symbols::info::ModuleInfoRef;
 use std::alloc::Global;
 use std::process::Abort;
 use std::test::Fail;
-use symbols_nodes::deps::{ReferenceNamespace, ResolveDepsMode, SymbolNodeDep};
-use symbols_table::analyze;
-use symbols_table::decl::SymbolDecl;
-use symbols_table::info::ModuleInfoRef;
-use symbols_tree::check::{GraphModule, ModuleGraph};
-use symbols_tree::ids::ModuleId;
 use symq_reader::read_graph;
 
 /// The nodes of `const v = y as Foo; enum E { A = x.y } type N = import("./m").A<C>;` and

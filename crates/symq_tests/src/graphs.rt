@@ -1,19 +1,19 @@
 //! Small graphs: what they hold and what they resolve.
 
-use std::alloc::{AllocError, Global};
-use std::process::Abort;
-use std::test::Fail;
-use symbols_tree::check::{
+use deno_symbols::check::{
     GraphFault, GraphModule, ModuleGraph, RawGraph, RawModule, RawModuleKind, RawResolution,
     TreeFault,
 };
-use symbols_tree::tree::{Item, Kind, Node, SourceRange, Tree};
+use deno_symbols::tree::{Item, Kind, Node, SourceRange, Tree};
+use std::alloc::{AllocError, Global};
+use std::process::Abort;
+use std::test::Fail;
 
-fn text(alloc: Global, text: &str) -> Result<String, AllocError> {
+pub(crate) fn text(alloc: Global, text: &str) -> Result<String, AllocError> {
     String::from_str(alloc, text)
 }
 
-fn resolution(
+pub(crate) fn resolution(
     alloc: Global,
     referrer: &str,
     asked: &str,
@@ -29,7 +29,7 @@ fn resolution(
     })
 }
 
-fn resolutions(
+pub(crate) fn resolutions(
     alloc: Global,
     rows: &[(&str, &str, &str)],
 ) -> Result<Vec<RawResolution>, AllocError> {

@@ -1,8 +1,8 @@
 //! Numbers and their texts.
 
+use deno_symbols::ids::{ModuleId, SymbolId, UniqueSymbolId};
 use std::hash::{DefaultHasher, Hash, Hasher};
 use std::test::Fail;
-use symbols_tree::ids::{ModuleId, SymbolId, UniqueSymbolId};
 
 #[test]
 fn keeps_the_number(rt: HostRuntime) {

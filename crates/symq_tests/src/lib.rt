@@ -7,11 +7,17 @@ mod analysis;
 #[cfg(test)]
 mod deps;
 #[cfg(test)]
+mod exports;
+#[cfg(test)]
 mod graphs;
 #[cfg(test)]
 mod ids;
 #[cfg(test)]
+mod modules;
+#[cfg(test)]
 mod nodes;
+#[cfg(test)]
+mod one_name;
 #[cfg(test)]
 mod reading;
 #[cfg(test)]
@@ -28,3 +34,5 @@ mod symbols;
 mod trees;
 #[cfg(test)]
 mod views;
+#[cfg(test)]
+mod webs;

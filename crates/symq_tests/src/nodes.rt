@@ -2,12 +2,12 @@
 //! by runs of `symq_tables`.
 
 use crate::trees::push;
+use deno_symbols::nodes::{ExportDeclRef, SymbolNode, SymbolNodeRef};
+use deno_symbols::tree::{Decl, Expr, Kind, NodeId, NodeRef, Pat, Tree};
 use std::alloc::{AllocError, Global};
 use std::borrow::CowStr;
 use std::process::Abort;
 use std::test::Fail;
-use symbols_nodes::nodes::{ExportDeclRef, SymbolNode, SymbolNodeRef};
-use symbols_tree::tree::{Decl, Expr, Kind, NodeId, NodeRef, Pat, Tree};
 
 /// Three nodes of no kind of their own.
 fn tree(alloc: Global) -> Result<Tree, AllocError> {

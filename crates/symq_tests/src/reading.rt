@@ -1,9 +1,9 @@
 //! Fields that no program tells of.
 
+use deno_symbols::check::{RawModule, RawModuleKind};
+use deno_symbols::tree::{Accessibility, Kind, Member, MethodKind};
 use std::alloc::{AllocError, Global};
 use std::test::Fail;
-use symbols_tree::check::{RawModule, RawModuleKind};
-use symbols_tree::tree::{Accessibility, Kind, Member, MethodKind};
 use symq_reader::{FormatFault, read_graph};
 
 /// The text of a graph with one module whose tree has this node alone.

@@ -1,13 +1,13 @@
 //! A root while memory is refused: it gives the same answers then, or says so, and goes on with all that was stored. The
 //! test passes whichever allocation fails, as one does under `--fail-alloc N`.
 
+use deno_symbols::check::ModuleGraph;
+use deno_symbols::ids::ModuleId;
+use deno_symbols::info::SymbolsFault;
 use deno_symbols::root::RootSymbol;
 use std::alloc::Global;
 use std::process::Abort;
 use std::test::Fail;
-use symbols_table::info::SymbolsFault;
-use symbols_tree::check::ModuleGraph;
-use symbols_tree::ids::ModuleId;
 use symq_reader::read_graph;
 
 /// A ring of types dependencies, chains that end before a module without a tree and behind one, one that

@@ -1,14 +1,14 @@
 //! A root by calls, which no run shows: its limits, what is stored, and under which numbers.
 
 use crate::trees::{graph_of, module_of, push};
+use deno_symbols::check::{GraphFault, ModuleGraph, RawModule, RawModuleKind};
+use deno_symbols::ids::ModuleId;
+use deno_symbols::info::SymbolsFault;
 use deno_symbols::root::{Limits, RootSymbol};
+use deno_symbols::tree::{Item, Kind, Tree};
 use std::alloc::{AllocError, Global};
 use std::process::Abort;
 use std::test::Fail;
-use symbols_table::info::SymbolsFault;
-use symbols_tree::check::{GraphFault, ModuleGraph, RawModule, RawModuleKind};
-use symbols_tree::ids::ModuleId;
-use symbols_tree::tree::{Item, Kind, Tree};
 
 fn empty_tree(alloc: Global) -> Result<Tree, AllocError> {
     let mut nodes = Vec::new(alloc);

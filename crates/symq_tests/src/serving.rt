@@ -4,10 +4,10 @@
 ghost use Rattle.std.specs.Prelude.{◌<◌};
 ghost use Rattle.symq_core.specs.Devices.{COUNT_LIMIT};
 
+use deno_symbols::check::ModuleGraph;
 use std::alloc::{AllocError, Global};
 use std::process::Abort;
 use std::test::Fail;
-use symbols_tree::check::ModuleGraph;
 use symq_core::program::{
     DeviceFault, EngineFault, Input, MemoryInput, MemoryOutput, Output, ReaderInput, Stop,
     WriterOutput, read_graph, serve,

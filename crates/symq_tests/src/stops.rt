@@ -1,9 +1,9 @@
 //! The status and the line of the ways to stop that no stored run shows.
 
+use deno_symbols::check::GraphFault;
 use std::alloc::{AllocError, Global};
 use std::process::Abort;
 use std::test::Fail;
-use symbols_tree::check::GraphFault;
 use symq_core::program::{EngineFault, FormatFault, Stop};
 
 fn stops(

@@ -1,9 +1,9 @@
 //! Symbols without a module.
 
+use deno_symbols::decl::{FileDepName, Symbol};
+use deno_symbols::ids::{ModuleId, SymbolId, UniqueSymbolId};
 use std::process::Abort;
 use std::test::Fail;
-use symbols_table::decl::{FileDepName, Symbol};
-use symbols_tree::ids::{ModuleId, SymbolId, UniqueSymbolId};
 
 /// What a symbol 3 of the module 4, in the symbol 2, is called by.
 fn tells_its_ids(rt: &impl Abort, symbol: &Symbol<'_>) {

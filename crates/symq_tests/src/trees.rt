@@ -1,8 +1,8 @@
 //! What the tests' graphs are made of.
 
+use deno_symbols::check::{GraphFault, ModuleGraph, RawGraph, RawModule, RawModuleKind};
+use deno_symbols::tree::{Decl, Id, Kind, Node, NodeId, Pat, SourceRange, Tree};
 use std::alloc::{AllocError, Global};
-use symbols_tree::check::{GraphFault, ModuleGraph, RawGraph, RawModule, RawModuleKind};
-use symbols_tree::tree::{Decl, Id, Kind, Node, NodeId, Pat, SourceRange, Tree};
 
 /// Adds a node that stands in the empty range.
 pub(crate) fn push(nodes: &mut Vec<Node>, kind: Kind) -> Result<(), AllocError> {

@@ -1,14 +1,14 @@
 //! What an analysed module lends, of both kinds.
 
 use crate::trees::{graph_of, id, list, module_of, push, push_declarator};
+use deno_symbols::analyze;
+use deno_symbols::check::{GraphFault, GraphModule, ModuleGraph, RawModule, RawModuleKind};
+use deno_symbols::ids::{ModuleId, SymbolId};
+use deno_symbols::info::{ModuleInfoRef, ReExportNodes};
+use deno_symbols::tree::{Decl, Item, Kind, Node, NodeId, SourceRange, Tree};
 use std::alloc::{AllocError, Global};
 use std::process::Abort;
 use std::test::Fail;
-use symbols_table::analyze;
-use symbols_table::info::{ModuleInfoRef, ReExportNodes};
-use symbols_tree::check::{GraphFault, GraphModule, ModuleGraph, RawModule, RawModuleKind};
-use symbols_tree::ids::{ModuleId, SymbolId};
-use symbols_tree::tree::{Decl, Item, Kind, Node, NodeId, SourceRange, Tree};
 
 fn push_export_all(alloc: Global, nodes: &mut Vec<Node>, src: &str) -> Result<(), AllocError> {
     let src = String::from_str(alloc, src)?;

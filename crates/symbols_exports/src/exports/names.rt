@@ -1,18 +1,23 @@
 //! The names that a walk takes from the module where it stands.
 
-ghost use Rattle.std.specs.Prelude.{◌≡◌, ◌&&◌, IfOk, OnOk, Some, map};
+ghost use Rattle.std.specs.Prelude.{◌≡◌, ◌<◌, ◌&&◌, IfOk, OnOk, Some, length, map};
 ghost use Rattle.std.specs.Str.{bytes_eq};
 ghost use Rattle.symbols_table.specs.DeclViews.{exports_view};
+ghost use Rattle.symbols_exports.specs.Exporting.{specifier_in};
 ghost use Rattle.symbols_exports.specs.Exports.{default_name};
 ghost use Rattle.symbols_exports.specs.Paths.{resolved_export, statements_on};
 ghost use Rattle.symbols_exports.specs.Taking.{turn_told, names_view, is_way, with_name, with_names};
+ghost use Rattle.symbols_exports.specs.Wanted.{owned_for};
 
 use crate::exports::path::{
     ResolvedExport, ResolvedExportOrReExportAllPath, ResolvedReExportAllPath,
 };
+use crate::exports::statements::own_names;
 use crate::exports::turn::Turn;
+use crate::exports::wanted::Wanted;
 use indexmap::IndexMap;
 use std::alloc::{AllocError, Global};
+use symbols_root::root::RootSymbol;
 use symbols_tree::ids::{ModuleId, SymbolId};
 
 /// The way along the turns to an export.
@@ -64,7 +69,7 @@ fn take_name<'a>(
 }
 
 /// Takes the names that a module exports itself, in order.
-pub(crate) fn take_names<'a>(
+fn take_all<'a>(
     alloc: Global,
     own: &IndexMap<String, SymbolId>,
     owner: ModuleId,
@@ -81,4 +86,31 @@ pub(crate) fn take_names<'a>(
         take_name(alloc, name.as_str(), export, above, resolved)?;
     }
     Ok(())
+}
+
+/// Takes of the names that a stored module exports itself those that are wanted, in order.
+pub(crate) fn take_names<'a>(
+    root: &RootSymbol<'a>,
+    owner: ModuleId,
+    above: &[Turn<'a>],
+    wanted: Wanted<'_>,
+    resolved: &mut IndexMap<String, ResolvedExportOrReExportAllPath<'a>>,
+) -> Result<(), AllocError>
+    requires { owner.0 < length root.now.stored }
+    ensures { OnOk result (names_view resolved.new.entries ≡ with_names (map turn_told above.now) owner (owned_for wanted.entry root.now.graph (specifier_in root.now owner)) (names_view resolved.old.entries)) }
+{
+    let own = own_names(root, owner);
+    match wanted {
+        Wanted::AllNames => take_all(root.alloc(), own, owner, above, resolved),
+        Wanted::OneName(name) => match own.get(name) {
+            Some(symbol_id) => {
+                let export = ResolvedExport {
+                    module: owner,
+                    symbol_id: *symbol_id,
+                };
+                take_name(root.alloc(), name, export, above, resolved)
+            }
+            None => Ok(()),
+        },
+    }
 }

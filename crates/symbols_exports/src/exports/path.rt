@@ -6,8 +6,8 @@ ghost use Rattle.symbols_table.specs.SymbolViews.{symbol_view};
 ghost use Rattle.symbols_exports.specs.Exporting.{symbol_of};
 ghost use Rattle.symbols_exports.specs.Paths.{resolved_export, first_module, rests_of, rests_left};
 
-use deno_symbols::root::RootSymbol;
 use std::boxed::Box;
+use symbols_root::root::RootSymbol;
 use symbols_table::decl::Symbol;
 use symbols_tree::ids::{ModuleId, SymbolId};
 

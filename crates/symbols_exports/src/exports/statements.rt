@@ -1,37 +1,42 @@
 //! What a stored module exports itself, and its statements `export *` with where they lead.
 
-ghost use Rattle.std.specs.Prelude.{◌≡◌, ◌<◌, ◌+◌, ◌≤◌, ◌^◌, ℕ, List, length, slice_get, Some, IfOk, IfErr, OnOk, OnErr};
+ghost use Rattle.std.specs.Prelude.{◌≡◌, ◌<◌, ◌+◌, ◌≤◌, ◌^◌, ℕ, List, length, slice_get, Some, IfSome, IfOk, IfErr, OnOk, OnErr};
 ghost use Rattle.std.specs.List.{IsDistinct};
 ghost use Rattle.std.specs.Option.{option_map};
 ghost use Rattle.std.specs.Str.{bytes_eq};
 ghost use Rattle.symbols_syntax.specs.Graph.{ModuleView};
 ghost use Rattle.symbols_table.specs.DeclViews.{exports_view};
-ghost use Rattle.deno_symbols.specs.Specifiers.{module_under};
-ghost use Rattle.deno_symbols.specs.Roots.{with_stored, specifier_under, IsRefusal};
+ghost use Rattle.symbols_table.specs.declared.info.fault.SymbolsFault.TheVariants.{OutOfMemory};
+ghost use Rattle.symbols_root.specs.Specifiers.{module_under};
+ghost use Rattle.symbols_root.specs.Roots.{widest, with_stored, specifier_under, IsRefusal};
 ghost use Rattle.symbols_exports.specs.Exporting.{specifier_in};
 ghost use Rattle.symbols_exports.specs.StarStatements.{star_texts, text_target, owned_of};
 
 use crate::exports::steps::Steps;
-use deno_symbols::root::RootSymbol;
+use crate::exports::turn::Turn;
 use indexmap::IndexMap;
+use symbols_root::root::RootSymbol;
 use symbols_table::info::SymbolsFault;
 use symbols_tree::ids::{ModuleId, SymbolId};
 
-/// The text of a statement `export *` of a stored module, by its place among them.
-pub(crate) fn statement_text<'a>(
+/// A statement `export *` of a stored module, by its place among them.
+pub(crate) fn statement_at<'a>(
     root: &RootSymbol<'a>,
     referrer: ModuleId,
-    place: usize,
-) -> Option<&'a str>
+    position: usize,
+) -> Option<Turn<'a>>
     requires { referrer.0 < length root.now.stored }
-    ensures text { option_map (λ text. text.now) result ≡ slice_get (star_texts root.now.graph (specifier_in root.now referrer)) place }
+    ensures text { option_map (λ turn. turn.text.now) result ≡ slice_get (star_texts root.now.graph (specifier_in root.now referrer)) position }
+    ensures place { IfSome result (λ turn. (turn.referrer ≡ referrer) × (turn.position ≡ position)) }
     ensures few { length (star_texts root.now.graph (specifier_in root.now referrer)) < 2 ^ 63 }
     ensures once { IsDistinct bytes_eq root.now.stored }
 {
-    let Some(info) = root.module_from_id(referrer) else {
-        return None;
-    };
-    info.re_export_all_text(place)
+    let text = root.module_from_id(referrer)?.re_export_all_text(position)?;
+    Some(Turn {
+        referrer,
+        position,
+        text,
+    })
 }
 
 /// The names that a stored module exports itself, with their symbols.
@@ -75,6 +80,7 @@ pub(crate) fn text_target(
     ensures refused { IfErr result (IsRefusal root.old (text_target root.old.graph (specifier_in root.old referrer) text.now)) }
     ensures there { OnOk result ((v : List ℕ) → text_target root.old.graph (specifier_in root.old referrer) text.now ≡ Some v → (m : ModuleView) × (module_under root.old.graph v ≡ Some m)) }
     ensures counted { steps.new.count ≡ steps.old.count + 1 }
+    ensures enough { root.old.limits ≡ widest → IfErr result (λ fault. fault ≡ OutOfMemory) }
 {
     let specifier = specifier_of(root, referrer);
     steps.tick();

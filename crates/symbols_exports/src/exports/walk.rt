@@ -1,45 +1,104 @@
 //! The walk along `export *`.
 
-ghost use Rattle.std.specs.Prelude.{◌≡◌, ◌<◌, ◌+◌, ◌^◌, ℕ, ◌++◌, ◌∷◌, [], length, map, IfOk, IfErr, OnOk};
-ghost use Rattle.symbols_table.specs.DeclViews.{exports_view};
+ghost use Rattle.std.specs.Prelude.{◌≡◌, ◌<◌, ◌+◌, ◌^◌, ℕ, ◌++◌, ◌∷◌, [], length, map, true, not, if◌then◌else◌, option_map, option_to_list, IfOk, IfErr, OnOk};
+ghost use Rattle.std.specs.List.{list_any};
+ghost use Rattle.indexmap.specs.IndexSet.{insert_key};
+ghost use Rattle.symbols_table.specs.declared.info.fault.SymbolsFault.TheVariants.{OutOfMemory};
+ghost use Rattle.symbols_root.specs.Roots.{widest};
 ghost use Rattle.symbols_exports.specs.Answers.{AreListed, IsAnswer, IsFault};
 ghost use Rattle.symbols_exports.specs.Exporting.{specifier_in};
-ghost use Rattle.symbols_exports.specs.StarStatements.{owned_of};
-ghost use Rattle.symbols_exports.specs.Taking.{turn_told, unresolved_told, names_view, with_names};
+ghost use Rattle.symbols_exports.specs.OneName.{IsNameAnswer, IsNameFault, IsWalked, IsWalkFault, named_way};
+ghost use Rattle.symbols_exports.specs.Taking.{is_number, turn_told, unresolved_told, names_view, with_names};
+ghost use Rattle.symbols_exports.specs.Wanted.{owned_for};
 
-use crate::exports::module_exports::{ModuleExports, UnresolvedSpecifier};
+use crate::exports::module_exports::ModuleExports;
 use crate::exports::names::take_names;
 use crate::exports::path::ResolvedExportOrReExportAllPath;
-use crate::exports::statements::{own_names, statement_text, text_target};
+use crate::exports::statements::{statement_at, text_target};
 use crate::exports::steps::Steps;
 use crate::exports::turn::Turn;
-use deno_symbols::root::RootSymbol;
+use crate::exports::wanted::Wanted;
 use indexmap::{IndexMap, IndexSet};
 use std::alloc::AllocError;
+use symbols_root::root::RootSymbol;
 use symbols_table::info::SymbolsFault;
 use symbols_tree::ids::ModuleId;
 
-/// Goes on to a module that a statement leads to, and takes its names.
+/// Goes on to a module that a statement leads to, and takes of its names those that are wanted,
+/// unless it was met before. Returns whether it wasn't.
 fn enter<'a>(
     root: &RootSymbol<'a>,
-    entered: ModuleId,
+    target: ModuleId,
     turn: Turn<'a>,
+    wanted: Wanted<'_>,
+    met: &mut IndexSet<ModuleId>,
     above: &mut Vec<Turn<'a>>,
     resolved: &mut IndexMap<String, ResolvedExportOrReExportAllPath<'a>>,
-) -> Result<(), AllocError>
-    requires { entered.0 < length root.now.stored }
-    ensures above { OnOk result (above.new.items ≡ above.old.items ++ turn.entry ∷ []) }
-    ensures names { OnOk result (names_view resolved.new.entries ≡ with_names (map turn_told (above.old.items ++ turn.entry ∷ [])) entered (owned_of root.now.graph (specifier_in root.now entered)) (names_view resolved.old.entries)) }
+) -> Result<bool, AllocError>
+    requires { target.0 < length root.now.stored }
+    ensures new { IfOk result (λ is_new. is_new ≡ not (list_any (is_number target) met.old.keys)) }
+    ensures met { OnOk result (met.new.keys ≡ insert_key is_number met.old.keys target) }
+    ensures few { IfOk result (λ is_new. is_new ≡ true → length met.old.keys < 2 ^ 64) }
+    ensures above { IfOk result (λ is_new. above.new.items ≡ (if is_new then above.old.items ++ turn.entry ∷ [] else above.old.items)) }
+    ensures names { IfOk result (λ is_new. names_view resolved.new.entries ≡ (if is_new then with_names (map turn_told (above.old.items ++ turn.entry ∷ [])) target (owned_for wanted.entry root.now.graph (specifier_in root.now target)) (names_view resolved.old.entries) else names_view resolved.old.entries)) }
 {
-    above.push(turn)?;
-    take_names(
-        root.alloc(),
-        own_names(root, entered),
-        entered,
-        above,
-        resolved,
-    )?;
-    Ok(())
+    let (_, is_new) = met.insert_full(target)?;
+    if is_new {
+        above.push(turn)?;
+        take_names(root, target, above, wanted, resolved)?;
+    }
+    Ok(is_new)
+}
+
+/// Goes along the statements `export *` of a stored module, in chain order, until all is found that
+/// is wanted.
+fn walk<'a>(
+    root: &mut RootSymbol<'a>,
+    module_id: ModuleId,
+    wanted: Wanted<'_>,
+    steps: &mut Steps,
+) -> Result<ModuleExports<'a>, SymbolsFault>
+    requires room { steps.old.count < 2 ^ 64 }
+    ensures answers { IfOk result (λ answer. (asked : ℕ) × (steps.new.count ≡ steps.old.count + asked) × IsWalked wanted.entry root.old root.new module_id (names_view answer.resolved.entries) (map unresolved_told answer.unresolved_specifiers.items) asked) }
+    ensures faults { IfErr result (λ fault. (asked : ℕ) × (steps.new.count ≡ steps.old.count + asked) × IsWalkFault wanted.entry root.old root.new module_id fault asked) }
+    ensures enough { root.old.limits ≡ widest → module_id.0 < length root.old.stored → IfErr result (λ fault. fault ≡ OutOfMemory) }
+{
+    if root.module_from_id(module_id).is_none() {
+        return Err(SymbolsFault::UnknownModule);
+    }
+    let mut met = IndexSet::new(root.alloc());
+    met.insert(module_id)?;
+    let mut above: Vec<Turn<'a>> = Vec::new(root.alloc());
+    let mut answer = ModuleExports::new(root.alloc());
+    take_names(root, module_id, &above, wanted, &mut answer.resolved)?;
+    let mut here = module_id;
+    let mut next = 0;
+    'walk: while !wanted.is_done(&answer.resolved) {
+        if let Some(turn) = statement_at(root, here, next) {
+            match text_target(root, here, turn.text, steps) {
+                Err(fault) => return Err(fault),
+                Ok(None) => {
+                    answer.unresolved_specifiers.push(turn.unresolved())?;
+                    next += 1;
+                }
+                Ok(Some(target)) => {
+                    let names = &mut answer.resolved;
+                    if enter(root, target, turn, wanted, &mut met, &mut above, names)? {
+                        here = target;
+                        next = 0;
+                    } else {
+                        next += 1;
+                    }
+                }
+            }
+        } else if let Some(turn) = above.pop() {
+            here = turn.referrer;
+            next = turn.position + 1;
+        } else {
+            return Ok(answer);
+        }
+    }
+    Ok(answer)
 }
 
 /// What a stored module exports: its own names, and those of the modules along its statements
@@ -58,62 +117,9 @@ pub fn exports_counted<'a>(
     requires room { steps.old.count < 2 ^ 64 }
     ensures answers { IfOk result (λ answer. (asked : ℕ) × (steps.new.count ≡ steps.old.count + asked) × IsAnswer root.old root.new module_id (names_view answer.resolved.entries) (map unresolved_told answer.unresolved_specifiers.items) asked) }
     ensures faults { IfErr result (λ fault. (asked : ℕ) × (steps.new.count ≡ steps.old.count + asked) × IsFault root.old root.new module_id fault asked) }
+    ensures enough { root.old.limits ≡ widest → module_id.0 < length root.old.stored → IfErr result (λ fault. fault ≡ OutOfMemory) }
 {
-    if root.module_from_id(module_id).is_none() {
-        return Err(SymbolsFault::UnknownModule);
-    }
-    let alloc = root.alloc();
-    let mut met = IndexSet::new(alloc);
-    met.insert(module_id)?;
-    let mut above: Vec<Turn<'a>> = Vec::new(alloc);
-    let mut resolved = IndexMap::new(alloc);
-    take_names(
-        alloc,
-        own_names(root, module_id),
-        module_id,
-        &above,
-        &mut resolved,
-    )?;
-    let mut unresolved_specifiers = Vec::new(alloc);
-    let mut here = module_id;
-    let mut next = 0;
-    'walk: loop {
-        if let Some(text) = statement_text(root, here, next) {
-            match text_target(root, here, text, steps) {
-                Err(fault) => return Err(fault),
-                Ok(None) => {
-                    unresolved_specifiers.push(UnresolvedSpecifier {
-                        referrer: here,
-                        specifier: text,
-                    })?;
-                    next += 1;
-                }
-                Ok(Some(target)) => {
-                    let (_, is_new) = met.insert_full(target)?;
-                    if is_new {
-                        let turn = Turn {
-                            referrer: here,
-                            position: next,
-                            text,
-                        };
-                        enter(root, target, turn, &mut above, &mut resolved)?;
-                        here = target;
-                        next = 0;
-                    } else {
-                        next += 1;
-                    }
-                }
-            }
-        } else if let Some(turn) = above.pop() {
-            here = turn.referrer;
-            next = turn.position + 1;
-        } else {
-            return Ok(ModuleExports {
-                resolved,
-                unresolved_specifiers,
-            });
-        }
-    }
+    walk(root, module_id, Wanted::AllNames, steps)
 }
 
 /// What a stored module exports: its own names, and those of the modules along its statements
@@ -130,6 +136,54 @@ pub fn exports<'a>(
     ensures answers { IfOk result (λ answer. (asked : ℕ) × IsAnswer root.old root.new module_id (names_view answer.resolved.entries) (map unresolved_told answer.unresolved_specifiers.items) asked) }
     ensures faults { IfErr result (λ fault. (asked : ℕ) × IsFault root.old root.new module_id fault asked) }
     ensures listed { AreListed root.old.graph (specifier_in root.old module_id) }
+    ensures kept { (root.new.graph ≡ root.old.graph) × (root.new.limits ≡ root.old.limits) }
+    ensures enough { root.old.limits ≡ widest → module_id.0 < length root.old.stored → IfErr result (λ fault. fault ≡ OutOfMemory) }
 {
     exports_counted(root, module_id, &mut Steps::new())
+}
+
+/// What a stored module exports by one name: the entry of its exports for it, found without the
+/// others (own rule). The steps grow by one for each statement up to the one that the entry comes
+/// by, in chain order, or for each statement of each module that is reached where there is no
+/// entry; for `default`, which no `export *` passes on, by none.
+///
+/// # Errors
+///
+/// `UnknownModule` where the id names no stored module; else what storing a module that such a
+/// statement leads to refuses. What was stored stays.
+pub fn export_of_counted<'a>(
+    root: &mut RootSymbol<'a>,
+    module_id: ModuleId,
+    name: &str,
+    steps: &mut Steps,
+) -> Result<Option<ResolvedExportOrReExportAllPath<'a>>, SymbolsFault>
+    requires room { steps.old.count < 2 ^ 64 }
+    ensures answers { IfOk result (λ path. (asked : ℕ) × (steps.new.count ≡ steps.old.count + asked) × IsNameAnswer root.old root.new module_id name.now (option_to_list (option_map (named_way name.now) path)) asked) }
+    ensures faults { IfErr result (λ fault. (asked : ℕ) × (steps.new.count ≡ steps.old.count + asked) × IsNameFault root.old root.new module_id name.now fault asked) }
+    ensures enough { root.old.limits ≡ widest → module_id.0 < length root.old.stored → IfErr result (λ fault. fault ≡ OutOfMemory) }
+{
+    let mut answer = walk(root, module_id, Wanted::OneName(name), steps)?;
+    match answer.resolved.pop() {
+        Some((_, path)) => Ok(Some(path)),
+        None => Ok(None),
+    }
+}
+
+/// What a stored module exports by one name: the entry of its exports for it, found without the
+/// others (own rule).
+///
+/// # Errors
+///
+/// `UnknownModule` where the id names no stored module; else what storing a module on the way to
+/// the entry refuses. What was stored stays.
+pub fn export_of<'a>(
+    root: &mut RootSymbol<'a>,
+    module_id: ModuleId,
+    name: &str,
+) -> Result<Option<ResolvedExportOrReExportAllPath<'a>>, SymbolsFault>
+    ensures answers { IfOk result (λ path. (asked : ℕ) × IsNameAnswer root.old root.new module_id name.now (option_to_list (option_map (named_way name.now) path)) asked) }
+    ensures faults { IfErr result (λ fault. (asked : ℕ) × IsNameFault root.old root.new module_id name.now fault asked) }
+    ensures enough { root.old.limits ≡ widest → module_id.0 < length root.old.stored → IfErr result (λ fault. fault ≡ OutOfMemory) }
+{
+    export_of_counted(root, module_id, name, &mut Steps::new())
 }

@@ -1,70 +1,32 @@
 //! The answer to a line.
 
-ghost use Rattle.std.specs.Prelude.{◌≡◌, [], map, string_bytes, IfOk, IfSome, IsSome};
+ghost use Rattle.std.specs.Prelude.{◌≡◌, ◌<◌, length, string_bytes, IfOk, IfSome, IsSome};
 ghost use Rattle.serde_json.specs.View.{view};
 ghost use Rattle.std.specs.Option.{option_and_then};
 ghost use Rattle.symbols_syntax.specs.Ids.{id_view};
-ghost use Rattle.symbols_table.specs.DeclViews.{exports_view};
 ghost use Rattle.symbols_table.specs.Modules.{lent_table, symbol_in, mapped_in};
 ghost use Rattle.symbols_table.specs.QualifiedNames.{qualified_name};
-ghost use Rattle.deno_symbols.specs.Roots.{widest};
+ghost use Rattle.symbols_root.specs.Roots.{widest};
+ghost use Rattle.symbols_exports.specs.Exporting.{specifier_in};
+ghost use Rattle.symbols_exports.specs.Ways.{exports_told, unresolved_told_in};
 ghost use Rattle.symq_reader.specs.GraphText.{json_of};
 ghost use Rattle.symq_core.specs.Queries.{query_of};
 ghost use Rattle.symq_core.specs.AnswerViews.{tells_module, tells_fault, tells_exports, tells_symbol};
-ghost use Rattle.symq_core.specs.AnswerData.{entry_data, answer_data};
-ghost use Rattle.symq_core.specs.Answers.{own_entry, own_entries, named_answer, query_answer, asked_answer};
+ghost use Rattle.symq_core.specs.AnswerData.{answer_data};
+ghost use Rattle.symq_core.specs.Answers.{named_answer, query_answer, asked_answer};
 ghost use Rattle.symq_core.specs.AnswerTexts.{answer_text};
-ghost use Rattle.symq_core.specs.Answering.{question_view, query_view, IsAnswerByTables, fault_view};
+ghost use Rattle.symq_core.specs.Answering.{table_question_view, query_view, IsAnswerByTables, fault_view};
 
 use crate::program::dependencies::deps_value;
-use crate::program::query::{Query, Question, line_value, read_query};
-use deno_symbols::root::RootSymbol;
-use indexmap::IndexMap;
+use crate::program::exporting::exports_value;
+use crate::program::query::{Query, Question, TableQuestion, line_value, read_query};
 use serde_json::{Value, json};
 use std::alloc::{AllocError, Global};
+use symbols_exports::exports::exports;
+use symbols_root::root::RootSymbol;
 use symbols_table::info::{ModuleInfoRef, SymbolsFault};
-use symbols_tree::ids::SymbolId;
+use symbols_tree::ids::{ModuleId, SymbolId};
 use symbols_tree::tree::Id;
-
-/// The value of an export of a module: its name, and the symbol that it leads to.
-fn export_value(
-    alloc: Global,
-    specifier: &str,
-    name: &str,
-    symbol: SymbolId,
-) -> Result<Value, AllocError>
-    ensures { IfOk result (λ value. view value ≡ entry_data (own_entry specifier.now (name.now, symbol))) }
-{
-    let number = symbol.number();
-    json!(in alloc; {"chain": [], "module": specifier, "name": name, "symbol": number})
-}
-
-/// The values of the exports of a module, in order.
-fn export_values(
-    alloc: Global,
-    specifier: &str,
-    exports: &IndexMap<String, SymbolId>,
-) -> Result<Vec<Value>, AllocError>
-    ensures { IfOk result (λ values. map view values.items ≡ map entry_data (own_entries specifier.now (exports_view exports.now.entries))) }
-{
-    let mut values = Vec::with_capacity(alloc, exports.len())?;
-    for (name, symbol) in exports {
-        values.push(export_value(alloc, specifier, name.as_str(), *symbol)?)?;
-    }
-    Ok(values)
-}
-
-/// What a module exports.
-fn exports_value(
-    alloc: Global,
-    specifier: &str,
-    exports: &IndexMap<String, SymbolId>,
-) -> Result<Value, AllocError>
-    ensures { IfOk result (λ value. view value ≡ answer_data (tells_exports (own_entries specifier.now (exports_view exports.now.entries)) [])) }
-{
-    let entries = Value::Array(export_values(alloc, specifier, exports)?);
-    json!(in alloc; {"exports": entries, "unresolved": []})
-}
 
 /// What a name stands for.
 fn symbol_value(alloc: Global, symbol: Option<SymbolId>) -> Result<Value, AllocError>
@@ -123,22 +85,36 @@ fn name_value(
     }
 }
 
-/// The answer to a question on a module with its symbols.
+/// The answer to a question on the table of a module.
 fn info_answer(
     alloc: Global,
     info: ModuleInfoRef<'_, '_>,
-    question: &Question,
+    question: &TableQuestion,
 ) -> Result<Value, AllocError>
-    ensures { IfOk result (λ value. IsAnswerByTables (question_view question.now) (lent_table info.entry) (view value)) }
+    ensures { IfOk result (λ value. IsAnswerByTables (table_question_view question.now) (lent_table info.entry) (view value)) }
 {
     match question {
-        Question::Module => module_value(alloc, info.specifier()),
-        Question::Exports => {
-            exports_value(alloc, info.specifier(), info.module_symbol().exports())
-        }
-        Question::Symbol(id) => symbol_value(alloc, mapped_symbol(info, id)),
-        Question::Name(symbol) => name_value(alloc, info, *symbol),
-        Question::Deps(symbol, mode) => deps_value(alloc, info, *symbol, *mode),
+        TableQuestion::Module => module_value(alloc, info.specifier()),
+        TableQuestion::Symbol(id) => symbol_value(alloc, mapped_symbol(info, id)),
+        TableQuestion::Name(symbol) => name_value(alloc, info, *symbol),
+        TableQuestion::Deps(symbol, mode) => deps_value(alloc, info, *symbol, *mode),
+    }
+}
+
+/// What a stored module exports; a fault where a call on symbols gave nothing.
+fn exports_answer(
+    alloc: Global,
+    root: &mut RootSymbol<'_>,
+    module_id: ModuleId,
+) -> Result<Value, AllocError>
+    requires widest { root.old.limits ≡ widest }
+    requires known { module_id.0 < length root.old.stored }
+    ensures kept { (root.new.graph ≡ root.old.graph) × (root.new.limits ≡ root.old.limits) }
+    ensures value { IfOk result (λ value. view value ≡ answer_data (tells_exports (exports_told root.old.graph (specifier_in root.old module_id)) (unresolved_told_in root.old.graph (specifier_in root.old module_id)))) }
+{
+    match exports(root, module_id) {
+        Ok(answer) => exports_value(alloc, root, &answer),
+        Err(fault) => fault_value(alloc, &fault),
     }
 }
 
@@ -158,9 +134,12 @@ fn query_answer(
         Ok(None) => return Ok(Value::Null),
         Err(fault) => return fault_value(alloc, &fault),
     };
-    match root.module_from_id(module_id) {
-        Some(info) => info_answer(alloc, info, &query.question),
-        None => unreachable!(),
+    match &query.question {
+        Question::Exports => exports_answer(alloc, root, module_id),
+        Question::Table(question) => match root.module_from_id(module_id) {
+            Some(info) => info_answer(alloc, info, question),
+            None => unreachable!(),
+        },
     }
 }
 

@@ -13,19 +13,26 @@ use symbols_tree::ids::SymbolId;
 use symbols_tree::tree::Id;
 use symq_reader::as_u32;
 
-/// What is asked of a specifier, and of the module that it stands for.
+/// What the table of a module alone tells.
 #[derive(Drop)]
-pub(crate) enum Question {
-    /// Which module it stands for.
+pub(crate) enum TableQuestion {
+    /// Which module it is.
     Module,
-    /// What it exports.
-    Exports,
     /// The symbol that a name stands for in it.
     Symbol(Id),
     /// What a symbol of it is called in full.
     Name(SymbolId),
     /// What the declarations of a symbol of it depend on.
     Deps(SymbolId, ResolveDepsMode),
+}
+
+/// What is asked of a specifier, and of the module that it stands for.
+#[derive(Drop)]
+pub(crate) enum Question {
+    /// What it exports.
+    Exports,
+    /// What its table tells.
+    Table(TableQuestion),
 }
 
 /// What a line asks: a question, and the specifier of the module that it is asked of.
@@ -63,7 +70,7 @@ fn module_question(items: &[Value]) -> Option<Question>
     ensures { option_map question_view result ≡ module_question (items_view items.now) }
 {
     match items {
-        [] => Some(Question::Module),
+        [] => Some(Question::Table(TableQuestion::Module)),
         _ => None,
     }
 }
@@ -91,7 +98,7 @@ fn symbol_question(alloc: Global, items: &[Value]) -> Result<Option<Question>, A
         return Ok(None);
     };
     let name = String::from_str(alloc, name)?;
-    Ok(Some(Question::Symbol(Id { name, scope })))
+    Ok(Some(Question::Table(TableQuestion::Symbol(Id { name, scope }))))
 }
 
 /// The items behind the word `name` and a specifier: the number of a symbol.
@@ -100,7 +107,10 @@ fn name_question(items: &[Value]) -> Option<Question>
     ensures { option_map question_view result ≡ name_question (items_view items.now) }
 {
     match items {
-        [number] => Some(Question::Name(SymbolId::from_number(as_u32(number)?))),
+        [number] => {
+            let symbol = SymbolId::from_number(as_u32(number)?);
+            Some(Question::Table(TableQuestion::Name(symbol)))
+        }
         _ => None,
     }
 }
@@ -126,7 +136,7 @@ fn deps_question(items: &[Value]) -> Option<Question>
     };
     let symbol = SymbolId::from_number(as_u32(number)?);
     let mode = mode_named(mode.as_str()?)?;
-    Some(Question::Deps(symbol, mode))
+    Some(Question::Table(TableQuestion::Deps(symbol, mode)))
 }
 
 /// The query that a value is, if it is one.

@@ -2,7 +2,7 @@
 
 ghost use Rattle.std.specs.Prelude.{◌≡◌, ◌+◌, ◌<◌, ◌++◌, ◌∷◌, [], OnOk, IfErr};
 ghost use Rattle.std.specs.Io.KnownBytes.{Appends};
-ghost use Rattle.deno_symbols.specs.Roots.{widest};
+ghost use Rattle.symbols_root.specs.Roots.{widest};
 ghost use Rattle.symq_core.specs.AnswerTexts.{answer_text};
 ghost use Rattle.symq_core.specs.Devices.{COUNT_LIMIT};
 ghost use Rattle.symq_core.specs.Lines.{line_end, all_but_last, last_part, line_in, answers_to};
@@ -14,8 +14,8 @@ use crate::program::device::Output;
 use crate::program::fault::EngineFault;
 use crate::program::lines::split_line;
 use crate::program::writing::write_all;
-use deno_symbols::root::RootSymbol;
 use std::alloc::{AllocError, Global};
+use symbols_root::root::RootSymbol;
 use symbols_tree::check::ModuleGraph;
 
 /// How many bytes are read at once, and after how many the waiting answers are written.

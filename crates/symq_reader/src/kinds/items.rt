@@ -107,6 +107,13 @@ fn ts_export_assignment(value: &Value) -> Result<Item, FormatFault>
     Ok(Item::TsExportAssignment { expr })
 }
 
+fn export_all(alloc: Global, value: &Value) -> Result<Item, FormatFault>
+    ensures { Gives item_shape result (read_as Name.ExportAll (view value.now)) }
+{
+    let src = fields::text(alloc, value, "src")?;
+    Ok(Item::ExportAll { src })
+}
+
 fn ts_import_equals_decl(alloc: Global, value: &Value) -> Result<Item, FormatFault>
     ensures { Gives item_shape result (read_as Name.TsImportEqualsDecl (view value.now)) }
 {
@@ -144,6 +151,7 @@ pub(crate) fn item(alloc: Global, kind: &str, value: &Value) -> Result<Option<It
         "ExportDefaultDecl" => Ok(Some(export_default_decl(value)?)),
         "ExportDefaultExpr" => Ok(Some(export_default_expr(value)?)),
         "TsExportAssignment" => Ok(Some(ts_export_assignment(value)?)),
+        "ExportAll" => Ok(Some(export_all(alloc, value)?)),
         "TsImportEqualsDecl" => Ok(Some(ts_import_equals_decl(alloc, value)?)),
         "ExprStmt" => Ok(Some(expr_stmt(value)?)),
         _ => Ok(None),

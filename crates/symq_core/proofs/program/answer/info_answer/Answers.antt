@@ -1,15 +1,9 @@
 use Rattle.symbols_table.specs.Modules.{lent_table}
-use Rattle.symbols_table.specs.DeclViews.{exports_view}
-use Rattle.symq_core.proofs.Tables.{module_told, exports_told, name_told, deps_told}
+use Rattle.symq_core.proofs.Tables.{module_told, name_told, deps_told}
 use Rattle.symq_core.proofs.program.answer.info_answer.Goals as goal
 
 pub returns-in-Module : goal.returns-in-Module
 returns-in-Module c = rw c.in-Module.is (module_told c.module_value.result (lent_table c.args.info) c.specifier.result.now c.specifier.ensures c.module_value.ensures)
-
-pub returns-in-Exports : goal.returns-in-Exports
-returns-in-Exports c =
-    rw c.in-Exports.is
-    (exports_told c.exports_value.result (lent_table c.args.info) c.module_symbol.result.now c.specifier-in-Exports.result.now (exports_view c.exports.result.now.entries) c.module_symbol.ensures c.specifier-in-Exports.ensures c.exports.ensures c.exports_value.ensures)
 
 pub returns-in-Name : goal.returns-in-Name
 returns-in-Name c = rw c.in-Name.is (name_told c.name_value.result (lent_table c.args.info) c.in-Name.symbol c.name_value.ensures)

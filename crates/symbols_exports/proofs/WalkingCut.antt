@@ -1,0 +1,59 @@
+-- Where a walk ends, for all names and for one.
+use Rattle.std.proofs.Common.{◌≡◌, ℕ, ◌+◌, ◌<◌, ◌≤◌, ◌^◌, inl, inr, false, true, List, [], length, slice_get, None, Some, sym, true≢false}
+use Rattle.std.proofs.lemmas.Option.{none-some}
+use Rattle.symbols_syntax.specs.declared.ids.ModuleId.{ModuleId}
+use Rattle.symbols_table.specs.declared.info.fault.SymbolsFault.{SymbolsFault}
+use Rattle.symbols_table.specs.declared.info.fault.SymbolsFault.TheVariants.{OutOfMemory}
+use Rattle.symbols_root.specs.Roots.{RootView, with_stored, IsRefusal}
+use Rattle.symbols_exports.specs.declared.exports.turn.Turn.{Turn}
+use Rattle.symbols_exports.specs.declared.exports.wanted.Wanted.{Wanted}
+use Rattle.symbols_exports.specs.declared.exports.wanted.Wanted.TheVariants.{AllNames, OneName}
+use Rattle.symbols_exports.specs.Answers.{IsUnknown, IsBrokenOff}
+use Rattle.symbols_exports.specs.Exporting.{specifier_in}
+use Rattle.symbols_exports.specs.OneName.{IsNameBrokenOff, IsWalked, IsWalkFault}
+use Rattle.symbols_exports.specs.StarStatements.{star_texts, text_target, statements_of}
+use Rattle.symbols_exports.specs.Taking.{NameView}
+use Rattle.symbols_exports.specs.Wanted.{is_done}
+use Rattle.symbols_exports.proofs.Walking.{IsWalking, walking_first}
+use Rattle.symbols_exports.proofs.WalkingEnd.{walking_end, broken_here, broken_refused, broken_nowhere, broken_stored, stored_with}
+use Rattle.symbols_exports.proofs.WalkingName.{name_stopped, name_ended, name_broken, name_broken_stored, name_broken_first, place}
+
+-- broken off
+abbrev pub IsCut : Wanted → RootView → RootView → ModuleId → SymbolsFault → ℕ → Type 0
+IsCut AllNames old new start fault asked = IsBrokenOff old new start fault asked
+IsCut (OneName name) old new start fault asked = IsNameBrokenOff old new start name.now fault asked
+
+pub cut_is_fault : (wanted : Wanted) (old new : RootView) (start : ModuleId) (fault : SymbolsFault) (asked : ℕ) → IsCut wanted old new start fault asked → IsWalkFault wanted old new start fault asked
+cut_is_fault AllNames old new start fault asked cut = inr cut
+cut_is_fault (OneName name) old new start fault asked cut = inr cut
+
+pub unknown_is_fault : (wanted : Wanted) (old new : RootView) (start : ModuleId) (fault : SymbolsFault) (asked : ℕ) → IsUnknown old new start fault asked → IsWalkFault wanted old new start fault asked
+unknown_is_fault AllNames old new start fault asked unknown = inl unknown
+unknown_is_fault (OneName name) old new start fault asked unknown = inl unknown
+
+-- before the first statement
+pub cut_first : (wanted : Wanted) (old : RootView) (start : ModuleId) → start.0 < length old.stored → with_stored old (Some (specifier_in old start)) ≡ old → IsCut wanted old old start OutOfMemory 0
+cut_first AllNames old start known is_stored = broken_here (walking_first AllNames old start known is_stored)
+cut_first (OneName name) old start known is_stored = name_broken_first name.now old start known is_stored
+
+-- at a statement
+pub cut_refused : (wanted : Wanted) {old : RootView} {start : ModuleId} {root : RootView} (turn : Turn) {above : List Turn} {ids : List ModuleId} {names : List NameView} {unresolved : List (ModuleId × List ℕ)} {asked : ℕ} (walk : IsWalking wanted old start root turn.referrer turn.position above ids names unresolved asked) → is_done wanted names ≡ false → slice_get (star_texts old.graph (specifier_in root turn.referrer)) turn.position ≡ Some turn.text.now → length (statements_of old.graph (specifier_in root turn.referrer)) < 2 ^ 63 → (fault : SymbolsFault) → IsRefusal root (text_target old.graph (specifier_in root turn.referrer) turn.text.now) fault → IsCut wanted old root start fault (asked + 1)
+cut_refused AllNames turn walk goes text_is few_here fault refused = broken_refused turn walk text_is few_here fault refused
+cut_refused (OneName name) {old} {start} {root} turn walk goes text_is few_here fault refused = name_broken walk goes turn.text.now text_is fault (text_target old.graph (specifier_in root turn.referrer) turn.text.now) (λ v some. some) refused
+
+pub cut_nowhere : (wanted : Wanted) {old : RootView} {start : ModuleId} {root : RootView} (turn : Turn) {above : List Turn} {ids : List ModuleId} {names : List NameView} {unresolved : List (ModuleId × List ℕ)} {asked : ℕ} (walk : IsWalking wanted old start root turn.referrer turn.position above ids names unresolved asked) → is_done wanted names ≡ false → slice_get (star_texts old.graph (specifier_in root turn.referrer)) turn.position ≡ Some turn.text.now → length (statements_of old.graph (specifier_in root turn.referrer)) < 2 ^ 63 → IsCut wanted old root start OutOfMemory (asked + 1)
+cut_nowhere AllNames turn walk goes text_is few_here = broken_nowhere turn walk text_is few_here
+cut_nowhere (OneName name) turn walk goes text_is few_here = name_broken walk goes turn.text.now text_is OutOfMemory None (λ v some. absurd (none-some v some)) tt
+
+pub cut_stored : (wanted : Wanted) {old : RootView} {start : ModuleId} {root : RootView} (turn : Turn) {above : List Turn} {ids : List ModuleId} {names : List NameView} {unresolved : List (ModuleId × List ℕ)} {asked : ℕ} (walk : IsWalking wanted old start root turn.referrer turn.position above ids names unresolved asked) → is_done wanted names ≡ false → slice_get (star_texts old.graph (specifier_in root turn.referrer)) turn.position ≡ Some turn.text.now → length (statements_of old.graph (specifier_in root turn.referrer)) < 2 ^ 63 → (v : List ℕ) → text_target old.graph (specifier_in root turn.referrer) turn.text.now ≡ Some v → IsCut wanted old (with_stored root (Some v)) start OutOfMemory (asked + 1)
+cut_stored AllNames turn walk goes text_is few_here v leads = broken_stored turn walk text_is few_here v leads
+cut_stored (OneName name) turn walk goes text_is few_here v leads = name_broken_stored walk goes turn.text.now text_is v leads (stored_with turn walk text_is few_here v (place walk))
+
+-- at its end, or where all that is wanted was found
+pub walked_end : (wanted : Wanted) {old : RootView} {start : ModuleId} {root : RootView} {here : ModuleId} {next : ℕ} {above : List Turn} {ids : List ModuleId} {names : List NameView} {unresolved : List (ModuleId × List ℕ)} {asked : ℕ} (walk : IsWalking wanted old start root here next above ids names unresolved asked) → is_done wanted names ≡ false → above ≡ [] → length (statements_of old.graph (specifier_in root here)) ≤ next → IsWalked wanted old root start names unresolved asked
+walked_end AllNames walk goes none_above ended = walking_end walk none_above ended
+walked_end (OneName name) walk goes none_above ended = name_ended walk goes none_above ended
+
+pub walked_done : (wanted : Wanted) {old : RootView} {start : ModuleId} {root : RootView} {here : ModuleId} {next : ℕ} {above : List Turn} {ids : List ModuleId} {names : List NameView} {unresolved : List (ModuleId × List ℕ)} {asked : ℕ} (walk : IsWalking wanted old start root here next above ids names unresolved asked) → is_done wanted names ≡ true → IsWalked wanted old root start names unresolved asked
+walked_done AllNames walk done = absurd (true≢false (sym done))
+walked_done (OneName name) walk done = name_stopped walk done

@@ -1,0 +1,163 @@
+use Rattle.std.proofs.Common.{◌≡◌, ◌<◌, ◌+◌, ◌^◌, ℕ, List, ◌++◌, ◌∷◌, [], length, map, not, Option, Some, Result, Ok, Err, IfErr, sym, ap, subst, ◌∙◌, arith}
+use Rattle.std.specs.Option.{option_map}
+use Rattle.std.specs.Result.{IsErrAnd}
+use Rattle.indexmap.specs.IndexSet.{insert_key}
+use Rattle.std.proofs.lemmas.List.{map-append, length_push, nil_from_length}
+use Rattle.symbols_syntax.specs.declared.ids.ModuleId.{ModuleId}
+use Rattle.symbols_table.specs.declared.info.fault.SymbolsFault.{SymbolsFault}
+use Rattle.symbols_table.specs.declared.info.fault.SymbolsFault.TheVariants.{OutOfMemory}
+use Rattle.symbols_root.specs.Roots.{RootView, specifier_under}
+use Rattle.symbols_exports.specs.OneName.{IsWalkFault}
+use Rattle.symbols_exports.specs.Wanted.{owned_for}
+use Rattle.symbols_exports.specs.Exporting.{specifier_in}
+use Rattle.symbols_exports.specs.declared.exports.turn.Turn.{Turn}
+use Rattle.symbols_exports.specs.declared.exports.wanted.Wanted.{Wanted}
+use Rattle.symbols_exports.specs.StarStatements.{text_target}
+use Rattle.symbols_exports.specs.Taking.{is_number, turn_told, unresolved_told, names_view, with_names}
+use Rattle.symbols_exports.proofs.Walking.{IsWalking}
+use Rattle.symbols_exports.proofs.WalkingAsked as walking
+use Rattle.symbols_exports.proofs.WalkingBack.{walking_back, turn_fits}
+use Rattle.symbols_exports.proofs.WalkingOn.{walking_limits}
+use Rattle.symbols_exports.proofs.WalkingCut.{IsCut, cut_is_fault, walked_end, walked_done}
+use Rattle.symbols_exports.proofs.exports.walk.walk.Goals as goal
+
+-- a fault that can only be that memory was refused
+on_memory : {A : Type 0} (P : SymbolsFault → Type 0) (r : Result A SymbolsFault) → IsErrAnd r (λ fault. fault ≡ OutOfMemory) → P OutOfMemory → IfErr r P
+on_memory P (Ok x) is held = tt
+on_memory P (Err fault) is held = subst P (sym is) held
+
+-- the walk was broken off after so many were asked
+abbrev Broken : Wanted → RootView → ModuleId → RootView → ℕ → ℕ → SymbolsFault → Type 0
+Broken wanted old start root before now fault = (asked : ℕ) × (now ≡ before + asked) × IsWalkFault wanted old root start fault asked
+
+broken_off : (wanted : Wanted) (old : RootView) (start : ModuleId) (root : RootView) (before now asked : ℕ) (fault : SymbolsFault) → now ≡ before + asked → IsCut wanted old root start fault asked → Broken wanted old start root before now fault
+broken_off wanted old start root before now asked fault counted cut = (asked, counted, cut_is_fault wanted old root start fault asked cut)
+
+-- what a statement gives stands for what it leads to
+abbrev gives : RootView → RootView → ModuleId → List ℕ → Option ModuleId → Type 0
+gives after root here text id = option_map (specifier_under after) id ≡ option_map (λ (s : List ℕ). Some s) (text_target root.graph (specifier_in root here) text)
+
+-- the turn at the place
+this : (turn : Turn) (here : ModuleId) (next : ℕ) → (turn.referrer ≡ here) × (turn.position ≡ next) → turn ≡ record { referrer = here; position = next; text = turn.text }
+this turn here next place = λ i. record { referrer = place.0 i; position = place.1 i; text = turn.text }
+
+one_more : (before was now asked : ℕ) → now ≡ was + 1 → was ≡ before + asked → now ≡ before + (asked + 1)
+one_more before was now asked more counted = omega (arith, more, counted)
+
+pub returns-in_err-insert-clause-faults : goal.returns-in_err-insert-clause-faults
+returns-in_err-insert-clause-faults c =
+    let known : c.args.module_id.0 < length c.args.root.now.stored = c.module_from_id.ensures.found.0 (c.is_none.ensures ∙ ap not c.if-is_none.false) in
+    on_memory (Broken c.args.wanted c.args.root.now c.args.module_id c.args.root.now c.args.steps.now.count c.args.steps.now.count) c.from_residual.result c.from_residual.ensures.1
+    (broken_off c.args.wanted c.args.root.now c.args.module_id c.args.root.now c.args.steps.now.count c.args.steps.now.count 0 OutOfMemory (omega arith) (walking.begun_cut c.args.wanted c.args.root.now c.args.module_id known))
+
+pub returns-in_err-take_names-clause-faults : goal.returns-in_err-take_names-clause-faults
+returns-in_err-take_names-clause-faults c =
+    let known : c.args.module_id.0 < length c.args.root.now.stored = c.module_from_id.ensures.found.0 (c.is_none.ensures ∙ ap not c.if-is_none.false) in
+    on_memory (Broken c.args.wanted c.args.root.now c.args.module_id c.args.root.now c.args.steps.now.count c.args.steps.now.count) c.from_residual-in_err-take_names.result c.from_residual-in_err-take_names.ensures.1
+    (broken_off c.args.wanted c.args.root.now c.args.module_id c.args.root.now c.args.steps.now.count c.args.steps.now.count 0 OutOfMemory (omega arith) (walking.begun_cut c.args.wanted c.args.root.now c.args.module_id known))
+
+pub walk-init : goal.walk-init
+walk-init c =
+    let known : c.args.module_id.0 < length c.args.root.now.stored = c.module_from_id.ensures.found.0 (c.is_none.ensures ∙ ap not c.if-is_none.false) in
+    let keys : c.insert.new.self.keys ≡ c.args.module_id ∷ [] = c.in_ok-insert.ensures.keys ∙ ap (λ ks. insert_key is_number ks c.args.module_id) c.new-met.ensures.empty in
+    let turns : map turn_told c.deref.result.now ≡ [] = ap (map turn_told) (c.deref.ensures.value ∙ c.new-above.ensures.items) in
+    let names : names_view c.take_names.new.resolved.entries ≡ with_names [] c.args.module_id (owned_for c.args.wanted c.args.root.now.graph (specifier_in c.args.root.now c.args.module_id)) [] = c.in_ok-take_names.ensures ∙ (λ i. with_names (turns i) c.args.module_id (owned_for c.args.wanted c.args.root.now.graph (specifier_in c.args.root.now c.args.module_id)) (names_view (c.new-answer.ensures.resolved i))) in
+    (0, omega arith, rw (c.new-above.ensures.items, keys, names, c.new-answer.ensures.unresolved) (walking.begun c.args.wanted c.args.root.now c.args.module_id known), rw keys (omega arith))
+
+pub text_target-requires-clause-room : goal.text_target-requires-clause-room
+text_target-requires-clause-room c =
+    let has_room = walking.room c.walk.invariant.2 c.statement_at.ensures.few c.in-Some.turn.text c.in-Some.ensures.text c.args.steps.now.count c.requires.room c.walk.invariant.3 in
+    let fits : c.walk.steps.count + 1 < 2 ^ 128 = omega (arith, has_room, c.walk.invariant.1) in
+    fits
+
+pub returns-in-Err-clause-faults : goal.returns-in-Err-clause-faults
+returns-in-Err-clause-faults c =
+    let walk = c.walk.invariant.2 in
+    broken_off c.args.wanted c.args.root.now c.args.module_id c.text_target.new.root c.args.steps.now.count c.text_target.new.steps.count (c.walk.invariant.0 + 1) c.in-Err.fault (one_more c.args.steps.now.count c.walk.steps.count c.text_target.new.steps.count c.walk.invariant.0 c.text_target.ensures.counted c.walk.invariant.1)
+    (walking.asked_refused walk c.statement_at.ensures.few c.in-Some.turn.text c.in-Some.ensures.text (sym c.is_done.ensures ∙ c.walk-test.true) c.text_target.new.root c.in-Err.fault c.in-Err.ensures.unchanged c.in-Err.ensures.refused)
+
+pub returns-in_err-push-in-Ok-None-clause-faults : goal.returns-in_err-push-in-Ok-None-clause-faults
+returns-in_err-push-in-Ok-None-clause-faults c =
+    on_memory (Broken c.args.wanted c.args.root.now c.args.module_id c.text_target.new.root c.args.steps.now.count c.text_target.new.steps.count) c.from_residual-in_err-push-in-Ok-None.result c.from_residual-in_err-push-in-Ok-None.ensures.1
+    (broken_off c.args.wanted c.args.root.now c.args.module_id c.text_target.new.root c.args.steps.now.count c.text_target.new.steps.count (c.walk.invariant.0 + 1) OutOfMemory (one_more c.args.steps.now.count c.walk.steps.count c.text_target.new.steps.count c.walk.invariant.0 c.text_target.ensures.counted c.walk.invariant.1)
+    (walking.nowhere_cut c.walk.invariant.2 c.statement_at.ensures.few c.in-Some.turn.text c.in-Some.ensures.text c.text_target.new.root c.in-Ok-None.ensures.stored (subst (gives c.text_target.new.root c.walk.root c.walk.here c.in-Some.turn.text.now) c.in-Ok-None.field-0-is c.in-Ok-None.ensures.gives) (sym c.is_done.ensures ∙ c.walk-test.true)))
+
+pub overflow_add-next : goal.overflow_add-next
+overflow_add-next c = record { fits = walking.fits c.walk.invariant.2 c.statement_at.ensures.few c.in-Some.turn.text c.in-Some.ensures.text }
+
+pub walk-smaller-in-Ok-None : goal.walk-smaller-in-Ok-None
+walk-smaller-in-Ok-None c =
+    walking.nowhere_less c.walk.invariant.2 c.statement_at.ensures.few c.in-Some.turn.text c.in-Some.ensures.text c.text_target.new.root c.in-Ok-None.ensures.stored (subst (gives c.text_target.new.root c.walk.root c.walk.here c.in-Some.turn.text.now) c.in-Ok-None.field-0-is c.in-Ok-None.ensures.gives)
+
+pub walk-preserved-in-Ok-None : goal.walk-preserved-in-Ok-None
+walk-preserved-in-Ok-None c =
+    let told : map unresolved_told c.push.new.self.items ≡ map unresolved_told c.walk.answer.unresolved_specifiers.items ++ (c.walk.here, c.in-Some.turn.text.now) ∷ [] = ap (map unresolved_told) c.in_ok-push-in-Ok-None.ensures.items ∙ (map-append unresolved_told c.walk.answer.unresolved_specifiers.items (c.unresolved.result ∷ []) ∙ (λ i. map unresolved_told c.walk.answer.unresolved_specifiers.items ++ (c.unresolved.ensures ∙ ap turn_told (this c.in-Some.turn c.walk.here c.walk.next c.in-Some.ensures.place)) i ∷ [])) in
+    (c.walk.invariant.0 + 1, (one_more c.args.steps.now.count c.walk.steps.count c.text_target.new.steps.count c.walk.invariant.0 c.text_target.ensures.counted c.walk.invariant.1), rw told (walking.asked_nowhere c.walk.invariant.2 c.statement_at.ensures.few c.in-Some.turn.text c.in-Some.ensures.text c.text_target.new.root c.in-Ok-None.ensures.stored (subst (gives c.text_target.new.root c.walk.root c.walk.here c.in-Some.turn.text.now) c.in-Ok-None.field-0-is c.in-Ok-None.ensures.gives) (sym c.is_done.ensures ∙ c.walk-test.true)), c.walk.invariant.3)
+
+pub enter-requires : goal.enter-requires
+enter-requires c =
+    walking.number_in c.walk.invariant.2 c.statement_at.ensures.few c.in-Some.turn.text c.in-Some.ensures.text c.text_target.new.root c.in-Ok-Some.ensures.stored c.in-Ok-Some.target (subst (gives c.text_target.new.root c.walk.root c.walk.here c.in-Some.turn.text.now) c.in-Ok-Some.field-0-is c.in-Ok-Some.ensures.gives)
+
+pub returns-in_err-enter-in-Ok-Some-clause-faults : goal.returns-in_err-enter-in-Ok-Some-clause-faults
+returns-in_err-enter-in-Ok-Some-clause-faults c =
+    on_memory (Broken c.args.wanted c.args.root.now c.args.module_id c.text_target.new.root c.args.steps.now.count c.text_target.new.steps.count) c.from_residual-in_err-enter-in-Ok-Some.result c.from_residual-in_err-enter-in-Ok-Some.ensures.1
+    (broken_off c.args.wanted c.args.root.now c.args.module_id c.text_target.new.root c.args.steps.now.count c.text_target.new.steps.count (c.walk.invariant.0 + 1) OutOfMemory (one_more c.args.steps.now.count c.walk.steps.count c.text_target.new.steps.count c.walk.invariant.0 c.text_target.ensures.counted c.walk.invariant.1)
+    (walking.somewhere_cut c.walk.invariant.2 c.statement_at.ensures.few c.in-Some.turn.text c.in-Some.ensures.text c.text_target.new.root c.in-Ok-Some.ensures.stored c.in-Ok-Some.target (subst (gives c.text_target.new.root c.walk.root c.walk.here c.in-Some.turn.text.now) c.in-Ok-Some.field-0-is c.in-Ok-Some.ensures.gives) (sym c.is_done.ensures ∙ c.walk-test.true)))
+
+pub walk-smaller-then-branch : goal.walk-smaller-then-branch
+walk-smaller-then-branch c =
+    let here : Turn = record { referrer = c.walk.here; position = c.walk.next; text = c.in-Some.turn.text } in
+    let same : c.in-Some.turn ≡ here = this c.in-Some.turn c.walk.here c.walk.next c.in-Some.ensures.place in
+    let key = walking.new_key c.walk.met.keys c.enter.new.met.keys c.in-Ok-Some.target c.in_ok-enter-in-Ok-Some.field-0 c.in_ok-enter-in-Ok-Some.ensures.new c.in_ok-enter-in-Ok-Some.ensures.met c.if-branch.true in
+    let above : c.enter.new.above.items ≡ c.walk.above.items ++ here ∷ [] = walking.if_new c.in_ok-enter-in-Ok-Some.field-0 c.enter.new.above.items (c.walk.above.items ++ c.in-Some.turn ∷ []) c.walk.above.items c.in_ok-enter-in-Ok-Some.ensures.above c.if-branch.true ∙ (λ i. c.walk.above.items ++ same i ∷ []) in
+    rw (above, key.1) (walking.asked_less c.walk.invariant.2 c.statement_at.ensures.few c.in-Some.turn.text c.in-Some.ensures.text c.text_target.new.root c.in-Ok-Some.ensures.stored c.in-Ok-Some.target (subst (gives c.text_target.new.root c.walk.root c.walk.here c.in-Some.turn.text.now) c.in-Ok-Some.field-0-is c.in-Ok-Some.ensures.gives) c.statement_at.ensures.once key.0 c.in-Ok-Some.ensures.there)
+
+pub walk-preserved-then-branch : goal.walk-preserved-then-branch
+walk-preserved-then-branch c =
+    let here : Turn = record { referrer = c.walk.here; position = c.walk.next; text = c.in-Some.turn.text } in
+    let same : c.in-Some.turn ≡ here = this c.in-Some.turn c.walk.here c.walk.next c.in-Some.ensures.place in
+    let key = walking.new_key c.walk.met.keys c.enter.new.met.keys c.in-Ok-Some.target c.in_ok-enter-in-Ok-Some.field-0 c.in_ok-enter-in-Ok-Some.ensures.new c.in_ok-enter-in-Ok-Some.ensures.met c.if-branch.true in
+    let above : c.enter.new.above.items ≡ c.walk.above.items ++ here ∷ [] = walking.if_new c.in_ok-enter-in-Ok-Some.field-0 c.enter.new.above.items (c.walk.above.items ++ c.in-Some.turn ∷ []) c.walk.above.items c.in_ok-enter-in-Ok-Some.ensures.above c.if-branch.true ∙ (λ i. c.walk.above.items ++ same i ∷ []) in
+    let names : names_view c.enter.new.resolved.entries ≡ with_names (map turn_told (c.walk.above.items ++ here ∷ [])) c.in-Ok-Some.target (owned_for c.args.wanted c.text_target.new.root.graph (specifier_in c.text_target.new.root c.in-Ok-Some.target)) (names_view c.walk.answer.resolved.entries) = walking.if_new c.in_ok-enter-in-Ok-Some.field-0 (names_view c.enter.new.resolved.entries) (with_names (map turn_told (c.walk.above.items ++ c.in-Some.turn ∷ [])) c.in-Ok-Some.target (owned_for c.args.wanted c.text_target.new.root.graph (specifier_in c.text_target.new.root c.in-Ok-Some.target)) (names_view c.walk.answer.resolved.entries)) (names_view c.walk.answer.resolved.entries) c.in_ok-enter-in-Ok-Some.ensures.names c.if-branch.true ∙ (λ i. with_names (map turn_told (c.walk.above.items ++ same i ∷ [])) c.in-Ok-Some.target (owned_for c.args.wanted c.text_target.new.root.graph (specifier_in c.text_target.new.root c.in-Ok-Some.target)) (names_view c.walk.answer.resolved.entries)) in
+    (c.walk.invariant.0 + 1, (one_more c.args.steps.now.count c.walk.steps.count c.text_target.new.steps.count c.walk.invariant.0 c.text_target.ensures.counted c.walk.invariant.1), rw (above, names, key.1) (walking.asked_entered c.walk.invariant.2 c.statement_at.ensures.few c.in-Some.turn.text c.in-Some.ensures.text c.text_target.new.root c.in-Ok-Some.ensures.stored c.in-Ok-Some.target (subst (gives c.text_target.new.root c.walk.root c.walk.here c.in-Some.turn.text.now) c.in-Ok-Some.field-0-is c.in-Ok-Some.ensures.gives) c.statement_at.ensures.once key.0 (sym c.is_done.ensures ∙ c.walk-test.true)), rw key.1 (omega (arith, c.in_ok-enter-in-Ok-Some.ensures.few c.if-branch.true, length_push c.walk.met.keys c.in-Ok-Some.target)))
+
+pub overflow_add-next-else-branch : goal.overflow_add-next-else-branch
+overflow_add-next-else-branch c = record { fits = walking.fits c.walk.invariant.2 c.statement_at.ensures.few c.in-Some.turn.text c.in-Some.ensures.text }
+
+pub walk-smaller-else-branch : goal.walk-smaller-else-branch
+walk-smaller-else-branch c =
+    let here : Turn = record { referrer = c.walk.here; position = c.walk.next; text = c.in-Some.turn.text } in
+    let same : c.in-Some.turn ≡ here = this c.in-Some.turn c.walk.here c.walk.next c.in-Some.ensures.place in
+    let key = walking.old_key c.walk.met.keys c.enter.new.met.keys c.in-Ok-Some.target c.in_ok-enter-in-Ok-Some.field-0 c.in_ok-enter-in-Ok-Some.ensures.new c.in_ok-enter-in-Ok-Some.ensures.met c.if-branch.false in
+    let above : c.enter.new.above.items ≡ c.walk.above.items = walking.if_old c.in_ok-enter-in-Ok-Some.field-0 c.enter.new.above.items (c.walk.above.items ++ c.in-Some.turn ∷ []) c.walk.above.items c.in_ok-enter-in-Ok-Some.ensures.above c.if-branch.false in
+    rw (above, key.1) (walking.met_less c.walk.invariant.2 c.statement_at.ensures.few c.in-Some.turn.text c.in-Some.ensures.text c.text_target.new.root c.in-Ok-Some.ensures.stored c.in-Ok-Some.target (subst (gives c.text_target.new.root c.walk.root c.walk.here c.in-Some.turn.text.now) c.in-Ok-Some.field-0-is c.in-Ok-Some.ensures.gives) c.statement_at.ensures.once key.0)
+
+pub walk-preserved-else-branch : goal.walk-preserved-else-branch
+walk-preserved-else-branch c =
+    let here : Turn = record { referrer = c.walk.here; position = c.walk.next; text = c.in-Some.turn.text } in
+    let same : c.in-Some.turn ≡ here = this c.in-Some.turn c.walk.here c.walk.next c.in-Some.ensures.place in
+    let key = walking.old_key c.walk.met.keys c.enter.new.met.keys c.in-Ok-Some.target c.in_ok-enter-in-Ok-Some.field-0 c.in_ok-enter-in-Ok-Some.ensures.new c.in_ok-enter-in-Ok-Some.ensures.met c.if-branch.false in
+    let above : c.enter.new.above.items ≡ c.walk.above.items = walking.if_old c.in_ok-enter-in-Ok-Some.field-0 c.enter.new.above.items (c.walk.above.items ++ c.in-Some.turn ∷ []) c.walk.above.items c.in_ok-enter-in-Ok-Some.ensures.above c.if-branch.false in
+    let names : names_view c.enter.new.resolved.entries ≡ names_view c.walk.answer.resolved.entries = walking.if_old c.in_ok-enter-in-Ok-Some.field-0 (names_view c.enter.new.resolved.entries) (with_names (map turn_told (c.walk.above.items ++ c.in-Some.turn ∷ [])) c.in-Ok-Some.target (owned_for c.args.wanted c.text_target.new.root.graph (specifier_in c.text_target.new.root c.in-Ok-Some.target)) (names_view c.walk.answer.resolved.entries)) (names_view c.walk.answer.resolved.entries) c.in_ok-enter-in-Ok-Some.ensures.names c.if-branch.false in
+    (c.walk.invariant.0 + 1, (one_more c.args.steps.now.count c.walk.steps.count c.text_target.new.steps.count c.walk.invariant.0 c.text_target.ensures.counted c.walk.invariant.1), rw (above, names, key.1) (walking.asked_met c.walk.invariant.2 c.statement_at.ensures.few c.in-Some.turn.text c.in-Some.ensures.text c.text_target.new.root c.in-Ok-Some.ensures.stored c.in-Ok-Some.target (subst (gives c.text_target.new.root c.walk.root c.walk.here c.in-Some.turn.text.now) c.in-Ok-Some.field-0-is c.in-Ok-Some.ensures.gives) c.statement_at.ensures.once key.0 (sym c.is_done.ensures ∙ c.walk-test.true)), rw key.1 c.walk.invariant.3)
+
+pub overflow_add-next-in-Some-pop : goal.overflow_add-next-in-Some-pop
+overflow_add-next-in-Some-pop c =
+    let walk : IsWalking c.args.wanted c.args.root.now c.args.module_id c.walk.root c.walk.here c.walk.next (c.pop.new.self.items ++ c.in-Some-pop.turn ∷ []) c.walk.met.keys (names_view c.walk.answer.resolved.entries) (map unresolved_told c.walk.answer.unresolved_specifiers.items) c.walk.invariant.0 = rw c.in-Some-pop.ensures.items at c.walk.invariant.2 in
+    record { fits = turn_fits c.pop.new.self.items c.in-Some-pop.turn walk (walking.ended_here walk c.statement_at.ensures.few (sym c.in_default.ensures.text)) (walking.few_here walk c.statement_at.ensures.few) }
+
+pub walk-preserved : goal.walk-preserved
+walk-preserved c =
+    let walk : IsWalking c.args.wanted c.args.root.now c.args.module_id c.walk.root c.walk.here c.walk.next (c.pop.new.self.items ++ c.in-Some-pop.turn ∷ []) c.walk.met.keys (names_view c.walk.answer.resolved.entries) (map unresolved_told c.walk.answer.unresolved_specifiers.items) c.walk.invariant.0 = rw c.in-Some-pop.ensures.items at c.walk.invariant.2 in
+    (c.walk.invariant.0, c.walk.invariant.1, walking_back c.pop.new.self.items c.in-Some-pop.turn walk (walking.ended_here walk c.statement_at.ensures.few (sym c.in_default.ensures.text)) (walking.few_here walk c.statement_at.ensures.few) (sym c.is_done.ensures ∙ c.walk-test.true), c.walk.invariant.3)
+
+pub returns-in_default-pop-clause-answers : goal.returns-in_default-pop-clause-answers
+returns-in_default-pop-clause-answers c =
+    let walk = c.walk.invariant.2 in
+    (c.walk.invariant.0, c.walk.invariant.1, walked_end c.args.wanted walk (sym c.is_done.ensures ∙ c.walk-test.true) (nil_from_length c.walk.above.items (omega (arith, c.in_default-pop.ensures.cases.0, c.walk.above.ok.0))) (walking.ended_here walk c.statement_at.ensures.few (sym c.in_default.ensures.text)))
+
+pub returns-clause-answers : goal.returns-clause-answers
+returns-clause-answers c = (c.walk.invariant.0, c.walk.invariant.1, walked_done c.args.wanted c.walk.invariant.2 (sym c.is_done.ensures ∙ c.walk-test.false))
+
+pub returns-in-Err-clause-enough : goal.returns-in-Err-clause-enough
+returns-in-Err-clause-enough c = λ wide known. c.in-Err.ensures.enough (walking_limits c.walk.invariant.2 ∙ wide)

@@ -1,0 +1,58 @@
+-- The widest limits leave room for each module of a graph.
+use Rattle.std.proofs.Common.{◌≡◌, ℕ, ◌<◌, ◌≤◌, ◌-◌, ◌^◌, inl, inr, true, false, string_bytes, List, [], ◌∷◌, ◌++◌, length, slice_get, option_map, Option, None, Some, refl, sym, ap, subst, ◌∙◌, arith}
+use Rattle.std.specs.List.{IsDistinct}
+use Rattle.std.specs.Str.{bytes_eq}
+use Rattle.std.proofs.lemmas.Bool.{cases_lt}
+use Rattle.std.proofs.lemmas.List.{length_push}
+use Rattle.std.proofs.lemmas.Map.Keys.{IsDistinct-push}
+use Rattle.std.proofs.lemmas.Option.{none-some, same_Some, slice_get-map}
+use Rattle.symbols_syntax.specs.declared.graph.faults.TreeFault.TheVariants.{TooManyNodes}
+use Rattle.symbols_syntax.specs.declared.tree.arena.Tree.{Tree}
+use Rattle.symbols_syntax.specs.Graph.{GraphView, ModuleView, Content, esm, json, external, IsChecked}
+use Rattle.symbols_syntax.specs.TreeFaults.{IsFaultless}
+use Rattle.symbols_tree.specs.GraphFaults.{specifiers}
+use Rattle.symbols_table.specs.declared.info.fault.SymbolsFault.{SymbolsFault}
+use Rattle.symbols_table.specs.declared.info.fault.SymbolsFault.TheVariants as fault
+use Rattle.symbols_table.specs.Analysis.{symbol_count, source_changes, json_changes}
+use Rattle.symbols_table.specs.JsonEvents.{json_events}
+use Rattle.symbols_table.specs.Modules.{Source, parsed, json_text, source_of}
+use Rattle.symbols_table.proofs.Counts.{few_symbols}
+use Rattle.symbols_table.proofs.CountsEvents.{symbols_by}
+use Rattle.symbols_root.specs.declared.root.limits.Limits.{Limits}
+use Rattle.symbols_root.specs.Specifiers.{module_under, is_among}
+use Rattle.symbols_root.specs.Roots.{RootView, widest, IsRefusal}
+use Rattle.symbols_root.specs.StoredModules.{StoredModule, stored_specifiers, AreWhole}
+use Rattle.symbols_root.proofs.Among.{laws, AreIn, under_in, one_more_in, no_more, among_place}
+
+-- ---- modules
+
+-- what is stored is of the graph
+pub stored_in : (graph : GraphView) (limit : ℕ) (entries : List StoredModule) → AreWhole graph limit entries → AreIn graph (stored_specifiers entries)
+stored_in graph limit entries all q is =
+    let at = among_place (stored_specifiers entries) q is in
+    by at.0 (slice_get entries at.0) refl (sym (slice_get-map (λ (e : StoredModule). e.0.now) entries at.0) ∙ at.1)
+  where
+    by : (i : ℕ) (o : Option StoredModule) → slice_get entries i ≡ o → option_map (λ (e : StoredModule). e.0.now) (slice_get entries i) ≡ Some q → is_among (specifiers graph.modules) q ≡ true
+    by i None gets here = absurd (none-some q (ap (option_map (λ (e : StoredModule). e.0.now)) (sym gets) ∙ here))
+    by i (Some entry) gets here =
+        let same : entry.0.now ≡ q = same_Some entry.0.now q (ap (option_map (λ (e : StoredModule). e.0.now)) (sym gets) ∙ here) in
+        let whole = all i entry gets in
+        under_in graph q whole.graph_module (ap (module_under graph) (sym same) ∙ whole.under)
+
+-- ---- so there is always room
+
+pub always_room : (root : RootView) (m : ModuleView) → root.limits ≡ widest → length root.graph.modules < 4294967296 → IsDistinct bytes_eq root.stored → AreIn root.graph root.stored → module_under root.graph m.specifier ≡ Some m → is_among root.stored m.specifier ≡ false → root.limits.modules ≤ length root.stored → ⊥
+always_room root m wide few once inside under new full =
+    let more = no_more root.graph (root.stored ++ m.specifier ∷ []) (IsDistinct-push laws root.stored m.specifier once new) (one_more_in root.graph root.stored m inside under) in
+    let limit : root.limits.modules ≡ 2 ^ 32 - 1 = ap (λ (l : Limits). l.modules) wide in
+    omega (arith, more, length_push root.stored m.specifier, limit, few, full)
+
+-- the same of the view of a root that holds these modules
+pub room_within : (graph : GraphView) (limits : Limits) (entries : List StoredModule) (root : RootView) (m : ModuleView) → record { graph = graph; limits = limits; stored = stored_specifiers entries } ≡ root → AreWhole graph limits.symbols entries → IsDistinct bytes_eq (stored_specifiers entries)
+    → root.limits ≡ widest → length root.graph.modules < 4294967296 → module_under root.graph m.specifier ≡ Some m → is_among (stored_specifiers entries) m.specifier ≡ false → limits.modules ≤ length (stored_specifiers entries) → ⊥
+room_within graph limits entries root m view all once wide few under new full =
+    let inside = subst (λ (r : RootView). AreIn r.graph r.stored) view (stored_in graph limits.symbols entries all) in
+    let once' = subst (λ (r : RootView). IsDistinct bytes_eq r.stored) view once in
+    let new' = subst (λ (r : RootView). is_among r.stored m.specifier ≡ false) view new in
+    let full' = subst (λ (r : RootView). r.limits.modules ≤ length r.stored) view full in
+    always_room root m wide few once' inside under new' full'

@@ -1,0 +1,120 @@
+-- A walk along a types chain.
+use Rattle.std.proofs.Common.{◌≡◌, ℕ, zero, suc, ◌+◌, ◌≤◌, Bool, true, false, ◌||◌, List, [], ◌∷◌, ◌++◌, length, map, reverse, find, IfSome, option_copied, option_and_then, Option, None, Some, refl, sym, ap, subst, ◌∙◌, arith, append_assoc, append-nil}
+use Rattle.std.specs.Prelude.{if◌then◌else◌}
+use Rattle.std.specs.Borrow.{Bor}
+use Rattle.std.specs.List.{IsDistinct, list_any}
+use Rattle.std.specs.Str.{bytes_eq}
+use Rattle.std.proofs.lemmas.List.{length_push, map-append, reverse-append}
+use Rattle.std.proofs.lemmas.Map.Keys.{IsDistinct-push}
+use Rattle.std.proofs.lemmas.Option.{none-some, same_Some}
+use Rattle.indexmap.specs.IndexSet.{insert_key}
+use Rattle.symbols_syntax.specs.Graph.{GraphView, ModuleView, module_of, types_of, IsChecked}
+use Rattle.symbols_root.specs.Specifiers.{module_under, is_among}
+use Rattle.symbols_root.specs.TypesChains.{is_analyzable, types_module, chain_from, types_chain, standing_module}
+use Rattle.symbols_root.proofs.Among.{laws, nothing_once, AreIn, none_in, one_more_in, looked_up_under, types_under}
+use Rattle.symbols_root.proofs.Chains.{from_none, from_old, from_new, room}
+
+-- what is known of a module that was found
+pub record IsKnown (graph : GraphView) (m : ModuleView) : Type 0 where
+  pub under : module_under graph m.specifier ≡ Some m
+  pub checked : IsChecked m.content
+
+-- the modules passed so far, the last of them with symbols, and the module that was looked up
+pub record IsFollowing (graph : GraphView) (specifier : List ℕ) (before : List (List ℕ)) (standing found : Option ModuleView) : Type 0 where
+  pub passed : List ModuleView
+  pub more : ℕ
+  pub enough : length graph.modules ≤ more + length before
+  pub once : IsDistinct bytes_eq before
+  pub inside : AreIn graph before
+  pub chain : types_chain graph specifier ≡ passed ++ chain_from graph more before found
+  pub last : standing ≡ find is_analyzable (reverse passed)
+  pub known : (m : ModuleView) → standing ≡ Some m → IsKnown graph m
+  pub under : (m : ModuleView) → found ≡ Some m → module_under graph m.specifier ≡ Some m
+
+pub following_first : (graph : GraphView) (specifier : List ℕ) → IsFollowing graph specifier [] None (module_of graph specifier)
+following_first graph specifier = record {
+  passed = [];
+  more = length graph.modules;
+  enough = omega arith;
+  once = nothing_once;
+  inside = none_in graph;
+  chain = refl;
+  last = refl;
+  known = λ m e. absurd (none-some m e);
+  under = looked_up_under graph specifier;
+}
+
+-- the chain ends here
+stands_at_end : (graph : GraphView) (specifier : List ℕ) (passed rest : List ModuleView) (standing : Option ModuleView) → types_chain graph specifier ≡ passed ++ rest → rest ≡ [] → standing ≡ find is_analyzable (reverse passed) → standing ≡ standing_module graph specifier
+stands_at_end graph specifier passed rest standing chain none last = last ∙ ap (λ modules. find is_analyzable (reverse modules)) (sym (chain ∙ (ap (λ r. passed ++ r) none ∙ append-nil passed)))
+
+last_of : (standing : Option ModuleView) (passed : List ModuleView) (m : ModuleView) → standing ≡ find is_analyzable (reverse passed) → (if is_analyzable m then Some m else standing) ≡ find is_analyzable (reverse (passed ++ m ∷ []))
+last_of standing passed m last = ap (λ o. if is_analyzable m then Some m else o) last ∙ ap (find is_analyzable) (sym (reverse-append passed (m ∷ [])))
+
+module _ {graph : GraphView} {specifier : List ℕ} {before : List (List ℕ)} {standing : Option ModuleView} where
+  pub following_over : IsFollowing graph specifier before standing None → standing ≡ standing_module graph specifier
+  following_over w = stands_at_end graph specifier w.passed _ standing w.chain (from_none graph w.more before) w.last
+
+  pub following_back : (m : ModuleView) → IsFollowing graph specifier before standing (Some m) → is_among before m.specifier ≡ true → standing ≡ standing_module graph specifier
+  following_back m w is = stands_at_end graph specifier w.passed _ standing w.chain (from_old graph w.more before m is) w.last
+
+  pub following_room : (m : ModuleView) → IsFollowing graph specifier before standing (Some m) → is_among before m.specifier ≡ false → length before + 1 ≤ length graph.modules
+  following_room m w new = room graph before m w.once w.inside (w.under m refl) new
+
+  -- on behind a new module
+  pub following_next : (m : ModuleView) → IsFollowing graph specifier before standing (Some m) → is_among before m.specifier ≡ false → IsChecked m.content → IsFollowing graph specifier (before ++ m.specifier ∷ []) (if is_analyzable m then Some m else standing) (types_module graph m)
+  following_next m w new checked = by w.more w.enough w.chain
+    where
+      known_later : (b : Bool) (x : ModuleView) → (if b then Some m else standing) ≡ Some x → IsKnown graph x
+      known_later true x e = subst (IsKnown graph) (same_Some m x e) (record { under = w.under m refl; checked = checked })
+      known_later false x e = w.known x e
+
+      by : (more : ℕ) → length graph.modules ≤ more + length before → types_chain graph specifier ≡ w.passed ++ chain_from graph more before (Some m) → IsFollowing graph specifier (before ++ m.specifier ∷ []) (if is_analyzable m then Some m else standing) (types_module graph m)
+      by zero enough chain = absurd (omega (arith, following_room m w new, enough))
+      by (suc more) enough chain = record {
+        passed = w.passed ++ m ∷ [];
+        more = more;
+        enough = omega (arith, enough, length_push before m.specifier);
+        once = IsDistinct-push laws before m.specifier w.once new;
+        inside = one_more_in graph before m w.inside (w.under m refl);
+        chain = chain ∙ (ap (λ rest. w.passed ++ rest) (from_new graph more before m new) ∙ sym (append_assoc w.passed (m ∷ []) (chain_from graph more (before ++ m.specifier ∷ []) (types_module graph m))));
+        last = last_of standing w.passed m w.last;
+        known = known_later (is_analyzable m);
+        under = types_under graph (types_of m.content);
+      }
+
+  -- a new module without a types dependency ends the chain
+  pub following_last : (m : ModuleView) → IsFollowing graph specifier before standing (Some m) → is_among before m.specifier ≡ false → IsChecked m.content → types_of m.content ≡ None → (if is_analyzable m then Some m else standing) ≡ standing_module graph specifier
+  following_last m w new checked none =
+      let next = following_next m w new checked in
+      stands_at_end graph specifier next.passed _ (if is_analyzable m then Some m else standing) next.chain (ap (λ t. chain_from graph next.more (before ++ m.specifier ∷ []) (option_and_then (module_of graph) t)) none ∙ from_none graph next.more (before ++ m.specifier ∷ [])) next.last
+
+-- the same at the values of a step
+pub following_step : {graph : GraphView} {specifier : List ℕ} {before : List (List ℕ)} {standing found : Option ModuleView} (m : ModuleView) (types : List ℕ) (new_before : List (List ℕ)) (new_standing new_found : Option ModuleView) → IsFollowing graph specifier before standing found
+    → found ≡ Some m → is_among before m.specifier ≡ false → IsChecked m.content → types_of m.content ≡ Some types → new_before ≡ before ++ m.specifier ∷ [] → new_standing ≡ (if is_analyzable m then Some m else standing) → new_found ≡ module_of graph types → IsFollowing graph specifier new_before new_standing new_found
+following_step {graph} {specifier} {before} {standing} m types new_before new_standing new_found w is new checked has e f g =
+    let next = following_next m (subst (IsFollowing graph specifier before standing) is w) new checked in
+    rw (e, f, g) (subst (λ o. IsFollowing graph specifier (before ++ m.specifier ∷ []) (if is_analyzable m then Some m else standing) (option_and_then (module_of graph) o)) has next)
+
+-- ---- values that are lent
+
+pub if_some : (P : ModuleView → Type 0) (o : Option (Bor ModuleView)) → ((m : ModuleView) → option_copied o ≡ Some m → P m) → IfSome o (λ m. P m.now)
+if_some P None holds = tt
+if_some P (Some m) holds = holds m.now refl
+
+abbrev pub lent_specifiers : List (Bor (List ℕ)) → List (List ℕ)
+lent_specifiers keys = map (λ (key : Bor (List ℕ)). key.now) keys
+
+pub lent_among : (keys : List (Bor (List ℕ))) (q : List ℕ) → list_any (λ (key : Bor (List ℕ)). bytes_eq q key.now) keys ≡ is_among (lent_specifiers keys) q
+lent_among [] q = refl
+lent_among (key ∷ keys) q = ap (λ b. bytes_eq q key.now || b) (lent_among keys q)
+
+-- whether a module is among those before it
+pub met_is : (keys : List (Bor (List ℕ))) (s q : List ℕ) (b : Bool) → b ≡ list_any (λ (key : Bor (List ℕ)). bytes_eq s key.now) keys → s ≡ q → is_among (lent_specifiers keys) q ≡ b
+met_is keys s q b is same = subst (λ x. is_among (lent_specifiers keys) x ≡ b) same (sym (lent_among keys s) ∙ sym is)
+
+-- the specifiers behind a new one
+pub met_push : (keys new : List (Bor (List ℕ))) (key : Bor (List ℕ)) (q : List ℕ) → new ≡ insert_key (λ (x y : Bor (List ℕ)). bytes_eq x.now y.now) keys key → key.now ≡ q → is_among (lent_specifiers keys) q ≡ false → lent_specifiers new ≡ lent_specifiers keys ++ q ∷ []
+met_push keys new key q is same fresh =
+    let none : list_any (λ (x : Bor (List ℕ)). bytes_eq key.now x.now) keys ≡ false = lent_among keys key.now ∙ (ap (is_among (lent_specifiers keys)) same ∙ fresh) in
+    ap lent_specifiers is ∙ (ap (λ b. lent_specifiers (if b then keys else keys ++ key ∷ [])) none ∙ (map-append (λ (x : Bor (List ℕ)). x.now) keys (key ∷ []) ∙ ap (λ x. lent_specifiers keys ++ x ∷ []) same))

@@ -1,0 +1,120 @@
+use Rattle.std.proofs.Common.{◌≡◌, ℕ, ◌<◌, ◌≤◌, Some, false, true, is_some, List, [], ◌∷◌, ◌++◌, slice_get, length, refl, sym, ap, ◌∙◌, subst, arith}
+use Rattle.std.specs.Borrow.{Bor}
+use Rattle.std.specs.List.{IsDistinct}
+use Rattle.std.specs.Str.{bytes_eq}
+use Rattle.std.proofs.lemmas.List.{length_push}
+use Rattle.std.proofs.lemmas.Map.Keys.{IsDistinct-push}
+use Rattle.indexmap.specs.IndexMap.{insert_entry}
+use Rattle.symbols_table.specs.Analysis.{IsAnalysis}
+use Rattle.symbols_table.specs.declared.info.module_info.ModuleInfo.{ModuleInfo}
+use Rattle.symbols_root.specs.Specifiers.{module_under, is_among}
+use Rattle.symbols_root.specs.declared.root.limits.Limits.{Limits}
+use Rattle.symbols_root.specs.Roots.{RootView, widest, with_stored, IsMissing, IsRefusal}
+use Rattle.symbols_root.specs.StoredModules.{StoredModule, stored_specifiers}
+use Rattle.symbols_root.proofs.Among.{laws, place_among}
+use Rattle.symbols_root.proofs.Storing.{stored_is, place_stored, length-stored, stored_push, insert_last, get_last, whole_push, with_old, with_new, none_missing, refused_analysis, table_under}
+use Rattle.symbols_root.proofs.Enough.{room_within}
+use Rattle.symbols_root.proofs.root.root_symbol.RootSymbol.store.Goals as goal
+
+-- ---- it is stored already
+
+pub returns-in-Some-clause-gives : goal.returns-in-Some-clause-gives
+returns-in-Some-clause-gives c =
+    let at = place_stored c.self.inside.modules.entries c.specifier-specifier.result.now c.in-Some.index (sym c.get_index_of.ensures.index ∙ c.in-Some.is) in
+    subst (λ (r : RootView). slice_get r.stored c.in-Some.index ≡ Some c.args.graph_module.now.specifier) c.self.view_is (at ∙ ap Some c.specifier-specifier.ensures)
+
+pub returns-in-Some-clause-stored : goal.returns-in-Some-clause-stored
+returns-in-Some-clause-stored c =
+    let q = c.args.graph_module.now.specifier in
+    let at = place_stored c.self.inside.modules.entries c.specifier-specifier.result.now c.in-Some.index (sym c.get_index_of.ensures.index ∙ c.in-Some.is) in
+    let old = place_among (stored_specifiers c.self.inside.modules.entries) c.in-Some.index q (at ∙ ap Some c.specifier-specifier.ensures) in
+    with_old c.args.self.now q (subst (λ (r : RootView). is_among r.stored q ≡ true) c.self.view_is old)
+
+pub returns-in-Some-clause-allowed : goal.returns-in-Some-clause-allowed
+returns-in-Some-clause-allowed c =
+    let q = c.args.graph_module.now.specifier in
+    let at = place_stored c.self.inside.modules.entries c.specifier-specifier.result.now c.in-Some.index (sym c.get_index_of.ensures.index ∙ c.in-Some.is) in
+    let old = place_among (stored_specifiers c.self.inside.modules.entries) c.in-Some.index q (at ∙ ap Some c.specifier-specifier.ensures) in
+    λ s. none_missing c.args.self.now q s (subst (λ (r : RootView). is_among r.stored q ≡ true) c.self.view_is old)
+
+-- ---- it is refused
+
+pub returns-then-count-modules-clause-refused : goal.returns-then-count-modules-clause-refused
+returns-then-count-modules-clause-refused c =
+    let entries = c.self.inside.modules.entries in
+    let q = c.args.graph_module.now.specifier in
+    let new = stored_is entries c.specifier-specifier.result.now q false (sym c.get_index_of.ensures.found ∙ ap is_some c.in_default.is) c.specifier-specifier.ensures in
+    let full : c.self.inside.limits.modules ≤ length (stored_specifiers entries) = omega (arith, length-stored entries, c.len-count.ensures.len, c.if-count-modules.true) in
+    subst (λ (r : RootView). (x : List ℕ) × IsMissing r (Some q) x × (r.limits.modules ≤ length r.stored)) c.self.view_is (q, (refl, new), full)
+
+pub returns-in-Err-clause-refused : goal.returns-in-Err-clause-refused
+returns-in-Err-clause-refused c =
+    let entries = c.self.inside.modules.entries in
+    let m = c.args.graph_module.now in
+    let new = stored_is entries c.specifier-specifier.result.now m.specifier false (sym c.get_index_of.ensures.found ∙ ap is_some c.in_default.is) c.specifier-specifier.ensures in
+    let room : length (stored_specifiers entries) < c.self.inside.limits.modules = omega (arith, length-stored entries, c.len-count.ensures.len, c.if-count-modules.false) in
+    let before : RootView = record { graph = c.self.inside.graph.now; limits = c.self.inside.limits; stored = stored_specifiers entries } in
+    let under : module_under before.graph m.specifier ≡ Some m = subst (λ (r : RootView). module_under r.graph m.specifier ≡ Some m) (sym c.self.view_is) c.requires.under in
+    subst (λ (r : RootView). IsRefusal r (Some m.specifier) c.in-Err.fault) c.self.view_is (refused_analysis before m c.in-Err.fault under new room c.in-Err.ensures.fault)
+
+-- ---- it is stored now
+
+pub invariant_of-self-2 : goal.invariant_of-self-2
+invariant_of-self-2 c =
+    let entries = c.self.inside.modules.entries in
+    let s = c.specifier-specifier.result in
+    let m = c.args.graph_module.now in
+    let info = c.in-Ok-Some.info in
+    let new = stored_is entries s.now s.now false (sym c.get_index_of.ensures.found ∙ ap is_some c.in_default.is) refl in
+    let inserted : c.insert.new.self.entries ≡ insert_entry (λ (x y : Bor (List ℕ)). bytes_eq x.now y.now) entries s info = c.in_ok-insert.ensures.entries in
+    let pushed = inserted ∙ insert_last c.self.inside.modules s info new in
+    let count : c.len-count.result ≡ length entries = c.len-count.ensures.len in
+    let under : module_under c.self.inside.graph.now m.specifier ≡ Some m = subst (λ (r : RootView). module_under r.graph m.specifier ≡ Some m) (sym c.self.view_is) c.requires.under in
+    let analysis : IsAnalysis (record { 0 = c.len-count.result }) m c.self.inside.limits.symbols (Some info) = subst (IsAnalysis (record { 0 = c.len-count.result }) m c.self.inside.limits.symbols) c.in-Ok-Some.field-0-is c.in-Ok-Some.ensures.table in
+    let whole = table_under c.self.inside.graph.now c.self.inside.limits.symbols (record { 0 = length entries }) m info s.now under c.specifier-specifier.ensures (rw (← count) analysis) in
+    let all = whole_push c.self.inside.graph.now c.self.inside.limits.symbols entries (s, info) c.self.invariant.0 whole in
+    let within : length (entries ++ (s, info) ∷ []) ≤ c.self.inside.limits.modules = omega (arith, length_push entries (s, info), count, c.if-count-modules.false) in
+    let once : IsDistinct bytes_eq (stored_specifiers (entries ++ (s, info) ∷ [])) = subst (IsDistinct bytes_eq) (sym (stored_push entries (s, info))) (IsDistinct-push laws (stored_specifiers entries) s.now c.self.invariant.2 new) in
+    rw pushed (all, within, once)
+
+stored_after : (entries more : List StoredModule) (s : Bor (List ℕ)) (q : List ℕ) (info : ModuleInfo) → more ≡ entries ++ (s, info) ∷ [] → s.now ≡ q → stored_specifiers more ≡ stored_specifiers entries ++ q ∷ []
+stored_after entries more s q info is same = ap stored_specifiers is ∙ (stored_push entries (s, info) ∙ ap (λ x. stored_specifiers entries ++ x ∷ []) same)
+
+pub returns-clause-gives : goal.returns-clause-gives
+returns-clause-gives c =
+    let entries = c.self.inside.modules.entries in
+    let s = c.specifier-specifier.result in
+    let q = c.args.graph_module.now.specifier in
+    let new = stored_is entries s.now s.now false (sym c.get_index_of.ensures.found ∙ ap is_some c.in_default.is) refl in
+    let inserted : c.insert.new.self.entries ≡ insert_entry (λ (x y : Bor (List ℕ)). bytes_eq x.now y.now) entries s c.in-Ok-Some.info = c.in_ok-insert.ensures.entries in
+    let after = stored_after entries c.insert.new.self.entries s q c.in-Ok-Some.info (inserted ∙ insert_last c.self.inside.modules s c.in-Ok-Some.info new) c.specifier-specifier.ensures in
+    let count : c.len-count.result ≡ length (stored_specifiers entries) = c.len-count.ensures.len ∙ sym (length-stored entries) in
+    rw (after, count) (get_last (stored_specifiers entries) q)
+
+pub returns-clause-stored : goal.returns-clause-stored
+returns-clause-stored c =
+    let entries = c.self.inside.modules.entries in
+    let s = c.specifier-specifier.result in
+    let q = c.args.graph_module.now.specifier in
+    let own = stored_is entries s.now s.now false (sym c.get_index_of.ensures.found ∙ ap is_some c.in_default.is) refl in
+    let new = stored_is entries s.now q false (sym c.get_index_of.ensures.found ∙ ap is_some c.in_default.is) c.specifier-specifier.ensures in
+    let inserted : c.insert.new.self.entries ≡ insert_entry (λ (x y : Bor (List ℕ)). bytes_eq x.now y.now) entries s c.in-Ok-Some.info = c.in_ok-insert.ensures.entries in
+    let after = stored_after entries c.insert.new.self.entries s q c.in-Ok-Some.info (inserted ∙ insert_last c.self.inside.modules s c.in-Ok-Some.info own) c.specifier-specifier.ensures in
+    let before : RootView = record { graph = c.self.inside.graph.now; limits = c.self.inside.limits; stored = stored_specifiers entries } in
+    let view : record { graph = c.self.inside.graph.now; limits = c.self.inside.limits; stored = stored_specifiers c.insert.new.self.entries } ≡ with_stored before (Some q) = ap (λ xs. record before { stored = xs }) after ∙ with_new before q new in
+    subst (λ (r : RootView). record { graph = c.self.inside.graph.now; limits = c.self.inside.limits; stored = stored_specifiers c.insert.new.self.entries } ≡ with_stored r (Some q)) c.self.view_is view
+
+-- ---- the widest limits are enough
+
+pub returns-then-count-modules-clause-enough : goal.returns-then-count-modules-clause-enough
+returns-then-count-modules-clause-enough c =
+    let entries = c.self.inside.modules.entries in
+    let m = c.args.graph_module.now in
+    let new = stored_is entries c.specifier-specifier.result.now m.specifier false (sym c.get_index_of.ensures.found ∙ ap is_some c.in_default.is) c.specifier-specifier.ensures in
+    let full : c.self.inside.limits.modules ≤ length (stored_specifiers entries) = omega (arith, length-stored entries, c.len-count.ensures.len, c.if-count-modules.true) in
+    λ wide few. absurd (room_within c.self.inside.graph.now c.self.inside.limits entries c.args.self.now m c.self.view_is c.self.invariant.0 c.self.invariant.2 wide few c.requires.under new full)
+
+pub returns-in-Err-clause-enough : goal.returns-in-Err-clause-enough
+returns-in-Err-clause-enough c = λ wide few.
+    let limits : c.self.inside.limits ≡ widest = ap (λ (r : RootView). r.limits) c.self.view_is ∙ wide in
+    c.in-Err.ensures.enough (ap (λ (l : Limits). l.symbols) limits)

@@ -1,0 +1,164 @@
+//! A graph with the modules of it that were analysed so far.
+
+ghost use Rattle.std.specs.Prelude.{◌≡◌, ◌<◌, ◌≤◌, ◌↔◌, ℕ, true, List, length, Some, IsSome, IfSome, IfOk, IfErr, OnOk, OnErr};
+ghost use Rattle.std.specs.List.{IsDistinct};
+ghost use Rattle.std.specs.Option.{option_map};
+ghost use Rattle.std.specs.Str.{bytes_eq};
+ghost use Rattle.symbols_syntax.specs.Graph.{ModuleView};
+ghost use Rattle.symbols_table.specs.Modules.{lent_table};
+ghost use Rattle.symbols_table.specs.declared.info.fault.SymbolsFault.TheVariants.{OutOfMemory};
+ghost use Rattle.symbols_root.specs.Specifiers.{module_under, is_among};
+ghost use Rattle.symbols_root.specs.TypesChains.{is_analyzable, types_chain, standing_module, stands_for, IsOnlyTypesChain};
+ghost use Rattle.symbols_root.specs.Roots.{empty_root, widest, with_stored, specifier_under, IsStoredTable, IsMissing, IsRefusal, IsWithinLimits};
+
+use crate::root::limits::Limits;
+use crate::root::types_chain::standing_module;
+use indexmap::IndexMap;
+use std::alloc::Global;
+use std::marker::Model;
+use symbols_table::analyze;
+use symbols_table::info::{ModuleInfo, ModuleInfoRef, SymbolsFault};
+use symbols_tree::check::{GraphModule, ModuleGraph};
+use symbols_tree::ids::ModuleId;
+
+/// A graph with the modules of it that were analysed so far (as deno_graph). A module is stored under
+/// its own specifier when a call needs it. Its number is its place in the order of storing: a module
+/// of the graph has at most one, and keeps it.
+#[derive(Drop)]
+pub struct RootSymbol<'a> {
+    alloc: Global,
+    graph: &'a ModuleGraph,
+    limits: Limits,
+    modules: IndexMap<&'a str, ModuleInfo<'a>>,
+}
+
+impl<'a> Model for RootSymbol<'a> {
+    ghost use Rattle.std.specs.Prelude.{◌≤◌, length};
+    ghost use Rattle.std.specs.List.{IsDistinct};
+    ghost use Rattle.std.specs.Str.{bytes_eq};
+    ghost use Rattle.symbols_root.specs.Roots.{RootView};
+    ghost use Rattle.symbols_root.specs.StoredModules.{stored_specifiers, AreWhole};
+
+    ghost Value = { RootView };
+
+    ghost view = { λ r. record { graph = r.graph.now; limits = r.limits; stored = stored_specifiers r.modules.entries } };
+
+    ghost invariant = { λ r. AreWhole r.graph.now r.limits.symbols r.modules.entries × (length r.modules.entries ≤ r.limits.modules) × IsDistinct bytes_eq (stored_specifiers r.modules.entries) };
+}
+
+impl<'a> RootSymbol<'a> {
+    /// A root over a graph, with no module stored and the widest limits (as deno_graph, without a
+    /// parser: the graph has the trees).
+    pub fn new(alloc: Global, graph: &'a ModuleGraph) -> RootSymbol<'a>
+        ensures { result ≡ empty_root graph.now widest }
+    {
+        let limits = Limits {
+            modules: u32::MAX,
+            symbols: u32::MAX,
+        };
+        RootSymbol::with_limits(alloc, graph, limits)
+    }
+
+    /// A root over a graph, with no module stored, that stores within these limits (own rule).
+    pub fn with_limits(alloc: Global, graph: &'a ModuleGraph, limits: Limits) -> RootSymbol<'a>
+        ensures { result ≡ empty_root graph.now limits }
+    {
+        RootSymbol {
+            alloc,
+            graph,
+            limits,
+            modules: IndexMap::new(alloc),
+        }
+    }
+
+    /// The graph that it is over (own rule; the crate's root lends it nowhere).
+    pub fn graph(&self) -> &'a ModuleGraph
+        ensures { result.now ≡ self.now.graph }
+    {
+        self.graph
+    }
+
+    /// What it allocates with (own rule).
+    pub fn alloc(&self) -> Global {
+        self.alloc
+    }
+
+    /// Whether a module is stored that has this very specifier; redirects and types dependencies
+    /// are not followed (as deno_graph).
+    pub fn has_analyzed(&self, specifier: &str) -> bool
+        ensures { result ≡ is_among self.now.stored specifier.now }
+    {
+        self.modules.contains_key(&specifier)
+    }
+
+    /// The stored module of a number, if one has it (as deno_graph).
+    pub fn module_from_id(&self, module_id: ModuleId) -> Option<ModuleInfoRef<'_, 'a>>
+        ensures found { IsSome result ↔ (module_id.0 < length self.now.stored) }
+        ensures table { IfSome result (λ info. IsStoredTable self.now module_id (lent_table info)) }
+        ensures once { IsDistinct bytes_eq self.now.stored }
+        ensures within { length self.now.stored ≤ self.now.limits.modules }
+    {
+        match self.modules.get_index(module_id.0 as usize) {
+            Some((_, info)) => Some(info.as_ref()),
+            None => None,
+        }
+    }
+
+    // Stores a module of the graph that has symbols, unless it is stored.
+    fn store(&mut self, graph_module: &'a GraphModule) -> Result<ModuleId, SymbolsFault>
+        requires under { module_under self.old.graph graph_module.now.specifier ≡ Some graph_module.now }
+        requires analyzable { is_analyzable graph_module.now ≡ true }
+        ensures gives { IfOk result (λ id. specifier_under self.new id ≡ Some graph_module.now.specifier) }
+        ensures stored { OnOk result (self.new ≡ with_stored self.old (Some graph_module.now.specifier)) }
+        ensures allowed { OnOk result ((specifier : List ℕ) → IsMissing self.old (Some graph_module.now.specifier) specifier → IsWithinLimits self.old specifier) }
+        ensures unchanged { OnErr result (self.new ≡ self.old) }
+        ensures refused { IfErr result (IsRefusal self.old (Some graph_module.now.specifier)) }
+        ensures enough { self.old.limits ≡ widest → length self.old.graph.modules < 4294967296 → IfErr result (λ fault. fault ≡ OutOfMemory) }
+    {
+        let specifier = graph_module.specifier();
+        let Limits { modules, symbols } = self.limits;
+        if let Some(index) = self.modules.get_index_of(&specifier) {
+            return Ok(ModuleId(index as u32));
+        }
+        let count = self.modules.len();
+        if count >= modules as usize {
+            return Err(SymbolsFault::TooManyModules);
+        }
+        let module_id = ModuleId(count as u32);
+        let info = match analyze(self.alloc, module_id, graph_module, symbols) {
+            Ok(Some(info)) => info,
+            Ok(None) => unreachable!(),
+            Err(fault) => return Err(fault),
+        };
+        self.modules.insert(specifier, info)?;
+        Ok(module_id)
+    }
+
+    /// The module that a specifier stands for, stored now if it wasn't before; none where the
+    /// specifier stands for none (as deno_graph; own rules: a types chain ends before a module that is
+    /// on it already, and a module is stored once, whatever redirects lead to it).
+    ///
+    /// # Errors
+    ///
+    /// `TooManyModules` where as many modules are stored as the limit allows, `TooManySymbols` where
+    /// the module has more symbols than the limit, `OutOfMemory` where memory was refused; all that
+    /// was stored stays as it was.
+    pub fn module_from_specifier(
+        &mut self,
+        specifier: &str,
+    ) -> Result<Option<ModuleId>, SymbolsFault>
+        ensures gives { IfOk result (λ id. option_map (specifier_under self.new) id ≡ option_map (λ s. Some s) (stands_for self.old.graph specifier.now)) }
+        ensures stored { OnOk result (self.new ≡ with_stored self.old (stands_for self.old.graph specifier.now)) }
+        ensures allowed { OnOk result ((needed : List ℕ) → IsMissing self.old (stands_for self.old.graph specifier.now) needed → IsWithinLimits self.old needed) }
+        ensures unchanged { OnErr result (self.new ≡ self.old) }
+        ensures refused { IfErr result (IsRefusal self.old (stands_for self.old.graph specifier.now)) }
+        ensures enough { self.old.limits ≡ widest → IfErr result (λ fault. fault ≡ OutOfMemory) }
+        ensures under { IfOk result (λ _. IfSome (standing_module self.old.graph specifier.now) (λ m. module_under self.old.graph m.specifier ≡ Some m)) }
+        ensures chain { IsOnlyTypesChain self.old.graph specifier.now (types_chain self.old.graph specifier.now) }
+    {
+        match standing_module(self.alloc, self.graph, specifier)? {
+            Some(graph_module) => Ok(Some(self.store(graph_module)?)),
+            None => Ok(None),
+        }
+    }
+}
