@@ -15,6 +15,8 @@ It prints a table with a row for each graph and stage. In counts the stages are
               analyse: of the graph of references alone
     export    a run with a query for what each module exports, less one with the queries of analyse: of the graph of
               webs, which is taken of 4n too, and of graphs of files
+    path      a run with a query for the paths of a symbol, of graphs of files of each, less one without queries: of
+              re-exports in a row and of candidates of an import, which it analyses on the way
 
 and what is counted of a run:
 
@@ -174,6 +176,47 @@ def webs_of(n):
     return {'modules': [it for specifiers in webs for it in web(specifiers, 5)], 'resolutions': resolutions}
 
 
+def taking(specifier, statement, name, src):
+    """A module that imports or re-exports a name from a text."""
+    tree = Tree()
+    at = tree.add(statement, src=src)
+    tree.nodes[at]['specifiers'] = [tree.add(name)]
+    key = 'local' if name == 'ImportNamed' else 'orig'
+    tree.nodes[at + 1][key] = tree.add('Ident', sym=['name', 1])
+    return tree.module(specifier, [at])
+
+
+def passing(specifier, src):
+    return taking(specifier, 'ExportNamed', 'ExportSpecifier', src)
+
+
+def owner(specifier):
+    tree = Tree()
+    return tree.module(specifier, [variable(tree, 'name')])
+
+
+def resolved(modules):
+    """A graph in which each text of a module stands for the module of that specifier."""
+    texts = [(m, node['src']) for m in modules for node in m['tree']['nodes'] if 'src' in node]
+    return {'modules': modules, 'resolutions': [[m['specifier'], text, text] for m, text in texts]}
+
+
+def row_of(n):
+    """n modules in a row, each of which re-exports a name from the next; the last owns it."""
+    return resolved([passing('m%d' % i, 'm%d' % (i + 1)) for i in range(n - 1)] + [owner('m%d' % (n - 1))])
+
+
+def candidates_of(n):
+    """A name that is imported from a module with n statements `export *`. Each but the last leads to a name that is
+    re-exported from a module that re-exports it from there."""
+    tree = Tree()
+    stars = [tree.add('ExportAll', src=it) for it in ['to%d' % i for i in range(n - 1)] + ['last']]
+    modules = [taking('first', 'Import', 'ImportNamed', 'middle'), tree.module('middle', stars), owner('last')]
+    for i in range(n - 1):
+        modules += [passing('to%d' % i, 'fro%d' % i), passing('fro%d' % i, 'to%d' % i)]
+    return resolved(modules)
+
+
 STAGES = ('read', 'check', 'analyse')
 
 # a graph's name, its n, how it is made, what is asked beyond the stages, and the multiples of n
@@ -184,13 +227,16 @@ MADE = [
     ('one interface of members', 20000, interface_of, (), (1, 2)),
     ('one alias of references', 20000, references_of, ('depend',), (1, 2)),
     ('webs of ten modules', 2000, webs_of, ('export',), (1, 2, 4)),
+    ('re-exports in a row', 10000, row_of, ('path',), (1, 2)),
+    ('candidates of an import', 10000, candidates_of, ('path',), (1, 2)),
 ]
 
 
 class Files:
-    """A graph's files in a folder, and lines that ask each of its modules something."""
+    """A graph's files in a folder, and lines that ask each of its modules something. Of a graph that counts its symbols
+    by module the paths of each are asked, else those of the first module's first."""
 
-    def __init__(self, folder, graph):
+    def __init__(self, folder, graph, symbols=None):
         modules = graph['modules']
         self.path, self.refused = (os.path.join(folder, name) for name in ('graph.json', 'refused.json'))
         write(self.path, graph)
@@ -199,7 +245,24 @@ class Files:
         self.asked = {
             'depend': b''.join(line('deps', m['specifier'], 1, 'all') for m in modules),
             'export': b''.join(line('exports', m['specifier']) for m in modules),
+            'path': b''.join(line('paths', m, k) for m, count in symbols.items() for k in range(count))
+            if symbols else line('paths', modules[0]['specifier'], 1),
         }
+
+
+def symbols_of(program, path, graph):
+    """How many symbols each module has, as far as it is known by its own specifier."""
+    found, left, size = {}, [m['specifier'] for m in graph['modules']], 64
+    while left:
+        lines = b''.join(line('name', m, found.get(m, 0) + k) for m in left for k in range(size))
+        answers = subprocess.run([program, path], input=lines, stdout=subprocess.PIPE).stdout.split(b'\n')
+        more = []
+        for at, m in enumerate(left):
+            count = sum(it.startswith(b'{"name"') for it in answers[at * size : (at + 1) * size])
+            found[m] = found.get(m, 0) + count
+            more += [m] if count == size else []
+        left, size = more, size * 2
+    return {m: count for m, count in found.items() if count}
 
 
 def line(*query):
@@ -241,7 +304,7 @@ def counts(count, program, other, files, stages):
     idle = count([program, files.path])
     asked = count([program, files.path], files.queries)
     found = {'read': [read], 'check': [idle - read], 'analyse': [asked - idle]}
-    found.update((it, [count([program, files.path], files.asked[it]) - asked]) for it in further)
+    found.update((it, [count([program, files.path], files.asked[it]) - (idle if it == 'path' else asked)]) for it in further)
     if other:
         idle = count([other, files.path])
         found['read'].append(idle)
@@ -249,7 +312,7 @@ def counts(count, program, other, files, stages):
             asked = count([other, files.path], files.queries)
             found['analyse'].append(asked - idle)
             for stage in further:
-                found[stage].append(count([other, files.path], files.asked[stage]) - asked)
+                found[stage].append(count([other, files.path], files.asked[stage]) - (idle if stage == 'path' else asked))
     return found
 
 
@@ -301,7 +364,7 @@ def measure(a, name, makers, small, stages):
     """Prints the rows of a graph of some sizes; `small` has smaller ones to count instructions on."""
     with tempfile.TemporaryDirectory() as top:
         def files(make):
-            return Files(tempfile.mkdtemp(dir=top), make())
+            return Files(tempfile.mkdtemp(dir=top), *make())
         sizes = [files(make) for make in makers]
         executed, touched, timed = [], [], []
         if a.only != 'times':
@@ -327,13 +390,14 @@ def main():
     for name, n, make, further, multiples in MADE:
         if a.made and not re.search(a.made, name):
             continue
-        sizes = [partial(make, n * it) for it in multiples]
-        small = [partial(make, n * it // 10) for it in multiples]
+        sizes = [partial(lambda size: (make(size),), n * it) for it in multiples]
+        small = [partial(lambda size: (make(size),), n * it // 10) for it in multiples]
         measure(a, '%s, %d' % (name, n), sizes, small, STAGES + further)
     for file in a.graph:
         with open(file) as f:
             graph = json.load(f)
-        measure(a, os.path.basename(file), [lambda: graph], [lambda: graph], STAGES + ('export',))
+        made = (graph, symbols_of(a.program, file, graph))
+        measure(a, os.path.basename(file), [lambda: made], [lambda: made], STAGES + ('export', 'path'))
 
 
 if __name__ == '__main__':

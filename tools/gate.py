@@ -4,8 +4,9 @@ names, and the stored cases on the proved programs.
 
     python3 tools/gate.py
 
-`rt ci` proves the crates from the lowest on. The wrong bodies of a crate are tried while it goes on, as soon as the
-libraries below the crate are proved, over copies of what it built of them. The cases come last. Behind all a line for
+`rt ci` proves the crates from the lowest on, but those that an earlier run of it on this machine proved of the same files.
+The wrong bodies of a crate are tried while it goes on, as soon as the libraries below the crate are proved, over copies of
+what it built of them. The cases come last. Behind all a line for
 each part says what it took, on the clock and of the processors; the last line is 'N passed, M failed'.
 """
 import os
@@ -34,7 +35,7 @@ class Proofs:
         self.changed = threading.Condition()
 
     def read(self, line):
-        found = re.fullmatch(r'rt: (\w+) proved\s*', line)
+        found = re.fullmatch(r'rt: (\w+) (?:proved|is kept: .*)\s*', line)
         if found:
             built = os.path.join(TOP, 'crates', found[1], 'out', 'rlib', found[1] + '.rlib')
             if os.path.isdir(built):
@@ -144,6 +145,7 @@ def all_parts():
         tasks += [pool.submit(wrong_bodies_part, name, libraries, proofs, lanes) for name in names]
         parts = [it.result() for it in tasks]
     parts.append(Part('public names').run(tool('public_names.py')))
+    parts.append(Part('plain graphs').run(tool('run_plain.py')))
     return parts + [Part('cases').run(tool('run_cases.py', '--proved'))]
 
 

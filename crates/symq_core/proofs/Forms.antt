@@ -2,7 +2,7 @@
 use Rattle.std.proofs.Common.{◌≡◌, ◌<◌, List, [], ◌∷◌, length, None, refl, arith}
 use Rattle.serde_json.specs.View.{items_view}
 use Rattle.serde_json.specs.declared.value.Value.{Value}
-use Rattle.symq_core.specs.Queries.{two_and_rest, module_question, exports_question, symbol_question, name_question, deps_question}
+use Rattle.symq_core.specs.Queries.{two_and_rest, module_question, exports_question, symbol_question, one_symbol, deps_question}
 
 pub two_short : (values : List Value) → length values < 2 → two_and_rest (items_view values) ≡ None
 two_short [] h = refl
@@ -28,14 +28,14 @@ symbol_long (a ∷ []) h = refl
 symbol_long (a ∷ b ∷ []) h = absurd (omega arith)
 symbol_long (a ∷ b ∷ c ∷ values) h = refl
 
-pub name_short : (values : List Value) → length values < 1 → name_question (items_view values) ≡ None
-name_short [] h = refl
-name_short (a ∷ values) h = absurd (omega arith)
+pub symbols_short : (values : List Value) → length values < 1 → one_symbol (items_view values) ≡ None
+symbols_short [] h = refl
+symbols_short (a ∷ values) h = absurd (omega arith)
 
-pub name_long : (values : List Value) → 1 < length values → name_question (items_view values) ≡ None
-name_long [] h = refl
-name_long (a ∷ []) h = absurd (omega arith)
-name_long (a ∷ b ∷ values) h = refl
+pub symbols_long : (values : List Value) → 1 < length values → one_symbol (items_view values) ≡ None
+symbols_long [] h = refl
+symbols_long (a ∷ []) h = absurd (omega arith)
+symbols_long (a ∷ b ∷ values) h = refl
 
 pub deps_short : (values : List Value) → length values < 2 → deps_question (items_view values) ≡ None
 deps_short [] h = refl

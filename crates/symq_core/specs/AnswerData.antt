@@ -7,7 +7,9 @@ use Rattle.symbols_nodes.specs.declared.deps.dep.ReferenceNamespace.{ReferenceNa
 use Rattle.symbols_nodes.specs.declared.deps.dep.ReferenceNamespace.TheVariants as In
 use Rattle.symbols_nodes.specs.References.{Reference, id, qualified_id, import_type, Dependency}
 use Rattle.symbols_exports.specs.Told.{ToldExport, ToldStatement}
-use Rattle.symq_core.specs.AnswerViews.{AnswerFault, bad_query, too_many_modules, too_many_symbols, unknown_module, unknown_symbol, AnswerView, tells_nothing, tells_module, tells_fault, tells_exports, tells_symbol, tells_name, tells_deps}
+use Rattle.symq_core.specs.AnswerViews.{AnswerFault, bad_query, too_many_modules, too_many_symbols, unknown_module, unknown_symbol, AnswerView, tells_nothing, tells_module, tells_fault, tells_exports, tells_symbol, tells_name, tells_deps, tells_paths, tells_definitions, tells_leaves}
+use Rattle.symq_core.specs.TextsData.{texts_data}
+use Rattle.symq_core.specs.PathData.{defined_data, leaf_data, forest_items}
 
 abbrev pub fault_words : AnswerFault → List ℕ
 fault_words bad_query = codes "bad query"
@@ -39,9 +41,6 @@ abbrev pub name_text : Option (List ℕ) → Data
 name_text None = null
 name_text (Some name) = string name
 
-abbrev pub texts_data : List (List ℕ) → Data
-texts_data texts = array (items_of (map string texts))
-
 -- a name with its scope, a name with the parts after it, or the text of a module with the parts after it
 abbrev pub reference_data : Reference → Data
 reference_data (id name) = array (item (string (codes "id")) (item (string name.name) (item (number (unsigned name.scope)) no_items)))
@@ -69,3 +68,6 @@ answer_data (tells_exports entries unresolved) = object (member (codes "exports"
 answer_data (tells_symbol found) = object (member (codes "symbol") (symbol_number found) no_members)
 answer_data (tells_name name) = object (member (codes "name") (name_text name) no_members)
 answer_data (tells_deps lists) = object (member (codes "deps") (array (items_of (map dependencies_data lists))) no_members)
+answer_data (tells_paths paths) = object (member (codes "paths") (array (forest_items paths)) no_members)
+answer_data (tells_definitions definitions) = object (member (codes "definitions") (array (items_of (map defined_data definitions))) no_members)
+answer_data (tells_leaves leaves) = object (member (codes "leaves") (array (items_of (map leaf_data leaves))) no_members)

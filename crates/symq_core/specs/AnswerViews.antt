@@ -3,6 +3,7 @@ use Rattle.std.specs.Prelude.{ℕ, List, Option}
 use Rattle.symbols_syntax.specs.declared.ids.SymbolId.{SymbolId}
 use Rattle.symbols_nodes.specs.References.{Dependency}
 use Rattle.symbols_exports.specs.Told.{ToldExport, ToldStatement}
+use Rattle.symbols_paths.specs.Trees.{Defined, Leaf, Forest}
 
 -- why a line has no other answer
 pub data AnswerFault : Type 0 where
@@ -14,7 +15,7 @@ pub data AnswerFault : Type 0 where
 
 -- nothing, where the specifier stands for no module; which module it stands for; why there is no other answer; what is exported, and the statements `export *` that
 -- lead to no module; which symbol a name stands for, if any; what a symbol is called in full, if it has a name; what each declaration of a
--- symbol depends on
+-- symbol depends on; the paths to where a symbol is defined; the definitions at their ends; and all their ends
 pub data AnswerView : Type 0 where
   tells_nothing : AnswerView
   tells_module : List ℕ → AnswerView
@@ -23,3 +24,6 @@ pub data AnswerView : Type 0 where
   tells_symbol : Option SymbolId → AnswerView
   tells_name : Option (List ℕ) → AnswerView
   tells_deps : List (List Dependency) → AnswerView
+  tells_paths : Forest → AnswerView
+  tells_definitions : List Defined → AnswerView
+  tells_leaves : List Leaf → AnswerView

@@ -1,16 +1,17 @@
 -- For inner functions and proofs alone: a query of the program, and its answer by the tables of a module.
-use Rattle.std.specs.Prelude.{◌≡◌, List, Option, Some, None}
-use Rattle.serde_json.specs.Data.{Data}
+use Rattle.std.specs.Prelude.{List, Option, Some, None, Result}
+use Rattle.json.specs.Written.{Written}
 use Rattle.symbols_syntax.specs.Ids.{id_view}
 use Rattle.symbols_table.specs.declared.info.fault.SymbolsFault.{SymbolsFault}
 use Rattle.symbols_table.specs.declared.info.fault.SymbolsFault.TheVariants as fault
 use Rattle.symbols_table.specs.Changes.{Change}
 use Rattle.symbols_table.specs.Analysis.{HasTables}
 use Rattle.symbols_table.specs.Modules.{Table}
-use Rattle.symq_core.specs.Queries.{TableQuestionView, asks_module, asks_symbol, asks_name, asks_deps, QuestionView, asks_exports, asks_table, QueryView}
+use Rattle.symq_core.specs.Queries.{TableQuestionView, asks_module, asks_symbol, asks_name, asks_deps, QuestionView, asks_exports, asks_paths, asks_definitions, asks_leaves, asks_table, QueryView}
 use Rattle.symq_core.specs.AnswerViews.{AnswerFault, too_many_modules, too_many_symbols, unknown_module, unknown_symbol}
 use Rattle.symq_core.specs.AnswerData.{answer_data}
 use Rattle.symq_core.specs.Answers.{changes_answer}
+use Rattle.symq_core.specs.Telling.{Tells}
 use Rattle.symq_core.specs.declared.program.query.Question.{Question}
 use Rattle.symq_core.specs.declared.program.query.TableQuestion.{TableQuestion}
 use Rattle.symq_core.specs.declared.program.query.Query.{Query}
@@ -24,14 +25,17 @@ table_question_view (TableQuestion.Deps symbol mode) = asks_deps symbol mode
 
 abbrev pub question_view : Question → QuestionView
 question_view Question.Exports = asks_exports
+question_view (Question.Paths symbol) = asks_paths symbol
+question_view (Question.Definitions symbol) = asks_definitions symbol
+question_view (Question.Leaves symbol) = asks_leaves symbol
 question_view (Question.Table question) = asks_table (table_question_view question)
 
 abbrev pub query_view : Query → QueryView
 query_view query = record { specifier = query.specifier.now; question = question_view query.question }
 
--- the value is that of the answer by the changes whose tables these are
-abbrev pub IsAnswerByTables : TableQuestionView → Table → Data → Type 0
-IsAnswerByTables question table value = (changes : List Change) → HasTables table changes → value ≡ answer_data (changes_answer question table.specifier changes)
+-- the answer by the changes whose tables these are was written
+abbrev pub TellsByTables : {E : Type 0} → Result (Unit {0}) E → Written → Written → TableQuestionView → Table → Type 0
+TellsByTables r old new question table = (changes : List Change) → HasTables table changes → Tells r old new (answer_data (changes_answer question table.specifier changes))
 
 -- why a call on symbols gave nothing; want of memory is no answer
 abbrev pub fault_view : SymbolsFault → Option AnswerFault

@@ -10,9 +10,12 @@ use Rattle.symbols_table.specs.QualifiedNames.{qualified_name}
 use Rattle.symbols_table.specs.Modules.{source_of}
 use Rattle.symbols_table.specs.Analysis.{source_changes}
 use Rattle.symbols_root.specs.TypesChains.{standing_module}
+use Rattle.symbols_exports.specs.StarStatements.{changes_under}
 use Rattle.symbols_exports.specs.Ways.{exports_told, unresolved_told_in}
-use Rattle.symq_core.specs.Queries.{TableQuestionView, asks_module, asks_symbol, asks_name, asks_deps, QuestionView, asks_exports, asks_table, QueryView}
-use Rattle.symq_core.specs.AnswerViews.{bad_query, unknown_symbol, AnswerView, tells_nothing, tells_module, tells_fault, tells_exports, tells_symbol, tells_name, tells_deps}
+use Rattle.symbols_paths.specs.Trees.{Forest, leaves_in, definitions_in}
+use Rattle.symbols_paths.specs.Computed.{paths_of}
+use Rattle.symq_core.specs.Queries.{TableQuestionView, asks_module, asks_symbol, asks_name, asks_deps, QuestionView, asks_exports, asks_paths, asks_definitions, asks_leaves, asks_table, QueryView}
+use Rattle.symq_core.specs.AnswerViews.{bad_query, unknown_symbol, AnswerView, tells_nothing, tells_module, tells_fault, tells_exports, tells_symbol, tells_name, tells_deps, tells_paths, tells_definitions, tells_leaves}
 
 -- the name of a symbol, and a fault where there is no such symbol
 abbrev pub named_answer : Option SymbolView → Option (List ℕ) → AnswerView
@@ -43,10 +46,36 @@ changes_of graph_module = option_map source_changes (source_of graph_module.cont
 abbrev pub module_answer : TableQuestionView → ModuleView → AnswerView
 module_answer question graph_module = answer_by question graph_module.specifier (changes_of graph_module)
 
--- nothing where there is no module; what it exports, and its unresolved statements, by the whole graph
+-- what is told of a symbol, and a fault where there is no such symbol
+abbrev pub told_of : Option SymbolView → AnswerView → AnswerView
+told_of None told = tells_fault unknown_symbol
+told_of (Some _) told = told
+
+-- a symbol of the module of this specifier
+abbrev pub symbol_under : GraphView → List ℕ → SymbolId → Option SymbolView
+symbol_under graph specifier s = symbol_after (changes_under graph specifier) s
+
+-- the paths of a symbol of the module of this specifier
+abbrev pub paths_under : GraphView → List ℕ → SymbolId → Forest
+paths_under graph specifier s = paths_of graph (record { specifier = specifier; number = s })
+
+-- these paths; the definitions at their ends from left to right; and all their ends
+abbrev pub paths_answer : SymbolId → GraphView → List ℕ → AnswerView
+paths_answer s graph specifier = told_of (symbol_under graph specifier s) (tells_paths (paths_under graph specifier s))
+
+abbrev pub definitions_answer : SymbolId → GraphView → List ℕ → AnswerView
+definitions_answer s graph specifier = told_of (symbol_under graph specifier s) (tells_definitions (definitions_in (leaves_in (paths_under graph specifier s))))
+
+abbrev pub leaves_answer : SymbolId → GraphView → List ℕ → AnswerView
+leaves_answer s graph specifier = told_of (symbol_under graph specifier s) (tells_leaves (leaves_in (paths_under graph specifier s)))
+
+-- nothing where there is no module; what it exports, and its unresolved statements, and where a symbol of it is defined, by the whole graph
 abbrev pub found_answer : GraphView → QuestionView → Option ModuleView → AnswerView
 found_answer graph question None = tells_nothing
 found_answer graph asks_exports (Some graph_module) = tells_exports (exports_told graph graph_module.specifier) (unresolved_told_in graph graph_module.specifier)
+found_answer graph (asks_paths s) (Some graph_module) = paths_answer s graph graph_module.specifier
+found_answer graph (asks_definitions s) (Some graph_module) = definitions_answer s graph graph_module.specifier
+found_answer graph (asks_leaves s) (Some graph_module) = leaves_answer s graph graph_module.specifier
 found_answer graph (asks_table question) (Some graph_module) = module_answer question graph_module
 
 -- the answer to a query on a graph: on the module that its specifier stands for

@@ -1,8 +1,11 @@
 pub mod Queries
 pub mod AnswerViews
+pub mod TextsData
+pub mod PathData
 pub mod AnswerData
 pub mod Answers
 pub mod AnswerTexts
+pub mod Telling
 pub mod Answering
 pub mod Devices
 pub mod Lines

@@ -16,9 +16,12 @@ pub data TableQuestionView : Type 0 where
   asks_name : SymbolId → TableQuestionView
   asks_deps : SymbolId → ResolveDepsMode → TableQuestionView
 
--- what is asked of a specifier, and of the module that it stands for: what it exports; or what its table tells
+-- what is asked of a specifier, and of the module that it stands for: what it exports; the paths to where a symbol of it is defined, the definitions at their ends, or all their ends; or what its table tells
 pub data QuestionView : Type 0 where
   asks_exports : QuestionView
+  asks_paths : SymbolId → QuestionView
+  asks_definitions : SymbolId → QuestionView
+  asks_leaves : SymbolId → QuestionView
   asks_table : TableQuestionView → QuestionView
 
 -- a question, and the specifier of the module that it is asked of
@@ -45,10 +48,24 @@ abbrev pub symbol_question : Items → Option QuestionView
 symbol_question (item name (item scope no_items)) = option_map (λ id. asks_table (asks_symbol id)) (read_id name scope)
 symbol_question _ = None
 
+-- the number of a symbol
+abbrev pub one_symbol : Items → Option SymbolId
+one_symbol (item symbol no_items) = option_map (λ n. record { 0 = n }) (as_u32 symbol)
+one_symbol _ = None
+
 -- the form `["name", specifier, number]`, behind its specifier
 abbrev pub name_question : Items → Option QuestionView
-name_question (item symbol no_items) = option_map (λ n. asks_table (asks_name (record { 0 = n }))) (as_u32 symbol)
-name_question _ = None
+name_question items = option_map (λ s. asks_table (asks_name s)) (one_symbol items)
+
+-- the forms `["paths", specifier, number]`, `["definitions", specifier, number]` and `["leaves", specifier, number]`, behind their specifiers
+abbrev pub paths_question : Items → Option QuestionView
+paths_question items = option_map asks_paths (one_symbol items)
+
+abbrev pub definitions_question : Items → Option QuestionView
+definitions_question items = option_map asks_definitions (one_symbol items)
+
+abbrev pub leaves_question : Items → Option QuestionView
+leaves_question items = option_map asks_leaves (one_symbol items)
 
 -- the word of a mode
 abbrev pub mode_named : List ℕ → Option ResolveDepsMode
@@ -61,7 +78,7 @@ deps_question _ = None
 
 -- the forms by their words
 abbrev pub forms : List (List ℕ × (Items → Option QuestionView))
-forms = (codes "module", module_question) ∷ (codes "exports", exports_question) ∷ (codes "symbol", symbol_question) ∷ (codes "name", name_question) ∷ (codes "deps", deps_question) ∷ []
+forms = (codes "module", module_question) ∷ (codes "exports", exports_question) ∷ (codes "symbol", symbol_question) ∷ (codes "name", name_question) ∷ (codes "deps", deps_question) ∷ (codes "paths", paths_question) ∷ (codes "definitions", definitions_question) ∷ (codes "leaves", leaves_question) ∷ []
 
 abbrev pub question_named : List ℕ → Items → Option QuestionView
 question_named word items = option_and_then (λ form. form.1 items) (find (λ form. bytes_eq word form.0) forms)

@@ -6,13 +6,16 @@ mod device;
 mod engine;
 mod exporting;
 mod fault;
+mod finding;
 mod lines;
 mod memory;
+mod paths;
 mod query;
 mod session;
 mod start;
 mod stop;
 mod streams;
+mod telling;
 mod writing;
 
 pub use device::{DeviceFault, Input, Output};

@@ -1,2 +1,10 @@
 pub mod Tuples
+pub mod Numerals
+pub mod Plains
+pub mod Gets
+pub mod Turns
+pub mod Taking
+pub mod Parts
 pub mod Outcomes
+pub mod Streamed
+pub mod Texts

@@ -53,7 +53,7 @@ or_else (Some None) later = later
 or_else (Some (Some shape)) later = Some shape
 
 abbrev pub read_named : List ℕ → Data → Option KindShape
-read_named t d = or_else (read_item t d) (or_else (read_decl t d) (or_else (read_member t d) (or_else (read_ty t d) (or_else (read_expr t d) (or_else (read_pat t d) None)))))
+read_named t d = or_else (read_expr t d) (or_else (read_pat t d) (or_else (read_member t d) (or_else (read_decl t d) (or_else (read_ty t d) (or_else (read_item t d) None)))))
 
 -- the kind that an object says that it is
 unfoldable pub read_kind : Data → Option KindShape

@@ -1,7 +1,9 @@
 pub mod Reading
 pub mod UnderKeys
 pub mod Numbers
+pub mod Plain
 pub mod Words
 pub mod Kinds
 pub mod KindShapes
 pub mod GraphText
+pub mod Streams

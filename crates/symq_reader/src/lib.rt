@@ -10,8 +10,10 @@ mod graph;
 mod kinds;
 mod nodes;
 mod numbers;
+mod stream;
+mod whole;
 mod words;
 
 pub use faults::FormatFault;
-pub use fields::as_u32;
-pub use graph::read_graph;
+pub use numbers::as_u32;
+pub use whole::read_graph;

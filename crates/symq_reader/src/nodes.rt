@@ -1,25 +1,25 @@
 //! Nodes and trees.
 
 ghost use Rattle.std.specs.Prelude.{codes, map, option_map};
-ghost use Rattle.serde_json.specs.View.{view, items_view};
+ghost use Rattle.symq_reader.specs.Plain.{data_of};
 ghost use Rattle.symq_reader.specs.Reading.{Gives};
-ghost use Rattle.symq_reader.specs.UnderKeys.{required_under, optional_under, each_item, list_under};
+ghost use Rattle.symq_reader.specs.UnderKeys.{required_under, optional_under, list_under};
 ghost use Rattle.symq_reader.specs.GraphText.{as_range, as_node, as_tree, node_shape, tree_shape};
 
 use crate::faults::FormatFault;
-use crate::{fields, kinds};
-use serde_json::Value;
+use crate::{fields, kinds, numbers};
+use json::Value;
 use std::alloc::Global;
 use symbols_syntax::tree::{Node, SourceRange, Tree};
 
 /// Where a node stands in its text, by two offsets.
-fn range(value: &Value) -> Result<SourceRange, FormatFault>
-    ensures { Gives (λ r. r) result (required_under as_range (codes "range") (view value.now)) }
+fn range(value: &Value<'_>) -> Result<SourceRange, FormatFault>
+    ensures { Gives (λ r. r) result (required_under as_range (codes "range") (data_of value.now)) }
 {
     let Some((start, end)) = fields::field(value, "range").and_then(fields::pair) else {
         return Err(FormatFault::BadForm);
     };
-    match (start.as_u64(), end.as_u64()) {
+    match (numbers::offset(start), numbers::offset(end)) {
         (Some(start), Some(end)) => Ok(SourceRange {
             start: start as usize,
             end: end as usize,
@@ -30,8 +30,8 @@ fn range(value: &Value) -> Result<SourceRange, FormatFault>
 
 /// A node: its kind and its range.
 #[tactic(auto, unfolding(crate::specs::GraphText::as_node))]
-fn node(alloc: Global, value: &Value) -> Result<Node, FormatFault>
-    ensures { Gives node_shape result (as_node (view value.now)) }
+pub(crate) fn node(alloc: Global, value: &Value<'_>) -> Result<Node, FormatFault>
+    ensures { Gives node_shape result (as_node (data_of value.now)) }
 {
     let kind = kinds::kind(alloc, value)?;
     let range = range(value)?;
@@ -39,11 +39,13 @@ fn node(alloc: Global, value: &Value) -> Result<Node, FormatFault>
 }
 
 /// The nodes of a tree, in order.
-fn nodes(alloc: Global, value: &Value) -> Result<Vec<Node>, FormatFault>
+fn nodes(alloc: Global, value: &Value<'_>) -> Result<Vec<Node>, FormatFault>
     ensures { Gives (λ v. map node_shape v.items) result
-        (list_under as_node (codes "nodes") (view value.now)) }
+        (list_under as_node (codes "nodes") (data_of value.now)) }
 {
-    let items = fields::list(value, "nodes")?;
+    let Some(items) = fields::list(value, "nodes")? else {
+        return Ok(Vec::new(alloc));
+    };
     let mut nodes = Vec::with_capacity(alloc, items.len())?;
     for item in items {
         nodes.push(node(alloc, item)?)?;
@@ -52,10 +54,10 @@ fn nodes(alloc: Global, value: &Value) -> Result<Vec<Node>, FormatFault>
 }
 
 /// A tree, of whose nodes nothing is checked.
-fn tree(alloc: Global, value: &Value) -> Result<Tree, FormatFault>
-    ensures { Gives tree_shape result (as_tree (view value.now)) }
+pub(crate) fn tree(alloc: Global, value: &Value<'_>) -> Result<Tree, FormatFault>
+    ensures { Gives tree_shape result (as_tree (data_of value.now)) }
 {
-    if !value.is_object() {
+    if !matches!(value, Value::Object(_)) {
         return Err(FormatFault::BadForm);
     }
     let declaration = fields::flag(value, "declaration")?;
@@ -64,9 +66,9 @@ fn tree(alloc: Global, value: &Value) -> Result<Tree, FormatFault>
 }
 
 /// The tree of a module, which may be absent.
-pub(crate) fn optional_tree(alloc: Global, value: &Value) -> Result<Option<Tree>, FormatFault>
+pub(crate) fn optional_tree(alloc: Global, value: &Value<'_>) -> Result<Option<Tree>, FormatFault>
     ensures { Gives (option_map tree_shape) result
-        (optional_under as_tree (codes "tree") (view value.now)) }
+        (optional_under as_tree (codes "tree") (data_of value.now)) }
 {
     match fields::field(value, "tree") {
         None => Ok(None),

@@ -1,27 +1,41 @@
-//! Whether the numbers of a value are whole: a graph has no other numbers, under any key.
+//! Whole numbers: those of a JSON value, and whether it has no others, under any key.
 
-ghost use Rattle.std.specs.Prelude.{◌≡◌};
-ghost use Rattle.serde_json.specs.View.{view, items_view, members_view};
+ghost use Rattle.std.specs.Prelude.{◌≡◌, ◌<◌, ◌==◌, IsTrue, length, slice_index, false};
+ghost use Rattle.json.specs.Value.{value_view, items_view, members_view};
+ghost use Rattle.serde_json.specs.Find.{as_u64};
+ghost use Rattle.serde_json.specs.Read.{number_of, number_from};
+ghost use Rattle.serde_json.specs.View.{view, items_view as data_items, members_view as data_members};
 ghost use Rattle.symq_reader.specs.Numbers.{is_whole, items_are_whole, members_are_whole};
+ghost use Rattle.symq_reader.specs.Plain.{num_or, data_of, fits, items_fit, members_fit};
+ghost use Rattle.symq_reader.specs.UnderKeys.{as_offset, as_u32};
 
-use serde_json::{Map, Value};
+use fast_float::Numeral;
+use json::Value;
+use serde_json::Map;
+
+/// The number that a value is, if it is whole and fits 32 bits, as those of nodes and scopes do.
+pub fn as_u32(value: &serde_json::Value) -> Option<u32>
+    ensures { result ≡ as_u32 (view value.now) }
+{
+    u32::try_from(value.as_u64()?).ok()
+}
 
 /// Whether each number of a value, at any depth, is whole and fits 64 bits.
 #[cycle(whole)]
-pub(crate) fn is_whole(value: &Value) -> bool
+pub(crate) fn is_whole(value: &serde_json::Value) -> bool
     ensures { result ≡ is_whole (view value.now) }
 {
     match value {
-        Value::Number(number) => number.is_u64(),
-        Value::Array(items) => items_are_whole(items),
-        Value::Object(members) => members_are_whole(members),
+        serde_json::Value::Number(number) => number.is_u64(),
+        serde_json::Value::Array(items) => items_are_whole(items),
+        serde_json::Value::Object(members) => members_are_whole(members),
         _ => true,
     }
 }
 
 #[cycle(whole)]
-fn items_are_whole(items: &Vec<Value>) -> bool
-    ensures { result ≡ items_are_whole (items_view items.now.items) }
+fn items_are_whole(items: &Vec<serde_json::Value>) -> bool
+    ensures { result ≡ items_are_whole (data_items items.now.items) }
 {
     for item in items {
         if !is_whole(item) {
@@ -32,11 +46,96 @@ fn items_are_whole(items: &Vec<Value>) -> bool
 }
 
 #[cycle(whole)]
-fn members_are_whole(members: &Map<String, Value>) -> bool
-    ensures { result ≡ members_are_whole (members_view members.now.entries) }
+fn members_are_whole(members: &Map<String, serde_json::Value>) -> bool
+    ensures { result ≡ members_are_whole (data_members members.now.entries) }
 {
     for (_, value) in members.iter() {
         if !is_whole(value) {
+            return false;
+        }
+    }
+    true
+}
+
+fn has_minus(bytes: &[u8]) -> bool
+    ensures value { result ≡ (slice_index bytes.now 0 == 45) }
+    ensures len { IsTrue result → 0 < length bytes.now }
+{
+    !bytes.is_empty() && bytes[0] == b'-'
+}
+
+#[tactic(auto, using(crate::proofs::Numerals::no_float))]
+fn unsigned(numeral: &Numeral<'_>) -> Option<u64>
+    ensures { result ≡ as_u64 (num_or (number_from false numeral.now)) }
+{
+    match numeral.to_u64() {
+        Some(n) => Some(n),
+        None => None,
+    }
+}
+
+/// The whole number of a numeral's text.
+#[tactic(auto, using(crate::proofs::Numerals::of_minus, crate::proofs::Numerals::of_digits))]
+fn whole(digits: &str) -> Option<u64>
+    ensures { result ≡ as_u64 (num_or (number_of digits.now)) }
+{
+    let bytes = digits.as_bytes();
+    if has_minus(bytes) {
+        None
+    } else {
+        unsigned(&Numeral::scan(bytes))
+    }
+}
+
+/// The number that a value is, if it is whole and fits 64 bits.
+pub(crate) fn offset(value: &Value<'_>) -> Option<u64>
+    ensures { result ≡ as_offset (data_of value.now) }
+{
+    match value {
+        Value::Number(digits) => whole(digits),
+        _ => None,
+    }
+}
+
+/// The number that a value is, if it is whole and fits 32 bits.
+pub(crate) fn number(value: &Value<'_>) -> Option<u32>
+    ensures { result ≡ as_u32 (data_of value.now) }
+{
+    u32::try_from(offset(value)?).ok()
+}
+
+/// Whether each number of a value is whole and fits 64 bits, at any depth, and also where a later
+/// member has the same key.
+#[cycle(fits)]
+pub(crate) fn fits(value: &Value<'_>) -> bool
+    ensures { result ≡ fits (value_view value.now) }
+{
+    match value {
+        Value::Number(digits) => whole(digits).is_some(),
+        Value::Array(items) => items_fit(items),
+        Value::Object(members) => members_fit(members),
+        _ => true,
+    }
+}
+
+#[cycle(fits)]
+fn items_fit(items: &Vec<Value<'_>>) -> bool
+    ensures { result ≡ items_fit (items_view items.now.items) }
+{
+    for item in items {
+        if !fits(item) {
+            return false;
+        }
+    }
+    true
+}
+
+#[cycle(fits)]
+fn members_fit(members: &Vec<(&str, Value<'_>)>) -> bool
+    ensures { result ≡ members_fit (members_view members.now.items) }
+{
+    for member in members {
+        if !fits(&member.1) {
             return false;
         }
     }

@@ -1,14 +1,14 @@
 //! The words that say what sort of member a node is.
 
 ghost use Rattle.std.specs.Prelude.{◌≡◌};
-ghost use Rattle.serde_json.specs.View.{view};
+ghost use Rattle.symq_reader.specs.Plain.{data_of};
 ghost use Rattle.symq_reader.specs.Reading.{Gives};
 ghost use Rattle.symq_reader.specs.UnderKeys.{required_under, optional_under};
 ghost use Rattle.symq_reader.specs.Words.{accessibility_named, as_accessibility, method_kind_named, as_method_kind};
 
 use crate::faults::FormatFault;
 use crate::fields;
-use serde_json::Value;
+use json::Value;
 use symbols_syntax::tree::{Accessibility, MethodKind};
 
 /// Who may reach a member, by its word.
@@ -36,8 +36,11 @@ fn method_kind_named(word: &str) -> Option<MethodKind>
 }
 
 /// Who may reach a member, which may be absent.
-pub(crate) fn accessibility(value: &Value, key: &str) -> Result<Option<Accessibility>, FormatFault>
-    ensures { Gives (λ a. a) result (optional_under as_accessibility key.now (view value.now)) }
+pub(crate) fn accessibility(
+    value: &Value<'_>,
+    key: &str,
+) -> Result<Option<Accessibility>, FormatFault>
+    ensures { Gives (λ a. a) result (optional_under as_accessibility key.now (data_of value.now)) }
 {
     let Some(found) = fields::field(value, key) else {
         return Ok(None);
@@ -49,10 +52,10 @@ pub(crate) fn accessibility(value: &Value, key: &str) -> Result<Option<Accessibi
 }
 
 /// Which sort of method it is.
-pub(crate) fn method_kind(value: &Value, key: &str) -> Result<MethodKind, FormatFault>
-    ensures { Gives (λ k. k) result (required_under as_method_kind key.now (view value.now)) }
+pub(crate) fn method_kind(value: &Value<'_>, key: &str) -> Result<MethodKind, FormatFault>
+    ensures { Gives (λ k. k) result (required_under as_method_kind key.now (data_of value.now)) }
 {
-    let word = fields::field(value, key).and_then(Value::as_str);
+    let word = fields::field(value, key).and_then(fields::as_text);
     match word.and_then(method_kind_named) {
         Some(kind) => Ok(kind),
         None => Err(FormatFault::BadForm),

@@ -16,7 +16,7 @@ pub(crate) fn numbered(alloc: Global, number: u32) -> Result<String, AllocError>
 }
 
 /// What the text `next` stands for in each of so many modules: the module behind it, and in the last the first.
-fn next_of_each(alloc: Global, count: u32) -> Result<Vec<RawResolution>, Fail> {
+pub(crate) fn next_of_each(alloc: Global, count: u32) -> Result<Vec<RawResolution>, Fail> {
     let mut resolutions = Vec::new(alloc);
     for number in 1..count {
         let next = numbered(alloc, number)?;

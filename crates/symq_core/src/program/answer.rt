@@ -1,8 +1,8 @@
 //! The answer to a line.
 
-ghost use Rattle.std.specs.Prelude.{◌≡◌, ◌<◌, length, string_bytes, IfOk, IfSome, IsSome};
-ghost use Rattle.serde_json.specs.View.{view};
+ghost use Rattle.std.specs.Prelude.{◌≡◌, ◌<◌, ◌++◌, length, IfOk};
 ghost use Rattle.std.specs.Option.{option_and_then};
+ghost use Rattle.serde_json.specs.View.{view};
 ghost use Rattle.symbols_syntax.specs.Ids.{id_view};
 ghost use Rattle.symbols_table.specs.Modules.{lent_table, symbol_in, mapped_in};
 ghost use Rattle.symbols_table.specs.QualifiedNames.{qualified_name};
@@ -11,53 +11,35 @@ ghost use Rattle.symbols_exports.specs.Exporting.{specifier_in};
 ghost use Rattle.symbols_exports.specs.Ways.{exports_told, unresolved_told_in};
 ghost use Rattle.symq_reader.specs.GraphText.{json_of};
 ghost use Rattle.symq_core.specs.Queries.{query_of};
-ghost use Rattle.symq_core.specs.AnswerViews.{tells_module, tells_fault, tells_exports, tells_symbol};
+ghost use Rattle.symq_core.specs.AnswerViews.{tells_exports, tells_symbol};
 ghost use Rattle.symq_core.specs.AnswerData.{answer_data};
 ghost use Rattle.symq_core.specs.Answers.{named_answer, query_answer, asked_answer};
 ghost use Rattle.symq_core.specs.AnswerTexts.{answer_text};
-ghost use Rattle.symq_core.specs.Answering.{table_question_view, query_view, IsAnswerByTables, fault_view};
+ghost use Rattle.symq_core.specs.Answering.{table_question_view, query_view, TellsByTables};
+ghost use Rattle.symq_core.specs.Telling.{Tells};
 
-use crate::program::dependencies::deps_value;
-use crate::program::exporting::exports_value;
+use crate::program::dependencies::tell_deps;
+use crate::program::exporting::tell_exports;
+use crate::program::paths::{tell_definitions, tell_leaves, tell_paths};
 use crate::program::query::{Query, Question, TableQuestion, line_value, read_query};
-use serde_json::{Value, json};
+use crate::program::telling::{tell_fault, tell_null, tell_number, tell_text};
+use json::Writer;
+use serde_json::Value;
 use std::alloc::{AllocError, Global};
 use symbols_exports::exports::exports;
 use symbols_root::root::RootSymbol;
-use symbols_table::info::{ModuleInfoRef, SymbolsFault};
+use symbols_table::info::ModuleInfoRef;
 use symbols_tree::ids::{ModuleId, SymbolId};
 use symbols_tree::tree::Id;
 
 /// What a name stands for.
-fn symbol_value(alloc: Global, symbol: Option<SymbolId>) -> Result<Value, AllocError>
-    ensures { IfOk result (λ value. view value ≡ answer_data (tells_symbol symbol)) }
+fn tell_symbol(out: &mut Writer, symbol: Option<SymbolId>) -> Result<(), AllocError>
+    ensures { Tells result out.old out.new (answer_data (tells_symbol symbol)) }
 {
     match symbol {
-        Some(symbol) => json!(in alloc; {"symbol": symbol.number()}),
-        None => json!(in alloc; {"symbol": null}),
+        Some(symbol) => tell_number(out, "symbol", u64::from(symbol.number())),
+        None => tell_null(out, "symbol"),
     }
-}
-
-/// The answer where a call on symbols gave nothing, want of memory apart.
-fn fault_value(alloc: Global, fault: &SymbolsFault) -> Result<Value, AllocError>
-    ensures { IfOk result (λ value. IfSome (fault_view fault.now) (λ told. view value ≡ answer_data (tells_fault told))
-        × IsSome (fault_view fault.now)) }
-{
-    let text = match fault {
-        SymbolsFault::OutOfMemory => return Err(AllocError),
-        SymbolsFault::TooManyModules => "too many modules",
-        SymbolsFault::TooManySymbols(_) => "too many symbols",
-        SymbolsFault::UnknownModule => "unknown module",
-        SymbolsFault::UnknownSymbol => "unknown symbol",
-    };
-    json!(in alloc; {"fault": text})
-}
-
-/// Which module a specifier stands for, by that module's own specifier.
-fn module_value(alloc: Global, specifier: &str) -> Result<Value, AllocError>
-    ensures { IfOk result (λ value. view value ≡ answer_data (tells_module specifier.now)) }
-{
-    json!(in alloc; {"module": specifier})
 }
 
 /// The symbol that a name stands for in a module.
@@ -71,106 +53,131 @@ fn mapped_symbol(info: ModuleInfoRef<'_, '_>, id: &Id) -> Option<SymbolId>
 }
 
 /// What a symbol of a module is called in full.
-fn name_value(
+fn tell_name(
     alloc: Global,
+    out: &mut Writer,
     info: ModuleInfoRef<'_, '_>,
     symbol: SymbolId,
-) -> Result<Value, AllocError>
-    ensures { IfOk result (λ value. view value ≡ answer_data (named_answer (symbol_in (lent_table info.entry) symbol) (qualified_name (symbol_in (lent_table info.entry)) symbol))) }
+) -> Result<(), AllocError>
+    ensures { Tells result out.old out.new (answer_data (named_answer (symbol_in (lent_table info.entry) symbol) (qualified_name (symbol_in (lent_table info.entry)) symbol))) }
 {
     match info.fully_qualified_symbol_name(alloc, symbol) {
-        Ok(Some(name)) => json!(in alloc; {"name": name}),
-        Ok(None) => json!(in alloc; {"name": null}),
-        Err(fault) => fault_value(alloc, &fault),
+        Ok(Some(name)) => tell_text(out, "name", name.as_str()),
+        Ok(None) => tell_null(out, "name"),
+        Err(fault) => tell_fault(out, &fault),
     }
 }
 
 /// The answer to a question on the table of a module.
-fn info_answer(
+fn tell_info(
     alloc: Global,
+    out: &mut Writer,
     info: ModuleInfoRef<'_, '_>,
     question: &TableQuestion,
-) -> Result<Value, AllocError>
-    ensures { IfOk result (λ value. IsAnswerByTables (table_question_view question.now) (lent_table info.entry) (view value)) }
+) -> Result<(), AllocError>
+    ensures { TellsByTables result out.old out.new (table_question_view question.now) (lent_table info.entry) }
 {
     match question {
-        TableQuestion::Module => module_value(alloc, info.specifier()),
-        TableQuestion::Symbol(id) => symbol_value(alloc, mapped_symbol(info, id)),
-        TableQuestion::Name(symbol) => name_value(alloc, info, *symbol),
-        TableQuestion::Deps(symbol, mode) => deps_value(alloc, info, *symbol, *mode),
+        TableQuestion::Module => tell_text(out, "module", info.specifier()),
+        TableQuestion::Symbol(id) => tell_symbol(out, mapped_symbol(info, id)),
+        TableQuestion::Name(symbol) => tell_name(alloc, out, info, *symbol),
+        TableQuestion::Deps(symbol, mode) => tell_deps(alloc, out, info, *symbol, *mode),
     }
 }
 
 /// What a stored module exports; a fault where a call on symbols gave nothing.
-fn exports_answer(
-    alloc: Global,
+fn tell_exports_of(
+    out: &mut Writer,
     root: &mut RootSymbol<'_>,
     module_id: ModuleId,
-) -> Result<Value, AllocError>
+) -> Result<(), AllocError>
     requires widest { root.old.limits ≡ widest }
     requires known { module_id.0 < length root.old.stored }
     ensures kept { (root.new.graph ≡ root.old.graph) × (root.new.limits ≡ root.old.limits) }
-    ensures value { IfOk result (λ value. view value ≡ answer_data (tells_exports (exports_told root.old.graph (specifier_in root.old module_id)) (unresolved_told_in root.old.graph (specifier_in root.old module_id)))) }
+    ensures value { Tells result out.old out.new (answer_data (tells_exports (exports_told root.old.graph (specifier_in root.old module_id)) (unresolved_told_in root.old.graph (specifier_in root.old module_id)))) }
 {
     match exports(root, module_id) {
-        Ok(answer) => exports_value(alloc, root, &answer),
-        Err(fault) => fault_value(alloc, &fault),
+        Ok(answer) => tell_exports(out, root, &answer),
+        Err(fault) => tell_fault(out, &fault),
     }
 }
 
 /// The answer to a query over a root, whose limits no checked graph meets: null where the specifier
 /// stands for no module.
-fn query_answer(
+fn tell_query(
     alloc: Global,
+    out: &mut Writer,
     root: &mut RootSymbol<'_>,
     query: &Query<'_>,
-) -> Result<Value, AllocError>
+) -> Result<(), AllocError>
     requires { root.old.limits ≡ widest }
     ensures kept { (root.new.graph ≡ root.old.graph) × (root.new.limits ≡ root.old.limits) }
-    ensures value { IfOk result (λ value. view value ≡ answer_data (query_answer root.old.graph (query_view query.now))) }
+    ensures value { Tells result out.old out.new (answer_data (query_answer root.old.graph (query_view query.now))) }
 {
     let module_id = match root.module_from_specifier(query.specifier) {
         Ok(Some(module_id)) => module_id,
-        Ok(None) => return Ok(Value::Null),
-        Err(fault) => return fault_value(alloc, &fault),
+        Ok(None) => return out.null(),
+        Err(fault) => return tell_fault(out, &fault),
     };
     match &query.question {
-        Question::Exports => exports_answer(alloc, root, module_id),
+        Question::Exports => tell_exports_of(out, root, module_id),
+        Question::Paths(symbol) => tell_paths(out, root, module_id, *symbol),
+        Question::Definitions(symbol) => tell_definitions(out, root, module_id, *symbol),
+        Question::Leaves(symbol) => tell_leaves(out, root, module_id, *symbol),
         Question::Table(question) => match root.module_from_id(module_id) {
-            Some(info) => info_answer(alloc, info, question),
+            Some(info) => tell_info(alloc, out, info, question),
             None => unreachable!(),
         },
     }
 }
 
-/// The answer to a line as a value, be it a query or none.
-fn line_answer(alloc: Global, root: &mut RootSymbol<'_>, line: &[u8]) -> Result<Value, AllocError>
+/// The answer to what a value asks, be it a query or none.
+fn tell_asked(
+    alloc: Global,
+    out: &mut Writer,
+    root: &mut RootSymbol<'_>,
+    value: &Value,
+) -> Result<(), AllocError>
     requires { root.old.limits ≡ widest }
     ensures kept { (root.new.graph ≡ root.old.graph) × (root.new.limits ≡ root.old.limits) }
-    ensures value { IfOk result (λ value. view value ≡ answer_data (asked_answer root.old.graph (option_and_then query_of (json_of line.now)))) }
+    ensures value { Tells result out.old out.new (answer_data (asked_answer root.old.graph (query_of (view value.now)))) }
 {
-    let value = line_value(alloc, line)?;
-    let query = match &value {
-        Some(value) => read_query(alloc, value)?,
-        None => None,
-    };
-    match query {
-        Some(query) => query_answer(alloc, root, &query),
-        None => json!(in alloc; {"fault": "bad query"}),
+    match read_query(alloc, value)? {
+        Some(query) => tell_query(alloc, out, root, &query),
+        None => tell_text(out, "fault", "bad query"),
     }
 }
 
-/// The text of the answer to a line, without a line end.
-#[tactic(auto, using(crate::proofs::Floats::no_float), unfolding(crate::specs::AnswerTexts::answer_text))]
+/// The answer to a line, be it JSON or not.
+fn tell_line(
+    alloc: Global,
+    out: &mut Writer,
+    root: &mut RootSymbol<'_>,
+    line: &[u8],
+) -> Result<(), AllocError>
+    requires { root.old.limits ≡ widest }
+    ensures kept { (root.new.graph ≡ root.old.graph) × (root.new.limits ≡ root.old.limits) }
+    ensures value { Tells result out.old out.new (answer_data (asked_answer root.old.graph (option_and_then query_of (json_of line.now)))) }
+{
+    let value = line_value(alloc, line)?;
+    match &value {
+        Some(value) => tell_asked(alloc, out, root, value),
+        None => tell_text(out, "fault", "bad query"),
+    }
+}
+
+/// The text of the answer to a line, without a line end, behind the bytes.
 pub(crate) fn answer(
     alloc: Global,
     root: &mut RootSymbol<'_>,
     line: &[u8],
-) -> Result<String, AllocError>
+    bytes: Vec<u8>,
+) -> Result<Vec<u8>, AllocError>
     requires { root.old.limits ≡ widest }
     ensures kept { (root.new.graph ≡ root.old.graph) × (root.new.limits ≡ root.old.limits) }
-    ensures text { IfOk result (λ text. string_bytes text ≡ answer_text root.old.graph line.now) }
+    ensures text { IfOk result (λ text. text.items ≡ bytes.items ++ answer_text root.old.graph line.now) }
 {
-    let value = line_answer(alloc, root, line)?;
-    value.to_string(alloc)
+    let mut out = Writer::new(bytes);
+    tell_line(alloc, &mut out, root, line)?;
+    Ok(out.into_inner())
 }

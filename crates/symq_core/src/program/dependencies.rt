@@ -1,44 +1,66 @@
-//! What the declarations of a symbol depend on, as values.
+//! What the declarations of a symbol depend on, as text.
 
-ghost use Rattle.std.specs.Prelude.{◌≡◌, map, string_bytes, IfOk};
-ghost use Rattle.serde_json.specs.View.{view};
-ghost use Rattle.symbols_nodes.specs.References.{reference_view, dependency_view};
+ghost use Rattle.std.specs.Prelude.{◌≡◌, map, string_bytes};
+ghost use Rattle.symbols_syntax.specs.Ids.{id_view};
+ghost use Rattle.symbols_nodes.specs.References.{id as by_id, qualified_id, import_type, reference_view, dependency_view};
 ghost use Rattle.symbols_table.specs.DeclViews.{decl_view, decl_dependencies};
 ghost use Rattle.symbols_table.specs.Modules.{lent_table, symbol_in};
-ghost use Rattle.symq_core.specs.AnswerData.{texts_data, reference_data, namespace_words, dependency_data, dependencies_data, answer_data};
+ghost use Rattle.symq_core.specs.AnswerData.{reference_data, namespace_words, dependency_data, dependencies_data, answer_data};
 ghost use Rattle.symq_core.specs.Answers.{deps_answer};
+ghost use Rattle.symq_core.specs.Telling.{Tells, Adds, rest_tokens};
 
-use serde_json::{Value, json};
+use crate::program::telling::{tell_text, tell_texts};
+use json::Writer;
 use std::alloc::{AllocError, Global};
 use symbols_nodes::deps::{ReferenceNamespace, ResolveDepsMode, SymbolNodeDep};
 use symbols_table::decl::SymbolDecl;
 use symbols_table::info::ModuleInfoRef;
 use symbols_tree::ids::SymbolId;
+use symbols_tree::tree::Id;
 
-/// The value of a list of texts.
-fn texts_value(alloc: Global, texts: Vec<String>) -> Result<Value, AllocError>
-    ensures { IfOk result (λ value. view value ≡ texts_data (map string_bytes texts.items)) }
+/// A name with its scope.
+fn tell_id(out: &mut Writer, id: &Id) -> Result<(), AllocError>
+    ensures { Tells result out.old out.new (reference_data (by_id (id_view id.now))) }
 {
-    let mut values = Vec::with_capacity(alloc, texts.len())?;
-    for text in texts {
-        values.push(Value::String(text))?;
-    }
-    Ok(Value::Array(values))
+    out.begin_array()?;
+    out.string("id")?;
+    out.string(id.name.as_str())?;
+    out.u64(u64::from(id.scope))?;
+    out.end_array()
 }
 
-/// The value of a reference.
-fn reference_value(alloc: Global, reference: SymbolNodeDep) -> Result<Value, AllocError>
-    ensures { IfOk result (λ value. view value ≡ reference_data (reference_view reference)) }
+/// A name with its scope, and the parts after it.
+fn tell_qualified_id(out: &mut Writer, id: &Id, parts: &[String]) -> Result<(), AllocError>
+    ensures { Tells result out.old out.new (reference_data (qualified_id (id_view id.now) (map string_bytes parts.now))) }
+{
+    out.begin_array()?;
+    out.string("qualified")?;
+    out.string(id.name.as_str())?;
+    out.u64(u64::from(id.scope))?;
+    tell_texts(out, parts)?;
+    out.end_array()
+}
+
+/// The text of an import type, and the parts after it.
+fn tell_import_type(out: &mut Writer, text: &str, parts: &[String]) -> Result<(), AllocError>
+    ensures { Tells result out.old out.new (reference_data (import_type text.now (map string_bytes parts.now))) }
+{
+    out.begin_array()?;
+    out.string("import")?;
+    out.string(text)?;
+    tell_texts(out, parts)?;
+    out.end_array()
+}
+
+/// A reference.
+fn tell_reference(out: &mut Writer, reference: &SymbolNodeDep) -> Result<(), AllocError>
+    ensures { Tells result out.old out.new (reference_data (reference_view reference.now)) }
 {
     match reference {
-        SymbolNodeDep::Id(id) => json!(in alloc; ["id", id.name, id.scope]),
-        SymbolNodeDep::QualifiedId(id, parts) => {
-            let parts = texts_value(alloc, parts)?;
-            json!(in alloc; ["qualified", id.name, id.scope, parts])
-        }
+        SymbolNodeDep::Id(id) => tell_id(out, id),
+        SymbolNodeDep::QualifiedId(id, parts) => tell_qualified_id(out, id, parts.as_slice()),
         SymbolNodeDep::ImportType(text, parts) => {
-            let parts = texts_value(alloc, parts)?;
-            json!(in alloc; ["import", text, parts])
+            tell_import_type(out, text.as_str(), parts.as_slice())
         }
     }
 }
@@ -54,76 +76,85 @@ fn namespace_word(namespace: ReferenceNamespace) -> &'static str
     }
 }
 
-/// The value of a dependency.
-fn dependency_value(
-    alloc: Global,
-    dependency: (SymbolNodeDep, ReferenceNamespace),
-) -> Result<Value, AllocError>
-    ensures { IfOk result (λ value. view value ≡ dependency_data (dependency_view dependency)) }
+/// A dependency: a reference and its namespace.
+fn tell_dependency(
+    out: &mut Writer,
+    dependency: &(SymbolNodeDep, ReferenceNamespace),
+) -> Result<(), AllocError>
+    ensures { Tells result out.old out.new (dependency_data (dependency_view dependency.now)) }
 {
     let (reference, namespace) = dependency;
-    let reference = reference_value(alloc, reference)?;
-    json!(in alloc; [reference, namespace_word(namespace)])
+    out.begin_array()?;
+    tell_reference(out, reference)?;
+    out.string(namespace_word(*namespace))?;
+    out.end_array()
 }
 
-/// The values of dependencies.
-fn dependency_values(
-    alloc: Global,
-    dependencies: Vec<(SymbolNodeDep, ReferenceNamespace)>,
-) -> Result<Vec<Value>, AllocError>
-    ensures { IfOk result (λ values. map view values.items ≡ map dependency_data (map dependency_view dependencies.items)) }
+/// A list of dependencies.
+fn tell_dependencies(
+    out: &mut Writer,
+    dependencies: &[(SymbolNodeDep, ReferenceNamespace)],
+) -> Result<(), AllocError>
+    ensures { Tells result out.old out.new (dependencies_data (map dependency_view dependencies.now)) }
 {
-    let mut values = Vec::with_capacity(alloc, dependencies.len())?;
+    out.begin_array()?;
     for dependency in dependencies {
-        values.push(dependency_value(alloc, dependency)?)?;
+        tell_dependency(out, dependency)?;
     }
-    Ok(values)
+    out.end_array()
 }
 
-/// The value of what a declaration depends on.
-fn decl_value(
+/// What a declaration depends on.
+fn tell_decl(
     alloc: Global,
+    out: &mut Writer,
     decl: &SymbolDecl<'_>,
     mode: ResolveDepsMode,
-) -> Result<Value, AllocError>
-    ensures { IfOk result (λ value. view value ≡ dependencies_data (decl_dependencies mode (decl_view decl.now))) }
+) -> Result<(), AllocError>
+    ensures { Tells result out.old out.new (dependencies_data (decl_dependencies mode (decl_view decl.now))) }
 {
-    let dependencies = match decl.maybe_node() {
-        Some(node) => node.deps_with_namespace(alloc, mode)?,
-        None => Vec::new(alloc),
-    };
-    Ok(Value::Array(dependency_values(alloc, dependencies)?))
+    match decl.maybe_node() {
+        Some(node) => {
+            let dependencies = node.deps_with_namespace(alloc, mode)?;
+            tell_dependencies(out, dependencies.as_slice())
+        }
+        None => tell_dependencies(out, &[]),
+    }
 }
 
-/// The values of what declarations depend on.
-fn decl_values(
+/// What each of some declarations depends on, as the items of an array, and its end.
+fn tell_decls(
     alloc: Global,
+    out: &mut Writer,
     decls: &[SymbolDecl<'_>],
     mode: ResolveDepsMode,
-) -> Result<Vec<Value>, AllocError>
-    ensures { IfOk result (λ values. map view values.items ≡ map dependencies_data (map (decl_dependencies mode) (map decl_view decls.now))) }
+) -> Result<(), AllocError>
+    ensures { Adds result out.old out.new (rest_tokens (map dependencies_data (map (decl_dependencies mode) (map decl_view decls.now)))) }
 {
-    let mut values = Vec::with_capacity(alloc, decls.len())?;
     for decl in decls {
-        values.push(decl_value(alloc, decl, mode)?)?;
+        tell_decl(alloc, out, decl, mode)?;
     }
-    Ok(values)
+    out.end_array()
 }
 
 /// What each declaration of a symbol of a module depends on.
-pub(crate) fn deps_value(
+pub(crate) fn tell_deps(
     alloc: Global,
+    out: &mut Writer,
     info: ModuleInfoRef<'_, '_>,
     symbol: SymbolId,
     mode: ResolveDepsMode,
-) -> Result<Value, AllocError>
-    ensures { IfOk result (λ value. view value ≡ answer_data (deps_answer mode (symbol_in (lent_table info.entry) symbol))) }
+) -> Result<(), AllocError>
+    ensures { Tells result out.old out.new (answer_data (deps_answer mode (symbol_in (lent_table info.entry) symbol))) }
 {
     match info.symbol(symbol) {
         Some(symbol) => {
-            let lists = Value::Array(decl_values(alloc, symbol.decls(), mode)?);
-            json!(in alloc; {"deps": lists})
+            out.begin_object()?;
+            out.key("deps")?;
+            out.begin_array()?;
+            tell_decls(alloc, out, symbol.decls(), mode)?;
+            out.end_object()
         }
-        None => json!(in alloc; {"fault": "unknown symbol"}),
+        None => tell_text(out, "fault", "unknown symbol"),
     }
 }

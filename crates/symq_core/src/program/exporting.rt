@@ -1,17 +1,18 @@
-//! What a module exports, as a value.
+//! What a module exports, as text.
 
-ghost use Rattle.std.specs.Prelude.{◌≡◌, map, IfOk};
-ghost use Rattle.serde_json.specs.View.{view};
+ghost use Rattle.std.specs.Prelude.{◌≡◌, map};
 ghost use Rattle.symbols_exports.specs.Exporting.{specifier_in};
 ghost use Rattle.symbols_exports.specs.Paths.{resolved_export, statements_on};
 ghost use Rattle.symbols_exports.specs.Taking.{names_view, unresolved_told};
 ghost use Rattle.symbols_exports.specs.Told.{told_number, told_name};
 ghost use Rattle.symq_core.specs.AnswerViews.{tells_exports};
-ghost use Rattle.symq_core.specs.AnswerData.{statement_data, entry_data, answer_data};
+ghost use Rattle.symq_core.specs.AnswerData.{statement_data, statements_data, entry_data, answer_data};
+ghost use Rattle.symq_core.specs.Telling.{Tells, Adds, rest_tokens};
 
+use crate::program::telling::{add_number, add_text};
 use indexmap::IndexMap;
-use serde_json::{Value, json};
-use std::alloc::{AllocError, Global};
+use json::Writer;
+use std::alloc::AllocError;
 use symbols_exports::exports::{
     ModuleExports, ResolvedExportOrReExportAllPath, UnresolvedSpecifier,
 };
@@ -19,7 +20,7 @@ use symbols_root::root::RootSymbol;
 use symbols_tree::ids::ModuleId;
 
 /// The specifier of a stored module; empty where none has the number.
-fn specifier_of<'a>(root: &RootSymbol<'a>, module_id: ModuleId) -> &'a str
+pub(crate) fn specifier_of<'a>(root: &RootSymbol<'a>, module_id: ModuleId) -> &'a str
     ensures { result.now ≡ specifier_in root.now module_id }
 {
     match root.module_from_id(module_id) {
@@ -28,95 +29,100 @@ fn specifier_of<'a>(root: &RootSymbol<'a>, module_id: ModuleId) -> &'a str
     }
 }
 
-/// The value of a statement `export *`.
-fn statement_value(
-    alloc: Global,
+/// A statement `export *`: its referrer and its text.
+fn tell_statement(
+    out: &mut Writer,
     root: &RootSymbol<'_>,
     referrer: ModuleId,
     text: &str,
-) -> Result<Value, AllocError>
-    ensures { IfOk result (λ value. view value ≡ statement_data (told_number root.now (referrer, text.now))) }
+) -> Result<(), AllocError>
+    ensures { Tells result out.old out.new (statement_data (told_number root.now (referrer, text.now))) }
 {
-    let specifier = specifier_of(root, referrer);
-    json!(in alloc; [specifier, text])
+    out.begin_array()?;
+    out.string(specifier_of(root, referrer))?;
+    out.string(text)?;
+    out.end_array()
 }
 
-/// The values of the statements on a way, in order.
+/// The statements on a way, in order.
 #[tactic(auto, using(crate::proofs::Chains::statements_of_rests))]
-fn chain_values(
-    alloc: Global,
+fn tell_chain(
+    out: &mut Writer,
     root: &RootSymbol<'_>,
     path: &ResolvedExportOrReExportAllPath<'_>,
-) -> Result<Vec<Value>, AllocError>
-    ensures { IfOk result (λ values. map view values.items ≡ map statement_data (map (told_number root.now) (statements_on path.now))) }
+) -> Result<(), AllocError>
+    ensures { Tells result out.old out.new (statements_data (map (told_number root.now) (statements_on path.now))) }
 {
-    let mut values = Vec::new(alloc);
+    out.begin_array()?;
     for rest in path.iter() {
         if let ResolvedExportOrReExportAllPath::ReExportAllPath(re_export) = rest {
-            let referrer = re_export.referrer_module;
-            values.push(statement_value(alloc, root, referrer, re_export.specifier)?)?;
+            tell_statement(out, root, re_export.referrer_module, re_export.specifier)?;
         }
     }
-    Ok(values)
+    out.end_array()
 }
 
-/// The value of an exported name.
-fn export_value(
-    alloc: Global,
+/// An exported name: the statements that lead to it, its owner, itself, and its symbol there.
+fn tell_export(
+    out: &mut Writer,
     root: &RootSymbol<'_>,
     name: &str,
     path: &ResolvedExportOrReExportAllPath<'_>,
-) -> Result<Value, AllocError>
-    ensures { IfOk result (λ value. view value ≡ entry_data (told_name root.now (record { name = name.now; statements = statements_on path.now; export = resolved_export path.now }))) }
+) -> Result<(), AllocError>
+    ensures { Tells result out.old out.new (entry_data (told_name root.now (record { name = name.now; statements = statements_on path.now; export = resolved_export path.now }))) }
 {
-    let chain = Value::Array(chain_values(alloc, root, path)?);
     let export = path.as_resolved_export();
-    let owner = specifier_of(root, export.module);
-    let number = export.symbol_id.number();
-    json!(in alloc; {"chain": chain, "module": owner, "name": name, "symbol": number})
+    out.begin_object()?;
+    out.key("chain")?;
+    tell_chain(out, root, path)?;
+    add_text(out, "module", specifier_of(root, export.module))?;
+    add_text(out, "name", name)?;
+    add_number(out, "symbol", u64::from(export.symbol_id.number()))?;
+    out.end_object()
 }
 
-/// The values of the exported names, in order.
-fn export_values(
-    alloc: Global,
+/// The exported names, in order, as the items of an array, and its end.
+fn tell_names(
+    out: &mut Writer,
     root: &RootSymbol<'_>,
     resolved: &IndexMap<String, ResolvedExportOrReExportAllPath<'_>>,
-) -> Result<Vec<Value>, AllocError>
-    ensures { IfOk result (λ values. map view values.items ≡ map entry_data (map (told_name root.now) (names_view resolved.now.entries))) }
+) -> Result<(), AllocError>
+    ensures { Adds result out.old out.new (rest_tokens (map entry_data (map (told_name root.now) (names_view resolved.now.entries)))) }
 {
-    let mut values = Vec::with_capacity(alloc, resolved.len())?;
     for (name, path) in resolved {
-        values.push(export_value(alloc, root, name.as_str(), path)?)?;
+        tell_export(out, root, name.as_str(), path)?;
     }
-    Ok(values)
+    out.end_array()
 }
 
-/// The values of the statements that lead to no module, in order.
-fn unresolved_values(
-    alloc: Global,
+/// The statements that lead to no module, in order.
+fn tell_unresolved(
+    out: &mut Writer,
     root: &RootSymbol<'_>,
     unresolved: &[UnresolvedSpecifier<'_>],
-) -> Result<Vec<Value>, AllocError>
-    ensures { IfOk result (λ values. map view values.items ≡ map statement_data (map (told_number root.now) (map unresolved_told unresolved.now))) }
+) -> Result<(), AllocError>
+    ensures { Tells result out.old out.new (statements_data (map (told_number root.now) (map unresolved_told unresolved.now))) }
 {
-    let mut values = Vec::with_capacity(alloc, unresolved.len())?;
+    out.begin_array()?;
     for statement in unresolved {
-        let referrer = statement.referrer;
-        values.push(statement_value(alloc, root, referrer, statement.specifier)?)?;
+        tell_statement(out, root, statement.referrer, statement.specifier)?;
     }
-    Ok(values)
+    out.end_array()
 }
 
 /// What a module exports.
-pub(crate) fn exports_value(
-    alloc: Global,
+pub(crate) fn tell_exports(
+    out: &mut Writer,
     root: &RootSymbol<'_>,
     answer: &ModuleExports<'_>,
-) -> Result<Value, AllocError>
-    ensures { IfOk result (λ value. view value ≡ answer_data (tells_exports (map (told_name root.now) (names_view answer.now.resolved.entries)) (map (told_number root.now) (map unresolved_told answer.now.unresolved_specifiers.items)))) }
+) -> Result<(), AllocError>
+    ensures { Tells result out.old out.new (answer_data (tells_exports (map (told_name root.now) (names_view answer.now.resolved.entries)) (map (told_number root.now) (map unresolved_told answer.now.unresolved_specifiers.items)))) }
 {
-    let entries = Value::Array(export_values(alloc, root, &answer.resolved)?);
-    let unresolved = unresolved_values(alloc, root, &answer.unresolved_specifiers)?;
-    let unresolved = Value::Array(unresolved);
-    json!(in alloc; {"exports": entries, "unresolved": unresolved})
+    out.begin_object()?;
+    out.key("exports")?;
+    out.begin_array()?;
+    tell_names(out, root, &answer.resolved)?;
+    out.key("unresolved")?;
+    tell_unresolved(out, root, &answer.unresolved_specifiers)?;
+    out.end_object()
 }

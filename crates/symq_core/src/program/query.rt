@@ -3,7 +3,7 @@
 ghost use Rattle.std.specs.Prelude.{◌≡◌, option_map, IfOk};
 ghost use Rattle.serde_json.specs.View.{view, items_view};
 ghost use Rattle.symq_reader.specs.GraphText.{json_of};
-ghost use Rattle.symq_core.specs.Queries.{query_of, parts_of_query, module_question, exports_question, symbol_question, name_question, mode_named, deps_question};
+ghost use Rattle.symq_core.specs.Queries.{query_of, parts_of_query, module_question, exports_question, symbol_question, one_symbol, name_question, paths_question, definitions_question, leaves_question, mode_named, deps_question};
 ghost use Rattle.symq_core.specs.Answering.{question_view, query_view};
 
 use serde_json::Value;
@@ -31,6 +31,12 @@ pub(crate) enum TableQuestion {
 pub(crate) enum Question {
     /// What it exports.
     Exports,
+    /// The paths to where a symbol of it is defined.
+    Paths(SymbolId),
+    /// The definitions at the ends of these paths.
+    Definitions(SymbolId),
+    /// All ends of these paths.
+    Leaves(SymbolId),
     /// What its table tells.
     Table(TableQuestion),
 }
@@ -101,18 +107,44 @@ fn symbol_question(alloc: Global, items: &[Value]) -> Result<Option<Question>, A
     Ok(Some(Question::Table(TableQuestion::Symbol(Id { name, scope }))))
 }
 
-/// The items behind the word `name` and a specifier: the number of a symbol.
-#[tactic(auto, using(crate::proofs::Forms::name_short, crate::proofs::Forms::name_long))]
+/// The items behind a word and a specifier: the number of a symbol.
+#[tactic(auto, using(crate::proofs::Forms::symbols_short, crate::proofs::Forms::symbols_long))]
+fn one_symbol(items: &[Value]) -> Option<SymbolId>
+    ensures { result ≡ one_symbol (items_view items.now) }
+{
+    match items {
+        [number] => Some(SymbolId::from_number(as_u32(number)?)),
+        _ => None,
+    }
+}
+
+/// The items behind the word `name` and a specifier.
 fn name_question(items: &[Value]) -> Option<Question>
     ensures { option_map question_view result ≡ name_question (items_view items.now) }
 {
-    match items {
-        [number] => {
-            let symbol = SymbolId::from_number(as_u32(number)?);
-            Some(Question::Table(TableQuestion::Name(symbol)))
-        }
-        _ => None,
-    }
+    let symbol = one_symbol(items)?;
+    Some(Question::Table(TableQuestion::Name(symbol)))
+}
+
+/// The items behind the word `paths` and a specifier.
+fn paths_question(items: &[Value]) -> Option<Question>
+    ensures { option_map question_view result ≡ paths_question (items_view items.now) }
+{
+    Some(Question::Paths(one_symbol(items)?))
+}
+
+/// The items behind the word `definitions` and a specifier.
+fn definitions_question(items: &[Value]) -> Option<Question>
+    ensures { option_map question_view result ≡ definitions_question (items_view items.now) }
+{
+    Some(Question::Definitions(one_symbol(items)?))
+}
+
+/// The items behind the word `leaves` and a specifier.
+fn leaves_question(items: &[Value]) -> Option<Question>
+    ensures { option_map question_view result ≡ leaves_question (items_view items.now) }
+{
+    Some(Question::Leaves(one_symbol(items)?))
 }
 
 /// The mode of a word.
@@ -152,6 +184,9 @@ pub(crate) fn read_query(alloc: Global, value: &Value) -> Result<Option<Query<'_
         "symbol" => symbol_question(alloc, items)?,
         "name" => name_question(items),
         "deps" => deps_question(items),
+        "paths" => paths_question(items),
+        "definitions" => definitions_question(items),
+        "leaves" => leaves_question(items),
         _ => None,
     };
     Ok(question.map(|question| Query {

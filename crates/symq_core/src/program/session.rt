@@ -15,6 +15,7 @@ use crate::program::fault::EngineFault;
 use crate::program::lines::split_line;
 use crate::program::writing::write_all;
 use std::alloc::{AllocError, Global};
+use std::mem;
 use symbols_root::root::RootSymbol;
 use symbols_tree::check::ModuleGraph;
 
@@ -31,7 +32,31 @@ pub(crate) struct Session<'g> {
     line: Vec<u8>,
     /// Answers that aren't written yet.
     answers: Vec<u8>,
+    /// The text of the last answer, kept for its room alone.
+    text: Vec<u8>,
     ghost widest: { root.limits ≡ widest },
+}
+
+/// Adds the answer to a line to those that wait, and ends its line. What the text held before is
+/// let go, and its room used again.
+fn add_answer(
+    alloc: Global,
+    root: &mut RootSymbol<'_>,
+    line: &[u8],
+    text: &mut Vec<u8>,
+    answers: &mut Vec<u8>,
+) -> Result<(), AllocError>
+    requires { root.old.limits ≡ widest }
+    ensures kept { (root.new.graph ≡ root.old.graph) × (root.new.limits ≡ root.old.limits) }
+    ensures added { OnOk result (answers.new.items ≡ answers.old.items ++ (answer_text root.old.graph line.now ++ line_end ∷ [])) }
+{
+    text.clear();
+    let begun = mem::replace(text, Vec::new(alloc));
+    let told = answer(alloc, root, line, begun)?;
+    answers.extend_from_slice(told.as_slice())?;
+    answers.push(b'\n')?;
+    *text = told;
+    Ok(())
 }
 
 impl<'g> Session<'g> {
@@ -46,6 +71,7 @@ impl<'g> Session<'g> {
             root: RootSymbol::new(alloc, graph),
             line: Vec::new(alloc),
             answers: Vec::new(alloc),
+            text: Vec::new(alloc),
         }
     }
 
@@ -64,16 +90,6 @@ impl<'g> Session<'g> {
         Ok(())
     }
 
-    /// Adds an answer to those that wait, and ends its line.
-    fn add_answer(&mut self, text: &str) -> Result<(), AllocError>
-        ensures kept { (self.new.root.graph ≡ self.old.root.graph) × (self.new.line ≡ self.old.line) }
-        ensures added { OnOk result (self.new.answers.items ≡ self.old.answers.items ++ (text.now ++ line_end ∷ [])) }
-    {
-        self.answers.extend_from_slice(text.as_bytes())?;
-        self.answers.push(b'\n')?;
-        Ok(())
-    }
-
     /// Answers the line that ends with these bytes, and clears it.
     fn end_line(&mut self, tail: &[u8]) -> Result<(), AllocError>
         ensures graph { self.new.root.graph ≡ self.old.root.graph }
@@ -81,13 +97,24 @@ impl<'g> Session<'g> {
             ≡ self.old.answers.items ++ (answer_text self.old.root.graph (self.old.line.items ++ tail.now) ++ line_end ∷ []))) }
     {
         if self.line.is_empty() {
-            let text = answer(self.alloc, &mut self.root, tail)?;
-            return self.add_answer(text.as_str());
+            return add_answer(
+                self.alloc,
+                &mut self.root,
+                tail,
+                &mut self.text,
+                &mut self.answers,
+            );
         }
         self.line.extend_from_slice(tail)?;
-        let text = answer(self.alloc, &mut self.root, self.line.as_slice())?;
+        add_answer(
+            self.alloc,
+            &mut self.root,
+            self.line.as_slice(),
+            &mut self.text,
+            &mut self.answers,
+        )?;
         self.line.clear();
-        self.add_answer(text.as_str())
+        Ok(())
     }
 
     /// Answers the line that ends with these bytes, and writes the waiting answers where they fill

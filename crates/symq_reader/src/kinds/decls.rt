@@ -1,35 +1,35 @@
 //! Declarations and their parts.
 
 ghost use Rattle.std.specs.Prelude.{option_map};
-ghost use Rattle.serde_json.specs.View.{view};
+ghost use Rattle.symq_reader.specs.Plain.{data_of};
 ghost use Rattle.symbols_syntax.specs.declared.tree.names.KindName.TheVariants as Name;
 ghost use Rattle.symq_reader.specs.Reading.{Gives};
 ghost use Rattle.symq_reader.specs.KindShapes.{read_as, read_decl, decl_shape};
 
 use crate::faults::FormatFault;
 use crate::fields;
-use serde_json::Value;
+use json::Value;
 use std::alloc::Global;
 use symbols_syntax::tree::Decl;
 
-fn class_decl(value: &Value) -> Result<Decl, FormatFault>
-    ensures { Gives decl_shape result (read_as Name.ClassDecl (view value.now)) }
+fn class_decl(value: &Value<'_>) -> Result<Decl, FormatFault>
+    ensures { Gives decl_shape result (read_as Name.ClassDecl (data_of value.now)) }
 {
     let ident = fields::child(value, "ident")?;
     let class = fields::child(value, "class")?;
     Ok(Decl::ClassDecl { ident, class })
 }
 
-fn class_expr(value: &Value) -> Result<Decl, FormatFault>
-    ensures { Gives decl_shape result (read_as Name.ClassExpr (view value.now)) }
+fn class_expr(value: &Value<'_>) -> Result<Decl, FormatFault>
+    ensures { Gives decl_shape result (read_as Name.ClassExpr (data_of value.now)) }
 {
     let ident = fields::optional_child(value, "ident")?;
     let class = fields::child(value, "class")?;
     Ok(Decl::ClassExpr { ident, class })
 }
 
-fn class(alloc: Global, value: &Value) -> Result<Decl, FormatFault>
-    ensures { Gives decl_shape result (read_as Name.Class (view value.now)) }
+fn class(alloc: Global, value: &Value<'_>) -> Result<Decl, FormatFault>
+    ensures { Gives decl_shape result (read_as Name.Class (data_of value.now)) }
 {
     Ok(Decl::Class {
         type_params: fields::optional_child(value, "type_params")?,
@@ -40,24 +40,24 @@ fn class(alloc: Global, value: &Value) -> Result<Decl, FormatFault>
     })
 }
 
-fn fn_decl(value: &Value) -> Result<Decl, FormatFault>
-    ensures { Gives decl_shape result (read_as Name.FnDecl (view value.now)) }
+fn fn_decl(value: &Value<'_>) -> Result<Decl, FormatFault>
+    ensures { Gives decl_shape result (read_as Name.FnDecl (data_of value.now)) }
 {
     let ident = fields::child(value, "ident")?;
     let function = fields::child(value, "function")?;
     Ok(Decl::FnDecl { ident, function })
 }
 
-fn fn_expr(value: &Value) -> Result<Decl, FormatFault>
-    ensures { Gives decl_shape result (read_as Name.FnExpr (view value.now)) }
+fn fn_expr(value: &Value<'_>) -> Result<Decl, FormatFault>
+    ensures { Gives decl_shape result (read_as Name.FnExpr (data_of value.now)) }
 {
     let ident = fields::optional_child(value, "ident")?;
     let function = fields::child(value, "function")?;
     Ok(Decl::FnExpr { ident, function })
 }
 
-fn function(alloc: Global, value: &Value) -> Result<Decl, FormatFault>
-    ensures { Gives decl_shape result (read_as Name.Function (view value.now)) }
+fn function(alloc: Global, value: &Value<'_>) -> Result<Decl, FormatFault>
+    ensures { Gives decl_shape result (read_as Name.Function (data_of value.now)) }
 {
     Ok(Decl::Function {
         type_params: fields::optional_child(value, "type_params")?,
@@ -67,30 +67,30 @@ fn function(alloc: Global, value: &Value) -> Result<Decl, FormatFault>
     })
 }
 
-fn var_decl(alloc: Global, value: &Value) -> Result<Decl, FormatFault>
-    ensures { Gives decl_shape result (read_as Name.VarDecl (view value.now)) }
+fn var_decl(alloc: Global, value: &Value<'_>) -> Result<Decl, FormatFault>
+    ensures { Gives decl_shape result (read_as Name.VarDecl (data_of value.now)) }
 {
     let decls = fields::children(alloc, value, "decls")?;
     Ok(Decl::VarDecl { decls })
 }
 
-fn using_decl(alloc: Global, value: &Value) -> Result<Decl, FormatFault>
-    ensures { Gives decl_shape result (read_as Name.UsingDecl (view value.now)) }
+fn using_decl(alloc: Global, value: &Value<'_>) -> Result<Decl, FormatFault>
+    ensures { Gives decl_shape result (read_as Name.UsingDecl (data_of value.now)) }
 {
     let decls = fields::children(alloc, value, "decls")?;
     Ok(Decl::UsingDecl { decls })
 }
 
-fn var_declarator(value: &Value) -> Result<Decl, FormatFault>
-    ensures { Gives decl_shape result (read_as Name.VarDeclarator (view value.now)) }
+fn var_declarator(value: &Value<'_>) -> Result<Decl, FormatFault>
+    ensures { Gives decl_shape result (read_as Name.VarDeclarator (data_of value.now)) }
 {
     let name = fields::child(value, "name")?;
     let init = fields::optional_child(value, "init")?;
     Ok(Decl::VarDeclarator { name, init })
 }
 
-fn ts_interface_decl(alloc: Global, value: &Value) -> Result<Decl, FormatFault>
-    ensures { Gives decl_shape result (read_as Name.TsInterfaceDecl (view value.now)) }
+fn ts_interface_decl(alloc: Global, value: &Value<'_>) -> Result<Decl, FormatFault>
+    ensures { Gives decl_shape result (read_as Name.TsInterfaceDecl (data_of value.now)) }
 {
     Ok(Decl::TsInterfaceDecl {
         id: fields::child(value, "id")?,
@@ -100,8 +100,8 @@ fn ts_interface_decl(alloc: Global, value: &Value) -> Result<Decl, FormatFault>
     })
 }
 
-fn ts_type_alias_decl(value: &Value) -> Result<Decl, FormatFault>
-    ensures { Gives decl_shape result (read_as Name.TsTypeAliasDecl (view value.now)) }
+fn ts_type_alias_decl(value: &Value<'_>) -> Result<Decl, FormatFault>
+    ensures { Gives decl_shape result (read_as Name.TsTypeAliasDecl (data_of value.now)) }
 {
     Ok(Decl::TsTypeAliasDecl {
         id: fields::child(value, "id")?,
@@ -110,23 +110,23 @@ fn ts_type_alias_decl(value: &Value) -> Result<Decl, FormatFault>
     })
 }
 
-fn ts_enum_decl(alloc: Global, value: &Value) -> Result<Decl, FormatFault>
-    ensures { Gives decl_shape result (read_as Name.TsEnumDecl (view value.now)) }
+fn ts_enum_decl(alloc: Global, value: &Value<'_>) -> Result<Decl, FormatFault>
+    ensures { Gives decl_shape result (read_as Name.TsEnumDecl (data_of value.now)) }
 {
     let id = fields::child(value, "id")?;
     let members = fields::children(alloc, value, "members")?;
     Ok(Decl::TsEnumDecl { id, members })
 }
 
-fn ts_enum_member(value: &Value) -> Result<Decl, FormatFault>
-    ensures { Gives decl_shape result (read_as Name.TsEnumMember (view value.now)) }
+fn ts_enum_member(value: &Value<'_>) -> Result<Decl, FormatFault>
+    ensures { Gives decl_shape result (read_as Name.TsEnumMember (data_of value.now)) }
 {
     let init = fields::optional_child(value, "init")?;
     Ok(Decl::TsEnumMember { init })
 }
 
-fn ts_module_decl(value: &Value) -> Result<Decl, FormatFault>
-    ensures { Gives decl_shape result (read_as Name.TsModuleDecl (view value.now)) }
+fn ts_module_decl(value: &Value<'_>) -> Result<Decl, FormatFault>
+    ensures { Gives decl_shape result (read_as Name.TsModuleDecl (data_of value.now)) }
 {
     Ok(Decl::TsModuleDecl {
         id: fields::child(value, "id")?,
@@ -135,16 +135,16 @@ fn ts_module_decl(value: &Value) -> Result<Decl, FormatFault>
     })
 }
 
-fn ts_namespace_decl(value: &Value) -> Result<Decl, FormatFault>
-    ensures { Gives decl_shape result (read_as Name.TsNamespaceDecl (view value.now)) }
+fn ts_namespace_decl(value: &Value<'_>) -> Result<Decl, FormatFault>
+    ensures { Gives decl_shape result (read_as Name.TsNamespaceDecl (data_of value.now)) }
 {
     let id = fields::child(value, "id")?;
     let body = fields::child(value, "body")?;
     Ok(Decl::TsNamespaceDecl { id, body })
 }
 
-fn ts_module_block(alloc: Global, value: &Value) -> Result<Decl, FormatFault>
-    ensures { Gives decl_shape result (read_as Name.TsModuleBlock (view value.now)) }
+fn ts_module_block(alloc: Global, value: &Value<'_>) -> Result<Decl, FormatFault>
+    ensures { Gives decl_shape result (read_as Name.TsModuleBlock (data_of value.now)) }
 {
     let body = fields::children(alloc, value, "body")?;
     Ok(Decl::TsModuleBlock { body })
@@ -152,8 +152,12 @@ fn ts_module_block(alloc: Global, value: &Value) -> Result<Decl, FormatFault>
 
 /// The declaration of a kind's text; none where no declaration has it.
 #[tactic(auto, unfolding(crate::specs::KindShapes::read_decl))]
-pub(crate) fn decl(alloc: Global, kind: &str, value: &Value) -> Result<Option<Decl>, FormatFault>
-    ensures { Gives (option_map decl_shape) result (read_decl kind.now (view value.now)) }
+pub(crate) fn decl(
+    alloc: Global,
+    kind: &str,
+    value: &Value<'_>,
+) -> Result<Option<Decl>, FormatFault>
+    ensures { Gives (option_map decl_shape) result (read_decl kind.now (data_of value.now)) }
 {
     match kind {
         "ClassDecl" => Ok(Some(class_decl(value)?)),

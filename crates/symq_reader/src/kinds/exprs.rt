@@ -1,76 +1,76 @@
 //! Expressions and names.
 
 ghost use Rattle.std.specs.Prelude.{option_map};
-ghost use Rattle.serde_json.specs.View.{view};
+ghost use Rattle.symq_reader.specs.Plain.{data_of};
 ghost use Rattle.symbols_syntax.specs.declared.tree.names.KindName.TheVariants as Name;
 ghost use Rattle.symq_reader.specs.Reading.{Gives};
 ghost use Rattle.symq_reader.specs.KindShapes.{read_as, read_expr, expr_shape};
 
 use crate::faults::FormatFault;
 use crate::fields;
-use serde_json::Value;
+use json::Value;
 use std::alloc::Global;
 use symbols_syntax::tree::Expr;
 
-fn ident(alloc: Global, value: &Value) -> Result<Expr, FormatFault>
-    ensures { Gives expr_shape result (read_as Name.Ident (view value.now)) }
+fn ident(alloc: Global, value: &Value<'_>) -> Result<Expr, FormatFault>
+    ensures { Gives expr_shape result (read_as Name.Ident (data_of value.now)) }
 {
     let sym = fields::identifier(alloc, value, "sym")?;
     Ok(Expr::Ident { sym })
 }
 
-fn member(value: &Value) -> Result<Expr, FormatFault>
-    ensures { Gives expr_shape result (read_as Name.Member (view value.now)) }
+fn member(value: &Value<'_>) -> Result<Expr, FormatFault>
+    ensures { Gives expr_shape result (read_as Name.Member (data_of value.now)) }
 {
     let obj = fields::child(value, "obj")?;
     let prop = fields::child(value, "prop")?;
     Ok(Expr::Member { obj, prop })
 }
 
-fn ident_name(alloc: Global, value: &Value) -> Result<Expr, FormatFault>
-    ensures { Gives expr_shape result (read_as Name.IdentName (view value.now)) }
+fn ident_name(alloc: Global, value: &Value<'_>) -> Result<Expr, FormatFault>
+    ensures { Gives expr_shape result (read_as Name.IdentName (data_of value.now)) }
 {
     let name = fields::text(alloc, value, "name")?;
     Ok(Expr::IdentName { name })
 }
 
-fn private_name(alloc: Global, value: &Value) -> Result<Expr, FormatFault>
-    ensures { Gives expr_shape result (read_as Name.PrivateName (view value.now)) }
+fn private_name(alloc: Global, value: &Value<'_>) -> Result<Expr, FormatFault>
+    ensures { Gives expr_shape result (read_as Name.PrivateName (data_of value.now)) }
 {
     let name = fields::text(alloc, value, "name")?;
     Ok(Expr::PrivateName { name })
 }
 
-fn string(alloc: Global, value: &Value) -> Result<Expr, FormatFault>
-    ensures { Gives expr_shape result (read_as Name.Str (view value.now)) }
+fn string(alloc: Global, value: &Value<'_>) -> Result<Expr, FormatFault>
+    ensures { Gives expr_shape result (read_as Name.Str (data_of value.now)) }
 {
     let value = fields::text(alloc, value, "value")?;
     Ok(Expr::Str { value })
 }
 
-fn number(alloc: Global, value: &Value) -> Result<Expr, FormatFault>
-    ensures { Gives expr_shape result (read_as Name.Num (view value.now)) }
+fn number(alloc: Global, value: &Value<'_>) -> Result<Expr, FormatFault>
+    ensures { Gives expr_shape result (read_as Name.Num (data_of value.now)) }
 {
     let text = fields::text(alloc, value, "text")?;
     Ok(Expr::Num { text })
 }
 
-fn big_int(alloc: Global, value: &Value) -> Result<Expr, FormatFault>
-    ensures { Gives expr_shape result (read_as Name.BigInt (view value.now)) }
+fn big_int(alloc: Global, value: &Value<'_>) -> Result<Expr, FormatFault>
+    ensures { Gives expr_shape result (read_as Name.BigInt (data_of value.now)) }
 {
     let text = fields::text(alloc, value, "text")?;
     Ok(Expr::BigInt { text })
 }
 
-fn computed(value: &Value) -> Result<Expr, FormatFault>
-    ensures { Gives expr_shape result (read_as Name.Computed (view value.now)) }
+fn computed(value: &Value<'_>) -> Result<Expr, FormatFault>
+    ensures { Gives expr_shape result (read_as Name.Computed (data_of value.now)) }
 {
     let expr = fields::child(value, "expr")?;
     Ok(Expr::Computed { expr })
 }
 
-fn assign(value: &Value) -> Result<Expr, FormatFault>
-    ensures { Gives expr_shape result (read_as Name.Assign (view value.now)) }
+fn assign(value: &Value<'_>) -> Result<Expr, FormatFault>
+    ensures { Gives expr_shape result (read_as Name.Assign (data_of value.now)) }
 {
     Ok(Expr::Assign {
         plain: fields::flag(value, "plain")?,
@@ -79,8 +79,8 @@ fn assign(value: &Value) -> Result<Expr, FormatFault>
     })
 }
 
-fn arrow(alloc: Global, value: &Value) -> Result<Expr, FormatFault>
-    ensures { Gives expr_shape result (read_as Name.Arrow (view value.now)) }
+fn arrow(alloc: Global, value: &Value<'_>) -> Result<Expr, FormatFault>
+    ensures { Gives expr_shape result (read_as Name.Arrow (data_of value.now)) }
 {
     Ok(Expr::Arrow {
         type_params: fields::optional_child(value, "type_params")?,
@@ -93,8 +93,12 @@ fn arrow(alloc: Global, value: &Value) -> Result<Expr, FormatFault>
 
 /// The expression of a kind's text; none where no expression has it.
 #[tactic(auto, unfolding(crate::specs::KindShapes::read_expr))]
-pub(crate) fn expr(alloc: Global, kind: &str, value: &Value) -> Result<Option<Expr>, FormatFault>
-    ensures { Gives (option_map expr_shape) result (read_expr kind.now (view value.now)) }
+pub(crate) fn expr(
+    alloc: Global,
+    kind: &str,
+    value: &Value<'_>,
+) -> Result<Option<Expr>, FormatFault>
+    ensures { Gives (option_map expr_shape) result (read_expr kind.now (data_of value.now)) }
 {
     match kind {
         "Ident" => Ok(Some(ident(alloc, value)?)),

@@ -1,19 +1,19 @@
 //! Members of classes and interfaces.
 
 ghost use Rattle.std.specs.Prelude.{option_map};
-ghost use Rattle.serde_json.specs.View.{view};
+ghost use Rattle.symq_reader.specs.Plain.{data_of};
 ghost use Rattle.symbols_syntax.specs.declared.tree.names.KindName.TheVariants as Name;
 ghost use Rattle.symq_reader.specs.Reading.{Gives};
 ghost use Rattle.symq_reader.specs.KindShapes.{read_as, read_member, member_shape};
 
 use crate::faults::FormatFault;
 use crate::{fields, words};
-use serde_json::Value;
+use json::Value;
 use std::alloc::Global;
 use symbols_syntax::tree::Member;
 
-fn constructor(alloc: Global, value: &Value) -> Result<Member, FormatFault>
-    ensures { Gives member_shape result (read_as Name.Constructor (view value.now)) }
+fn constructor(alloc: Global, value: &Value<'_>) -> Result<Member, FormatFault>
+    ensures { Gives member_shape result (read_as Name.Constructor (data_of value.now)) }
 {
     Ok(Member::Constructor {
         params: fields::children(alloc, value, "params")?,
@@ -22,8 +22,8 @@ fn constructor(alloc: Global, value: &Value) -> Result<Member, FormatFault>
     })
 }
 
-fn ts_param_prop(value: &Value) -> Result<Member, FormatFault>
-    ensures { Gives member_shape result (read_as Name.TsParamProp (view value.now)) }
+fn ts_param_prop(value: &Value<'_>) -> Result<Member, FormatFault>
+    ensures { Gives member_shape result (read_as Name.TsParamProp (data_of value.now)) }
 {
     Ok(Member::TsParamProp {
         param: fields::child(value, "param")?,
@@ -31,8 +31,8 @@ fn ts_param_prop(value: &Value) -> Result<Member, FormatFault>
     })
 }
 
-fn class_method(value: &Value) -> Result<Member, FormatFault>
-    ensures { Gives member_shape result (read_as Name.ClassMethod (view value.now)) }
+fn class_method(value: &Value<'_>) -> Result<Member, FormatFault>
+    ensures { Gives member_shape result (read_as Name.ClassMethod (data_of value.now)) }
 {
     Ok(Member::ClassMethod {
         key: fields::child(value, "key")?,
@@ -43,8 +43,8 @@ fn class_method(value: &Value) -> Result<Member, FormatFault>
     })
 }
 
-fn class_prop(value: &Value) -> Result<Member, FormatFault>
-    ensures { Gives member_shape result (read_as Name.ClassProp (view value.now)) }
+fn class_prop(value: &Value<'_>) -> Result<Member, FormatFault>
+    ensures { Gives member_shape result (read_as Name.ClassProp (data_of value.now)) }
 {
     Ok(Member::ClassProp {
         key: fields::child(value, "key")?,
@@ -55,8 +55,8 @@ fn class_prop(value: &Value) -> Result<Member, FormatFault>
     })
 }
 
-fn auto_accessor(value: &Value) -> Result<Member, FormatFault>
-    ensures { Gives member_shape result (read_as Name.AutoAccessor (view value.now)) }
+fn auto_accessor(value: &Value<'_>) -> Result<Member, FormatFault>
+    ensures { Gives member_shape result (read_as Name.AutoAccessor (data_of value.now)) }
 {
     Ok(Member::AutoAccessor {
         key: fields::child(value, "key")?,
@@ -67,8 +67,8 @@ fn auto_accessor(value: &Value) -> Result<Member, FormatFault>
     })
 }
 
-fn ts_index_signature(alloc: Global, value: &Value) -> Result<Member, FormatFault>
-    ensures { Gives member_shape result (read_as Name.TsIndexSignature (view value.now)) }
+fn ts_index_signature(alloc: Global, value: &Value<'_>) -> Result<Member, FormatFault>
+    ensures { Gives member_shape result (read_as Name.TsIndexSignature (data_of value.now)) }
 {
     Ok(Member::TsIndexSignature {
         params: fields::children(alloc, value, "params")?,
@@ -77,8 +77,8 @@ fn ts_index_signature(alloc: Global, value: &Value) -> Result<Member, FormatFaul
     })
 }
 
-fn ts_call_signature_decl(alloc: Global, value: &Value) -> Result<Member, FormatFault>
-    ensures { Gives member_shape result (read_as Name.TsCallSignatureDecl (view value.now)) }
+fn ts_call_signature_decl(alloc: Global, value: &Value<'_>) -> Result<Member, FormatFault>
+    ensures { Gives member_shape result (read_as Name.TsCallSignatureDecl (data_of value.now)) }
 {
     Ok(Member::TsCallSignatureDecl {
         type_params: fields::optional_child(value, "type_params")?,
@@ -87,8 +87,8 @@ fn ts_call_signature_decl(alloc: Global, value: &Value) -> Result<Member, Format
     })
 }
 
-fn ts_construct_signature_decl(alloc: Global, value: &Value) -> Result<Member, FormatFault>
-    ensures { Gives member_shape result (read_as Name.TsConstructSignatureDecl (view value.now)) }
+fn ts_construct_signature_decl(alloc: Global, value: &Value<'_>) -> Result<Member, FormatFault>
+    ensures { Gives member_shape result (read_as Name.TsConstructSignatureDecl (data_of value.now)) }
 {
     Ok(Member::TsConstructSignatureDecl {
         type_params: fields::optional_child(value, "type_params")?,
@@ -97,8 +97,8 @@ fn ts_construct_signature_decl(alloc: Global, value: &Value) -> Result<Member, F
     })
 }
 
-fn ts_property_signature(value: &Value) -> Result<Member, FormatFault>
-    ensures { Gives member_shape result (read_as Name.TsPropertySignature (view value.now)) }
+fn ts_property_signature(value: &Value<'_>) -> Result<Member, FormatFault>
+    ensures { Gives member_shape result (read_as Name.TsPropertySignature (data_of value.now)) }
 {
     Ok(Member::TsPropertySignature {
         key: fields::child(value, "key")?,
@@ -107,8 +107,8 @@ fn ts_property_signature(value: &Value) -> Result<Member, FormatFault>
     })
 }
 
-fn ts_getter_signature(value: &Value) -> Result<Member, FormatFault>
-    ensures { Gives member_shape result (read_as Name.TsGetterSignature (view value.now)) }
+fn ts_getter_signature(value: &Value<'_>) -> Result<Member, FormatFault>
+    ensures { Gives member_shape result (read_as Name.TsGetterSignature (data_of value.now)) }
 {
     Ok(Member::TsGetterSignature {
         key: fields::child(value, "key")?,
@@ -117,8 +117,8 @@ fn ts_getter_signature(value: &Value) -> Result<Member, FormatFault>
     })
 }
 
-fn ts_setter_signature(value: &Value) -> Result<Member, FormatFault>
-    ensures { Gives member_shape result (read_as Name.TsSetterSignature (view value.now)) }
+fn ts_setter_signature(value: &Value<'_>) -> Result<Member, FormatFault>
+    ensures { Gives member_shape result (read_as Name.TsSetterSignature (data_of value.now)) }
 {
     Ok(Member::TsSetterSignature {
         key: fields::child(value, "key")?,
@@ -127,8 +127,8 @@ fn ts_setter_signature(value: &Value) -> Result<Member, FormatFault>
     })
 }
 
-fn ts_method_signature(alloc: Global, value: &Value) -> Result<Member, FormatFault>
-    ensures { Gives member_shape result (read_as Name.TsMethodSignature (view value.now)) }
+fn ts_method_signature(alloc: Global, value: &Value<'_>) -> Result<Member, FormatFault>
+    ensures { Gives member_shape result (read_as Name.TsMethodSignature (data_of value.now)) }
 {
     Ok(Member::TsMethodSignature {
         key: fields::child(value, "key")?,
@@ -144,9 +144,9 @@ fn ts_method_signature(alloc: Global, value: &Value) -> Result<Member, FormatFau
 pub(crate) fn member(
     alloc: Global,
     kind: &str,
-    value: &Value,
+    value: &Value<'_>,
 ) -> Result<Option<Member>, FormatFault>
-    ensures { Gives (option_map member_shape) result (read_member kind.now (view value.now)) }
+    ensures { Gives (option_map member_shape) result (read_member kind.now (data_of value.now)) }
 {
     match kind {
         "Constructor" => Ok(Some(constructor(alloc, value)?)),

@@ -1,0 +1,185 @@
+-- The loop over the declarations of a symbol, over a root that stores more.
+use Rattle.std.proofs.Common.{◌≡◌, ℕ, zero, suc, ◌+◌, ◌-◌, ◌*◌, ◌<◌, ◌≤◌, ◌^◌, Bool, true, false, not, cond, ◌||◌, List, [], ◌∷◌, ◌++◌, length, map, Option, None, Some, option_to_list, refl, sym, ap, subst, ◌∙◌, arith, slice_get, true≢false, append-nil}
+use Rattle.std.specs.Prelude.{if◌then◌else◌, Contains}
+use Rattle.std.proofs.lemmas.Option.{get_or_from_slice_get}
+use Rattle.std.specs.List.{IsDistinct, list_any, position_or_len}
+use Rattle.std.specs.Str.{bytes_eq}
+use Rattle.std.proofs.lemmas.List.{length-append}
+use Rattle.indexmap.specs.IndexSet.{insert_key}
+use Rattle.symbols_syntax.specs.declared.ids.UniqueSymbolId.{UniqueSymbolId}
+use Rattle.symbols_table.specs.DeclViews.{Declaration}
+use Rattle.symbols_root.specs.Roots.{RootView}
+use Rattle.symbols_paths.specs.declared.paths.leads.Lead.{Lead as ReadLead}
+use Rattle.symbols_paths.specs.declared.paths.node.DefinitionPathNode.{DefinitionPathNode}
+use Rattle.symbols_paths.specs.Trees.{NamedSymbol, none, join}
+use Rattle.symbols_paths.specs.Leads.{leads_of, lead_of, declarations_of}
+use Rattle.symbols_paths.specs.Choice.{is_met, was_met}
+use Rattle.symbols_paths.specs.Growing.{HasGrown}
+use Rattle.symbols_paths.specs.Views.{named, forest_told, forest_of_option, modules_of, modules_in, AreStored}
+use Rattle.symbols_paths.specs.Searching.{AreNumbered, met_told, HasSearched, IsFound, IsFollowed, IsRead, lead_told}
+use Rattle.symbols_paths.proofs.Growing.{grown_not, grown_on, same_specifier, still_stored, still_numbered, all_still_stored}
+use Rattle.symbols_paths.proofs.Told.{forest_with, modules_with, stored_both, join_none}
+use Rattle.symbols_paths.proofs.SearchSteps.{is_symbol, met_by_name, told_with, numbered_with, IsExpanding, expanding_first, expanding_next, expanding_last}
+
+-- ---- one symbol more
+
+pub new_symbol : (before after : List UniqueSymbolId) (s : UniqueSymbolId) (is_new : Bool) → is_new ≡ not (list_any (is_symbol s) before) → after ≡ insert_key is_symbol before s → is_new ≡ true → (list_any (is_symbol s) before ≡ false) × (after ≡ before ++ s ∷ [])
+new_symbol before after s is_new said inserted new = by (list_any (is_symbol s) before) (sym said ∙ new) inserted
+  where
+    by : (b : Bool) → not b ≡ true → after ≡ (if b then before else before ++ s ∷ []) → (b ≡ false) × (after ≡ before ++ s ∷ [])
+    by true is same = absurd (true≢false (sym is))
+    by false is same = (refl, same)
+
+pub old_symbol : (before after : List UniqueSymbolId) (s : UniqueSymbolId) (is_new : Bool) → is_new ≡ not (list_any (is_symbol s) before) → after ≡ insert_key is_symbol before s → is_new ≡ false → (list_any (is_symbol s) before ≡ true) × (after ≡ before)
+old_symbol before after s is_new said inserted old = by (list_any (is_symbol s) before) (sym said ∙ old) inserted
+  where
+    by : (b : Bool) → not b ≡ false → after ≡ (if b then before else before ++ s ∷ []) → (b ≡ true) × (after ≡ before)
+    by true is same = (refl, same)
+    by false is same = absurd (true≢false is)
+
+-- its place is the number of those before it
+new_place : (before : List UniqueSymbolId) (s : UniqueSymbolId) → list_any (is_symbol s) before ≡ false → position_or_len (is_symbol s) before ≡ length before
+new_place [] s absent = refl
+new_place (m ∷ before) s absent = by (is_symbol s m) absent (new_place before s)
+  where
+    by : (b : Bool) → (b || list_any (is_symbol s) before) ≡ false → (list_any (is_symbol s) before ≡ false → position_or_len (is_symbol s) before ≡ length before) → cond (not b) (1 + position_or_len (is_symbol s) before) 0 ≡ suc (length before)
+    by true is rest = absurd (true≢false is)
+    by false is rest = omega (arith, rest is)
+
+pub new_few : (before : List UniqueSymbolId) (s : UniqueSymbolId) (place : ℕ) → list_any (is_symbol s) before ≡ false → place ≡ position_or_len (is_symbol s) before → place < 2 ^ 64 → length before < 2 ^ 64
+new_few before s place absent at fits = omega (arith, new_place before s absent, at, fits)
+
+-- ---- a symbol that was met
+
+module _ (root : RootView) (once : IsDistinct bytes_eq root.stored) (met : List UniqueSymbolId) (symbol : UniqueSymbolId) (numbered : AreNumbered root met) (within : symbol.module_id.0 < length root.stored) where
+  later_met : (later : RootView) → HasGrown root later → list_any (is_symbol symbol) met ≡ is_met (met_told later met) (named later symbol)
+  later_met later grown = met_by_name later (grown.once once) met symbol (still_numbered grown met numbered) (still_stored grown symbol.module_id.0 within)
+
+  pub found_old : list_any (is_symbol symbol) met ≡ true → IsFound root met symbol [] met
+  found_old old = λ later grown. was_met (sym (later_met later grown) ∙ old)
+
+  pub searched_old : HasSearched root met met []
+  searched_old = record { numbered = numbered; longer = omega arith; few = λ h. h; stored = λ k d h. absurd (omega (arith, h)) }
+
+-- ---- the loop
+
+-- before the declaration at the index
+pub record IsFinding (old : RootView) (begun : List UniqueSymbolId) (symbol : UniqueSymbolId) (root : RootView) (index : ℕ) (met : List UniqueSymbolId) (paths : List DefinitionPathNode) : Type 0 where
+  pub grown : HasGrown old root
+  pub fresh : list_any (is_symbol symbol) begun ≡ false
+  pub numbered : AreNumbered root met
+  pub longer : length begun + 1 ≤ length met
+  pub few : length met ≤ 2 ^ 64
+  pub stored : AreStored root (modules_in paths)
+  pub told : (later : RootView) → HasGrown root later → IsExpanding (leads_of later.graph) (met_told later begun) (named later symbol) index (met_told later met) (forest_told later paths)
+
+pub finding_first : (root : RootView) (begun : List UniqueSymbolId) (symbol : UniqueSymbolId) → AreNumbered root begun → symbol.module_id.0 < length root.stored → list_any (is_symbol symbol) begun ≡ false → length begun < 2 ^ 64 → IsFinding root begun symbol root 0 (begun ++ symbol ∷ []) []
+finding_first root begun symbol numbered within fresh few = record {
+  grown = grown_not root;
+  fresh = fresh;
+  numbered = numbered_with root begun symbol numbered within;
+  longer = omega (arith, length-append begun (symbol ∷ []));
+  few = omega (arith, few, length-append begun (symbol ∷ []));
+  stored = λ k d h. absurd (omega (arith, h));
+  told = λ later grown. subst (λ m. IsExpanding (leads_of later.graph) (met_told later begun) (named later symbol) 0 m none) (sym (told_with later begun symbol)) (expanding_first (leads_of later.graph) (met_told later begun) (named later symbol));
+}
+
+-- the declaration at the index leads as it was read
+stands_told : (graph : _) (s : NamedSymbol) (index : ℕ) (lead : ReadLead) → IsRead graph s index lead → slice_get (leads_of graph s) index ≡ Some (lead_told graph s lead)
+stands_told graph s index lead read = by (declarations_of graph s) index read.stands ∙ ap Some (sym read.leads_so)
+  where
+    by : (decls : List Declaration) (i : ℕ) → slice_get decls i ≡ Some read.decl → slice_get (map (λ (decl : Declaration). lead_of graph s decl.range decl.kind) decls) i ≡ Some (lead_of graph s read.decl.range read.decl.kind)
+    by [] i e = absurd cc
+    by (decl ∷ decls) zero e = cc
+    by (decl ∷ decls) (suc i) e = by decls i e
+
+-- what was read of a root reads so of each later one
+read_later : {root later : RootView} → HasGrown root later → (symbol : UniqueSymbolId) → symbol.module_id.0 < length root.stored → (index : ℕ) (lead : ReadLead) → IsRead root.graph (named root symbol) index lead → IsRead later.graph (named later symbol) index lead
+read_later {root = root} {later = later} grown symbol within index lead read =
+    let name : named later symbol ≡ named root symbol = (λ i. record { specifier = same_specifier grown symbol.module_id within i; number = symbol.symbol_id }) in
+    subst (λ g. IsRead g (named later symbol) index lead) (sym grown.graph) (subst (λ n. IsRead root.graph n index lead) (sym name) read)
+
+same_declarations : {root later : RootView} → HasGrown root later → (symbol : UniqueSymbolId) → symbol.module_id.0 < length root.stored → declarations_of later.graph (named later symbol) ≡ declarations_of root.graph (named root symbol)
+same_declarations grown symbol within = λ i. declarations_of (grown.graph i) (record { specifier = same_specifier grown symbol.module_id within i; number = symbol.symbol_id })
+
+past_later : {root later : RootView} → HasGrown root later → (symbol : UniqueSymbolId) → symbol.module_id.0 < length root.stored → (index : ℕ) → slice_get (declarations_of root.graph (named root symbol)) index ≡ None → slice_get (leads_of later.graph (named later symbol)) index ≡ None
+past_later {root = root} {later = later} grown symbol within index past = by later.graph (named later symbol) (declarations_of later.graph (named later symbol)) index (ap (λ decls. slice_get decls index) (same_declarations grown symbol within) ∙ past)
+  where
+    by : (graph : _) (s : NamedSymbol) (decls : List Declaration) (i : ℕ) → slice_get decls i ≡ None → slice_get (map (λ (decl : Declaration). lead_of graph s decl.range decl.kind) decls) i ≡ None
+    by graph s [] i e = refl
+    by graph s (decl ∷ decls) zero e = absurd cc
+    by graph s (decl ∷ decls) (suc i) e = by graph s decls i e
+
+-- the place of what was read
+pub index_within : {graph : _} {s : NamedSymbol} {index : ℕ} {lead : ReadLead} → IsRead graph s index lead → index < length (declarations_of graph s)
+index_within {graph = graph} {s = s} {index = index} read = by (declarations_of graph s) index read.stands
+  where
+    by : (decls : List Declaration) (i : ℕ) → slice_get decls i ≡ Some read.decl → i < length decls
+    by [] i e = absurd cc
+    by (decl ∷ decls) zero e = omega arith
+    by (decl ∷ decls) (suc i) e = omega (arith, by decls i e)
+
+-- the declaration that was read stands there
+pub stands_among : {graph : _} {s : NamedSymbol} {index : ℕ} {lead : ReadLead} (read : IsRead graph s index lead) → Contains (declarations_of graph s) read.decl
+stands_among {graph = graph} {s = s} {index = index} read = (index, index_within read, get_or_from_slice_get (declarations_of graph s) index read.decl read.decl read.stands)
+
+module _ {old : RootView} {begun : List UniqueSymbolId} {symbol : UniqueSymbolId} {root : RootView} {index : ℕ} {met : List UniqueSymbolId} {paths : List DefinitionPathNode} (is : IsFinding old begun symbol root index met paths) (known : symbol.module_id.0 < length old.stored) where
+  pub now_within : symbol.module_id.0 < length root.stored
+  now_within = still_stored is.grown symbol.module_id.0 known
+
+  told_next : {after : RootView} (mid : List UniqueSymbolId) (lead : ReadLead) → IsRead root.graph (named root symbol) index lead → HasGrown root after → (path : Option DefinitionPathNode) → IsFollowed after met symbol index lead path mid → (later : RootView) → HasGrown after later → IsExpanding (leads_of later.graph) (met_told later begun) (named later symbol) (index + 1) (met_told later mid) (join (forest_told later paths) (forest_of_option later path))
+  told_next mid lead read kept path followed later grown =
+      let whole = grown_on kept grown in
+      expanding_next (lead_told later.graph (named later symbol) lead) (is.told later whole) (stands_told later.graph (named later symbol) index lead (read_later whole symbol now_within index lead read)) (followed later grown)
+
+  pub finding_on : {after : RootView} {mid : List UniqueSymbolId} (lead : ReadLead) → IsRead root.graph (named root symbol) index lead → HasGrown root after → IsFollowed after met symbol index lead None mid → HasSearched after met mid [] → IsFinding old begun symbol after (index + 1) mid paths
+  finding_on {after = after} {mid = mid} lead read kept followed searched = record {
+    grown = grown_on is.grown kept;
+    fresh = is.fresh;
+    numbered = searched.numbered;
+    longer = omega (arith, is.longer, searched.longer);
+    few = searched.few is.few;
+    stored = all_still_stored kept (modules_in paths) is.stored;
+    told = λ later grown. subst (λ f. IsExpanding (leads_of later.graph) (met_told later begun) (named later symbol) (index + 1) (met_told later mid) f) (join_none (forest_told later paths)) (told_next mid lead read kept None followed later grown);
+  }
+
+  pub finding_more : {after : RootView} {mid : List UniqueSymbolId} (lead : ReadLead) → IsRead root.graph (named root symbol) index lead → HasGrown root after → (path : DefinitionPathNode) → IsFollowed after met symbol index lead (Some path) mid → HasSearched after met mid (modules_in (path ∷ [])) → IsFinding old begun symbol after (index + 1) mid (paths ++ path ∷ [])
+  finding_more {after = after} {mid = mid} lead read kept path followed searched = record {
+    grown = grown_on is.grown kept;
+    fresh = is.fresh;
+    numbered = searched.numbered;
+    longer = omega (arith, is.longer, searched.longer);
+    few = searched.few is.few;
+    stored = subst (AreStored after) (sym (modules_with paths path)) (stored_both after (modules_in paths) (modules_of path) (all_still_stored kept (modules_in paths) is.stored) (subst (AreStored after) (append-nil (modules_of path)) searched.stored));
+    told = λ later grown. subst (λ f. IsExpanding (leads_of later.graph) (met_told later begun) (named later symbol) (index + 1) (met_told later mid) f) (sym (forest_with later paths path)) (told_next mid lead read kept (Some path) followed later grown);
+  }
+
+  pub finding_next : {after : RootView} {mid : List UniqueSymbolId} (lead : ReadLead) → IsRead root.graph (named root symbol) index lead → HasGrown root after → (path : Option DefinitionPathNode) → IsFollowed after met symbol index lead path mid → HasSearched after met mid (modules_in (option_to_list path)) → IsFinding old begun symbol after (index + 1) mid (paths ++ option_to_list path)
+  finding_next {after = after} {mid = mid} lead read kept None followed searched = subst (λ ps. IsFinding old begun symbol after (index + 1) mid ps) (sym (append-nil paths)) (finding_on lead read kept followed searched)
+  finding_next lead read kept (Some path) followed searched = finding_more lead read kept path followed searched
+
+  -- the declarations are those of before
+  pub index_before : (lead : ReadLead) → IsRead root.graph (named root symbol) index lead → index < length (declarations_of old.graph (named old symbol))
+  index_before lead read = omega (arith, index_within read, ap length (same_declarations is.grown symbol known))
+
+  pub finding_last : IsDistinct bytes_eq old.stored → AreNumbered old begun → slice_get (declarations_of root.graph (named root symbol)) index ≡ None → IsFound root begun symbol paths met
+  finding_last once numbered past = λ later grown.
+      let fresh = sym (later_met root (is.grown.once once) begun symbol (still_numbered is.grown begun numbered) now_within later grown) ∙ is.fresh in
+      expanding_last (is.told later grown) fresh (past_later grown symbol now_within index past)
+
+  pub finding_searched : HasSearched root begun met (modules_in paths)
+  finding_searched = record { numbered = is.numbered; longer = omega (arith, is.longer); few = λ h. is.few; stored = is.stored }
+
+-- ---- how much is left to be met
+
+-- each step of a search before the next symbol is met
+unfoldable pub left : ℕ → ℕ → ℕ
+left met steps = (2 ^ 64 - met) * 5 + steps
+
+pub fewer_steps : (met more a b : ℕ) → met ≤ more → a < b → left more a < left met b
+unfolding left
+fewer_steps met more a b longer less = omega (arith, longer, less)
+
+pub one_met_more : (met more steps : ℕ) → met + 1 ≤ more → more ≤ 2 ^ 64 → steps < 5 → left more steps < left met 0
+unfolding left
+one_met_more met more steps longer few less = omega (arith, longer, few, less)

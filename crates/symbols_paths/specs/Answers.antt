@@ -1,0 +1,59 @@
+-- What `find_definition_paths` answers.
+use Rattle.std.specs.Prelude.{◌≡◌, ◌≢◌, ◌<◌, ◌≤◌, ◌⊎◌, List, length, Contains, Option, None}
+use Rattle.symbols_syntax.specs.declared.ids.ModuleId.{ModuleId}
+use Rattle.symbols_syntax.specs.declared.ids.SymbolId.{SymbolId}
+use Rattle.symbols_syntax.specs.Graph.{GraphView}
+use Rattle.symbols_table.specs.declared.info.fault.SymbolsFault.{SymbolsFault}
+use Rattle.symbols_table.specs.declared.info.fault.SymbolsFault.TheVariants.{UnknownModule, UnknownSymbol}
+use Rattle.symbols_table.specs.SymbolViews.{SymbolView, symbol_after}
+use Rattle.symbols_root.specs.Roots.{RootView}
+use Rattle.symbols_exports.specs.Exporting.{specifier_in}
+use Rattle.symbols_exports.specs.StarStatements.{changes_under}
+use Rattle.symbols_paths.specs.declared.paths.node.DefinitionPathNode.{DefinitionPathNode}
+use Rattle.symbols_paths.specs.Trees.{NamedSymbol, Leaf, Forest, leaves_in, IsOnce}
+use Rattle.symbols_paths.specs.Leads.{leads_of}
+use Rattle.symbols_paths.specs.Derived.{IsDerived}
+use Rattle.symbols_paths.specs.Reach.{IsLeaf, IsNearLeaf, IsPartLast}
+use Rattle.symbols_paths.specs.Choice.{IsChosen}
+use Rattle.symbols_paths.specs.Views.{named_in, forest_told, modules_in, AreStored}
+use Rattle.symbols_paths.specs.Needed.{IsRefused}
+
+-- the paths of a symbol: each is derived, each leaf is one of the symbol's, no leaf of first reach is lost, no declaration is given twice, a part that isn't resolved stands only where all else is told; and of all such lists it is the choice
+pub record ArePaths (graph : GraphView) (s : NamedSymbol) (paths : Forest) : Type 0 where
+  pub derived : IsDerived (leads_of graph) s paths
+  pub leaves : (x : Leaf) → Contains (leaves_in paths) x → IsLeaf (leads_of graph) s x
+  pub first : (x : Leaf) → IsNearLeaf (leads_of graph) s x → Contains (leaves_in paths) x
+  pub once : IsOnce (leaves_in paths)
+  pub parts : IsPartLast graph (leaves_in paths)
+  pub chosen : IsChosen (leads_of graph) s paths
+
+-- the symbol of a stored module
+abbrev pub symbol_in : RootView → ModuleId → SymbolId → Option SymbolView
+symbol_in root module_id s = symbol_after (changes_under root.graph (specifier_in root module_id)) s
+
+-- an answer: the module is stored and has the symbol, and all modules that the paths name are stored then
+pub record IsPathsAnswer (old new : RootView) (module_id : ModuleId) (s : SymbolId) (paths : List DefinitionPathNode) : Type 0 where
+  pub known : module_id.0 < length old.stored
+  pub has_symbol : symbol_in old module_id s ≢ None
+  pub are_paths : ArePaths old.graph (named_in old module_id s) (forest_told new paths)
+  pub stored : AreStored new (modules_in paths)
+
+-- no answer: no module of this number is stored, or it has no such symbol, and then nothing changes; else what was refused is a module that is needed, or memory
+pub record IsUnknownModule (old new : RootView) (module_id : ModuleId) (fault : SymbolsFault) : Type 0 where
+  pub unknown : length old.stored ≤ module_id.0
+  pub fault_is : fault ≡ UnknownModule
+  pub unchanged : new ≡ old
+
+pub record IsUnknownSymbol (old new : RootView) (module_id : ModuleId) (s : SymbolId) (fault : SymbolsFault) : Type 0 where
+  pub known : module_id.0 < length old.stored
+  pub unknown : symbol_in old module_id s ≡ None
+  pub fault_is : fault ≡ UnknownSymbol
+  pub unchanged : new ≡ old
+
+pub record IsSearchRefused (old new : RootView) (module_id : ModuleId) (s : SymbolId) (fault : SymbolsFault) : Type 0 where
+  pub known : module_id.0 < length old.stored
+  pub has_symbol : symbol_in old module_id s ≢ None
+  pub refused : IsRefused new (specifier_in old module_id) fault
+
+abbrev pub IsPathsFault : RootView → RootView → ModuleId → SymbolId → SymbolsFault → Type 0
+IsPathsFault old new module_id s fault = IsUnknownModule old new module_id fault ⊎ IsUnknownSymbol old new module_id s fault ⊎ IsSearchRefused old new module_id s fault

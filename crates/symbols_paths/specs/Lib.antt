@@ -1,0 +1,11 @@
+pub mod Trees
+pub mod Leads
+pub mod Derived
+pub mod Reach
+pub mod Choice
+pub mod Computed
+pub mod Views
+pub mod Growing
+pub mod Needed
+pub mod Searching
+pub mod Answers

@@ -1,0 +1,4 @@
+//! Where a symbol is defined, across modules.
+#![tactic(auto)]
+
+pub mod paths;

@@ -1,0 +1,17 @@
+//! Paths from a symbol to its definitions.
+
+mod definition;
+mod find;
+mod iter;
+mod leads;
+mod link;
+mod node;
+mod search;
+mod targets;
+mod unresolved;
+
+pub use definition::{DeclRef, Definition, DefinitionKind};
+pub use find::{find_definition_paths, go_to_definitions, go_to_definitions_or_unresolveds};
+pub use iter::{DefinitionOrUnresolved, DefinitionsIter, DefinitionsOrUnresolvedsIter};
+pub use node::{DefinitionPathLink, DefinitionPathNode, DefinitionPathNodeResolved};
+pub use unresolved::{DefinitionUnresolved, DefinitionUnresolvedKind};

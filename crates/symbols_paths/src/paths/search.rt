@@ -1,0 +1,195 @@
+//! The search for definitions: it goes from declaration to declaration, each symbol once.
+
+ghost use Rattle.std.specs.Prelude.{◌≡◌, ◌<◌, List, [], length, Contains, Some, IfOk, IfErr, IfSome};
+ghost use Rattle.std.specs.List.{IsDistinct};
+ghost use Rattle.std.specs.Option.{option_to_list};
+ghost use Rattle.std.specs.Str.{bytes_eq};
+ghost use Rattle.symbols_syntax.specs.declared.ids.UniqueSymbolId.{UniqueSymbolId};
+ghost use Rattle.symbols_table.specs.declared.info.fault.SymbolsFault.TheVariants.{OutOfMemory};
+ghost use Rattle.symbols_table.specs.DeclViews.{Declaration};
+ghost use Rattle.symbols_root.specs.Roots.{widest};
+ghost use Rattle.symbols_exports.specs.Exporting.{specifier_in};
+ghost use Rattle.symbols_paths.specs.Leads.{declarations_of};
+ghost use Rattle.symbols_paths.specs.Views.{named, modules_of, modules_in};
+ghost use Rattle.symbols_paths.specs.Growing.{HasGrown};
+ghost use Rattle.symbols_paths.specs.Needed.{IsRefused};
+ghost use Rattle.symbols_paths.specs.Searching.{AreNumbered, HasSearched, IsFound, IsFollowed, IsTried, IsOffered, IsImported, IsImportOf, ways_of_import, ways_along};
+
+use crate::paths::definition::DeclRef;
+use crate::paths::leads::{Lead, NamedImport, lead_at, own_export, star_text};
+use crate::paths::link::{add, defined, link, unmapped, unresolved};
+use crate::paths::node::DefinitionPathNode;
+use crate::paths::targets::{export_along, text_target};
+use crate::paths::unresolved::DefinitionUnresolvedKind;
+use indexmap::IndexSet;
+use symbols_root::root::RootSymbol;
+use symbols_table::info::SymbolsFault;
+use symbols_tree::ids::{ModuleId, UniqueSymbolId};
+
+/// The paths of a symbol; none of one that was met.
+#[cycle(search)]
+pub(crate) fn find<'a>(
+    root: &mut RootSymbol<'a>,
+    met: &mut IndexSet<UniqueSymbolId>,
+    symbol: UniqueSymbolId,
+) -> Result<Vec<DefinitionPathNode<'a>>, SymbolsFault>
+    requires known { symbol.module_id.0 < length root.old.stored }
+    requires met { AreNumbered root.old met.old.keys }
+    requires once { IsDistinct bytes_eq root.old.stored }
+    ensures kept { HasGrown root.old root.new }
+    ensures found { IfOk result (λ paths. IsFound root.new met.old.keys symbol paths.items met.new.keys) }
+    ensures searched { IfOk result (λ paths. HasSearched root.new met.old.keys met.new.keys (modules_in paths.items)) }
+    ensures refused { IfErr result (IsRefused root.new (specifier_in root.old symbol.module_id)) }
+    ensures enough { root.old.limits ≡ widest → IfErr result (λ fault. fault ≡ OutOfMemory) }
+{
+    let mut paths = Vec::new(root.alloc());
+    let (_, is_new) = met.insert_full(symbol)?;
+    if !is_new {
+        return Ok(paths);
+    }
+    let mut index = 0;
+    while let Some(lead) = lead_at(root, symbol, index)? {
+        match follow(root, met, symbol, index, &lead) {
+            Err(fault) => return Err(fault),
+            Ok(path) => add(&mut paths, path)?,
+        }
+        index += 1;
+    }
+    Ok(paths)
+}
+
+/// The path along a declaration of a symbol, if there is one.
+#[cycle(search)]
+fn follow<'a>(
+    root: &mut RootSymbol<'a>,
+    met: &mut IndexSet<UniqueSymbolId>,
+    symbol: UniqueSymbolId,
+    index: u32,
+    lead: &Lead<'a>,
+) -> Result<Option<DefinitionPathNode<'a>>, SymbolsFault>
+    requires known { symbol.module_id.0 < length root.old.stored }
+    requires met { AreNumbered root.old met.old.keys }
+    requires once { IsDistinct bytes_eq root.old.stored }
+    requires declared { (decl : Declaration) × Contains (declarations_of root.old.graph (named root.old symbol)) decl × IsImportOf lead.now decl }
+    ensures kept { HasGrown root.old root.new }
+    ensures followed { IfOk result (λ path. IsFollowed root.new met.old.keys symbol index lead.now path met.new.keys) }
+    ensures searched { IfOk result (λ path. HasSearched root.new met.old.keys met.new.keys (modules_in (option_to_list path))) }
+    ensures refused { IfErr result (IsRefused root.new (specifier_in root.old symbol.module_id)) }
+    ensures enough { root.old.limits ≡ widest → IfErr result (λ fault. fault ≡ OutOfMemory) }
+{
+    let decl = DeclRef {
+        symbol: symbol.symbol_id,
+        index,
+    };
+    match lead {
+        Lead::Defines(kind, range) => Ok(Some(defined(symbol, decl, *kind, *range))),
+        Lead::Nowhere => Ok(None),
+        Lead::Target(symbol_id) => {
+            let target = UniqueSymbolId::new(symbol.module_id, *symbol_id);
+            match find(root, met, target) {
+                Err(fault) => Err(fault),
+                Ok(next) => Ok(link(root.alloc(), target, decl, next)),
+            }
+        }
+        Lead::Unmapped(id, parts) => Ok(Some(unmapped(root.alloc(), symbol, decl, id, parts)?)),
+        Lead::Import(taken) => match import(root, met, symbol, taken) {
+            Err(fault) => Err(fault),
+            Ok(next) => Ok(link(root.alloc(), symbol, decl, next)),
+        },
+    }
+}
+
+/// The paths of what a symbol imports by a name from a text, or one unresolved entry.
+#[cycle(search)]
+fn import<'a>(
+    root: &mut RootSymbol<'a>,
+    met: &mut IndexSet<UniqueSymbolId>,
+    symbol: UniqueSymbolId,
+    taken: &NamedImport<'a>,
+) -> Result<Vec<DefinitionPathNode<'a>>, SymbolsFault>
+    requires known { symbol.module_id.0 < length root.old.stored }
+    requires met { AreNumbered root.old met.old.keys }
+    requires once { IsDistinct bytes_eq root.old.stored }
+    requires declared { IsImported root.old.graph (named root.old symbol) taken.now.name.now taken.now.text.now }
+    ensures kept { HasGrown root.old root.new }
+    ensures tried { IfOk result (λ paths. IsTried root.new met.old.keys (ways_of_import symbol taken.now.name.now taken.now.text.now) paths.items met.new.keys) }
+    ensures searched { IfOk result (λ paths. HasSearched root.new met.old.keys met.new.keys (modules_in paths.items)) }
+    ensures refused { IfErr result (IsRefused root.new (specifier_in root.old symbol.module_id)) }
+    ensures enough { root.old.limits ≡ widest → IfErr result (λ fault. fault ≡ OutOfMemory) }
+{
+    let module_id = match text_target(root, symbol.module_id, taken.text) {
+        Err(fault) => return Err(fault),
+        Ok(None) => {
+            let text = String::from_str(root.alloc(), taken.text)?;
+            let kind = DefinitionUnresolvedKind::Specifier(text);
+            let parts = Vec::new(root.alloc());
+            return Ok(unresolved(root.alloc(), symbol.module_id, kind, parts)?);
+        }
+        Ok(Some(module_id)) => module_id,
+    };
+    match own_export(root, module_id, taken.name) {
+        Some(owned) => find(root, met, UniqueSymbolId::new(module_id, owned)),
+        None => import_along(root, met, module_id, taken),
+    }
+}
+
+/// The paths of the first export of a name along the statements `export *` of a module that has one,
+/// or one unresolved entry.
+#[cycle(search)]
+fn import_along<'a>(
+    root: &mut RootSymbol<'a>,
+    met: &mut IndexSet<UniqueSymbolId>,
+    module_id: ModuleId,
+    taken: &NamedImport<'a>,
+) -> Result<Vec<DefinitionPathNode<'a>>, SymbolsFault>
+    requires known { module_id.0 < length root.old.stored }
+    requires met { AreNumbered root.old met.old.keys }
+    requires once { IsDistinct bytes_eq root.old.stored }
+    ensures kept { HasGrown root.old root.new }
+    ensures tried { IfOk result (λ paths. IsTried root.new met.old.keys (ways_along module_id taken.now.name.now) paths.items met.new.keys) }
+    ensures searched { IfOk result (λ paths. HasSearched root.new met.old.keys met.new.keys (modules_in paths.items)) }
+    ensures refused { IfErr result (IsRefused root.new (specifier_in root.old module_id)) }
+    ensures enough { root.old.limits ≡ widest → IfErr result (λ fault. fault ≡ OutOfMemory) }
+{
+    let mut position = 0;
+    while let Some(text) = star_text(root, module_id, position) {
+        let candidate = match export_along(root, module_id, text, taken.name) {
+            Err(fault) => return Err(fault),
+            Ok(candidate) => candidate,
+        };
+        match offered(root, met, candidate) {
+            Err(fault) => return Err(fault),
+            Ok(paths) => {
+                if !paths.is_empty() {
+                    return Ok(paths);
+                }
+            }
+        }
+        position += 1;
+    }
+    let kind = DefinitionUnresolvedKind::Part(String::from_str(root.alloc(), taken.name)?);
+    let parts = Vec::new(root.alloc());
+    Ok(unresolved(root.alloc(), module_id, kind, parts)?)
+}
+
+/// The paths of a candidate; none where there is no candidate.
+#[cycle(search)]
+fn offered<'a>(
+    root: &mut RootSymbol<'a>,
+    met: &mut IndexSet<UniqueSymbolId>,
+    candidate: Option<UniqueSymbolId>,
+) -> Result<Vec<DefinitionPathNode<'a>>, SymbolsFault>
+    requires known { IfSome candidate (λ symbol. symbol.module_id.0 < length root.old.stored) }
+    requires met { AreNumbered root.old met.old.keys }
+    requires once { IsDistinct bytes_eq root.old.stored }
+    ensures kept { HasGrown root.old root.new }
+    ensures offered { IfOk result (λ paths. IsOffered root.new met.old.keys candidate paths.items met.new.keys) }
+    ensures searched { IfOk result (λ paths. HasSearched root.new met.old.keys met.new.keys (modules_in paths.items)) }
+    ensures refused { IfErr result (λ fault. (symbol : UniqueSymbolId) × (candidate ≡ Some symbol) × IsRefused root.new (specifier_in root.old symbol.module_id) fault) }
+    ensures enough { root.old.limits ≡ widest → IfErr result (λ fault. fault ≡ OutOfMemory) }
+{
+    match candidate {
+        None => Ok(Vec::new(root.alloc())),
+        Some(symbol) => find(root, met, symbol),
+    }
+}

@@ -1,0 +1,30 @@
+-- What is no whole number.
+use Rattle.std.proofs.Common.{◌≡◌, ◌^◌, ◌&&◌, ◌==◌, ℕ, List, Bool, true, false, cond, Float, None, Some, refl, nat_lt, nat_le, get_or, drop}
+use Rattle.std.specs.Float.{binary64, float_is_finite}
+use Rattle.fast_float.specs.Text.{Parts, scan, nearest, digits_of, with_sign}
+use Rattle.serde_json.specs.Data.{negative, float}
+use Rattle.serde_json.specs.Read.{number_of, number_from, float_of, is_integer}
+use Rattle.serde_json.specs.Find.{as_u64}
+use Rattle.symq_reader.specs.Plain.{num_or}
+
+either_float : (b : Bool) (x : Float) → as_u64 (num_or (cond b (Some (float x)) None)) ≡ None
+either_float true x = refl
+either_float false x = refl
+
+pub no_float : (sign : Bool) (p : Parts) → as_u64 (num_or (float_of sign p)) ≡ None
+no_float sign p = either_float (float_is_finite (nearest binary64 sign p)) (nearest binary64 sign p)
+
+either_negative : (b : Bool) (p : Parts) → as_u64 (num_or (cond b (Some (negative (with_sign true (digits_of p)))) (float_of true p))) ≡ None
+either_negative true p = refl
+either_negative false p = no_float true p
+
+pub no_negative : (p : Parts) → as_u64 (num_or (number_from true p)) ≡ None
+no_negative p = either_negative (is_integer p && nat_lt 0 (digits_of p) && nat_le (digits_of p) (2 ^ 63)) p
+
+pub of_minus : (s : List ℕ) → (get_or s 0 0 == 45) ≡ true → as_u64 (num_or (number_of s)) ≡ None
+unfolding number_of
+of_minus s e = rw e (no_negative (scan (drop 1 s)))
+
+pub of_digits : (s : List ℕ) → (get_or s 0 0 == 45) ≡ false → number_of s ≡ number_from false (scan s)
+unfolding number_of
+of_digits s e = rw e

@@ -1,0 +1,120 @@
+-- What `serde_json` reads of a value, beside its data.
+use Rattle.std.proofs.Common.{◌≡◌, ◌&&◌, ℕ, List, Bool, true, false, Option, Some, None, is_some, option_map, option_and_then, refl, ap, ◌∙◌, Ordering, Less, Equal, Greater, nat_cmp}
+use Rattle.json.specs.Json as json
+use Rattle.serde_json.specs.Data.{Num, Data, number, array, object, Items, item, Members, no_members, member, put}
+use Rattle.serde_json.specs.Read.{number_of, of_json, of_items, of_members}
+use Rattle.serde_json.specs.Find.{as_u64}
+use Rattle.std.specs.Ordering.{match_ordering}
+use Rattle.std.specs.Cmp.Lexicographic.{slice_cmp}
+use Rattle.symq_reader.specs.Numbers.{is_whole, items_are_whole, members_are_whole}
+use Rattle.symq_reader.specs.Plain.{num_or, plain, plain_items, plain_members, fits, items_fit, members_fit}
+
+both : (a b : Bool) → (a && b) ≡ true → (a ≡ true) × (b ≡ true)
+both true b e = (refl, e)
+both false b e = absurd (cc)
+
+-- ---- a value whose numbers are all whole has data, and these are whole
+
+some_whole : (o : Option Num) → is_some (as_u64 (num_or o)) ≡ true → option_map number o ≡ Some (number (num_or o))
+some_whole None e = absurd (cc)
+some_whole (Some n) e = refl
+
+mutual
+  pub of_json-fits : (j : json.Json) → fits j ≡ true → of_json j ≡ Some (plain j)
+  of_json-fits json.null e = refl
+  of_json-fits (json.boolean b) e = refl
+  of_json-fits (json.number s) e = some_whole (number_of s) e
+  of_json-fits (json.string s) e = refl
+  of_json-fits (json.array js) e = ap (option_map array) (of_items-fit js e)
+  of_json-fits (json.object ms) e = ap (option_map object) (of_members-fit ms no_members e)
+
+  of_items-fit : (js : json.Items) → items_fit js ≡ true → of_items js ≡ Some (plain_items js)
+  of_items-fit json.no_items e = refl
+  of_items-fit (json.item j js) e =
+      let h = both (fits j) (items_fit js) e in
+      ap (option_and_then (λ d. option_map (item d) (of_items js))) (of_json-fits j h.0) ∙ ap (option_map (item (plain j))) (of_items-fit js h.1)
+
+  of_members-fit : (ms : json.Members) (found : Members) → members_fit ms ≡ true → of_members ms found ≡ Some (plain_members ms found)
+  of_members-fit json.no_members found e = refl
+  of_members-fit (json.member k j ms) found e =
+      let h = both (fits j) (members_fit ms) e in
+      ap (option_and_then (λ d. of_members ms (put k d found))) (of_json-fits j h.0) ∙ of_members-fit ms (put k (plain j) found) h.1
+
+both_of : (a b : Bool) → a ≡ true → b ≡ true → (a && b) ≡ true
+both_of a b e f = rw e f
+
+put_at-whole : (o : Ordering) (k l : List ℕ) (d e : Data) (ms : Members) → is_whole d ≡ true → members_are_whole (member l e ms) ≡ true → members_are_whole (put k d ms) ≡ true
+    → members_are_whole (match_ordering o (member k d (member l e ms)) (member l d ms) (member l e (put k d ms))) ≡ true
+put_at-whole Less k l d e ms h old new = both_of (is_whole d) (members_are_whole (member l e ms)) h old
+put_at-whole Equal k l d e ms h old new = both_of (is_whole d) (members_are_whole ms) h (both (is_whole e) (members_are_whole ms) old).1
+put_at-whole Greater k l d e ms h old new = both_of (is_whole e) (members_are_whole (put k d ms)) (both (is_whole e) (members_are_whole ms) old).0 new
+
+put-whole : (k : List ℕ) (d : Data) (ms : Members) → is_whole d ≡ true → members_are_whole ms ≡ true → members_are_whole (put k d ms) ≡ true
+put-whole k d no_members h old = both_of (is_whole d) true h refl
+put-whole k d (member l e ms) h old =
+    put_at-whole (slice_cmp nat_cmp k l) k l d e ms h old (put-whole k d ms h (both (is_whole e) (members_are_whole ms) old).1)
+
+mutual
+  pub is_whole-fits : (j : json.Json) → fits j ≡ true → is_whole (plain j) ≡ true
+  is_whole-fits json.null e = refl
+  is_whole-fits (json.boolean b) e = refl
+  is_whole-fits (json.number s) e = e
+  is_whole-fits (json.string s) e = refl
+  is_whole-fits (json.array js) e = items_whole-fits js e
+  is_whole-fits (json.object ms) e = members_whole-fits ms no_members e refl
+
+  items_whole-fits : (js : json.Items) → items_fit js ≡ true → items_are_whole (plain_items js) ≡ true
+  items_whole-fits json.no_items e = refl
+  items_whole-fits (json.item j js) e =
+      let h = both (fits j) (items_fit js) e in
+      both_of (is_whole (plain j)) (items_are_whole (plain_items js)) (is_whole-fits j h.0) (items_whole-fits js h.1)
+
+  members_whole-fits : (ms : json.Members) (found : Members) → members_fit ms ≡ true → members_are_whole found ≡ true → members_are_whole (plain_members ms found) ≡ true
+  members_whole-fits json.no_members found e old = old
+  members_whole-fits (json.member k j ms) found e old =
+      let h = both (fits j) (members_fit ms) e in
+      members_whole-fits ms (put k (plain j) found) h.1 (put-whole k (plain j) found (is_whole-fits j h.0) old)
+
+-- ---- a value that has data has these data
+
+number-plain : (o : Option Num) (d : Data) → option_map number o ≡ Some d → number (num_or o) ≡ d
+number-plain None d e = absurd (cc)
+number-plain (Some n) d e = cc
+
+under_array : (o : Option Items) (ds : Items) (d : Data) → ((es : Items) → o ≡ Some es → ds ≡ es) → option_map array o ≡ Some d → array ds ≡ d
+under_array None ds d same e = absurd (cc)
+under_array (Some es) ds d same e = let is : array es ≡ d = cc in ap array (same es refl) ∙ is
+
+under_object : (o : Option Members) (ms : Members) (d : Data) → ((ns : Members) → o ≡ Some ns → ms ≡ ns) → option_map object o ≡ Some d → object ms ≡ d
+under_object None ms d same e = absurd (cc)
+under_object (Some ns) ms d same e = let is : object ns ≡ d = cc in ap object (same ns refl) ∙ is
+
+under_item : (o : Option Data) (r : Option Items) (p : Data) (ps es : Items) → ((d : Data) → o ≡ Some d → p ≡ d) → ((ds : Items) → r ≡ Some ds → ps ≡ ds)
+    → option_and_then (λ d. option_map (item d) r) o ≡ Some es → item p ps ≡ es
+under_item None r p ps es first rest e = absurd (cc)
+under_item (Some d) None p ps es first rest e = absurd (cc)
+under_item (Some d) (Some ds) p ps es first rest e =
+    let is : item d ds ≡ es = cc in ap (λ x. item x ps) (first d refl) ∙ ap (item d) (rest ds refl) ∙ is
+
+under_member : (o : Option Data) (ms : json.Members) (k : List ℕ) (p : Data) (found ns : Members) → ((d : Data) → o ≡ Some d → p ≡ d) → ((new : Members) → of_members ms new ≡ Some ns → plain_members ms new ≡ ns)
+    → option_and_then (λ d. of_members ms (put k d found)) o ≡ Some ns → plain_members ms (put k p found) ≡ ns
+under_member None ms k p found ns first rest e = absurd (cc)
+under_member (Some d) ms k p found ns first rest e = ap (λ x. plain_members ms (put k x found)) (first d refl) ∙ rest (put k d found) e
+
+mutual
+  pub plain-of_json : (j : json.Json) (d : Data) → of_json j ≡ Some d → plain j ≡ d
+  plain-of_json json.null d e = cc
+  plain-of_json (json.boolean b) d e = cc
+  plain-of_json (json.number s) d e = number-plain (number_of s) d e
+  plain-of_json (json.string s) d e = cc
+  plain-of_json (json.array js) d e = under_array (of_items js) (plain_items js) d (plain-of_items js) e
+  plain-of_json (json.object ms) d e = under_object (of_members ms no_members) (plain_members ms no_members) d (plain-of_members ms no_members) e
+
+  plain-of_items : (js : json.Items) (ds : Items) → of_items js ≡ Some ds → plain_items js ≡ ds
+  plain-of_items json.no_items ds e = cc
+  plain-of_items (json.item j js) ds e = under_item (of_json j) (of_items js) (plain j) (plain_items js) ds (plain-of_json j) (plain-of_items js) e
+
+  plain-of_members : (ms : json.Members) (found ns : Members) → of_members ms found ≡ Some ns → plain_members ms found ≡ ns
+  plain-of_members json.no_members found ns e = cc
+  plain-of_members (json.member k j ms) found ns e =
+      under_member (of_json j) ms k (plain j) found ns (plain-of_json j) (λ new h. plain-of_members ms new ns h) e

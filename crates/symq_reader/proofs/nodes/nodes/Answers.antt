@@ -1,0 +1,9 @@
+use Rattle.std.proofs.Common.{rules}
+use Rattle.symq_reader.specs.GraphText.{as_node, node_shape}
+use Rattle.symq_reader.proofs.Turns.{each_turn}
+use Rattle.symq_reader.proofs.nodes.nodes.Goals as goal
+
+pub loop-item-preserved : goal.loop-item-preserved
+loop-item-preserved c =
+    let l = c.loop-item in
+    each_turn as_node node_shape l.nodes.items c.push.new.self.items c.in_ok-node.field-0 c.item-item.result c.in-Some.items.now l.item-index _ c.loop-item-test.true c.item-item.is c.in_ok-node.ensures (search rules) l.invariant

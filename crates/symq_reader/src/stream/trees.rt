@@ -1,0 +1,93 @@
+//! Trees, node by node.
+
+ghost use Rattle.std.specs.Prelude.{◌≡◌, [], IfOk, Option, codes, map, option_map, Some};
+ghost use Rattle.json.specs.Json as spec;
+ghost use Rattle.json.specs.Value.{members_view};
+ghost use Rattle.symq_reader.specs.GraphText.{as_node, as_tree, node_shape, tree_shape};
+ghost use Rattle.symq_reader.specs.Plain.{plain};
+ghost use Rattle.symq_reader.specs.Streams.{Around, Reads, ReadsItems, ReadsMembers, list_at, optional_at};
+
+use crate::stream::{GiveUp, members};
+use crate::{nodes, numbers};
+use json::{Reader, Token, Value};
+use std::alloc::Global;
+use symbols_syntax::tree::{Node, Tree};
+
+/// A node, whose value is let go.
+fn node(alloc: Global, reader: &mut Reader<'_>) -> Result<Node, GiveUp>
+    ensures { IfOk result (λ node. Reads 122 reader.old reader.new as_node (node_shape node)) }
+{
+    let value = Value::read(alloc, reader, 122)?;
+    if !numbers::fits(&value) {
+        return Err(GiveUp::Odd);
+    }
+    Ok(nodes::node(alloc, &value)?)
+}
+
+/// The nodes of a list whose bracket was taken.
+fn node_items(alloc: Global, reader: &mut Reader<'_>) -> Result<Vec<Node>, GiveUp>
+    ensures { IfOk result (λ found. ReadsItems 122 reader.old reader.new
+        as_node (map node_shape found.items)) }
+{
+    let mut found = Vec::new(alloc);
+    'items: while !reader.take_end_array() {
+        found.push(node(alloc, reader)?)?;
+    }
+    Ok(found)
+}
+
+/// The nodes of a list, which may be null.
+fn node_list(alloc: Global, reader: &mut Reader<'_>) -> Result<Vec<Node>, GiveUp>
+    ensures { IfOk result (λ found. Reads 123 reader.old reader.new
+        (λ d. list_at as_node (Some d)) (map node_shape found.items)) }
+{
+    match reader.next() {
+        Some(Token::BeginArray) => node_items(alloc, reader),
+        Some(Token::Null) => Ok(Vec::new(alloc)),
+        _ => Err(GiveUp::Odd),
+    }
+}
+
+/// The nodes of a tree; its other members are kept.
+fn nodes_among<'a>(
+    alloc: Global,
+    reader: &mut Reader<'a>,
+    kept: &mut Vec<(&'a str, Value<'a>)>,
+) -> Result<Vec<Node>, GiveUp>
+    requires { kept.old.items ≡ [] }
+    ensures { IfOk result (λ found. (there : Option spec.Json)
+        × Around 123 reader.old reader.new (codes "nodes") there (members_view kept.new.items)
+        × (list_at as_node (option_map plain there) ≡ Some (map node_shape found.items))) }
+{
+    if !members::pass_until(alloc, reader, 123, "nodes", kept)? {
+        return Ok(Vec::new(alloc));
+    }
+    let found = node_list(alloc, reader)?;
+    if members::pass_until(alloc, reader, 123, "nodes", kept)? {
+        return Err(GiveUp::Odd);
+    }
+    Ok(found)
+}
+
+/// The tree of an object whose brace was taken.
+fn tree_members(alloc: Global, reader: &mut Reader<'_>) -> Result<Tree, GiveUp>
+    ensures { IfOk result (λ tree. ReadsMembers 123 reader.old reader.new as_tree (tree_shape tree)) }
+{
+    let mut kept = Vec::new(alloc);
+    let found = nodes_among(alloc, reader, &mut kept)?;
+    let mut tree = nodes::tree(alloc, &Value::Object(kept))?;
+    tree.nodes = found;
+    Ok(tree)
+}
+
+/// A tree, which may be null.
+pub(crate) fn optional_tree(alloc: Global, reader: &mut Reader<'_>) -> Result<Option<Tree>, GiveUp>
+    ensures { IfOk result (λ found. Reads 124 reader.old reader.new
+        (λ d. optional_at as_tree (Some d)) (option_map tree_shape found)) }
+{
+    match reader.next() {
+        Some(Token::BeginObject) => Ok(Some(tree_members(alloc, reader)?)),
+        Some(Token::Null) => Ok(None),
+        _ => Err(GiveUp::Odd),
+    }
+}
