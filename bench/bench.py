@@ -17,6 +17,9 @@ It prints a table with a row for each graph and stage. In counts the stages are
               webs, which is taken of 4n too, and of graphs of files
     path      a run with a query for the paths of a symbol, of graphs of files of each, less one without queries: of
               re-exports in a row and of candidates of an import, which it analyses on the way
+    name      a run with a query for the paths of an import along one `export *`, less one without queries: of one name of
+              many webs, of which half are gone through
+    whole     of the same graph a run with a query for all that is exported there, less one without queries
 
 and what is counted of a run:
 
@@ -217,7 +220,23 @@ def candidates_of(n):
     return resolved(modules)
 
 
+def hub_of(n):
+    """n modules in webs of ten, a module with an `export *` for each web, and an import of a name that a web in the
+    middle owns, along one `export *` of that module."""
+    graph = webs_of(n)
+    hub, middle = Tree(), Tree()
+    webs = [hub.add('ExportAll', src='m%d' % at) for at in range(0, n, 10)]
+    star = middle.add('ExportAll', src='hub')
+    first = taking('first', 'Import', 'ImportNamed', 'middle')
+    first['tree']['nodes'][-1]['sym'] = ['m%d_0' % (n // 20 * 10), 1]
+    added = resolved([first, middle.module('middle', [star]), hub.module('hub', webs)])
+    return {key: added[key] + graph[key] for key in ('modules', 'resolutions')}
+
+
 STAGES = ('read', 'check', 'analyse')
+
+# stages that are less a run without queries
+APART = ('path', 'name', 'whole')
 
 # a graph's name, its n, how it is made, what is asked beyond the stages, and the multiples of n
 MADE = [
@@ -229,6 +248,7 @@ MADE = [
     ('webs of ten modules', 2000, webs_of, ('export',), (1, 2, 4)),
     ('re-exports in a row', 10000, row_of, ('path',), (1, 2)),
     ('candidates of an import', 10000, candidates_of, ('path',), (1, 2)),
+    ('one name of webs', 20000, hub_of, ('name', 'whole'), (1, 2)),
 ]
 
 
@@ -247,6 +267,8 @@ class Files:
             'export': b''.join(line('exports', m['specifier']) for m in modules),
             'path': b''.join(line('paths', m, k) for m, count in symbols.items() for k in range(count))
             if symbols else line('paths', modules[0]['specifier'], 1),
+            'name': line('paths', 'first', 1),
+            'whole': line('exports', 'hub'),
         }
 
 
@@ -304,7 +326,7 @@ def counts(count, program, other, files, stages):
     idle = count([program, files.path])
     asked = count([program, files.path], files.queries)
     found = {'read': [read], 'check': [idle - read], 'analyse': [asked - idle]}
-    found.update((it, [count([program, files.path], files.asked[it]) - (idle if it == 'path' else asked)]) for it in further)
+    found.update((it, [count([program, files.path], files.asked[it]) - (idle if it in APART else asked)]) for it in further)
     if other:
         idle = count([other, files.path])
         found['read'].append(idle)
@@ -312,7 +334,7 @@ def counts(count, program, other, files, stages):
             asked = count([other, files.path], files.queries)
             found['analyse'].append(asked - idle)
             for stage in further:
-                found[stage].append(count([other, files.path], files.asked[stage]) - (idle if stage == 'path' else asked))
+                found[stage].append(count([other, files.path], files.asked[stage]) - (idle if stage in APART else asked))
     return found
 
 

@@ -13,7 +13,8 @@ There are three sorts of cases, in three folders of tests/:
                     STATUS, tab, STANDARD ERROR (one line, or nothing), tab, TEXT OF THE GRAPH
 
 A folder also has, where they are not 0, nothing and the graph: status, stderr, args (one word a line). A file that is
-absent is empty. The last line is 'N passed, M failed', where a sort of which there is no case counts as a failure.
+absent is empty. Since an answer is the same whatever was asked before, a case of cases/ with several queries, each answered,
+is run three times: in order, backwards, and twice over. The last line is 'N passed, M failed', where a sort of which there is no case counts as a failure.
 """
 import os
 import re
@@ -65,7 +66,19 @@ def folder_cases(sort, name, program, output):
         words = words.decode().splitlines()
     want = Outcome(int(read(folder, 'status', b'0')), read(folder, output), read(folder, 'stderr'))
     graph = read(folder, 'graph.json', None)
-    return [Case(sort + '/' + name, program, graph, words, read(folder, 'queries'), want)]
+    case = Case(sort + '/' + name, program, graph, words, read(folder, 'queries'), want)
+    return [case, *in_other_orders(case)]
+
+
+def in_other_orders(case):
+    """The case with its queries backwards, and twice over; none where not each of several lines has an answer."""
+    queries, answers = ([line + b'\n' for line in text.split(b'\n')[:-1]] for text in (case.given, case.want.output))
+    if case.want.status or len(queries) < 2 or len(queries) != len(answers) or not case.given.endswith(b'\n'):
+        return []
+    orders = [('backwards', queries[::-1], answers[::-1]), ('twice over', queries * 2, answers * 2)]
+    return [case._replace(name=case.name + ', ' + order, given=b''.join(asked),
+                          want=case.want._replace(output=b''.join(answered)))
+            for order, asked, answered in orders]
 
 
 def form_cases(sort, name):

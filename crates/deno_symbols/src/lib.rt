@@ -8,6 +8,7 @@
 pub use symbols_exports::exports;
 pub use symbols_nodes::{deps, nodes};
 pub use symbols_paths::paths;
+pub use symbols_queries::queries;
 pub use symbols_root::root;
 pub use symbols_table::{analyze, decl, info};
 pub use symbols_tree::{check, ids, tree};

@@ -1,6 +1,6 @@
 -- What a search of its own answers.
-use Rattle.std.proofs.Common.{◌≡◌, ◌≢◌, ◌<◌, ◌≤◌, ◌^◌, true, false, List, [], length, Option, None, Some, option_map, option_copied, slice_get, sym, ap, subst, ◌∙◌, arith}
-use Rattle.std.specs.Prelude.{is_some}
+use Rattle.std.proofs.Common.{◌≡◌, ◌≢◌, ℕ, ◌+◌, ◌<◌, ◌≤◌, ◌^◌, Bool, true, false, List, [], ◌∷◌, length, map, Option, None, Some, option_map, option_copied, slice_get, refl, sym, ap, subst, ◌∙◌, arith}
+use Rattle.std.specs.Prelude.{is_some, Contains}
 use Rattle.std.specs.Borrow.{Bor}
 use Rattle.std.proofs.lemmas.List.{length-map}
 use Rattle.symbols_syntax.specs.declared.ids.ModuleId.{ModuleId}
@@ -13,49 +13,99 @@ use Rattle.symbols_table.specs.SymbolViews.{symbol_view}
 use Rattle.symbols_root.specs.Roots.{RootView, IsStoredTable}
 use Rattle.symbols_exports.specs.Exporting.{specifier_in}
 use Rattle.symbols_paths.specs.declared.paths.node.DefinitionPathNode.{DefinitionPathNode}
-use Rattle.symbols_paths.specs.Trees.{NamedSymbol, Forest}
-use Rattle.symbols_paths.specs.Leads.{leads_of}
-use Rattle.symbols_paths.specs.Choice.{Finds}
-use Rattle.symbols_paths.specs.Computed.{paths_of}
+use Rattle.symbols_paths.specs.Trees.{NamedSymbol, NamedDecl, Parts, Leaf, Forest, leaves_in}
+use Rattle.symbols_paths.specs.PartWays.{Links, links_of}
+use Rattle.symbols_paths.specs.Reach.{IsNearLeaf, GivesUnder}
+use Rattle.symbols_paths.specs.Searches.{IsFirstLeaf, IsFirstWalk}
+use Rattle.symbols_paths.specs.Searches as searches
+use Rattle.symbols_paths.specs.Choice.{Finds, Walks, no_parts, under, Changes}
+use Rattle.symbols_paths.specs.Computed.{enough, paths_under, paths_of}
 use Rattle.symbols_paths.specs.Growing.{HasGrown}
-use Rattle.symbols_paths.specs.Views.{named, named_in, forest_told, modules_in}
-use Rattle.symbols_paths.specs.Searching.{met_told, HasSearched, IsFound}
-use Rattle.symbols_paths.specs.Answers.{ArePaths, symbol_in, IsPathsAnswer}
-use Rattle.symbols_paths.proofs.Deriving.{finds_derived, is_leaf}
+use Rattle.symbols_paths.specs.Views.{named, named_in, texts_in, forest_told, modules_in}
+use Rattle.symbols_paths.specs.Searching.{met_told, HasSearched, IsFound, IsWalked}
+use Rattle.symbols_paths.specs.Answers.{ArePathsUnder, ArePaths, symbol_in, IsPathsAnswer}
+use Rattle.symbols_paths.proofs.Deriving.{finds_derived, walks_derived}
+use Rattle.symbols_paths.proofs.Leaves.{finds_leaf, walks_leaf, changes_gives}
 use Rattle.symbols_paths.proofs.Covers.{near_given}
 use Rattle.symbols_paths.proofs.Repeats.{given_once}
 use Rattle.symbols_paths.proofs.Parts.{part_last}
-use Rattle.symbols_paths.proofs.Computing.{finds_computed}
+use Rattle.symbols_paths.proofs.Computing.{walks_computed}
+use Rattle.symbols_paths.proofs.Lossless.{no_leaf_lost}
 use Rattle.symbols_paths.proofs.Growing.{grown_not, same_specifier}
 use Rattle.symbols_paths.proofs.Reading.{stored_symbol}
 
-pub are_paths : (graph : GraphView) (s : NamedSymbol) (f : Forest) (after : List NamedSymbol) → Finds (leads_of graph) [] s f after → ArePaths graph s f
-are_paths graph s f after x = record {
-  derived = finds_derived (leads_of graph) x;
-  leaves = is_leaf (leads_of graph) (finds_derived (leads_of graph) x);
-  first = near_given x;
-  once = given_once (leads_of graph) x;
-  parts = part_last graph x;
-  chosen = (after, x);
+-- what a walk is made of
+found_in : {links : Links} {limit : ℕ} {running : List NamedDecl} {met after : List NamedSymbol} {s : NamedSymbol} {f : Forest} → Walks links limit running met s [] f after → Finds links limit running met s f after
+found_in (no_parts x) = x
+
+changed_in : {links : Links} {limit : ℕ} {running : List NamedDecl} {met after : List NamedSymbol} {s : NamedSymbol} {p : List ℕ} {ps : Parts} {g : Forest} → Walks links limit running met s (p ∷ ps) g after → (mid : List NamedSymbol) × ((f : Forest) × (Finds links limit running met s f mid × Changes links limit running mid p ps f g after))
+changed_in (under {mid = mid} {f = f} x y) = (mid, (f, (x, y)))
+
+-- what each leaf of first reach comes to
+first_given : (graph : GraphView) (limit : ℕ) (s : NamedSymbol) (ps : Parts) (f : Forest) (after : List NamedSymbol) → Walks (links_of graph) limit [] [] s ps f after → (x y : Leaf) → IsNearLeaf (links_of graph) s x → GivesUnder (links_of graph) ps x y → Contains (leaves_in f) y
+first_given graph limit s [] f after x y z near is = by x
+  where
+    by : Walks (links_of graph) limit [] [] s [] f after → Contains (leaves_in f) z
+    by w = subst (Contains (leaves_in f)) (sym is) (near_given (found_in w) y near)
+first_given graph limit s (p ∷ ps) f after x y z near is = by x
+  where
+    by : Walks (links_of graph) limit [] [] s (p ∷ ps) f after → Contains (leaves_in f) z
+    by w = let u = changed_in w in changes_gives (links_of graph) limit u.1.1.1 y z (near_given u.1.1.0 y near) is
+
+pub are_paths_under : (graph : GraphView) (limit : ℕ) (s : NamedSymbol) (ps : Parts) (f : Forest) (after : List NamedSymbol) → Walks (links_of graph) limit [] [] s ps f after → ArePathsUnder graph s ps f
+are_paths_under graph limit s ps f after x = record {
+  derived = walks_derived (links_of graph) limit x;
+  leaves = (walks_leaf (links_of graph) limit x).each;
+  first = first_given graph limit s ps f after x;
+  lossless = λ apart rests. no_leaf_lost (links_of graph) limit s ps apart rests f after x;
+  chosen = (limit, after, x);
 }
 
-pub is_computed : (graph : GraphView) (s : NamedSymbol) (f : Forest) (after : List NamedSymbol) → Finds (leads_of graph) [] s f after → length after ≤ 2 ^ 64 → f ≡ paths_of graph s
-unfolding paths_of
-is_computed graph s f after x few = sym (finds_computed (leads_of graph) (2 ^ 64) x few).0
+pub are_paths : (graph : GraphView) (limit : ℕ) (s : NamedSymbol) (f : Forest) (after : List NamedSymbol) → Finds (links_of graph) limit [] [] s f after → ArePaths graph s f
+are_paths graph limit s f after x = record {
+  derived = finds_derived (links_of graph) limit x;
+  leaves = (finds_leaf (links_of graph) limit x).each;
+  first = near_given x;
+  once = λ plain. given_once (links_of graph) limit plain x;
+  parts = part_last graph limit x;
+  lossless = λ apart rests y h. no_leaf_lost (links_of graph) limit s [] apart rests f after (no_parts x) y (first_walk h);
+  chosen = (limit, after, no_parts x);
+}
+  where
+    first_walk : {y : Leaf} → IsFirstLeaf (links_of graph) s y → IsFirstWalk (links_of graph) s [] y
+    first_walk h = searches.no_parts h
+
+pub is_computed : (graph : GraphView) (s : NamedSymbol) (ps : Parts) (f : Forest) (after : List NamedSymbol) → Walks (links_of graph) enough [] [] s ps f after → length after ≤ 2 ^ 64 → f ≡ paths_under graph s ps
+unfolding paths_under
+is_computed graph s ps f after x few = sym (walks_computed (links_of graph) enough (omega arith) enough enough x (omega arith) (omega (arith, few))).0
 
 -- what was found from no met symbols, as it is told before more was stored
-module _ {old new : RootView} {module_id : ModuleId} {s : SymbolId} {u : UniqueSymbolId} (paths : List DefinitionPathNode) {after : List UniqueSymbolId} (known : module_id.0 < length old.stored) (in_module : u.module_id ≡ module_id) (number : u.symbol_id ≡ s) (grown : HasGrown old new) (found : IsFound new [] u paths after) (searched_it : HasSearched new [] after (modules_in paths)) where
-  pub found_before : Finds (leads_of old.graph) [] (named_in old module_id s) (forest_told new paths) (met_told new after)
+module _ {old new : RootView} {module_id : ModuleId} {s : SymbolId} {u : UniqueSymbolId} (paths : List DefinitionPathNode) {after : List UniqueSymbolId} (known : module_id.0 < length old.stored) (in_module : u.module_id ≡ module_id) (number : u.symbol_id ≡ s) (grown : HasGrown old new) (found : IsFound new [] [] u paths after) (searched_it : HasSearched new [] after (modules_in paths)) where
+  pub found_before : Finds (links_of old.graph) enough [] [] (named_in old module_id s) (forest_told new paths) (met_told new after)
   found_before =
       let called : named new u ≡ named_in old module_id s = (λ i. record { specifier = (ap (specifier_in new) in_module ∙ same_specifier grown module_id known) i; number = number i }) in
-      subst (λ g. Finds (leads_of g) [] (named_in old module_id s) (forest_told new paths) (met_told new after)) grown.graph
-      (subst (λ n. Finds (leads_of new.graph) [] n (forest_told new paths) (met_told new after)) called (found new (grown_not new)))
+      subst (λ g. Finds (links_of g) enough [] [] (named_in old module_id s) (forest_told new paths) (met_told new after)) grown.graph
+      (subst (λ n. Finds (links_of new.graph) enough [] [] n (forest_told new paths) (met_told new after)) called (found new (grown_not new)))
 
   pub paths_answer : symbol_in old module_id s ≢ None → IsPathsAnswer old new module_id s paths
-  paths_answer has_symbol = record { known = known; has_symbol = has_symbol; are_paths = are_paths old.graph (named_in old module_id s) (forest_told new paths) (met_told new after) found_before; stored = searched_it.stored }
+  paths_answer has_symbol = record { known = known; has_symbol = has_symbol; are_paths = are_paths old.graph enough (named_in old module_id s) (forest_told new paths) (met_told new after) found_before; stored = searched_it.stored }
 
   pub paths_listed : forest_told new paths ≡ paths_of old.graph (named_in old module_id s)
-  paths_listed = is_computed old.graph (named_in old module_id s) (forest_told new paths) (met_told new after) found_before (omega (arith, length-map after (named new), searched_it.few (omega arith)))
+  paths_listed = is_computed old.graph (named_in old module_id s) [] (forest_told new paths) (met_told new after) (no_parts found_before) (omega (arith, length-map after (named new), searched_it.few (omega arith)))
+
+-- the same under parts
+module _ {old new : RootView} (u : UniqueSymbolId) (parts : List (Bor (List ℕ))) (paths : List DefinitionPathNode) {after : List UniqueSymbolId} (known : u.module_id.0 < length old.stored) (grown : HasGrown old new) (walked_it : IsWalked new [] [] u parts paths after) (searched_it : HasSearched new [] after (modules_in paths)) where
+  walked_before : Walks (links_of old.graph) enough [] [] (named old u) (texts_in parts) (forest_told new paths) (met_told new after)
+  walked_before =
+      let called : named new u ≡ named old u = (λ i. record { specifier = same_specifier grown u.module_id known i; number = u.symbol_id }) in
+      subst (λ g. Walks (links_of g) enough [] [] (named old u) (texts_in parts) (forest_told new paths) (met_told new after)) grown.graph
+      (subst (λ n. Walks (links_of new.graph) enough [] [] n (texts_in parts) (forest_told new paths) (met_told new after)) called (walked_it new (grown_not new)))
+
+  pub walked_found : ArePathsUnder old.graph (named old u) (texts_in parts) (forest_told new paths)
+  walked_found = are_paths_under old.graph enough (named old u) (texts_in parts) (forest_told new paths) (met_told new after) walked_before
+
+  pub walked_listed : forest_told new paths ≡ paths_under old.graph (named old u) (texts_in parts)
+  walked_listed = is_computed old.graph (named old u) (texts_in parts) (forest_told new paths) (met_told new after) walked_before (omega (arith, length-map after (named new), searched_it.few (omega arith)))
 
 -- ---- whether there is such a symbol
 

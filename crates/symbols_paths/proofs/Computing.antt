@@ -1,51 +1,71 @@
 -- What is chosen is what is computed.
-use Rattle.std.proofs.Common.{◌≡◌, ℕ, zero, suc, ◌+◌, ◌≤◌, true, false, List, [], ◌∷◌, ◌++◌, length, Option, refl, sym, ◌∙◌, ap, arith}
+use Rattle.std.proofs.Common.{◌≡◌, ℕ, zero, suc, ◌+◌, ◌<◌, ◌≤◌, Bool, true, false, List, [], ◌∷◌, ◌++◌, length, Option, refl, sym, ◌∙◌, ap, subst, arith}
 use Rattle.std.proofs.lemmas.List.{length-append}
-use Rattle.symbols_paths.specs.Trees.{NamedSymbol, Missing, Forest, none, more, join, link_to}
-use Rattle.symbols_paths.specs.Leads.{Lead, Leads}
-use Rattle.symbols_paths.specs.Derived.{head_at}
-use Rattle.symbols_paths.specs.Choice.{is_met, Finds, was_met, is_new, Expands, at_end, step, Follows, by_itself, by_ways, Tries, no_more, first_with, passes}
-use Rattle.symbols_paths.specs.Computed.{Searched, Search, or_else, tried, followed, expanded, searched}
+use Rattle.symbols_paths.specs.Trees.{NamedSymbol, NamedDecl, Parts, Defined, Missing, unresolved, LinkHead, Tree, Forest, leaf, link, none, more, one, join, link_to}
+use Rattle.symbols_paths.specs.Leads.{Ways, Lead}
+use Rattle.symbols_paths.specs.PartWays.{PartWay, to, itself, lacks, Links}
+use Rattle.symbols_paths.specs.Derived.{decl_at, head_at, alias_head, part_head, under_parts}
+use Rattle.symbols_paths.specs.Choice.{is_met, is_running, Finds, was_met, is_new, Expands, at_end, step, Follows, by_itself, by_ways, by_running, by_alias, Tries, no_more, first_with, passes, Walks, no_parts, under, Changes, of_none, of_more, ChangesOne, of_unresolved, of_link, of_definition, of_itself, of_lacking}
+use Rattle.symbols_paths.specs.Computed.{Searched, Search, AliasSearch, or_else, tried, followed, expanded, searched, at_part, changed_tree, changed, walked, enough, resolved}
 
 -- ---- no fewer symbols are met
 
-mutual
-  pub finds_longer : (table : Leads) {met after : List NamedSymbol} {s : NamedSymbol} {f : Forest} → Finds table met s f after → length met ≤ length after
-  finds_longer table (was_met e) = omega arith
-  finds_longer table (is_new {met = met} {s = s} e x) = omega (arith, expands_longer table x, length-append met (s ∷ []))
+module _ (links : Links) (limit : ℕ) where
+  mutual
+    finds_longer : {running : List NamedDecl} {met after : List NamedSymbol} {s : NamedSymbol} {f : Forest} → Finds links limit running met s f after → length met ≤ length after
+    finds_longer (was_met e) = omega arith
+    finds_longer (is_new {met = met} {s = s} e x) = omega (arith, expands_longer x, length-append met (s ∷ []))
 
-  expands_longer : (table : Leads) {met after : List NamedSymbol} {s : NamedSymbol} {i : ℕ} {xs : List Lead} {f : Forest} → Expands table met s i xs f after → length met ≤ length after
-  expands_longer table at_end = omega arith
-  expands_longer table (step x y) = omega (arith, follows_longer table x, expands_longer table y)
+    expands_longer : {running : List NamedDecl} {met after : List NamedSymbol} {s : NamedSymbol} {i : ℕ} {xs : List Lead} {f : Forest} → Expands links limit running met s i xs f after → length met ≤ length after
+    expands_longer at_end = omega arith
+    expands_longer (step x y) = omega (arith, follows_longer x, expands_longer y)
 
-  follows_longer : (table : Leads) {met after : List NamedSymbol} {s : NamedSymbol} {i : ℕ} {x : Lead} {f : Forest} → Follows table met s i x f after → length met ≤ length after
-  follows_longer table by_itself = omega arith
-  follows_longer table (by_ways x) = tries_longer table x
+    follows_longer : {running : List NamedDecl} {met after : List NamedSymbol} {s : NamedSymbol} {i : ℕ} {x : Lead} {f : Forest} → Follows links limit running met s i x f after → length met ≤ length after
+    follows_longer by_itself = omega arith
+    follows_longer (by_ways x) = tries_longer x
+    follows_longer (by_running e) = omega arith
+    follows_longer (by_alias e few fits x) = omega arith
 
-  tries_longer : (table : Leads) {met after : List NamedSymbol} {cs : List NamedSymbol} {otherwise : Option Missing} {f : Forest} → Tries table met cs otherwise f after → length met ≤ length after
-  tries_longer table no_more = omega arith
-  tries_longer table (first_with x) = finds_longer table x
-  tries_longer table (passes x y) = omega (arith, finds_longer table x, tries_longer table y)
+    tries_longer : {running : List NamedDecl} {met after : List NamedSymbol} {cs : List NamedSymbol} {otherwise : Option Missing} {f : Forest} → Tries links limit running met cs otherwise f after → length met ≤ length after
+    tries_longer no_more = omega arith
+    tries_longer (first_with x) = finds_longer x
+    tries_longer (passes x y) = omega (arith, finds_longer x, tries_longer y)
+
+    walks_longer : {running : List NamedDecl} {met after : List NamedSymbol} {s : NamedSymbol} {ps : Parts} {f : Forest} → Walks links limit running met s ps f after → length met ≤ length after
+    walks_longer (no_parts x) = finds_longer x
+    walks_longer (under x y) = omega (arith, finds_longer x, changes_longer y)
+
+    changes_longer : {running : List NamedDecl} {met after : List NamedSymbol} {p : List ℕ} {ps : Parts} {f g : Forest} → Changes links limit running met p ps f g after → length met ≤ length after
+    changes_longer of_none = omega arith
+    changes_longer (of_more x y) = omega (arith, change_longer x, changes_longer y)
+
+    change_longer : {running : List NamedDecl} {met after : List NamedSymbol} {p : List ℕ} {ps : Parts} {t : Tree} {g : Forest} → ChangesOne links limit running met p ps t g after → length met ≤ length after
+    change_longer of_unresolved = omega arith
+    change_longer (of_link x) = changes_longer x
+    change_longer (of_definition e x) = walks_longer x
+    change_longer (of_itself e) = omega arith
+    change_longer (of_lacking e) = omega arith
 
 -- ---- where the depth is enough
 
 -- what was computed
-abbrev Gives : Searched → Forest → List NamedSymbol → Type 0
+abbrev pub Gives : Searched → Forest → List NamedSymbol → Type 0
 Gives found f after = (found.paths ≡ f) × (found.met ≡ after)
 
-new_one : (table : Leads) (depth : ℕ) (met : List NamedSymbol) (s : NamedSymbol) (f : Forest) (after : List NamedSymbol) → is_met met s ≡ false → Gives (expanded (searched table depth) (met ++ s ∷ []) s 0 (table s)) f after → Gives (searched table (suc depth) met s) f after
-unfolding searched
-new_one table depth met s f after e h = rw e h
+module _ (links : Links) (resolve : AliasSearch) where
+  new_one : (depth : ℕ) (met : List NamedSymbol) (s : NamedSymbol) (f : Forest) (after : List NamedSymbol) → is_met met s ≡ false → Gives (expanded resolve (searched links resolve depth) (met ++ s ∷ []) s 0 (links.leads s)) f after → Gives (searched links resolve (suc depth) met s) f after
+  unfolding searched
+  new_one depth met s f after e h = rw e h
 
-old_one : (table : Leads) (depth : ℕ) (met : List NamedSymbol) (s : NamedSymbol) → is_met met s ≡ true → Gives (searched table depth met s) none met
-unfolding searched
-old_one table zero met s e = (refl, refl)
-old_one table (suc depth) met s e = rw e (refl, refl)
+  old_one : (depth : ℕ) (met : List NamedSymbol) (s : NamedSymbol) → is_met met s ≡ true → Gives (searched links resolve depth met s) none met
+  unfolding searched
+  old_one zero met s e = (refl, refl)
+  old_one (suc depth) met s e = rw e (refl, refl)
 
-two_steps : (search : Search) (met mid after : List NamedSymbol) (s : NamedSymbol) (i : ℕ) (x : Lead) (xs : List Lead) (f rest : Forest) → Gives (followed search met s i x) f mid → Gives (expanded search mid s (i + 1) xs) rest after → Gives (expanded search met s i (x ∷ xs)) (join f rest) after
-two_steps search met mid after s i x xs f rest h k =
-    let on : expanded search (followed search met s i x).met s (i + 1) xs ≡ expanded search mid s (i + 1) xs = ap (λ m. expanded search m s (i + 1) xs) h.1 in
-    ((λ j. join (h.0 j) (on j).paths) ∙ ap (join f) k.0, ap (λ (y : Searched). y.met) on ∙ k.1)
+  two_steps : (search : Search) (met mid after : List NamedSymbol) (s : NamedSymbol) (i : ℕ) (x : Lead) (xs : List Lead) (f rest : Forest) → Gives (followed resolve search met s i x) f mid → Gives (expanded resolve search mid s (i + 1) xs) rest after → Gives (expanded resolve search met s i (x ∷ xs)) (join f rest) after
+  two_steps search met mid after s i x xs f rest h k =
+      let on : expanded resolve search (followed resolve search met s i x).met s (i + 1) xs ≡ expanded resolve search mid s (i + 1) xs = ap (λ m. expanded resolve search m s (i + 1) xs) h.1 in
+      ((λ j. join (h.0 j) (on j).paths) ∙ ap (join f) k.0, ap (λ (y : Searched). y.met) on ∙ k.1)
 
 by_first : (search : Search) (met after : List NamedSymbol) (c : NamedSymbol) (cs : List NamedSymbol) (otherwise : Option Missing) (f : Forest) → (f ≡ none → ⊥) → Gives (search met c) f after → Gives (tried search met (c ∷ cs) otherwise) f after
 by_first search met after c cs otherwise f some h = go (search met c).paths refl
@@ -57,24 +77,68 @@ by_first search met after c cs otherwise f some h = go (search met c).paths refl
 by_next : (search : Search) (met mid after : List NamedSymbol) (c : NamedSymbol) (cs : List NamedSymbol) (otherwise : Option Missing) (f : Forest) → Gives (search met c) none mid → Gives (tried search mid cs otherwise) f after → Gives (tried search met (c ∷ cs) otherwise) f after
 by_next search met mid after c cs otherwise f h k = rw (h.0, h.1) k
 
--- the depth is enough where no more symbols are met than it allows
-mutual
-  pub finds_computed : (table : Leads) (depth : ℕ) {met after : List NamedSymbol} {s : NamedSymbol} {f : Forest} → Finds table met s f after → length after ≤ depth + length met → Gives (searched table depth met s) f after
-  finds_computed table depth (was_met {met = met} {s = s} e) h = old_one table depth met s e
-  finds_computed table zero (is_new {met = met} {s = s} e x) h = absurd (omega (arith, h, expands_longer table x, length-append met (s ∷ [])))
-  finds_computed table (suc depth) (is_new {met = met} {after = after} {s = s} {f = f} e x) h = new_one table depth met s f after e (expands_computed table depth x (omega (arith, h, length-append met (s ∷ []))))
+-- ---- aliases
 
-  expands_computed : (table : Leads) (depth : ℕ) {met after : List NamedSymbol} {s : NamedSymbol} {i : ℕ} {xs : List Lead} {f : Forest} → Expands table met s i xs f after → length after ≤ depth + length met → Gives (expanded (searched table depth) met s i xs) f after
-  expands_computed table depth at_end h = (refl, refl)
-  expands_computed table depth (step {met = met} {mid = mid} {after = after} {s = s} {i = i} {x = lead} {xs = xs} {f = f} {rest = rest} x y) h =
-      two_steps (searched table depth) met mid after s i lead xs f rest (follows_computed table depth x (omega (arith, h, expands_longer table y))) (expands_computed table depth y (omega (arith, h, follows_longer table x)))
+resolved_running : (links : Links) (depth : ℕ) (running : List NamedDecl) (decl : NamedDecl) (t : NamedSymbol) (ps : Parts) → is_running running decl ≡ true → resolved links depth running decl t ps ≡ none
+unfolding resolved
+resolved_running links zero running decl t ps e = refl
+resolved_running links (suc depth) running decl t ps e = rw e refl
 
-  follows_computed : (table : Leads) (depth : ℕ) {met after : List NamedSymbol} {s : NamedSymbol} {i : ℕ} {x : Lead} {f : Forest} → Follows table met s i x f after → length after ≤ depth + length met → Gives (followed (searched table depth) met s i x) f after
-  follows_computed table depth by_itself h = (refl, refl)
-  follows_computed table depth (by_ways {s = s} {i = i} {ways = ways} x) h = let k = tries_computed table depth x h in (ap (link_to (head_at s i ways)) k.0, k.1)
+resolved_walk : (links : Links) (depth : ℕ) (running : List NamedDecl) (decl : NamedDecl) (t : NamedSymbol) (ps : Parts) → is_running running decl ≡ false → resolved links (suc depth) running decl t ps ≡ (walked links (searched links (resolved links depth (running ++ decl ∷ [])) enough) ps [] t).paths
+unfolding resolved
+resolved_walk links depth running decl t ps e = rw e refl
 
-  tries_computed : (table : Leads) (depth : ℕ) {met after : List NamedSymbol} {cs : List NamedSymbol} {otherwise : Option Missing} {f : Forest} → Tries table met cs otherwise f after → length after ≤ depth + length met → Gives (tried (searched table depth) met cs otherwise) f after
-  tries_computed table depth no_more h = (refl, refl)
-  tries_computed table depth (first_with {met = met} {after = after} {c = c} {cs = cs} {otherwise = otherwise} {t = t} {f = f} x) h = by_first (searched table depth) met after c cs otherwise (more t f) (λ e. cc) (finds_computed table depth x h)
-  tries_computed table depth (passes {met = met} {mid = mid} {after = after} {c = c} {cs = cs} {otherwise = otherwise} {f = f} x y) h =
-      by_next (searched table depth) met mid after c cs otherwise f (finds_computed table depth x (omega (arith, h, tries_longer table y))) (tries_computed table depth y (omega (arith, h, finds_longer table x)))
+-- ---- under parts
+
+change_next : (links : Links) (walk : Search) (p : List ℕ) (ps : Parts) (t : Tree) (f : Forest) (met mid after : List NamedSymbol) (g h : Forest) → Gives (changed_tree links walk p ps t met) g mid → Gives (changed links walk p ps f mid) h after → Gives (changed links walk p ps (more t f) met) (join g h) after
+change_next links walk p ps t f met mid after g h a b =
+    let on : changed links walk p ps f (changed_tree links walk p ps t met).met ≡ changed links walk p ps f mid = ap (changed links walk p ps f) a.1 in
+    ((λ j. join (a.0 j) (on j).paths) ∙ ap (join g) b.0, ap (λ (y : Searched). y.met) on ∙ b.1)
+
+walk_under : (links : Links) (search : Search) (p : List ℕ) (ps : Parts) (met mid after : List NamedSymbol) (s : NamedSymbol) (f g : Forest) → Gives (search met s) f mid → Gives (changed links (walked links search ps) p ps f mid) g after → Gives (walked links search (p ∷ ps) met s) g after
+walk_under links search p ps met mid after s f g a b = rw (a.0, a.1) b
+
+-- the depth is enough where no more symbols are met, and no more aliases resolved, than it allows
+module _ (links : Links) (limit : ℕ) (fits_all : limit ≤ enough) where
+  mutual
+    finds_computed : (deep depth : ℕ) {running : List NamedDecl} {met after : List NamedSymbol} {s : NamedSymbol} {f : Forest} → Finds links limit running met s f after → limit ≤ deep + length running → length after ≤ depth + length met → Gives (searched links (resolved links deep running) depth met s) f after
+    finds_computed deep depth {running = running} (was_met {met = met} {s = s} e) d h = old_one links (resolved links deep running) depth met s e
+    finds_computed deep zero (is_new {met = met} {s = s} e x) d h = absurd (omega (arith, h, expands_longer links limit x, length-append met (s ∷ [])))
+    finds_computed deep (suc depth) {running = running} (is_new {met = met} {after = after} {s = s} {f = f} e x) d h = new_one links (resolved links deep running) depth met s f after e (expands_computed deep depth x d (omega (arith, h, length-append met (s ∷ []))))
+
+    expands_computed : (deep depth : ℕ) {running : List NamedDecl} {met after : List NamedSymbol} {s : NamedSymbol} {i : ℕ} {xs : List Lead} {f : Forest} → Expands links limit running met s i xs f after → limit ≤ deep + length running → length after ≤ depth + length met → Gives (expanded (resolved links deep running) (searched links (resolved links deep running) depth) met s i xs) f after
+    expands_computed deep depth at_end d h = (refl, refl)
+    expands_computed deep depth {running = running} (step {met = met} {mid = mid} {after = after} {s = s} {i = i} {x = lead} {xs = xs} {f = f} {rest = rest} x y) d h =
+        two_steps links (resolved links deep running) (searched links (resolved links deep running) depth) met mid after s i lead xs f rest (follows_computed deep depth x d (omega (arith, h, expands_longer links limit y))) (expands_computed deep depth y d (omega (arith, h, follows_longer links limit x)))
+
+    follows_computed : (deep depth : ℕ) {running : List NamedDecl} {met after : List NamedSymbol} {s : NamedSymbol} {i : ℕ} {x : Lead} {f : Forest} → Follows links limit running met s i x f after → limit ≤ deep + length running → length after ≤ depth + length met → Gives (followed (resolved links deep running) (searched links (resolved links deep running) depth) met s i x) f after
+    follows_computed deep depth by_itself d h = (refl, refl)
+    follows_computed deep depth (by_ways {s = s} {i = i} {ways = ways} x) d h = let k = tries_computed deep depth x d h in (ap (link_to (head_at s i ways)) k.0, k.1)
+    follows_computed deep depth (by_running {running = running} {s = s} {t = t} {i = i} {ps = ps} e) d h = (ap (link_to (alias_head s i ps)) (resolved_running links deep running (decl_at s i) t ps e), refl)
+    follows_computed zero depth (by_alias e few fits x) d h = absurd (omega (arith, few, d))
+    follows_computed (suc deep) depth (by_alias {running = running} {after = after} {s = s} {t = t} {i = i} {ps = ps} e few fits x) d h =
+        let k = walks_computed deep enough x (omega (arith, d, length-append running (decl_at s i ∷ []))) (omega (arith, fits, fits_all)) in
+        (ap (link_to (alias_head s i ps)) (resolved_walk links deep running (decl_at s i) t ps e ∙ k.0), refl)
+
+    tries_computed : (deep depth : ℕ) {running : List NamedDecl} {met after : List NamedSymbol} {cs : List NamedSymbol} {otherwise : Option Missing} {f : Forest} → Tries links limit running met cs otherwise f after → limit ≤ deep + length running → length after ≤ depth + length met → Gives (tried (searched links (resolved links deep running) depth) met cs otherwise) f after
+    tries_computed deep depth no_more d h = (refl, refl)
+    tries_computed deep depth {running = running} (first_with {met = met} {after = after} {c = c} {cs = cs} {otherwise = otherwise} {t = t} {f = f} x) d h = by_first (searched links (resolved links deep running) depth) met after c cs otherwise (more t f) (λ e. cc) (finds_computed deep depth x d h)
+    tries_computed deep depth {running = running} (passes {met = met} {mid = mid} {after = after} {c = c} {cs = cs} {otherwise = otherwise} {f = f} x y) d h =
+        by_next (searched links (resolved links deep running) depth) met mid after c cs otherwise f (finds_computed deep depth x d (omega (arith, h, tries_longer links limit y))) (tries_computed deep depth y d (omega (arith, h, finds_longer links limit x)))
+
+    pub walks_computed : (deep depth : ℕ) {running : List NamedDecl} {met after : List NamedSymbol} {s : NamedSymbol} {ps : Parts} {f : Forest} → Walks links limit running met s ps f after → limit ≤ deep + length running → length after ≤ depth + length met → Gives (walked links (searched links (resolved links deep running) depth) ps met s) f after
+    walks_computed deep depth (no_parts x) d h = finds_computed deep depth x d h
+    walks_computed deep depth {running = running} (under {met = met} {mid = mid} {after = after} {s = s} {p = p} {ps = ps} {f = f} {g = g} x y) d h =
+        walk_under links (searched links (resolved links deep running) depth) p ps met mid after s f g (finds_computed deep depth x d (omega (arith, h, changes_longer links limit y))) (changes_computed deep depth y d (omega (arith, h, finds_longer links limit x)))
+
+    changes_computed : (deep depth : ℕ) {running : List NamedDecl} {met after : List NamedSymbol} {p : List ℕ} {ps : Parts} {f g : Forest} → Changes links limit running met p ps f g after → limit ≤ deep + length running → length after ≤ depth + length met → Gives (changed links (walked links (searched links (resolved links deep running) depth) ps) p ps f met) g after
+    changes_computed deep depth of_none d h = (refl, refl)
+    changes_computed deep depth {running = running} (of_more {met = met} {mid = mid} {after = after} {p = p} {ps = ps} {t = t} {f = f} {g = g} {h = k} x y) d h =
+        change_next links (walked links (searched links (resolved links deep running) depth) ps) p ps t f met mid after g k (change_computed deep depth x d (omega (arith, h, changes_longer links limit y))) (changes_computed deep depth y d (omega (arith, h, change_longer links limit x)))
+
+    change_computed : (deep depth : ℕ) {running : List NamedDecl} {met after : List NamedSymbol} {p : List ℕ} {ps : Parts} {t : Tree} {g : Forest} → ChangesOne links limit running met p ps t g after → limit ≤ deep + length running → length after ≤ depth + length met → Gives (changed_tree links (walked links (searched links (resolved links deep running) depth) ps) p ps t met) g after
+    change_computed deep depth of_unresolved d h = (refl, refl)
+    change_computed deep depth (of_link {p = p} {ps = ps} {head = head} x) d h = let k = changes_computed deep depth x d h in (ap (link_to (under_parts head (p ∷ ps))) k.0, k.1)
+    change_computed deep depth (of_definition {p = p} {ps = ps} {x = y} {t = t} e x) d h = let k = walks_computed deep depth x d h in rw e (ap (link_to (part_head y (p ∷ ps))) k.0, k.1)
+    change_computed deep depth (of_itself e) d h = rw e (refl, refl)
+    change_computed deep depth (of_lacking e) d h = rw e (refl, refl)

@@ -1,91 +1,72 @@
--- What is chosen is derived, and each leaf of what is derived is one of the symbol's.
-use Rattle.std.proofs.Common.{◌≡◌, ℕ, zero, suc, ◌+◌, ◌⊎◌, inl, inr, List, [], ◌∷◌, Option, None, Some, refl, sym, subst, arith}
-use Rattle.std.specs.Prelude.{Contains, slice_get}
-use Rattle.std.proofs.lemmas.List.Elements.{Contains-append_cases}
-use Rattle.symbols_paths.specs.Trees.{NamedSymbol, Missing, Tree, Forest, Leaf, definition, unresolved, leaf, none, more, one, join, link_to, leaves_of, leaves_in}
-use Rattle.symbols_paths.specs.Leads.{Ways, Lead, Leads, defines, leads, StandsAt}
-use Rattle.symbols_paths.specs.Derived.{defined_at, head_at, IsDerived, IsDerivedFrom, drops, takes, IsPathOf, itself, by_candidate, by_missing}
+-- What is chosen is derived.
+use Rattle.std.proofs.Common.{◌≡◌, ℕ, zero, suc, ◌+◌, ◌<◌, ◌⊎◌, inl, inr, List, [], ◌∷◌, ◌++◌, length, Option, None, Some, refl, sym, subst, arith}
+use Rattle.std.specs.Prelude.{Contains}
+use Rattle.symbols_paths.specs.Trees.{NamedSymbol, NamedDecl, Parts, Missing, LinkHead, Tree, Forest, unresolved, leaf, link, none, more, one, join, link_to}
+use Rattle.symbols_paths.specs.Leads.{Ways, Lead, leads}
+use Rattle.symbols_paths.specs.PartWays.{Links}
+use Rattle.symbols_paths.specs.Derived.{head_at, alias_head, part_head, under_parts, IsDerived, IsDerivedFrom, drops, takes, IsPathOf, as_itself, by_candidate, by_missing, IsDerivedUnder, IsChanged, IsChange}
 use Rattle.symbols_paths.specs.Derived as derived
-use Rattle.symbols_paths.specs.Reach.{IsLeaf, given, led}
-use Rattle.symbols_paths.specs.Choice.{Finds, was_met, is_new, Expands, at_end, step, Follows, by_itself, by_ways, Tries, no_more, first_with, passes, missing_in}
+use Rattle.symbols_paths.specs.Choice.{Finds, was_met, is_new, Expands, at_end, step, Follows, by_itself, by_ways, by_running, by_alias, Tries, no_more, first_with, passes, Walks, no_parts, under, Changes, of_none, of_more, ChangesOne, of_unresolved, of_link, of_definition, of_itself, of_lacking, missing_in}
 
-derived_none : (table : Leads) (s : NamedSymbol) (i : ℕ) (xs : List Lead) → IsDerivedFrom table s i xs none
-derived_none table s i [] = derived.at_end
-derived_none table s i (x ∷ xs) = drops (derived_none table s (i + 1) xs)
+module _ (links : Links) (limit : ℕ) where
+  derived_none : (s : NamedSymbol) (i : ℕ) (xs : List Lead) → IsDerivedFrom links s i xs none
+  derived_none s i [] = derived.at_end
+  derived_none s i (x ∷ xs) = drops (derived_none s (i + 1) xs)
 
--- what the candidates come to: the unresolved entry if there is one, or what is derived for one of them
-abbrev IsTriedBy : Leads → List NamedSymbol → Option Missing → Forest → Type 0
-IsTriedBy table cs otherwise f = (f ≡ missing_in otherwise) ⊎ ((c : NamedSymbol) × Contains cs c × IsDerived table c f)
+  -- what the candidates come to: the unresolved entry if there is one, or what is derived for one of them
+  abbrev IsTriedBy : List NamedSymbol → Option Missing → Forest → Type 0
+  IsTriedBy cs otherwise f = (f ≡ missing_in otherwise) ⊎ ((c : NamedSymbol) × Contains cs c × IsDerived links c f)
 
-missing_case : {table : Leads} {s : NamedSymbol} {i : ℕ} (ways : Ways) (otherwise : Option Missing) → ways.otherwise ≡ otherwise → (rest : Forest) {xs : List Lead} → IsDerivedFrom table s (i + 1) xs rest → IsDerivedFrom table s i (leads ways ∷ xs) (join (link_to (head_at s i ways) (missing_in otherwise)) rest)
-missing_case ways None e rest r = drops r
-missing_case ways (Some missing) e rest r = takes (by_missing missing e) r
+  missing_case : {s : NamedSymbol} {i : ℕ} (ways : Ways) (otherwise : Option Missing) → ways.otherwise ≡ otherwise → (rest : Forest) {xs : List Lead} → IsDerivedFrom links s (i + 1) xs rest → IsDerivedFrom links s i (leads ways ∷ xs) (join (link_to (head_at s i ways) (missing_in otherwise)) rest)
+  missing_case ways None e rest r = drops r
+  missing_case ways (Some missing) e rest r = takes (by_missing missing e) r
 
-candidate_case : {table : Leads} {s : NamedSymbol} {i : ℕ} (ways : Ways) (c : NamedSymbol) (f rest : Forest) {xs : List Lead} → Contains ways.candidates c → IsDerived table c f → IsDerivedFrom table s (i + 1) xs rest → IsDerivedFrom table s i (leads ways ∷ xs) (join (link_to (head_at s i ways) f) rest)
-candidate_case ways c none rest h x r = drops r
-candidate_case ways c (more t f) rest h x r = takes (by_candidate c h x) r
+  -- a path for the declaration where there is something next, and else none
+  link_case : {s : NamedSymbol} {i : ℕ} {x : Lead} {xs : List Lead} (head : LinkHead) (f rest : Forest) → ((t : Tree) (g : Forest) → f ≡ more t g → IsPathOf links s i x (link head (more t g))) → IsDerivedFrom links s (i + 1) xs rest → IsDerivedFrom links s i (x ∷ xs) (join (link_to head f) rest)
+  link_case head none rest h r = drops r
+  link_case head (more t g) rest h r = takes (h t g refl) r
 
-mutual
-  pub finds_derived : (table : Leads) {met after : List NamedSymbol} {s : NamedSymbol} {f : Forest} → Finds table met s f after → IsDerived table s f
-  finds_derived table (was_met {s = s} e) = derived_none table s 0 (table s)
-  finds_derived table (is_new e x) = expands_derived table x
+  link_change : {p : List ℕ} {ps : Parts} {z : Tree} {k : Forest} (head : LinkHead) (f rest : Forest) → ((t : Tree) (g : Forest) → f ≡ more t g → IsChange links p ps z (link head (more t g))) → IsChanged links p ps k rest → IsChanged links p ps (more z k) (join (link_to head f) rest)
+  link_change head none rest h r = derived.dropped r
+  link_change head (more t g) rest h r = derived.changed (h t g refl) r
 
-  expands_derived : (table : Leads) {met after : List NamedSymbol} {s : NamedSymbol} {i : ℕ} {xs : List Lead} {f : Forest} → Expands table met s i xs f after → IsDerivedFrom table s i xs f
-  expands_derived table at_end = derived.at_end
-  expands_derived table (step x y) = follows_derived table x (expands_derived table y)
+  mutual
+    pub finds_derived : {running : List NamedDecl} {met after : List NamedSymbol} {s : NamedSymbol} {f : Forest} → Finds links limit running met s f after → IsDerived links s f
+    finds_derived (was_met {s = s} e) = derived_none s 0 (links.leads s)
+    finds_derived (is_new e x) = expands_derived x
 
-  follows_derived : (table : Leads) {met after : List NamedSymbol} {s : NamedSymbol} {i : ℕ} {x : Lead} {f : Forest} → Follows table met s i x f after → {xs : List Lead} {rest : Forest} → IsDerivedFrom table s (i + 1) xs rest → IsDerivedFrom table s i (x ∷ xs) (join f rest)
-  follows_derived table by_itself r = takes itself r
-  follows_derived table (by_ways {ways = ways} {f = f} x) {rest = rest} r = elim (tries_derived table x) [
-    | inl e ↦ rw e (missing_case ways ways.otherwise refl rest r)
-    | inr h ↦ candidate_case ways h.0 f rest h.1 h.2 r
-  ]
+    expands_derived : {running : List NamedDecl} {met after : List NamedSymbol} {s : NamedSymbol} {i : ℕ} {xs : List Lead} {f : Forest} → Expands links limit running met s i xs f after → IsDerivedFrom links s i xs f
+    expands_derived at_end = derived.at_end
+    expands_derived (step {rest = rest} x y) = follows_derived rest x (expands_derived y)
 
-  tries_derived : (table : Leads) {met after : List NamedSymbol} {cs : List NamedSymbol} {otherwise : Option Missing} {f : Forest} → Tries table met cs otherwise f after → IsTriedBy table cs otherwise f
-  tries_derived table no_more = inl refl
-  tries_derived table (first_with {c = c} x) = inr (c, (0, omega arith, refl), finds_derived table x)
-  tries_derived table (passes x y) = elim (tries_derived table y) [
-    | inl e ↦ inl e
-    | inr h ↦ inr (h.0, (suc h.1.0, omega (arith, h.1.1), h.1.2), h.2)
-  ]
+    follows_derived : {running : List NamedDecl} {met after : List NamedSymbol} {s : NamedSymbol} {i : ℕ} {x : Lead} {f : Forest} (rest : Forest) → Follows links limit running met s i x f after → {xs : List Lead} → IsDerivedFrom links s (i + 1) xs rest → IsDerivedFrom links s i (x ∷ xs) (join f rest)
+    follows_derived rest by_itself r = takes as_itself r
+    follows_derived rest (by_ways {s = s} {i = i} {ways = ways} {f = f} x) r = elim (tries_derived x) [
+      | inl e ↦ rw e (missing_case ways ways.otherwise refl rest r)
+      | inr h ↦ link_case (head_at s i ways) f rest (λ t g e. by_candidate h.0 h.1 (subst (IsDerived links h.0) e h.2)) r
+    ]
+    follows_derived rest (by_running e) r = drops r
+    follows_derived rest (by_alias {s = s} {t = t} {i = i} {ps = ps} {f = f} e few fits x) r = link_case (alias_head s i ps) f rest (λ y g q. derived.by_alias (subst (IsDerivedUnder links t ps) q (walks_derived x))) r
 
--- ---- leaves
+    tries_derived : {running : List NamedDecl} {met after : List NamedSymbol} {cs : List NamedSymbol} {otherwise : Option Missing} {f : Forest} → Tries links limit running met cs otherwise f after → IsTriedBy cs otherwise f
+    tries_derived no_more = inl refl
+    tries_derived (first_with {c = c} x) = inr (c, (0, omega arith, refl), finds_derived x)
+    tries_derived (passes x y) = elim (tries_derived y) [
+      | inl e ↦ inl e
+      | inr h ↦ inr (h.0, (suc h.1.0, omega (arith, h.1.1), h.1.2), h.2)
+    ]
 
-only_leaf : (x y : Leaf) → Contains (x ∷ []) y → y ≡ x
-only_leaf x y (zero, lt, e) = sym e
-only_leaf x y (suc k, lt, e) = absurd (omega (arith, lt))
+    pub walks_derived : {running : List NamedDecl} {met after : List NamedSymbol} {s : NamedSymbol} {ps : Parts} {f : Forest} → Walks links limit running met s ps f after → IsDerivedUnder links s ps f
+    walks_derived (no_parts x) = derived.no_parts (finds_derived x)
+    walks_derived (under x y) = derived.under (finds_derived x) (changes_derived y)
 
-in_one : (t : Tree) (x : Leaf) → Contains (leaves_in (one t)) x → Contains (leaves_of t) x
-in_one t x h = elim (Contains-append_cases (leaves_of t) [] x h) [ inl a ↦ a | inr a ↦ absurd (omega (arith, a.1)) ]
+    changes_derived : {running : List NamedDecl} {met after : List NamedSymbol} {p : List ℕ} {ps : Parts} {f g : Forest} → Changes links limit running met p ps f g after → IsChanged links p ps f g
+    changes_derived of_none = derived.no_path
+    changes_derived (of_more {h = h} x y) = change_derived h x (changes_derived y)
 
--- the declarations of the symbol from the index on
-pub record IsTail (table : Leads) (s : NamedSymbol) (i : ℕ) (xs : List Lead) : Type 0 where
-  pub stands : (k : ℕ) (x : Lead) → slice_get xs k ≡ Some x → StandsAt table s (i + k) x
-
-pub later : {table : Leads} {s : NamedSymbol} {i : ℕ} {x : Lead} {xs : List Lead} → IsTail table s i (x ∷ xs) → IsTail table s (i + 1) xs
-later {table = table} {s = s} {i = i} h = record { stands = λ k x q. let over : i + suc k ≡ i + 1 + k = omega arith in subst (λ z. StandsAt table s z x) over (h.stands (suc k) x q) }
-
-pub here : {table : Leads} {s : NamedSymbol} {i : ℕ} {x : Lead} {xs : List Lead} → IsTail table s i (x ∷ xs) → StandsAt table s i x
-here {table = table} {s = s} {i = i} {x = x} h =
-    let plain : i + 0 ≡ i = omega arith in
-    subst (λ z. StandsAt table s z x) plain (h.stands 0 x refl)
-
-pub whole : (table : Leads) (s : NamedSymbol) → IsTail table s 0 (table s)
-whole table s = record { stands = λ k x q. let plain : k ≡ 0 + k = omega arith in subst (λ z. StandsAt table s z x) plain q }
-
-mutual
-  derived_leaf : (table : Leads) {s : NamedSymbol} {i : ℕ} {xs : List Lead} {f : Forest} → IsDerivedFrom table s i xs f → IsTail table s i xs → (x : Leaf) → Contains (leaves_in f) x → IsLeaf table s x
-  derived_leaf table derived.at_end st x h = absurd (omega (arith, h.1))
-  derived_leaf table (drops r) st x h = derived_leaf table r (later st) x h
-  derived_leaf table (takes {t = t} {f = f} c r) st x h = elim (Contains-append_cases (leaves_of t) (leaves_in f) x h) [
-    | inl a ↦ path_leaf table c (here st) x a
-    | inr a ↦ derived_leaf table r (later st) x a
-  ]
-
-  path_leaf : (table : Leads) {s : NamedSymbol} {i : ℕ} {lead : Lead} {t : Tree} → IsPathOf table s i lead t → StandsAt table s i lead → (x : Leaf) → Contains (leaves_of t) x → IsLeaf table s x
-  path_leaf table (itself {s = s} {i = i} {range = range} {star = star}) st x h = given i (defines range star) st (only_leaf (definition (defined_at s i range star)) x h)
-  path_leaf table (by_candidate {i = i} {ways = ways} c has r) st x h = led i (leads ways) c st has (derived_leaf table r (whole table c) x h)
-  path_leaf table (by_missing {i = i} {ways = ways} missing e) st x h = given i (leads ways) st (missing, e, only_leaf (unresolved missing) x (in_one (leaf (unresolved missing)) x h))
-
-pub is_leaf : (table : Leads) {s : NamedSymbol} {f : Forest} → IsDerived table s f → (x : Leaf) → Contains (leaves_in f) x → IsLeaf table s x
-is_leaf table {s = s} r x h = derived_leaf table r (whole table s) x h
+    change_derived : {running : List NamedDecl} {met after : List NamedSymbol} {p : List ℕ} {ps : Parts} {t : Tree} {g k : Forest} (rest : Forest) → ChangesOne links limit running met p ps t g after → IsChanged links p ps k rest → IsChanged links p ps (more t k) (join g rest)
+    change_derived rest of_unresolved r = derived.changed derived.stays r
+    change_derived rest (of_link {p = p} {ps = ps} {head = head} {f = f} {g = g} x) r = link_change (under_parts head (p ∷ ps)) g rest (λ y n e. derived.links_on (subst (IsChanged links p ps f) e (changes_derived x))) r
+    change_derived rest (of_definition {p = p} {ps = ps} {x = d} {t = t} {f = f} q x) r = link_change (part_head d (p ∷ ps)) f rest (λ y n e. derived.goes q (subst (IsDerivedUnder links t ps) e (walks_derived x))) r
+    change_derived rest (of_itself e) r = derived.changed (derived.is_itself e) r
+    change_derived rest (of_lacking e) r = derived.changed (derived.lacking e) r

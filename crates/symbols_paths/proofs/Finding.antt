@@ -6,20 +6,26 @@ use Rattle.std.specs.List.{IsDistinct, list_any, position_or_len}
 use Rattle.std.specs.Str.{bytes_eq}
 use Rattle.std.proofs.lemmas.List.{length-append}
 use Rattle.indexmap.specs.IndexSet.{insert_key}
+use Rattle.symbols_syntax.specs.declared.ids.ModuleId.{ModuleId}
 use Rattle.symbols_syntax.specs.declared.ids.UniqueSymbolId.{UniqueSymbolId}
 use Rattle.symbols_table.specs.DeclViews.{Declaration}
 use Rattle.symbols_root.specs.Roots.{RootView}
+use Rattle.symbols_exports.specs.Exporting.{specifier_in}
 use Rattle.symbols_paths.specs.declared.paths.leads.Lead.{Lead as ReadLead}
 use Rattle.symbols_paths.specs.declared.paths.node.DefinitionPathNode.{DefinitionPathNode}
-use Rattle.symbols_paths.specs.Trees.{NamedSymbol, none, join}
-use Rattle.symbols_paths.specs.Leads.{leads_of, lead_of, declarations_of}
-use Rattle.symbols_paths.specs.Choice.{is_met, was_met}
+use Rattle.symbols_paths.specs.declared.paths.resolving.AliasDecl.{AliasDecl}
+use Rattle.symbols_paths.specs.Trees.{NamedSymbol, Forest, none, join}
+use Rattle.symbols_paths.specs.Leads.{Lead, leads_of, lead_of, declarations_of}
+use Rattle.symbols_paths.specs.PartWays.{links_of}
+use Rattle.symbols_paths.specs.Choice.{is_met, Finds, was_met, Follows}
+use Rattle.symbols_paths.specs.Computed.{enough}
 use Rattle.symbols_paths.specs.Growing.{HasGrown}
-use Rattle.symbols_paths.specs.Views.{named, forest_told, forest_of_option, modules_of, modules_in, AreStored}
-use Rattle.symbols_paths.specs.Searching.{AreNumbered, met_told, HasSearched, IsFound, IsFollowed, IsRead, lead_told}
+use Rattle.symbols_paths.specs.Views.{named, forest_told, forest_of_option, tree_told, modules_of, modules_in, AreStored}
+use Rattle.symbols_paths.specs.Searching.{AreNumbered, met_told, running_told, HasSearched, IsFound, IsFollowed, IsRead, lead_told}
 use Rattle.symbols_paths.proofs.Growing.{grown_not, grown_on, same_specifier, still_stored, still_numbered, all_still_stored}
-use Rattle.symbols_paths.proofs.Told.{forest_with, modules_with, stored_both, join_none}
-use Rattle.symbols_paths.proofs.SearchSteps.{is_symbol, met_by_name, told_with, numbered_with, IsExpanding, expanding_first, expanding_next, expanding_last}
+use Rattle.symbols_paths.proofs.Told.{forest_with, modules_with, stored_both}
+use Rattle.symbols_paths.proofs.Loops.{join_none, IsExpanding, expanding_first, expanding_next, expanding_last}
+use Rattle.symbols_paths.proofs.SearchSteps.{is_symbol, met_by_name, told_with, numbered_with}
 
 -- ---- one symbol more
 
@@ -51,11 +57,11 @@ new_few before s place absent at fits = omega (arith, new_place before s absent,
 
 -- ---- a symbol that was met
 
-module _ (root : RootView) (once : IsDistinct bytes_eq root.stored) (met : List UniqueSymbolId) (symbol : UniqueSymbolId) (numbered : AreNumbered root met) (within : symbol.module_id.0 < length root.stored) where
+module _ (root : RootView) (once : IsDistinct bytes_eq root.stored) (running : List AliasDecl) (met : List UniqueSymbolId) (symbol : UniqueSymbolId) (numbered : AreNumbered root met) (within : symbol.module_id.0 < length root.stored) where
   later_met : (later : RootView) → HasGrown root later → list_any (is_symbol symbol) met ≡ is_met (met_told later met) (named later symbol)
   later_met later grown = met_by_name later (grown.once once) met symbol (still_numbered grown met numbered) (still_stored grown symbol.module_id.0 within)
 
-  pub found_old : list_any (is_symbol symbol) met ≡ true → IsFound root met symbol [] met
+  pub found_old : list_any (is_symbol symbol) met ≡ true → IsFound root running met symbol [] met
   found_old old = λ later grown. was_met (sym (later_met later grown) ∙ old)
 
   pub searched_old : HasSearched root met met []
@@ -64,24 +70,26 @@ module _ (root : RootView) (once : IsDistinct bytes_eq root.stored) (met : List 
 -- ---- the loop
 
 -- before the declaration at the index
-pub record IsFinding (old : RootView) (begun : List UniqueSymbolId) (symbol : UniqueSymbolId) (root : RootView) (index : ℕ) (met : List UniqueSymbolId) (paths : List DefinitionPathNode) : Type 0 where
+pub record IsFinding (old : RootView) (running : List AliasDecl) (begun : List UniqueSymbolId) (symbol : UniqueSymbolId) (root : RootView) (now : List AliasDecl) (index : ℕ) (met : List UniqueSymbolId) (paths : List DefinitionPathNode) : Type 0 where
   pub grown : HasGrown old root
+  pub same : now ≡ running
   pub fresh : list_any (is_symbol symbol) begun ≡ false
   pub numbered : AreNumbered root met
   pub longer : length begun + 1 ≤ length met
   pub few : length met ≤ 2 ^ 64
   pub stored : AreStored root (modules_in paths)
-  pub told : (later : RootView) → HasGrown root later → IsExpanding (leads_of later.graph) (met_told later begun) (named later symbol) index (met_told later met) (forest_told later paths)
+  pub told : (later : RootView) → HasGrown root later → IsExpanding (links_of later.graph) enough (running_told later running) (met_told later begun) (named later symbol) index (met_told later met) (forest_told later paths)
 
-pub finding_first : (root : RootView) (begun : List UniqueSymbolId) (symbol : UniqueSymbolId) → AreNumbered root begun → symbol.module_id.0 < length root.stored → list_any (is_symbol symbol) begun ≡ false → length begun < 2 ^ 64 → IsFinding root begun symbol root 0 (begun ++ symbol ∷ []) []
-finding_first root begun symbol numbered within fresh few = record {
+pub finding_first : (root : RootView) (running : List AliasDecl) (begun : List UniqueSymbolId) (symbol : UniqueSymbolId) → AreNumbered root begun → symbol.module_id.0 < length root.stored → list_any (is_symbol symbol) begun ≡ false → length begun < 2 ^ 64 → IsFinding root running begun symbol root running 0 (begun ++ symbol ∷ []) []
+finding_first root running begun symbol numbered within fresh few = record {
   grown = grown_not root;
+  same = refl;
   fresh = fresh;
   numbered = numbered_with root begun symbol numbered within;
   longer = omega (arith, length-append begun (symbol ∷ []));
   few = omega (arith, few, length-append begun (symbol ∷ []));
   stored = λ k d h. absurd (omega (arith, h));
-  told = λ later grown. subst (λ m. IsExpanding (leads_of later.graph) (met_told later begun) (named later symbol) 0 m none) (sym (told_with later begun symbol)) (expanding_first (leads_of later.graph) (met_told later begun) (named later symbol));
+  told = λ later grown. subst (λ m. IsExpanding (links_of later.graph) enough (running_told later running) (met_told later begun) (named later symbol) 0 m none) (sym (told_with later begun symbol)) (expanding_first (links_of later.graph) enough (running_told later running) (met_told later begun) (named later symbol));
 }
 
 -- the declaration at the index leads as it was read
@@ -123,63 +131,84 @@ index_within {graph = graph} {s = s} {index = index} read = by (declarations_of 
 pub stands_among : {graph : _} {s : NamedSymbol} {index : ℕ} {lead : ReadLead} (read : IsRead graph s index lead) → Contains (declarations_of graph s) read.decl
 stands_among {graph = graph} {s = s} {index = index} read = (index, index_within read, get_or_from_slice_get (declarations_of graph s) index read.decl read.decl read.stands)
 
-module _ {old : RootView} {begun : List UniqueSymbolId} {symbol : UniqueSymbolId} {root : RootView} {index : ℕ} {met : List UniqueSymbolId} {paths : List DefinitionPathNode} (is : IsFinding old begun symbol root index met paths) (known : symbol.module_id.0 < length old.stored) where
+module _ {old : RootView} {running : List AliasDecl} {begun : List UniqueSymbolId} {symbol : UniqueSymbolId} {root : RootView} {now : List AliasDecl} {index : ℕ} {met : List UniqueSymbolId} {paths : List DefinitionPathNode} (is : IsFinding old running begun symbol root now index met paths) (known : symbol.module_id.0 < length old.stored) where
   pub now_within : symbol.module_id.0 < length root.stored
   now_within = still_stored is.grown symbol.module_id.0 known
 
-  told_next : {after : RootView} (mid : List UniqueSymbolId) (lead : ReadLead) → IsRead root.graph (named root symbol) index lead → HasGrown root after → (path : Option DefinitionPathNode) → IsFollowed after met symbol index lead path mid → (later : RootView) → HasGrown after later → IsExpanding (leads_of later.graph) (met_told later begun) (named later symbol) (index + 1) (met_told later mid) (join (forest_told later paths) (forest_of_option later path))
-  told_next mid lead read kept path followed later grown =
+  told_next : {after : RootView} (mid : List UniqueSymbolId) (lead : ReadLead) → IsRead root.graph (named root symbol) index lead → HasGrown root after → (path : Option DefinitionPathNode) → IsFollowed after now met symbol index lead path mid → (later : RootView) → HasGrown after later → IsExpanding (links_of later.graph) enough (running_told later running) (met_told later begun) (named later symbol) (index + 1) (met_told later mid) (join (forest_told later paths) (forest_of_option later path))
+  told_next {after = after} mid lead read kept path followed later grown =
       let whole = grown_on kept grown in
-      expanding_next (lead_told later.graph (named later symbol) lead) (is.told later whole) (stands_told later.graph (named later symbol) index lead (read_later whole symbol now_within index lead read)) (followed later grown)
+      expanding_next (links_of later.graph) enough (running_told later running) (lead_told later.graph (named later symbol) lead) (is.told later whole) (stands_told later.graph (named later symbol) index lead (read_later whole symbol now_within index lead read)) (subst (λ r. IsFollowed after r met symbol index lead path mid) is.same followed later grown)
 
-  pub finding_on : {after : RootView} {mid : List UniqueSymbolId} (lead : ReadLead) → IsRead root.graph (named root symbol) index lead → HasGrown root after → IsFollowed after met symbol index lead None mid → HasSearched after met mid [] → IsFinding old begun symbol after (index + 1) mid paths
-  finding_on {after = after} {mid = mid} lead read kept followed searched = record {
+  pub finding_on : {after : RootView} {mid : List UniqueSymbolId} (lead : ReadLead) → IsRead root.graph (named root symbol) index lead → HasGrown root after → IsFollowed after now met symbol index lead None mid → (onward : List AliasDecl) → onward ≡ now → HasSearched after met mid [] → IsFinding old running begun symbol after onward (index + 1) mid paths
+  finding_on {after = after} {mid = mid} lead read kept followed onward on searched = record {
     grown = grown_on is.grown kept;
+    same = on ∙ is.same;
     fresh = is.fresh;
     numbered = searched.numbered;
     longer = omega (arith, is.longer, searched.longer);
     few = searched.few is.few;
     stored = all_still_stored kept (modules_in paths) is.stored;
-    told = λ later grown. subst (λ f. IsExpanding (leads_of later.graph) (met_told later begun) (named later symbol) (index + 1) (met_told later mid) f) (join_none (forest_told later paths)) (told_next mid lead read kept None followed later grown);
+    told = λ later grown. subst (λ f. IsExpanding (links_of later.graph) enough (running_told later running) (met_told later begun) (named later symbol) (index + 1) (met_told later mid) f) (join_none (forest_told later paths)) (told_next mid lead read kept None followed later grown);
   }
 
-  pub finding_more : {after : RootView} {mid : List UniqueSymbolId} (lead : ReadLead) → IsRead root.graph (named root symbol) index lead → HasGrown root after → (path : DefinitionPathNode) → IsFollowed after met symbol index lead (Some path) mid → HasSearched after met mid (modules_in (path ∷ [])) → IsFinding old begun symbol after (index + 1) mid (paths ++ path ∷ [])
-  finding_more {after = after} {mid = mid} lead read kept path followed searched = record {
+  pub finding_more : {after : RootView} {mid : List UniqueSymbolId} (lead : ReadLead) → IsRead root.graph (named root symbol) index lead → HasGrown root after → (path : DefinitionPathNode) → IsFollowed after now met symbol index lead (Some path) mid → (onward : List AliasDecl) → onward ≡ now → HasSearched after met mid (modules_in (path ∷ [])) → IsFinding old running begun symbol after onward (index + 1) mid (paths ++ path ∷ [])
+  finding_more {after = after} {mid = mid} lead read kept path followed onward on searched = record {
     grown = grown_on is.grown kept;
+    same = on ∙ is.same;
     fresh = is.fresh;
     numbered = searched.numbered;
     longer = omega (arith, is.longer, searched.longer);
     few = searched.few is.few;
     stored = subst (AreStored after) (sym (modules_with paths path)) (stored_both after (modules_in paths) (modules_of path) (all_still_stored kept (modules_in paths) is.stored) (subst (AreStored after) (append-nil (modules_of path)) searched.stored));
-    told = λ later grown. subst (λ f. IsExpanding (leads_of later.graph) (met_told later begun) (named later symbol) (index + 1) (met_told later mid) f) (sym (forest_with later paths path)) (told_next mid lead read kept (Some path) followed later grown);
+    told = λ later grown. subst (λ f. IsExpanding (links_of later.graph) enough (running_told later running) (met_told later begun) (named later symbol) (index + 1) (met_told later mid) f) (sym (forest_with later paths path)) (told_next mid lead read kept (Some path) followed later grown);
   }
 
-  pub finding_next : {after : RootView} {mid : List UniqueSymbolId} (lead : ReadLead) → IsRead root.graph (named root symbol) index lead → HasGrown root after → (path : Option DefinitionPathNode) → IsFollowed after met symbol index lead path mid → HasSearched after met mid (modules_in (option_to_list path)) → IsFinding old begun symbol after (index + 1) mid (paths ++ option_to_list path)
-  finding_next {after = after} {mid = mid} lead read kept None followed searched = subst (λ ps. IsFinding old begun symbol after (index + 1) mid ps) (sym (append-nil paths)) (finding_on lead read kept followed searched)
-  finding_next lead read kept (Some path) followed searched = finding_more lead read kept path followed searched
+  pub finding_next : {after : RootView} {mid : List UniqueSymbolId} (lead : ReadLead) → IsRead root.graph (named root symbol) index lead → HasGrown root after → (path : Option DefinitionPathNode) → IsFollowed after now met symbol index lead path mid → (onward : List AliasDecl) → onward ≡ now → HasSearched after met mid (modules_in (option_to_list path)) → IsFinding old running begun symbol after onward (index + 1) mid (paths ++ option_to_list path)
+  finding_next {after = after} {mid = mid} lead read kept None followed onward on searched = subst (λ ps. IsFinding old running begun symbol after onward (index + 1) mid ps) (sym (append-nil paths)) (finding_on lead read kept followed onward on searched)
+  finding_next lead read kept (Some path) followed onward on searched = finding_more lead read kept path followed onward on searched
 
   -- the declarations are those of before
   pub index_before : (lead : ReadLead) → IsRead root.graph (named root symbol) index lead → index < length (declarations_of old.graph (named old symbol))
   index_before lead read = omega (arith, index_within read, ap length (same_declarations is.grown symbol known))
 
-  pub finding_last : IsDistinct bytes_eq old.stored → AreNumbered old begun → slice_get (declarations_of root.graph (named root symbol)) index ≡ None → IsFound root begun symbol paths met
+  pub finding_last : IsDistinct bytes_eq old.stored → AreNumbered old begun → slice_get (declarations_of root.graph (named root symbol)) index ≡ None → IsFound root running begun symbol paths met
   finding_last once numbered past = λ later grown.
-      let fresh = sym (later_met root (is.grown.once once) begun symbol (still_numbered is.grown begun numbered) now_within later grown) ∙ is.fresh in
-      expanding_last (is.told later grown) fresh (past_later grown symbol now_within index past)
+      let fresh = sym (later_met root (is.grown.once once) running begun symbol (still_numbered is.grown begun numbered) now_within later grown) ∙ is.fresh in
+      expanding_last (links_of later.graph) enough (running_told later running) (is.told later grown) fresh (past_later grown symbol now_within index past)
 
   pub finding_searched : HasSearched root begun met (modules_in paths)
   finding_searched = record { numbered = is.numbered; longer = omega (arith, is.longer); few = λ h. is.few; stored = is.stored }
 
--- ---- how much is left to be met
+-- ---- how much is left to be done
 
--- each step of a search before the next symbol is met
-unfoldable pub left : ℕ → ℕ → ℕ
-left met steps = (2 ^ 64 - met) * 5 + steps
+-- aliases that may still be resolved within one another, then parts and symbols in the search of one, then the steps before the next symbol
+unfoldable pub left : ℕ → ℕ → ℕ → ℕ → ℕ
+left running parts met steps = (2 ^ 64 - running) * (2 ^ 64 * 20) + parts * 10 + (2 ^ 64 - met) * 10 + steps
 
-pub fewer_steps : (met more a b : ℕ) → met ≤ more → a < b → left more a < left met b
+pub fewer_steps : (running parts met more a b : ℕ) → met ≤ more → a < b → left running parts more a < left running parts met b
 unfolding left
-fewer_steps met more a b longer less = omega (arith, longer, less)
+fewer_steps running parts met more a b longer less = omega (arith, longer, less)
 
-pub one_met_more : (met more steps : ℕ) → met + 1 ≤ more → more ≤ 2 ^ 64 → steps < 5 → left more steps < left met 0
+pub one_met_more : (running parts met more steps : ℕ) → met + 1 ≤ more → more ≤ 2 ^ 64 → steps < 10 → left running parts more steps < left running parts met 0
 unfolding left
-one_met_more met more steps longer few less = omega (arith, longer, few, less)
+one_met_more running parts met more steps longer few less = omega (arith, longer, few, less)
+
+-- without parts and met symbols, for an alias
+pub for_alias : (running met a b : ℕ) → a < b → left running 0 (2 ^ 64) a < left running 0 met b
+unfolding left
+for_alias running met a b less = omega (arith, less)
+
+pub one_alias_more : (running parts a b : ℕ) → running < 2 ^ 64 → parts < 2 ^ 64 → a < 10 → left (running + 1) parts 0 a < left running 0 (2 ^ 64) b
+unfolding left
+one_alias_more running parts a b few short less =
+    let split : (2 ^ 64 - running) * (2 ^ 64 * 20) ≡ (2 ^ 64 - (running + 1)) * (2 ^ 64 * 20) + 2 ^ 64 * 20 = omega (arith, few) in
+    omega (arith, split, short, less)
+
+pub without_parts : (running parts met a b : ℕ) → a < b → left running 0 met a < left running parts met b
+unfolding left
+without_parts running parts met a b less = omega (arith, less)
+
+pub one_part_less : (running parts rest met more a b : ℕ) → rest + 1 ≡ parts → met ≤ more → a < b + 10 → left running rest more a < left running parts met b
+unfolding left
+one_part_less running parts rest met more a b shorter longer less = omega (arith, shorter, longer, less)

@@ -1,7 +1,8 @@
 -- Which modules are needed on from one that is.
-use Rattle.std.proofs.Common.{◌≡◌, ℕ, List, Option, None, Some, option_map, refl, sym, subst, slice_get}
+use Rattle.std.proofs.Common.{◌≡◌, ℕ, List, Option, None, Some, option_map, refl, sym, ap, subst, ◌∙◌, slice_get}
 use Rattle.std.proofs.lemmas.Option.{same_Some}
 use Rattle.symbols_syntax.specs.Graph.{GraphView}
+use Rattle.symbols_table.specs.DeclViews.{one_name}
 use Rattle.symbols_table.specs.declared.info.fault.SymbolsFault.{SymbolsFault}
 use Rattle.symbols_root.specs.Roots.{RootView, IsRefusal}
 use Rattle.symbols_exports.specs.Exports.{Entry}
@@ -11,20 +12,15 @@ use Rattle.symbols_paths.specs.Trees.{NamedSymbol}
 use Rattle.symbols_paths.specs.Leads.{export_along}
 use Rattle.symbols_paths.specs.Needed.{IsNeeded, begun, imported, passed_on, owner, IsRefused}
 use Rattle.symbols_paths.specs.Searching.{IsImported}
+use Rattle.symbols_paths.proofs.LeafNeeds.{needed_from}
 use Rattle.symbols_paths.proofs.Targets.{needed_there, named_entry}
-
-pub needed_from : {graph : GraphView} {a b c : List ℕ} → IsNeeded graph a b → IsNeeded graph b c → IsNeeded graph a c
-needed_from x begun = x
-needed_from x (imported s decl name text is has kind leads) = imported s decl name text (needed_from x is) has kind leads
-needed_from x (passed_on specifier position is leads) = passed_on specifier position (needed_from x is) leads
-needed_from x (owner specifier name entry is named) = owner specifier name entry (needed_from x is) named
 
 pub refused_from : (root : RootView) {a b : List ℕ} {fault : SymbolsFault} → IsNeeded root.graph a b → IsRefused root b fault → IsRefused root a fault
 refused_from root x is = record { needed = is.needed; is_needed = λ v e. needed_from x (is.is_needed v e); refused = is.refused }
 
 -- what an import leads to
 pub needed_import : (graph : GraphView) (s : NamedSymbol) (name text v : List ℕ) → IsImported graph s name text → text_target graph s.specifier text ≡ Some v → IsNeeded graph s.specifier v
-needed_import graph s name text v is leads = imported s is.decl name text begun is.stands is.imports leads
+needed_import graph s name text v is leads = imported s is.decl (one_name name) text begun is.stands is.imports leads
 
 pub refused_import : (old new : RootView) (s : NamedSymbol) (name text : List ℕ) (fault : SymbolsFault) → IsImported old.graph s name text → new ≡ old → IsRefusal old (text_target old.graph s.specifier text) fault → IsRefused new s.specifier fault
 refused_import old new s name text fault is same refusal = subst (λ root. IsRefused root s.specifier fault) (sym same) (record {

@@ -1,6 +1,7 @@
--- An unresolved entry stands only where all candidates of its declaration are told.
-use Rattle.std.proofs.Common.{◌≡◌, ℕ, zero, suc, ◌⊎◌, inl, inr, true, List, [], ◌∷◌, map, Option, None, Some, refl, sym, ◌∙◌, ap, subst, arith}
-use Rattle.std.specs.Prelude.{Contains, slice_get}
+-- An unresolved entry behind no alias stands only where all candidates of its declaration are told.
+use Rattle.std.proofs.Common.{◌≡◌, ℕ, zero, suc, ◌+◌, ◌<◌, ◌⊎◌, inl, inr, Bool, true, false, List, [], ◌∷◌, ◌++◌, length, map, Option, None, Some, refl, sym, ◌∙◌, ap, subst, arith, append_assoc, append-nil}
+use Rattle.std.specs.Prelude.{Contains, slice_get, if◌then◌else◌}
+use Rattle.std.specs.Option.{option_map_or}
 use Rattle.std.proofs.lemmas.List.Elements.{Contains-append_cases}
 use Rattle.symbols_syntax.specs.declared.ids.SymbolId.{SymbolId}
 use Rattle.symbols_syntax.specs.declared.tree.arena.SourceRange.{SourceRange}
@@ -8,29 +9,47 @@ use Rattle.symbols_syntax.specs.Graph.{GraphView}
 use Rattle.symbols_syntax.specs.Ids.{IdView}
 use Rattle.symbols_table.specs.DeclViews.{DeclKind, target, qualified_target, file_ref, definition as defines_node, all_names, one_name, Declaration}
 use Rattle.symbols_exports.specs.StarStatements.{text_target}
-use Rattle.symbols_paths.specs.Trees.{NamedSymbol, Defined, Missing, no_symbol, no_module, no_part, Forest, Leaf, definition, unresolved, none, join, link_to, leaves_in}
-use Rattle.symbols_paths.specs.Leads.{Ways, Lead, Leads, defines, leads, StandsAt, symbol_of_id, own_export, exports_along, target_ways, alias_ways, import_ways, ways_into, declarations_of, lead_of, leads_of}
-use Rattle.symbols_paths.specs.Derived.{defined_at, head_at}
-use Rattle.symbols_paths.specs.Reach.{IsPartLast}
-use Rattle.symbols_paths.specs.Choice.{is_met, Finds, was_met, is_new, Expands, at_end, step, Follows, by_itself, by_ways, Tries, no_more, first_with, passes, missing_in}
-use Rattle.symbols_paths.proofs.Deriving.{IsTail, later, here, whole}
-use Rattle.symbols_paths.proofs.Covers.{leaves_in-join, leaves_in-link_to, finds_covers, expands_covers, tries_covers, met_given}
+use Rattle.symbols_paths.specs.Trees.{NamedSymbol, NamedDecl, Defined, Missing, no_symbol, no_module, no_part, LinkHead, Forest, Leaf, definition, unresolved, leaf, link, none, more, one, join, link_to, leaves_in}
+use Rattle.symbols_paths.specs.Leads.{Ways, Lead, Leads, defines, leads, alias, StandsAt, symbol_of_id, own_export, exports_along, to_missing, target_ways, alias_lead, import_ways, ways_into, declarations_of, lead_of, leads_of}
+use Rattle.symbols_paths.specs.PartWays.{Links, links_of}
+use Rattle.symbols_paths.specs.Derived.{decl_at, defined_at, head_at, alias_head}
+use Rattle.symbols_paths.specs.Reach.{is_alias, is_alias_at, outer_leaves_in, IsNearLeaf, IsPartLast}
+use Rattle.symbols_paths.specs.Choice.{is_met, Finds, was_met, is_new, Expands, at_end, step, Follows, by_itself, by_ways, by_running, by_alias, Tries, no_more, first_with, passes, missing_in}
+use Rattle.symbols_paths.proofs.Leaves.{IsTail, later, here, whole}
+use Rattle.symbols_paths.proofs.Covers.{finds_covers, follows_covers, expands_covers, tries_covers, met_given}
+
+-- ---- leaves behind no alias
+
+outer-join : (table : Leads) (f g : Forest) → outer_leaves_in table (join f g) ≡ outer_leaves_in table f ++ outer_leaves_in table g
+outer-join table none g = refl
+outer-join table (more t f) g = rw (outer-join table f g, append_assoc) refl
+
+outer-link_to : (table : Leads) (head : LinkHead) (f : Forest) → is_alias_at table head.decl ≡ false → outer_leaves_in table (link_to head f) ≡ outer_leaves_in table f
+outer-link_to table head none e = refl
+outer-link_to table head (more t f) e = rw e (append-nil (outer_leaves_in table (more t f)))
+
+outer-alias : (table : Leads) (head : LinkHead) (f : Forest) → is_alias_at table head.decl ≡ true → outer_leaves_in table (link_to head f) ≡ []
+outer-alias table head none e = refl
+outer-alias table head (more t f) e = rw e refl
+
+alias_there : (table : Leads) (s : NamedSymbol) (i : ℕ) (lead : Lead) → StandsAt table s i lead → is_alias_at table (decl_at s i) ≡ is_alias lead
+alias_there table s i lead st = ap (λ o. option_map_or is_alias o false) st
 
 -- a declaration tells the unresolved entry, and all its candidates are met
-pub record IsToldBy (table : Leads) (m : Missing) (after : List NamedSymbol) : Type 0 where
-  pub symbol : NamedSymbol
-  pub index : ℕ
-  pub ways : Ways
-  pub stands : StandsAt table symbol index (leads ways)
-  pub otherwise : ways.otherwise ≡ Some m
-  pub met : (c : NamedSymbol) → Contains ways.candidates c → is_met after c ≡ true
+record IsToldBy (links : Links) (m : Missing) (after : List NamedSymbol) : Type 0 where
+  symbol : NamedSymbol
+  index : ℕ
+  ways : Ways
+  stands : StandsAt links.leads symbol index (leads ways)
+  otherwise : ways.otherwise ≡ Some m
+  met : (c : NamedSymbol) → Contains ways.candidates c → is_met after c ≡ true
 
-pub record AreTold (table : Leads) (f : Forest) (after : List NamedSymbol) : Type 0 where
-  pub all : (m : Missing) → Contains (leaves_in f) (unresolved m) → IsToldBy table m after
+record AreTold (links : Links) (f : Forest) (after : List NamedSymbol) : Type 0 where
+  all : (m : Missing) → Contains (outer_leaves_in links.leads f) (unresolved m) → IsToldBy links m after
 
 -- or it is the entry of these candidates
-pub record AreTried (table : Leads) (cs : List NamedSymbol) (otherwise : Option Missing) (f : Forest) (after : List NamedSymbol) : Type 0 where
-  pub all : (m : Missing) → Contains (leaves_in f) (unresolved m) → ((otherwise ≡ Some m) × ((c : NamedSymbol) → Contains cs c → is_met after c ≡ true)) ⊎ IsToldBy table m after
+record AreTried (links : Links) (cs : List NamedSymbol) (otherwise : Option Missing) (f : Forest) (after : List NamedSymbol) : Type 0 where
+  all : (m : Missing) → Contains (outer_leaves_in links.leads f) (unresolved m) → ((otherwise ≡ Some m) × ((c : NamedSymbol) → Contains cs c → is_met after c ≡ true)) ⊎ IsToldBy links m after
 
 none_in : (x : Leaf) → Contains [] x → ⊥
 none_in x h = omega (arith, h.1)
@@ -43,59 +62,66 @@ only_missing : (x m : Missing) → Contains (unresolved x ∷ []) (unresolved m)
 only_missing x m (zero, lt, e) = let a : x ≡ m = cc in a
 only_missing x m (suc n, lt, e) = absurd (omega (arith, lt))
 
-nothing : (table : Leads) (after : List NamedSymbol) → AreTold table none after
-nothing table after = record { all = λ m h. absurd (none_in (unresolved m) h) }
+nothing : (links : Links) (after : List NamedSymbol) → AreTold links none after
+nothing links after = record { all = λ m h. absurd (none_in (unresolved m) h) }
 
-kept_told : {table : Leads} {m : Missing} {mid after : List NamedSymbol} → IsToldBy table m mid → ((u : NamedSymbol) → is_met mid u ≡ true → is_met after u ≡ true) → IsToldBy table m after
+kept_told : {links : Links} {m : Missing} {mid after : List NamedSymbol} → IsToldBy links m mid → ((u : NamedSymbol) → is_met mid u ≡ true → is_met after u ≡ true) → IsToldBy links m after
 kept_told is kept = record { symbol = is.symbol; index = is.index; ways = is.ways; stands = is.stands; otherwise = is.otherwise; met = λ c h. kept c (is.met c h) }
 
-both : {table : Leads} {mid after : List NamedSymbol} (f g : Forest) → AreTold table f mid → AreTold table g after → ((u : NamedSymbol) → is_met mid u ≡ true → is_met after u ≡ true) → AreTold table (join f g) after
-both f g x y kept = record {
-  all = λ m h. elim (Contains-append_cases (leaves_in f) (leaves_in g) (unresolved m) (rw (leaves_in-join f g) at h)) [
+both : {links : Links} {mid after : List NamedSymbol} (f g : Forest) → AreTold links f mid → AreTold links g after → ((u : NamedSymbol) → is_met mid u ≡ true → is_met after u ≡ true) → AreTold links (join f g) after
+both {links = links} f g x y kept = record {
+  all = λ m h. elim (Contains-append_cases (outer_leaves_in links.leads f) (outer_leaves_in links.leads g) (unresolved m) (rw (outer-join links.leads f g) at h)) [
     | inl a ↦ kept_told (x.all m a) kept
     | inr a ↦ y.all m a
   ];
 }
 
-left_over : (table : Leads) (met : List NamedSymbol) (otherwise : Option Missing) → AreTried table [] otherwise (missing_in otherwise) met
-left_over table met None = record { all = λ m h. absurd (none_in (unresolved m) h) }
-left_over table met (Some x) = record { all = λ m h. inl (ap Some (only_missing x m h), λ c q. absurd (omega (arith, q.1))) }
+left_over : (links : Links) (met : List NamedSymbol) (otherwise : Option Missing) → AreTried links [] otherwise (missing_in otherwise) met
+left_over links met None = record { all = λ m h. absurd (none_in (unresolved m) h) }
+left_over links met (Some x) = record { all = λ m h. inl (ap Some (only_missing x m h), λ c q. absurd (omega (arith, q.1))) }
 
 -- the candidates tried are those of the declaration
-settled : {table : Leads} (s : NamedSymbol) (i : ℕ) {f : Forest} {after : List NamedSymbol} (ways : Ways) → StandsAt table s i (leads ways) → AreTried table ways.candidates ways.otherwise f after → AreTold table (link_to (head_at s i ways) f) after
-settled s i {f = f} ways st x = record {
-  all = λ m h. elim (x.all m (rw (leaves_in-link_to (head_at s i ways) f) at h)) [
+settled : {links : Links} {f : Forest} {after : List NamedSymbol} (s : NamedSymbol) (i : ℕ) (ways : Ways) → StandsAt links.leads s i (leads ways) → AreTried links ways.candidates ways.otherwise f after → AreTold links (link_to (head_at s i ways) f) after
+settled {links = links} {f = f} s i ways st x = record {
+  all = λ m h. elim (x.all m (rw (outer-link_to links.leads (head_at s i ways) f (alias_there links.leads s i (leads ways) st)) at h)) [
     | inl p ↦ record { symbol = s; index = i; ways = ways; stands = st; otherwise = p.0; met = p.1 }
     | inr p ↦ p
   ];
 }
 
-mutual
-  pub finds_told : (table : Leads) {met after : List NamedSymbol} {s : NamedSymbol} {f : Forest} → Finds table met s f after → AreTold table f after
-  finds_told table (was_met {met = met} e) = nothing table met
-  finds_told table (is_new {s = s} e x) = expands_told table (whole table s) x
+-- behind an alias none is meant
+aliased : {links : Links} {after : List NamedSymbol} (s t : NamedSymbol) (i : ℕ) (ps : List (List ℕ)) (f : Forest) → StandsAt links.leads s i (alias t ps) → AreTold links (link_to (alias_head s i ps) f) after
+aliased {links = links} s t i ps f st = record { all = λ m h. absurd (none_in (unresolved m) (rw (outer-alias links.leads (alias_head s i ps) f (alias_there links.leads s i (alias t ps) st)) at h)) }
 
-  expands_told : (table : Leads) {met after : List NamedSymbol} {s : NamedSymbol} {i : ℕ} {xs : List Lead} {f : Forest} → IsTail table s i xs → Expands table met s i xs f after → AreTold table f after
-  expands_told table st (at_end {met = met}) = nothing table met
-  expands_told table st (step {f = f} {rest = g} x y) = both f g (follows_told table (here st) x) (expands_told table (later st) y) (expands_covers table y).0.kept
+module _ (links : Links) (limit : ℕ) where
+  mutual
+    finds_told : {running : List NamedDecl} {met after : List NamedSymbol} {s : NamedSymbol} {f : Forest} → Finds links limit running met s f after → AreTold links f after
+    finds_told (was_met {met = met} e) = nothing links met
+    finds_told (is_new {s = s} e x) = expands_told (whole links s) x
 
-  follows_told : (table : Leads) {met after : List NamedSymbol} {s : NamedSymbol} {i : ℕ} {lead : Lead} {f : Forest} → StandsAt table s i lead → Follows table met s i lead f after → AreTold table f after
-  follows_told table st (by_itself {s = s} {i = i} {range = range} {star = star}) = record { all = λ m h. absurd (no_definition (defined_at s i range star) m h) }
-  follows_told table st (by_ways {s = s} {i = i} {ways = ways} x) = settled s i ways st (tries_told table x)
+    expands_told : {running : List NamedDecl} {met after : List NamedSymbol} {s : NamedSymbol} {i : ℕ} {xs : List Lead} {f : Forest} → IsTail links s i xs → Expands links limit running met s i xs f after → AreTold links f after
+    expands_told st (at_end {met = met}) = nothing links met
+    expands_told st (step {f = f} {rest = g} x y) = both f g (follows_told (here st) x) (expands_told (later st) y) (expands_covers links limit y).0.kept
 
-  tries_told : (table : Leads) {met after : List NamedSymbol} {cs : List NamedSymbol} {otherwise : Option Missing} {f : Forest} → Tries table met cs otherwise f after → AreTried table cs otherwise f after
-  tries_told table (no_more {met = met} {otherwise = otherwise}) = left_over table met otherwise
-  tries_told table (first_with x) = record { all = λ m h. inr ((finds_told table x).all m h) }
-  tries_told table (passes {after = after} {c = c} {cs = cs} x y) = record {
-    all = λ m h. elim ((tries_told table y).all m h) [
-      | inl p ↦ inl (p.0, tried p.1 ((tries_covers table y).0.kept c (finds_covers table x).1))
-      | inr p ↦ inr p
-    ];
-  }
-    where
-      tried : ((d : NamedSymbol) → Contains cs d → is_met after d ≡ true) → is_met after c ≡ true → (d : NamedSymbol) → Contains (c ∷ cs) d → is_met after d ≡ true
-      tried h m d (zero, lt, e) = subst (λ z. is_met after z ≡ true) e m
-      tried h m d (suc k, lt, e) = h d (k, omega (arith, lt), e)
+    follows_told : {running : List NamedDecl} {met after : List NamedSymbol} {s : NamedSymbol} {i : ℕ} {lead : Lead} {f : Forest} → StandsAt links.leads s i lead → Follows links limit running met s i lead f after → AreTold links f after
+    follows_told st (by_itself {s = s} {i = i} {range = range} {star = star}) = record { all = λ m h. absurd (no_definition (defined_at s i range star) m h) }
+    follows_told st (by_ways {s = s} {i = i} {ways = ways} x) = settled s i ways st (tries_told x)
+    follows_told st (by_running {met = met} e) = nothing links met
+    follows_told st (by_alias {s = s} {t = t} {i = i} {ps = ps} {f = f} e few fits x) = aliased s t i ps f st
+
+    tries_told : {running : List NamedDecl} {met after : List NamedSymbol} {cs : List NamedSymbol} {otherwise : Option Missing} {f : Forest} → Tries links limit running met cs otherwise f after → AreTried links cs otherwise f after
+    tries_told (no_more {met = met} {otherwise = otherwise}) = left_over links met otherwise
+    tries_told (first_with x) = record { all = λ m h. inr ((finds_told x).all m h) }
+    tries_told (passes {after = after} {c = c} {cs = cs} x y) = record {
+      all = λ m h. elim ((tries_told y).all m h) [
+        | inl p ↦ inl (p.0, tried p.1 ((tries_covers links limit y).0.kept c (finds_covers links limit x).1))
+        | inr p ↦ inr p
+      ];
+    }
+      where
+        tried : ((d : NamedSymbol) → Contains cs d → is_met after d ≡ true) → is_met after c ≡ true → (d : NamedSymbol) → Contains (c ∷ cs) d → is_met after d ≡ true
+        tried h m d (zero, lt, e) = subst (λ z. is_met after z ≡ true) e m
+        tried h m d (suc k, lt, e) = h d (k, omega (arith, lt), e)
 
 -- ---- in a graph, a part that isn't resolved is one of an import, whose candidates are the exports along `export *`
 
@@ -136,9 +162,12 @@ target_part : (graph : GraphView) (s : NamedSymbol) (t : Option SymbolId) → Is
 target_part graph s None = led_part graph (target_ways s None) (λ specifier name parts o. absurd cc)
 target_part graph s (Some t) = led_part graph (target_ways s (Some t)) (λ specifier name parts o. absurd cc)
 
-alias_part : (graph : GraphView) (s : NamedSymbol) (id : IdView) (ps : List (List ℕ)) (t : Option SymbolId) → IsOfPart graph (leads (alias_ways s id ps t))
-alias_part graph s id ps None = led_part graph (alias_ways s id ps None) (λ specifier name parts o. absurd (no_id id name (same_reason (record { specifier = s.specifier; reason = no_symbol id; parts = ps }) (entry specifier name parts) o)))
-alias_part graph s id ps (Some t) = led_part graph (alias_ways s id ps (Some t)) (λ specifier name parts o. absurd cc)
+aliased_part : (graph : GraphView) (t : NamedSymbol) (ps : List (List ℕ)) → IsOfPart graph (alias t ps)
+aliased_part graph t ps ways specifier name parts e o = absurd cc
+
+alias_part : (graph : GraphView) (s : NamedSymbol) (id : IdView) (ps : List (List ℕ)) (t : Option SymbolId) → IsOfPart graph (alias_lead s id ps t)
+alias_part graph s id ps None = led_part graph (to_missing s ps (record { specifier = s.specifier; reason = no_symbol id; parts = ps })) (λ specifier name parts o. absurd (no_id id name (same_reason (record { specifier = s.specifier; reason = no_symbol id; parts = ps }) (entry specifier name parts) o)))
+alias_part graph s id ps (Some t) = aliased_part graph (record { specifier = s.specifier; number = t }) ps
 
 into_part : (graph : GraphView) (s : NamedSymbol) (n k : List ℕ) (owned : Option SymbolId) → IsOfPart graph (leads (ways_into graph s n k owned))
 into_part graph s n k (Some u) = led_part graph (ways_into graph s n k (Some u)) (λ specifier name parts o. absurd cc)
@@ -153,7 +182,7 @@ import_part graph s n text None = led_part graph (import_ways graph s n text Non
 import_part graph s n text (Some k) = into_part graph s n k (own_export graph k n)
 
 lead_part : (graph : GraphView) (s : NamedSymbol) (range : SourceRange) (kind : DeclKind) → IsOfPart graph (lead_of graph s range kind)
-lead_part graph s range (defines_node _) = defined_part graph range None
+lead_part graph s range (defines_node x) = defined_part graph range None
 lead_part graph s range (file_ref all_names text) = defined_part graph range (Some (record { name = all_names; specifier = text }))
 lead_part graph s range (file_ref (one_name name) text) = import_part graph s name text (text_target graph s.specifier text)
 lead_part graph s range (target id) = target_part graph s (symbol_of_id graph s.specifier id)
@@ -167,8 +196,8 @@ at_place graph s (decl ∷ decls) zero lead e = subst (IsOfPart graph) (same (le
     same a b e = cc
 at_place graph s (decl ∷ decls) (suc i) lead e = at_place graph s decls i lead e
 
-pub part_last : (graph : GraphView) {after : List NamedSymbol} {start : NamedSymbol} {f : Forest} → Finds (leads_of graph) [] start f after → IsPartLast graph (leaves_in f)
-part_last graph {after = after} x specifier name parts h c has y near =
-    let told = (finds_told (leads_of graph) x).all (record { specifier = specifier; reason = no_part name; parts = parts }) h in
+pub part_last : (graph : GraphView) (limit : ℕ) {running : List NamedDecl} {after : List NamedSymbol} {start : NamedSymbol} {f : Forest} → Finds (links_of graph) limit running [] start f after → IsPartLast graph f (leaves_in f)
+part_last graph limit {after = after} x specifier name parts h c has y near =
+    let told = (finds_told (links_of graph) limit x).all (record { specifier = specifier; reason = no_part name; parts = parts }) h in
     let same = at_place graph told.symbol (declarations_of graph told.symbol) told.index (leads told.ways) told.stands told.ways specifier name parts refl told.otherwise in
     met_given x c (told.met c (subst (λ cs. Contains cs c) (sym same) has)) y near

@@ -1,5 +1,5 @@
 -- What a stored module has is what the graph's module has.
-use Rattle.std.proofs.Common.{◌≡◌, ℕ, zero, suc, ◌+◌, ◌<◌, ◌≤◌, Bool, true, false, List, [], ◌∷◌, ◌++◌, length, map, fold, Option, None, Some, slice_get, option_and_then, sym, ap, ◌∙◌, arith}
+use Rattle.std.proofs.Common.{◌≡◌, ℕ, zero, suc, ◌+◌, ◌<◌, ◌≤◌, Bool, true, false, List, [], ◌∷◌, ◌++◌, length, map, fold, Option, None, Some, slice_get, option_and_then, refl, sym, ap, ◌∙◌, arith}
 use Rattle.std.specs.Prelude.{if◌then◌else◌}
 use Rattle.std.specs.List.{filter_map, cons_option, sum_by}
 use Rattle.std.specs.Option.{option_map, option_map_or}
@@ -48,6 +48,10 @@ stored_decls root s table symbol stored at = ap (λ found. option_map_or (λ (x 
 
 pub no_decls : (root : RootView) (s : UniqueSymbolId) (table : Table) → IsStoredTable root s.module_id table → slice_get table.symbols s.symbol_id.0 ≡ None → declarations_of root.graph (named root s) ≡ []
 no_decls root s table stored at = sym (ap (λ found. option_map_or (λ (x : SymbolView). x.decls) found []) (sym (ap (option_map symbol_view) at) ∙ stored_symbol root s.module_id table stored s.symbol_id))
+
+-- what a symbol of it exports
+pub symbol_exports : (root : RootView) (s : UniqueSymbolId) (table : Table) (symbol : Symbol) → IsStoredTable root s.module_id table → slice_get table.symbols s.symbol_id.0 ≡ Some symbol → exports_in symbol ≡ option_map_or (λ (x : SymbolView). x.exports) (symbol_after (changes_under root.graph (specifier_in root s.module_id)) s.symbol_id) []
+symbol_exports root s table symbol stored at = ap (λ found. option_map_or (λ (x : SymbolView). x.exports) found []) (sym (ap (option_map symbol_view) at) ∙ stored_symbol root s.module_id table stored s.symbol_id)
 
 -- what its symbol 0 exports
 pub stored_exports : (root : RootView) (module_id : ModuleId) (table : Table) (symbol : Symbol) → IsStoredTable root module_id table → slice_get table.symbols 0 ≡ Some symbol → exports_in symbol ≡ owned_of root.graph (specifier_in root module_id)

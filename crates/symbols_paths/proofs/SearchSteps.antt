@@ -1,18 +1,16 @@
--- The steps of a search, as later roots tell them.
-use Rattle.std.proofs.Common.{◌≡◌, ℕ, zero, suc, ◌+◌, ◌<◌, Bool, false, ◌&&◌, ◌||◌, List, [], ◌∷◌, ◌++◌, length, drop, Option, None, Some, refl, sym, ap, subst, arith, slice_get, nat_eq}
-use Rattle.std.specs.List.{IsDistinct, list_any, filter_map, cons_option}
+-- Met symbols, and aliases that are being resolved, by numbers and by names.
+use Rattle.std.proofs.Common.{◌≡◌, ℕ, zero, suc, ◌<◌, Bool, true, false, ◌&&◌, ◌||◌, List, [], ◌∷◌, ◌++◌, length, map, get_or, refl, sym, ap, ◌∙◌, arith, nat_eq}
+use Rattle.std.specs.List.{IsDistinct, list_any}
 use Rattle.std.specs.Str.{bytes_eq}
 use Rattle.std.proofs.lemmas.List.{map-append}
-use Rattle.std.proofs.lemmas.Option.{same_Some}
 use Rattle.symbols_syntax.specs.declared.ids.UniqueSymbolId.{UniqueSymbolId}
 use Rattle.symbols_root.specs.Roots.{RootView}
-use Rattle.symbols_paths.specs.Trees.{NamedSymbol, Missing, Forest, none, more, join}
-use Rattle.symbols_paths.specs.Leads.{Lead, Leads}
-use Rattle.symbols_paths.specs.Choice.{is_met, Finds, is_new, Expands, at_end, step, Follows, Tries, no_more, first_with, passes, missing_in}
+use Rattle.symbols_paths.specs.declared.paths.resolving.AliasDecl.{AliasDecl}
+use Rattle.symbols_paths.specs.Choice.{same_symbol, is_met, is_running}
+use Rattle.symbols_paths.specs.Growing.{HasGrown}
 use Rattle.symbols_paths.specs.Views.{named}
-use Rattle.symbols_paths.specs.Searching.{AreNumbered, met_told, FindsOne}
-use Rattle.symbols_paths.proofs.Growing.{same_number}
-use Rattle.symbols_paths.proofs.Told.{join_none, join_assoc}
+use Rattle.symbols_paths.specs.Searching.{AreNumbered, AreAliasesNumbered, met_told, running_told, alias_told}
+use Rattle.symbols_paths.proofs.Growing.{still_stored, same_number}
 
 -- whether these are one symbol, as the set of met symbols tells it
 abbrev pub is_symbol : UniqueSymbolId → UniqueSymbolId → Bool
@@ -35,62 +33,31 @@ numbered_with root [] s numbered within (suc k) d h = absurd (omega (arith, h))
 numbered_with root (m ∷ met) s numbered within zero d h = numbered 0 d (omega arith)
 numbered_with root (m ∷ met) s numbered within (suc k) d h = numbered_with root met s (λ j e g. numbered (suc j) e (omega (arith, g))) within k d (omega (arith, h))
 
--- ---- the loop over declarations
+-- ---- aliases that are being resolved, by numbers and by names
 
--- before the declaration at the index
-pub record IsExpanding (table : Leads) (begun : List NamedSymbol) (s : NamedSymbol) (index : ℕ) (met : List NamedSymbol) (found : Forest) : Type 0 where
-  pub rest : (f : Forest) (after : List NamedSymbol) → Expands table met s index (drop index (table s)) f after → Expands table (begun ++ s ∷ []) s 0 (table s) (join found f) after
+abbrev pub is_alias_decl : AliasDecl → AliasDecl → Bool
+is_alias_decl x y = nat_eq x.«module».0 y.«module».0 && (nat_eq x.decl.symbol.0 y.decl.symbol.0 && nat_eq x.decl.index y.decl.index)
 
-pub expanding_first : (table : Leads) (begun : List NamedSymbol) (s : NamedSymbol) → IsExpanding table begun s 0 (begun ++ s ∷ []) none
-expanding_first table begun s = record { rest = λ f after x. x }
+and_assoc : (a b c : Bool) → (a && (b && c)) ≡ ((a && b) && c)
+and_assoc true b c = refl
+and_assoc false b c = refl
 
-drop_at : {A : Type 0} (xs : List A) (i : ℕ) (x : A) → slice_get xs i ≡ Some x → drop i xs ≡ x ∷ drop (i + 1) xs
-drop_at [] i x e = absurd cc
-drop_at (y ∷ ys) zero x e = ap (λ z. z ∷ ys) (same_Some y x e)
-drop_at (y ∷ ys) (suc i) x e = let over : suc i + 1 ≡ suc (i + 1) = omega arith in rw over (drop_at ys i x e)
+pub running_by_name : (root : RootView) → IsDistinct bytes_eq root.stored → (running : List AliasDecl) (d : AliasDecl) → AreAliasesNumbered root running → d.«module».0 < length root.stored → list_any (is_alias_decl d) running ≡ is_running (running_told root running) (alias_told root d)
+running_by_name root once [] d numbered within = refl
+running_by_name root once (m ∷ running) d numbered within =
+    let first = same_number root once d.«module» m.«module» within (numbered 0 m (omega arith)) in
+    let rest = running_by_name root once running d (λ k e h. numbered (suc k) e (omega (arith, h))) within in
+    let here = and_assoc (nat_eq d.«module».0 m.«module».0) (nat_eq d.decl.symbol.0 m.decl.symbol.0) (nat_eq d.decl.index m.decl.index) in
+    (λ i. here i || list_any (is_alias_decl d) running) ∙ (λ i. (first i && nat_eq d.decl.symbol.0 m.decl.symbol.0 && nat_eq d.decl.index m.decl.index) || rest i)
 
-drop_past : {A : Type 0} (xs : List A) (i : ℕ) → slice_get xs i ≡ None → drop i xs ≡ []
-drop_past [] zero e = refl
-drop_past [] (suc i) e = refl
-drop_past (y ∷ ys) zero e = absurd cc
-drop_past (y ∷ ys) (suc i) e = drop_past ys i e
+pub running_with : (root : RootView) (running : List AliasDecl) (d : AliasDecl) → running_told root (running ++ d ∷ []) ≡ running_told root running ++ alias_told root d ∷ []
+running_with root running d = map-append (alias_told root) running (d ∷ [])
 
-pub expanding_next : {table : Leads} {begun met mid : List NamedSymbol} {s : NamedSymbol} {index : ℕ} {found f : Forest} (lead : Lead) → IsExpanding table begun s index met found → slice_get (table s) index ≡ Some lead → Follows table met s index lead f mid → IsExpanding table begun s (index + 1) mid (join found f)
-expanding_next {table = table} {begun = begun} {met = met} {mid = mid} {s = s} {index = index} {found = found} {f = f} lead is at x = record { rest = rest }
-  where
-    rest : (g : Forest) (after : List NamedSymbol) → Expands table mid s (index + 1) (drop (index + 1) (table s)) g after → Expands table (begun ++ s ∷ []) s 0 (table s) (join (join found f) g) after
-    rest g after y =
-        let here : Expands table met s index (drop index (table s)) (join f g) after = subst (λ xs. Expands table met s index xs (join f g) after) (sym (drop_at (table s) index lead at)) (step x y) in
-        subst (λ z. Expands table (begun ++ s ∷ []) s 0 (table s) z after) (sym (join_assoc found f g)) (is.rest (join f g) after here)
+pub aliases_with : (root : RootView) (running : List AliasDecl) (d : AliasDecl) → AreAliasesNumbered root running → d.«module».0 < length root.stored → AreAliasesNumbered root (running ++ d ∷ [])
+aliases_with root [] d numbered within zero e h = within
+aliases_with root [] d numbered within (suc k) e h = absurd (omega (arith, h))
+aliases_with root (m ∷ running) d numbered within zero e h = numbered 0 e (omega arith)
+aliases_with root (m ∷ running) d numbered within (suc k) e h = aliases_with root running d (λ j q g. numbered (suc j) q (omega (arith, g))) within k e (omega (arith, h))
 
-pub expanding_last : {table : Leads} {begun met : List NamedSymbol} {s : NamedSymbol} {index : ℕ} {found : Forest} → IsExpanding table begun s index met found → is_met begun s ≡ false → slice_get (table s) index ≡ None → Finds table begun s found met
-expanding_last {table = table} {begun = begun} {met = met} {s = s} {index = index} {found = found} is fresh past =
-    let here : Expands table met s index (drop index (table s)) none met = subst (λ xs. Expands table met s index xs none met) (sym (drop_past (table s) index past)) at_end in
-    is_new fresh (subst (λ z. Expands table (begun ++ s ∷ []) s 0 (table s) z met) (join_none found) (is.rest none met here))
-
--- ---- the loop over the statements `export *`, whose exports are the candidates
-
-pub record IsTrying (table : Leads) (begun : List NamedSymbol) (pass : Option (List ℕ) → Option NamedSymbol) (statements : List (Option (List ℕ))) (otherwise : Option Missing) (position : ℕ) (met : List NamedSymbol) : Type 0 where
-  pub rest : (f : Forest) (after : List NamedSymbol) → Tries table met (filter_map pass (drop position statements)) otherwise f after → Tries table begun (filter_map pass statements) otherwise f after
-
-pub trying_first : (table : Leads) (begun : List NamedSymbol) (pass : Option (List ℕ) → Option NamedSymbol) (statements : List (Option (List ℕ))) (otherwise : Option Missing) → IsTrying table begun pass statements otherwise 0 begun
-trying_first table begun pass statements otherwise = record { rest = λ f after x. x }
-
-tries_none : {table : Leads} {met mid after : List NamedSymbol} {cs : List NamedSymbol} {otherwise : Option Missing} {f : Forest} (c : Option NamedSymbol) → FindsOne table met c none mid → Tries table mid cs otherwise f after → Tries table met (cons_option c cs) otherwise f after
-tries_none {table = table} {after = after} {cs = cs} {otherwise = otherwise} {f = f} None x y = subst (λ m. Tries table m cs otherwise f after) x.1 y
-tries_none (Some c) x y = passes x y
-
-tries_some : {table : Leads} {met after : List NamedSymbol} (cs : List NamedSymbol) (otherwise : Option Missing) (f : Forest) (c : Option NamedSymbol) → (f ≡ none → ⊥) → FindsOne table met c f after → Tries table met (cons_option c cs) otherwise f after
-tries_some cs otherwise f None some x = absurd (some x.0)
-tries_some cs otherwise none (Some c) some x = absurd (some refl)
-tries_some cs otherwise (more t f) (Some c) some x = first_with x
-
-module _ {table : Leads} {begun : List NamedSymbol} {pass : Option (List ℕ) → Option NamedSymbol} {statements : List (Option (List ℕ))} {otherwise : Option Missing} {position : ℕ} {met : List NamedSymbol} (is : IsTrying table begun pass statements otherwise position met) where
-  pub trying_next : {mid : List NamedSymbol} (leads_to : Option (List ℕ)) → slice_get statements position ≡ Some leads_to → FindsOne table met (pass leads_to) none mid → IsTrying table begun pass statements otherwise (position + 1) mid
-  trying_next {mid = mid} leads_to at x = record { rest = λ f after y. is.rest f after (subst (λ xs. Tries table met (filter_map pass xs) otherwise f after) (sym (drop_at statements position leads_to at)) (tries_none (pass leads_to) x y)) }
-
-  pub trying_here : {after : List NamedSymbol} (f : Forest) (leads_to : Option (List ℕ)) → slice_get statements position ≡ Some leads_to → (f ≡ none → ⊥) → FindsOne table met (pass leads_to) f after → Tries table begun (filter_map pass statements) otherwise f after
-  trying_here {after = after} f leads_to at some x = is.rest f after (subst (λ xs. Tries table met (filter_map pass xs) otherwise f after) (sym (drop_at statements position leads_to at)) (tries_some (filter_map pass (drop (position + 1) statements)) otherwise f (pass leads_to) some x))
-
-  pub trying_last : slice_get statements position ≡ None → Tries table begun (filter_map pass statements) otherwise (missing_in otherwise) met
-  trying_last past = is.rest (missing_in otherwise) met (subst (λ xs. Tries table met (filter_map pass xs) otherwise (missing_in otherwise) met) (sym (drop_past statements position past)) no_more)
+pub still_aliases : {root more : RootView} → HasGrown root more → (running : List AliasDecl) → AreAliasesNumbered root running → AreAliasesNumbered more running
+still_aliases grown running numbered = λ k e within. still_stored grown (get_or running k e).«module».0 (numbered k e within)

@@ -1,16 +1,18 @@
 -- What texts and `export *` lead to, in a root that stores it.
-use Rattle.std.proofs.Common.{◌≡◌, ℕ, zero, suc, ◌<◌, inl, inr, List, [], ◌∷◌, length, map, get_or, Option, None, Some, option_map, option_to_list, option_and_then, Result, Ok, Err, OnOk, OnErr, refl, sym, ap, subst, ◌∙◌, arith, slice_get}
+use Rattle.std.proofs.Common.{◌≡◌, ℕ, zero, suc, ◌<◌, ◌⊎◌, inl, inr, List, [], ◌∷◌, length, map, get_or, Option, None, Some, option_map, option_to_list, option_and_then, Result, Ok, Err, OnOk, OnErr, refl, sym, ap, subst, ◌∙◌, arith, slice_get}
+use Rattle.std.specs.Prelude.{Contains}
 use Rattle.std.proofs.lemmas.Option.{get_or_from_slice_get, none-some, same_Some}
 use Rattle.symbols_syntax.specs.declared.ids.ModuleId.{ModuleId}
+use Rattle.symbols_syntax.specs.declared.ids.SymbolId.{SymbolId}
 use Rattle.symbols_syntax.specs.declared.ids.UniqueSymbolId.{UniqueSymbolId}
 use Rattle.symbols_syntax.specs.Graph.{GraphView}
 use Rattle.symbols_table.specs.declared.info.fault.SymbolsFault.{SymbolsFault}
 use Rattle.symbols_root.specs.Roots.{RootView, with_stored, specifier_under, IsRefusal}
 use Rattle.symbols_exports.specs.declared.exports.path.ResolvedExportOrReExportAllPath.{ResolvedExportOrReExportAllPath}
-use Rattle.symbols_exports.specs.Chains.{target, chain_end}
+use Rattle.symbols_exports.specs.Chains.{Statements, target, chain_end}
 use Rattle.symbols_exports.specs.Exports.{Entry}
 use Rattle.symbols_exports.specs.Exporting.{specifier_in}
-use Rattle.symbols_exports.specs.OneName.{export_named, IsNameAnswer, IsNameFault, named_way}
+use Rattle.symbols_exports.specs.OneName.{export_named, IsNameAnswer, IsNameFault, IsNameBrokenOff, named_way}
 use Rattle.symbols_exports.specs.Paths.{resolved_export}
 use Rattle.symbols_exports.specs.StarStatements.{star_texts, text_target, statements_of}
 use Rattle.symbols_exports.specs.Taking.{NameView}
@@ -20,7 +22,7 @@ use Rattle.symbols_paths.specs.Leads.{export_along}
 use Rattle.symbols_paths.specs.Views.{named}
 use Rattle.symbols_paths.specs.Growing.{HasGrown}
 use Rattle.symbols_paths.specs.Needed.{IsNeeded, begun, passed_on, IsRefused}
-use Rattle.symbols_paths.proofs.Growing.{grown_not, grown_by_one, grown_by_all}
+use Rattle.symbols_paths.proofs.Growing.{grown_not, grown_on, grown_by_one, grown_by_all}
 
 pub grown_by : {A : Type 0} (old new : RootView) (needed : Option (List ℕ)) (result : Result A SymbolsFault) → OnOk result (new ≡ with_stored old needed) → OnErr result (new ≡ old) → HasGrown old new
 grown_by old new needed (Ok x) stored same = subst (HasGrown old) (sym stored) (grown_by_one old needed)
@@ -133,3 +135,22 @@ some_along old mid new m text name id path s asked grown leads is in_module numb
 
 pub some_stored : (old new : RootView) (name : List ℕ) (id : ModuleId) (path : ResolvedExportOrReExportAllPath) (asked : ℕ) → IsNameAnswer old new id name (named_way name path ∷ []) asked → (resolved_export path).«module».0 < length new.stored
 some_stored old new name id path asked is = (is.names_stored 0 (named_way name path) (omega arith)).export_in
+
+-- ---- an export of a module itself
+
+pub refused_export : (old new : RootView) (name : List ℕ) (id : ModuleId) (fault : SymbolsFault) (asked : ℕ) → id.0 < length old.stored → IsNameFault old new id name fault asked → IsRefused new (specifier_in old id) fault
+refused_export old new name id fault asked known (inl is) = absurd (omega (arith, is.unknown, known))
+refused_export old new name id fault asked known (inr is) = record { needed = is.needed; is_needed = needed; refused = is.refused }
+  where
+    needed : (v : List ℕ) → is.needed ≡ Some v → IsNeeded new.graph (specifier_in old id) v
+    needed v e =
+        let at = is.is_needed v e in
+        let asked_for = is.are_asked at.0 at.1 in
+        subst (λ g. IsNeeded g (specifier_in old id) v) (sym (grown_fault (inr is)).graph) (passed_on at.0.0 at.0.1 (needed_along asked_for.0 begun asked_for.1.is_chain.leads) at.2)
+
+pub none_exported : (old new : RootView) (id : ModuleId) (name : List ℕ) (asked : ℕ) → IsNameAnswer old new id name [] asked → export_named old.graph (specifier_in old id) name ≡ None
+none_exported old new id name asked is = by (export_named old.graph (specifier_in old id) name) is.tells
+  where
+    by : (found : Option Entry) → [] ≡ option_to_list (option_map (told_export old.graph (specifier_in old id)) found) → found ≡ None
+    by None e = refl
+    by (Some entry) e = absurd cc

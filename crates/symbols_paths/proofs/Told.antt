@@ -1,5 +1,5 @@
 -- Paths as trees, and what they name, part by part.
-use Rattle.std.proofs.Common.{◌≡◌, ℕ, zero, suc, ◌<◌, List, [], ◌∷◌, ◌++◌, length, map, true, false, Vec, refl, sym, ◌∙◌, ap, arith, append_assoc, append-nil, true≢false}
+use Rattle.std.proofs.Common.{◌≡◌, ℕ, zero, suc, ◌<◌, ◌⊎◌, inl, inr, List, [], ◌∷◌, ◌++◌, length, map, get_or, Bool, true, false, Option, None, Some, Vec, refl, sym, ◌∙◌, ap, arith, append_assoc, append-nil, true≢false}
 use Rattle.std.specs.Prelude.{String, vec_len, ◌==◌}
 use Rattle.std.proofs.lemmas.Bool.Decides.{nat_tests}
 use Rattle.std.proofs.lemmas.List.{map-append}
@@ -11,13 +11,13 @@ use Rattle.symbols_paths.specs.declared.paths.definition.DeclRef.{DeclRef}
 use Rattle.symbols_paths.specs.declared.paths.node.DefinitionPathNode.{DefinitionPathNode}
 use Rattle.symbols_paths.specs.declared.paths.node.DefinitionPathNode.TheFolds.{fold-DefinitionPathNodeResolved, fold-roll-DefinitionPathNode, fold-roll-DefinitionPathNodeResolved, fold-roll-DefinitionPathLink}
 use Rattle.symbols_paths.specs.declared.paths.node.DefinitionPathNode.TheOpen as open_node
-use Rattle.symbols_paths.specs.declared.paths.node.DefinitionPathNode.TheViews.{roll-DefinitionPathLink, rolls-Resolved, rolls-Link}
+use Rattle.symbols_paths.specs.declared.paths.node.DefinitionPathNode.TheViews.{roll-DefinitionPathLink, roll-DefinitionPathNode, roll-DefinitionPathNodeResolved, rolls-Resolved, rolls-Link}
 use Rattle.symbols_paths.specs.declared.paths.node.DefinitionPathNode.TheVariants as node
 use Rattle.symbols_paths.specs.declared.paths.node.DefinitionPathNodeResolved.TheVariants as resolved
 use Rattle.symbols_paths.specs.declared.paths.node.DefinitionPathLink.{DefinitionPathLink, DefinitionPathLink-F}
 use Rattle.symbols_paths.specs.declared.paths.node.DefinitionPathNodeResolved.{DefinitionPathNodeResolved}
 use Rattle.symbols_paths.specs.Trees.{Tree, Forest, LinkHead, link, none, more, one, join, link_to}
-use Rattle.symbols_paths.specs.Views.{named_in, decl_told, texts_of, node_step, resolved_step, link_step, tree_told, forest_told, joined, node_modules, resolved_modules, link_modules, modules_of, modules_in, AreStored}
+use Rattle.symbols_paths.specs.Views.{named_in, decl_told, texts_of, node_step, resolved_step, link_step, tree_told, forest_in, forest_told, forest_of_option, joined, node_modules, resolved_modules, link_modules, modules_of, modules_in, AreStored}
 
 -- a step as a path
 abbrev pub step_of : ModuleId → SymbolId → DeclRef → Vec (String Global) Global → Vec DefinitionPathNode Global → DefinitionPathNode
@@ -64,8 +64,11 @@ is_some paths said empty = by (vec_len paths) (paths.ok.0) said
     by zero same e = true≢false (sym e)
     by (suc n) same e = omega (arith, same, empty)
 
-none_at : (n : ℕ) → true ≡ (n == 0) → n ≡ 0
+pub none_at : (n : ℕ) → true ≡ (n == 0) → n ≡ 0
 none_at n e = grind (arith, nat_tests)
+
+pub some_at : (n : ℕ) → false ≡ (n == 0) → 0 < n
+some_at n e = grind (arith, nat_tests)
 
 pub is_none : (root : RootView) (paths : Vec DefinitionPathNode Global) → true ≡ (vec_len paths == 0) → forest_told root paths.items ≡ none
 is_none root paths said = by paths.items (sym paths.ok.0 ∙ none_at (vec_len paths) said)
@@ -94,11 +97,3 @@ pub stored_both : (root : RootView) (xs ys : List ModuleId) → AreStored root x
 stored_both root [] ys left right k d within = right k d within
 stored_both root (x ∷ xs) ys left right zero d within = left 0 d (omega arith)
 stored_both root (x ∷ xs) ys left right (suc k) d within = stored_both root xs ys (λ j e h. left (suc j) e (omega (arith, h))) right k d (omega (arith, within))
-
-pub join_none : (f : Forest) → join f none ≡ f
-join_none none = refl
-join_none (more t f) = ap (more t) (join_none f)
-
-pub join_assoc : (f g h : Forest) → join (join f g) h ≡ join f (join g h)
-join_assoc none g h = refl
-join_assoc (more t f) g h = ap (more t) (join_assoc f g h)

@@ -8,34 +8,39 @@ use Rattle.symbols_root.specs.Roots.{RootView}
 use Rattle.symbols_exports.specs.Exporting.{specifier_in}
 use Rattle.symbols_exports.specs.StarStatements.{star_texts, text_target, statements_of}
 use Rattle.symbols_paths.specs.declared.paths.node.DefinitionPathNode.{DefinitionPathNode}
-use Rattle.symbols_paths.specs.Trees.{Missing, no_part, none}
-use Rattle.symbols_paths.specs.Leads.{export_along, leads_of}
+use Rattle.symbols_paths.specs.declared.paths.resolving.AliasDecl.{AliasDecl}
+use Rattle.symbols_paths.specs.Trees.{NamedSymbol, Missing, no_part, Forest, none}
+use Rattle.symbols_paths.specs.Leads.{export_along}
+use Rattle.symbols_paths.specs.PartWays.{links_of}
 use Rattle.symbols_paths.specs.Choice.{Tries, missing_in}
+use Rattle.symbols_paths.specs.Computed.{enough}
 use Rattle.symbols_paths.specs.Growing.{HasGrown}
 use Rattle.symbols_paths.specs.Views.{named, forest_told, modules_in, AreStored}
-use Rattle.symbols_paths.specs.Searching.{AreNumbered, met_told, FindsOne, HasSearched, IsTried, IsOffered, ways_along}
+use Rattle.symbols_paths.specs.Searching.{AreNumbered, met_told, running_told, FindsOne, HasSearched, IsTried, IsOffered, ways_along}
 use Rattle.symbols_paths.proofs.Growing.{grown_not, grown_on, same_specifier, still_stored}
-use Rattle.symbols_paths.proofs.SearchSteps.{IsTrying, trying_first, trying_next, trying_here, trying_last}
+use Rattle.symbols_paths.proofs.Loops.{IsTrying, trying_first, trying_next, trying_here, trying_last}
 
 -- the unresolved entry where no export gives a path
 abbrev pub no_export : RootView → ModuleId → List ℕ → Option Missing
 no_export root id name = Some (record { specifier = specifier_in root id; reason = no_part name; parts = [] })
 
 -- before the statement at the position
-pub record IsAsking (old : RootView) (begun : List UniqueSymbolId) (id : ModuleId) (name : List ℕ) (root : RootView) (position : ℕ) (met : List UniqueSymbolId) : Type 0 where
+pub record IsAsking (old : RootView) (running : List AliasDecl) (begun : List UniqueSymbolId) (id : ModuleId) (name : List ℕ) (root : RootView) (now : List AliasDecl) (position : ℕ) (met : List UniqueSymbolId) : Type 0 where
   pub grown : HasGrown old root
+  pub same : now ≡ running
   pub numbered : AreNumbered root met
   pub longer : length begun ≤ length met
   pub few : length begun ≤ 2 ^ 64 → length met ≤ 2 ^ 64
-  pub told : (later : RootView) → HasGrown root later → IsTrying (leads_of later.graph) (met_told later begun) (export_along later.graph name) (statements_of later.graph (specifier_in later id)) (no_export later id name) position (met_told later met)
+  pub told : (later : RootView) → HasGrown root later → IsTrying (links_of later.graph) enough (running_told later running) (met_told later begun) (export_along later.graph name) (statements_of later.graph (specifier_in later id)) (no_export later id name) position (met_told later met)
 
-pub asking_first : (root : RootView) (begun : List UniqueSymbolId) (id : ModuleId) (name : List ℕ) → AreNumbered root begun → IsAsking root begun id name root 0 begun
-asking_first root begun id name numbered = record {
+pub asking_first : (root : RootView) (running : List AliasDecl) (begun : List UniqueSymbolId) (id : ModuleId) (name : List ℕ) → AreNumbered root begun → IsAsking root running begun id name root running 0 begun
+asking_first root running begun id name numbered = record {
   grown = grown_not root;
+  same = refl;
   numbered = numbered;
   longer = omega arith;
   few = λ h. h;
-  told = λ later grown. trying_first (leads_of later.graph) (met_told later begun) (export_along later.graph name) (statements_of later.graph (specifier_in later id)) (no_export later id name);
+  told = λ later grown. trying_first (links_of later.graph) enough (running_told later running) (met_told later begun) (export_along later.graph name) (statements_of later.graph (specifier_in later id)) (no_export later id name);
 }
 
 -- where the statement of a text leads
@@ -52,7 +57,7 @@ leads_past f (y ∷ ys) (suc position) e = leads_past f ys position e
 texts_later : {root later : RootView} → HasGrown root later → (id : ModuleId) → id.0 < length root.stored → star_texts later.graph (specifier_in later id) ≡ star_texts root.graph (specifier_in root id)
 texts_later grown id within = λ i. star_texts (grown.graph i) (same_specifier grown id within i)
 
-module _ {old : RootView} {begun : List UniqueSymbolId} {id : ModuleId} {name : List ℕ} {root : RootView} {position : ℕ} {met : List UniqueSymbolId} (is : IsAsking old begun id name root position met) (known : id.0 < length old.stored) where
+module _ {old : RootView} {running : List AliasDecl} {begun : List UniqueSymbolId} {id : ModuleId} {name : List ℕ} {root : RootView} {now : List AliasDecl} {position : ℕ} {met : List UniqueSymbolId} (is : IsAsking old running begun id name root now position met) (known : id.0 < length old.stored) where
   pub asking_within : id.0 < length root.stored
   asking_within = still_stored is.grown id.0 known
 
@@ -84,36 +89,37 @@ module _ {old : RootView} {begun : List UniqueSymbolId} {id : ModuleId} {name : 
       by (Some s) e h = ap Some (λ i. record { specifier = same_specifier grown s.module_id h i; number = s.symbol_id }) ∙ e
 
   -- there is no path along the statement
-  pub asking_next : {mid after : RootView} {met_after : List UniqueSymbolId} (text : List ℕ) (candidate : Option UniqueSymbolId) (paths : List DefinitionPathNode) → slice_get (star_texts root.graph (specifier_in root id)) position ≡ Some text → HasGrown root mid → option_map (named mid) candidate ≡ export_along root.graph name (text_target root.graph (specifier_in root id) text) → IfSome candidate (λ s. s.module_id.0 < length mid.stored) → HasGrown mid after → IsOffered after met candidate paths met_after → HasSearched after met met_after (modules_in paths) → ((later : RootView) → forest_told later paths ≡ none) → IsAsking old begun id name after (position + 1) met_after
-  asking_next {mid = mid} {after = after} {met_after = met_after} text candidate paths at more gives stored kept offered searched empty = record {
+  pub asking_next : {mid after : RootView} {met_after : List UniqueSymbolId} (text : List ℕ) (candidate : Option UniqueSymbolId) (paths : List DefinitionPathNode) → slice_get (star_texts root.graph (specifier_in root id)) position ≡ Some text → HasGrown root mid → option_map (named mid) candidate ≡ export_along root.graph name (text_target root.graph (specifier_in root id) text) → IfSome candidate (λ s. s.module_id.0 < length mid.stored) → HasGrown mid after → IsOffered after now met candidate paths met_after → (onward : List AliasDecl) → onward ≡ now → HasSearched after met met_after (modules_in paths) → ((later : RootView) → forest_told later paths ≡ none) → IsAsking old running begun id name after onward (position + 1) met_after
+  asking_next {mid = mid} {after = after} {met_after = met_after} text candidate paths at more gives stored kept offered onward on searched empty = record {
     grown = grown_on is.grown (grown_on more kept);
+    same = on ∙ is.same;
     numbered = searched.numbered;
     longer = omega (arith, is.longer, searched.longer);
     few = λ h. searched.few (is.few h);
     told = told;
   }
     where
-      told : (later : RootView) → HasGrown after later → IsTrying (leads_of later.graph) (met_told later begun) (export_along later.graph name) (statements_of later.graph (specifier_in later id)) (no_export later id name) (position + 1) (met_told later met_after)
+      told : (later : RootView) → HasGrown after later → IsTrying (links_of later.graph) enough (running_told later running) (met_told later begun) (export_along later.graph name) (statements_of later.graph (specifier_in later id)) (no_export later id name) (position + 1) (met_told later met_after)
       told later grown =
           let whole = grown_on more (grown_on kept grown) in
           let leads_to = text_target later.graph (specifier_in later id) text in
-          let one = subst (λ f. FindsOne (leads_of later.graph) (met_told later met) (option_map (named later) candidate) f (met_told later met_after)) (empty later) (offered later grown) in
-          trying_next (is.told later whole) leads_to (statement_later text at later whole) (subst (λ c. FindsOne (leads_of later.graph) (met_told later met) c none (met_told later met_after)) (candidate_later text candidate more gives stored later (grown_on kept grown)) one)
+          let one = subst (λ f. FindsOne (links_of later.graph) enough (running_told later running) (met_told later met) (option_map (named later) candidate) f (met_told later met_after)) (empty later) (subst (λ r. IsOffered after r met candidate paths met_after) is.same offered later grown) in
+          trying_next (links_of later.graph) enough (running_told later running) (is.told later whole) leads_to (statement_later text at later whole) (subst (λ c. FindsOne (links_of later.graph) enough (running_told later running) (met_told later met) c none (met_told later met_after)) (candidate_later text candidate more gives stored later (grown_on kept grown)) one)
 
   -- there are some
-  pub asking_here : {mid after : RootView} (met_after : List UniqueSymbolId) (text : List ℕ) (candidate : Option UniqueSymbolId) (paths : List DefinitionPathNode) → slice_get (star_texts root.graph (specifier_in root id)) position ≡ Some text → HasGrown root mid → option_map (named mid) candidate ≡ export_along root.graph name (text_target root.graph (specifier_in root id) text) → IfSome candidate (λ s. s.module_id.0 < length mid.stored) → HasGrown mid after → IsOffered after met candidate paths met_after → ((later : RootView) → forest_told later paths ≡ none → ⊥) → IsTried after begun (ways_along id name) paths met_after
-  asking_here met_after text candidate paths at more gives stored kept offered some = λ later grown.
+  pub asking_here : {mid after : RootView} (met_after : List UniqueSymbolId) (text : List ℕ) (candidate : Option UniqueSymbolId) (paths : List DefinitionPathNode) → slice_get (star_texts root.graph (specifier_in root id)) position ≡ Some text → HasGrown root mid → option_map (named mid) candidate ≡ export_along root.graph name (text_target root.graph (specifier_in root id) text) → IfSome candidate (λ s. s.module_id.0 < length mid.stored) → HasGrown mid after → IsOffered after now met candidate paths met_after → ((later : RootView) → forest_told later paths ≡ none → ⊥) → IsTried after running begun (ways_along id name) paths met_after
+  asking_here {after = after} met_after text candidate paths at more gives stored kept offered some = λ later grown.
       let whole = grown_on more (grown_on kept grown) in
-      trying_here (is.told later whole) (forest_told later paths) (text_target later.graph (specifier_in later id) text) (statement_later text at later whole) (some later) (subst (λ c. FindsOne (leads_of later.graph) (met_told later met) c (forest_told later paths) (met_told later met_after)) (candidate_later text candidate more gives stored later (grown_on kept grown)) (offered later grown))
+      trying_here (links_of later.graph) enough (running_told later running) (is.told later whole) (forest_told later paths) (text_target later.graph (specifier_in later id) text) (statement_later text at later whole) (some later) (subst (λ c. FindsOne (links_of later.graph) enough (running_told later running) (met_told later met) c (forest_told later paths) (met_told later met_after)) (candidate_later text candidate more gives stored later (grown_on kept grown)) (subst (λ r. IsOffered after r met candidate paths met_after) is.same offered later grown))
 
   pub here_searched : {after : RootView} {mid : List UniqueSymbolId} (paths : List DefinitionPathNode) → HasSearched after met mid (modules_in paths) → HasSearched after begun mid (modules_in paths)
   here_searched paths searched = record { numbered = searched.numbered; longer = omega (arith, is.longer, searched.longer); few = λ h. searched.few (is.few h); stored = searched.stored }
 
   -- there is no statement more
-  pub asking_last : (paths : List DefinitionPathNode) → slice_get (star_texts root.graph (specifier_in root id)) position ≡ None → ((later : RootView) → forest_told later paths ≡ missing_in (no_export later id name)) → IsTried root begun (ways_along id name) paths met
+  pub asking_last : (paths : List DefinitionPathNode) → slice_get (star_texts root.graph (specifier_in root id)) position ≡ None → ((later : RootView) → forest_told later paths ≡ missing_in (no_export later id name)) → IsTried root running begun (ways_along id name) paths met
   asking_last paths past told = λ later grown.
       let over : slice_get (statements_of later.graph (specifier_in later id)) position ≡ None = leads_past (text_target later.graph (specifier_in later id)) (star_texts later.graph (specifier_in later id)) position (ap (λ texts. slice_get texts position) (texts_later grown id asking_within) ∙ past) in
-      subst (λ f. Tries (leads_of later.graph) (met_told later begun) (ways_along id name later.graph later).candidates (ways_along id name later.graph later).otherwise f (met_told later met)) (sym (told later)) (trying_last (is.told later grown) over)
+      subst (λ f. Tries (links_of later.graph) enough (running_told later running) (met_told later begun) (ways_along id name later.graph later).candidates (ways_along id name later.graph later).otherwise f (met_told later met)) (sym (told later)) (trying_last (links_of later.graph) enough (running_told later running) (is.told later grown) over)
 
   pub last_searched : (paths : List DefinitionPathNode) → AreStored root (modules_in paths) → HasSearched root begun met (modules_in paths)
   last_searched paths stored = record { numbered = is.numbered; longer = is.longer; few = is.few; stored = stored }

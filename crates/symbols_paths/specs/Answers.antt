@@ -1,5 +1,5 @@
 -- What `find_definition_paths` answers.
-use Rattle.std.specs.Prelude.{◌≡◌, ◌≢◌, ◌<◌, ◌≤◌, ◌⊎◌, List, length, Contains, Option, None}
+use Rattle.std.specs.Prelude.{◌≡◌, ◌≢◌, ℕ, ◌<◌, ◌≤◌, ◌⊎◌, List, [], length, Contains, Option, Some, None}
 use Rattle.symbols_syntax.specs.declared.ids.ModuleId.{ModuleId}
 use Rattle.symbols_syntax.specs.declared.ids.SymbolId.{SymbolId}
 use Rattle.symbols_syntax.specs.Graph.{GraphView}
@@ -10,22 +10,32 @@ use Rattle.symbols_root.specs.Roots.{RootView}
 use Rattle.symbols_exports.specs.Exporting.{specifier_in}
 use Rattle.symbols_exports.specs.StarStatements.{changes_under}
 use Rattle.symbols_paths.specs.declared.paths.node.DefinitionPathNode.{DefinitionPathNode}
-use Rattle.symbols_paths.specs.Trees.{NamedSymbol, Leaf, Forest, leaves_in, IsOnce}
-use Rattle.symbols_paths.specs.Leads.{leads_of}
-use Rattle.symbols_paths.specs.Derived.{IsDerived}
-use Rattle.symbols_paths.specs.Reach.{IsLeaf, IsNearLeaf, IsPartLast}
-use Rattle.symbols_paths.specs.Choice.{IsChosen}
+use Rattle.symbols_paths.specs.Trees.{NamedSymbol, Parts, Leaf, Forest, leaves_in, IsOnce}
+use Rattle.symbols_paths.specs.PartWays.{links_of}
+use Rattle.symbols_paths.specs.Derived.{IsDerived, IsDerivedUnder}
+use Rattle.symbols_paths.specs.Reach.{IsLeaf, IsWalk, IsNearLeaf, GivesUnder, IsPartLast}
+use Rattle.symbols_paths.specs.Searches.{IsFirstLeaf, IsFirstWalk, IsApart, HasOneRest, MeetsNoAlias}
+use Rattle.symbols_paths.specs.Choice.{IsChosen, IsChosenUnder}
 use Rattle.symbols_paths.specs.Views.{named_in, forest_told, modules_in, AreStored}
 use Rattle.symbols_paths.specs.Needed.{IsRefused}
 
--- the paths of a symbol: each is derived, each leaf is one of the symbol's, no leaf of first reach is lost, no declaration is given twice, a part that isn't resolved stands only where all else is told; and of all such lists it is the choice
+-- the paths of a symbol under parts: each is derived, each leaf is one of the symbol's under the parts, and what a leaf of first reach comes to under the parts is there; no leaf is lost where no alias is met in its own search and no symbol reached with two different remaining parts in one; and of all such lists it is the choice
+pub record ArePathsUnder (graph : GraphView) (s : NamedSymbol) (ps : Parts) (paths : Forest) : Type 0 where
+  pub derived : IsDerivedUnder (links_of graph) s ps paths
+  pub leaves : (x : Leaf) → Contains (leaves_in paths) x → IsWalk (links_of graph) s ps x
+  pub first : (x y : Leaf) → IsNearLeaf (links_of graph) s x → GivesUnder (links_of graph) ps x y → Contains (leaves_in paths) y
+  pub lossless : IsApart (links_of graph) s ps → HasOneRest (links_of graph) s ps → (x : Leaf) → IsFirstWalk (links_of graph) s ps x → Contains (leaves_in paths) x
+  pub chosen : IsChosenUnder (links_of graph) s ps paths
+
+-- the paths of a symbol: the same without parts; no leaf of first reach is lost, no declaration is given twice where no alias is met, and a part that isn't resolved, behind no alias, stands only where all else is told
 pub record ArePaths (graph : GraphView) (s : NamedSymbol) (paths : Forest) : Type 0 where
-  pub derived : IsDerived (leads_of graph) s paths
-  pub leaves : (x : Leaf) → Contains (leaves_in paths) x → IsLeaf (leads_of graph) s x
-  pub first : (x : Leaf) → IsNearLeaf (leads_of graph) s x → Contains (leaves_in paths) x
-  pub once : IsOnce (leaves_in paths)
-  pub parts : IsPartLast graph (leaves_in paths)
-  pub chosen : IsChosen (leads_of graph) s paths
+  pub derived : IsDerived (links_of graph) s paths
+  pub leaves : (x : Leaf) → Contains (leaves_in paths) x → IsLeaf (links_of graph) s x
+  pub first : (x : Leaf) → IsNearLeaf (links_of graph) s x → Contains (leaves_in paths) x
+  pub once : MeetsNoAlias (links_of graph) s [] → IsOnce (leaves_in paths)
+  pub parts : IsPartLast graph paths (leaves_in paths)
+  pub lossless : IsApart (links_of graph) s [] → HasOneRest (links_of graph) s [] → (x : Leaf) → IsFirstLeaf (links_of graph) s x → Contains (leaves_in paths) x
+  pub chosen : IsChosen (links_of graph) s paths
 
 -- the symbol of a stored module
 abbrev pub symbol_in : RootView → ModuleId → SymbolId → Option SymbolView

@@ -1,12 +1,13 @@
--- Which of the derived lists is given: each symbol is expanded once, and of the candidates the first is taken that gives a path.
-use Rattle.std.specs.Prelude.{◌≡◌, ℕ, ◌+◌, nat_eq, Bool, true, false, ◌&&◌, List, [], ◌∷◌, ◌++◌, Option, None, Some}
+-- Which of the derived lists is given: each symbol is expanded once, of the candidates the first is taken that gives a path, and an alias that is met while it is being resolved gives nothing.
+use Rattle.std.specs.Prelude.{◌≡◌, ℕ, ◌+◌, ◌<◌, ◌≤◌, length, nat_eq, Bool, true, false, ◌&&◌, List, [], ◌∷◌, ◌++◌, Option, None, Some}
 use Rattle.std.specs.List.{list_any}
 use Rattle.std.specs.Str.{bytes_eq}
 use Rattle.symbols_syntax.specs.declared.tree.arena.SourceRange.{SourceRange}
 use Rattle.symbols_table.specs.DeclViews.{DepView}
-use Rattle.symbols_paths.specs.Trees.{NamedSymbol, Missing, definition, unresolved, Tree, Forest, leaf, none, more, one, join, link_to}
-use Rattle.symbols_paths.specs.Leads.{Ways, Lead, Leads, defines, leads}
-use Rattle.symbols_paths.specs.Derived.{defined_at, head_at}
+use Rattle.symbols_paths.specs.Trees.{NamedSymbol, NamedDecl, Parts, Defined, Missing, definition, unresolved, LinkHead, Tree, Forest, leaf, link, none, more, one, join, link_to}
+use Rattle.symbols_paths.specs.Leads.{Ways, Lead, defines, leads, alias}
+use Rattle.symbols_paths.specs.PartWays.{to, itself, lacks, Links}
+use Rattle.symbols_paths.specs.Derived.{defined_at, head_at, decl_at, alias_head, part_head, under_parts}
 
 abbrev pub same_symbol : NamedSymbol → NamedSymbol → Bool
 same_symbol s t = bytes_eq s.specifier t.specifier && nat_eq s.number.0 t.number.0
@@ -14,30 +15,61 @@ same_symbol s t = bytes_eq s.specifier t.specifier && nat_eq s.number.0 t.number
 abbrev pub is_met : List NamedSymbol → NamedSymbol → Bool
 is_met met s = list_any (same_symbol s) met
 
+abbrev pub same_decl : NamedDecl → NamedDecl → Bool
+same_decl d e = same_symbol d.symbol e.symbol && nat_eq d.index e.index
+
+-- the alias is being resolved
+abbrev pub is_running : List NamedDecl → NamedDecl → Bool
+is_running running decl = list_any (same_decl decl) running
+
 -- the unresolved entry that stands where no candidate gives a path
 abbrev pub missing_in : Option Missing → Forest
 missing_in None = none
 missing_in (Some missing) = one (leaf (unresolved missing))
 
--- met symbols before, what is searched, the paths, met symbols after
+-- the aliases that are being resolved, met symbols before, what is searched, the paths, met symbols after. No more aliases than the limit are resolved within one another, and no more symbols met in the search of one: where it is too low there is no outcome, and else it changes none
 mutual
-  pub data Finds (table : Leads) : List NamedSymbol → NamedSymbol → Forest → List NamedSymbol → Type 0 where
-    was_met : {met : List NamedSymbol} {s : NamedSymbol} → is_met met s ≡ true → Finds table met s none met
-    is_new : {met after : List NamedSymbol} {s : NamedSymbol} {f : Forest} → is_met met s ≡ false → Expands table (met ++ s ∷ []) s 0 (table s) f after → Finds table met s f after
+  pub data Finds (links : Links) (limit : ℕ) : List NamedDecl → List NamedSymbol → NamedSymbol → Forest → List NamedSymbol → Type 0 where
+    was_met : {running : List NamedDecl} {met : List NamedSymbol} {s : NamedSymbol} → is_met met s ≡ true → Finds links limit running met s none met
+    is_new : {running : List NamedDecl} {met after : List NamedSymbol} {s : NamedSymbol} {f : Forest} → is_met met s ≡ false → Expands links limit running (met ++ s ∷ []) s 0 (links.leads s) f after → Finds links limit running met s f after
 
-  pub data Expands (table : Leads) : List NamedSymbol → NamedSymbol → ℕ → List Lead → Forest → List NamedSymbol → Type 0 where
-    at_end : {met : List NamedSymbol} {s : NamedSymbol} {i : ℕ} → Expands table met s i [] none met
-    step : {met mid after : List NamedSymbol} {s : NamedSymbol} {i : ℕ} {x : Lead} {xs : List Lead} {f rest : Forest} → Follows table met s i x f mid → Expands table mid s (i + 1) xs rest after → Expands table met s i (x ∷ xs) (join f rest) after
+  pub data Expands (links : Links) (limit : ℕ) : List NamedDecl → List NamedSymbol → NamedSymbol → ℕ → List Lead → Forest → List NamedSymbol → Type 0 where
+    at_end : {running : List NamedDecl} {met : List NamedSymbol} {s : NamedSymbol} {i : ℕ} → Expands links limit running met s i [] none met
+    step : {running : List NamedDecl} {met mid after : List NamedSymbol} {s : NamedSymbol} {i : ℕ} {x : Lead} {xs : List Lead} {f rest : Forest} → Follows links limit running met s i x f mid → Expands links limit running mid s (i + 1) xs rest after → Expands links limit running met s i (x ∷ xs) (join f rest) after
 
-  pub data Follows (table : Leads) : List NamedSymbol → NamedSymbol → ℕ → Lead → Forest → List NamedSymbol → Type 0 where
-    by_itself : {met : List NamedSymbol} {s : NamedSymbol} {i : ℕ} {range : SourceRange} {star : Option DepView} → Follows table met s i (defines range star) (one (leaf (definition (defined_at s i range star)))) met
-    by_ways : {met after : List NamedSymbol} {s : NamedSymbol} {i : ℕ} {ways : Ways} {f : Forest} → Tries table met ways.candidates ways.otherwise f after → Follows table met s i (leads ways) (link_to (head_at s i ways) f) after
+  pub data Follows (links : Links) (limit : ℕ) : List NamedDecl → List NamedSymbol → NamedSymbol → ℕ → Lead → Forest → List NamedSymbol → Type 0 where
+    by_itself : {running : List NamedDecl} {met : List NamedSymbol} {s : NamedSymbol} {i : ℕ} {range : SourceRange} {star : Option DepView} → Follows links limit running met s i (defines range star) (one (leaf (definition (defined_at s i range star)))) met
+    by_ways : {running : List NamedDecl} {met after : List NamedSymbol} {s : NamedSymbol} {i : ℕ} {ways : Ways} {f : Forest} → Tries links limit running met ways.candidates ways.otherwise f after → Follows links limit running met s i (leads ways) (link_to (head_at s i ways) f) after
+    -- an alias that is being resolved gives nothing; else its walk, with met symbols of its own
+    by_running : {running : List NamedDecl} {met : List NamedSymbol} {s t : NamedSymbol} {i : ℕ} {ps : Parts} → is_running running (decl_at s i) ≡ true → Follows links limit running met s i (alias t ps) none met
+    by_alias : {running : List NamedDecl} {met after : List NamedSymbol} {s t : NamedSymbol} {i : ℕ} {ps : Parts} {f : Forest} → is_running running (decl_at s i) ≡ false → length running < limit → length after ≤ limit → Walks links limit (running ++ decl_at s i ∷ []) [] t ps f after → Follows links limit running met s i (alias t ps) (link_to (alias_head s i ps) f) met
 
-  pub data Tries (table : Leads) : List NamedSymbol → List NamedSymbol → Option Missing → Forest → List NamedSymbol → Type 0 where
-    no_more : {met : List NamedSymbol} {otherwise : Option Missing} → Tries table met [] otherwise (missing_in otherwise) met
-    first_with : {met after : List NamedSymbol} {c : NamedSymbol} {cs : List NamedSymbol} {otherwise : Option Missing} {t : Tree} {f : Forest} → Finds table met c (more t f) after → Tries table met (c ∷ cs) otherwise (more t f) after
-    passes : {met mid after : List NamedSymbol} {c : NamedSymbol} {cs : List NamedSymbol} {otherwise : Option Missing} {f : Forest} → Finds table met c none mid → Tries table mid cs otherwise f after → Tries table met (c ∷ cs) otherwise f after
+  pub data Tries (links : Links) (limit : ℕ) : List NamedDecl → List NamedSymbol → List NamedSymbol → Option Missing → Forest → List NamedSymbol → Type 0 where
+    no_more : {running : List NamedDecl} {met : List NamedSymbol} {otherwise : Option Missing} → Tries links limit running met [] otherwise (missing_in otherwise) met
+    first_with : {running : List NamedDecl} {met after : List NamedSymbol} {c : NamedSymbol} {cs : List NamedSymbol} {otherwise : Option Missing} {t : Tree} {f : Forest} → Finds links limit running met c (more t f) after → Tries links limit running met (c ∷ cs) otherwise (more t f) after
+    passes : {running : List NamedDecl} {met mid after : List NamedSymbol} {c : NamedSymbol} {cs : List NamedSymbol} {otherwise : Option Missing} {f : Forest} → Finds links limit running met c none mid → Tries links limit running mid cs otherwise f after → Tries links limit running met (c ∷ cs) otherwise f after
 
--- the paths of a symbol, by a search of its own
-abbrev pub IsChosen : Leads → NamedSymbol → Forest → Type 0
-IsChosen table s f = (after : List NamedSymbol) × Finds table [] s f after
+  -- the walk of a symbol under parts
+  pub data Walks (links : Links) (limit : ℕ) : List NamedDecl → List NamedSymbol → NamedSymbol → Parts → Forest → List NamedSymbol → Type 0 where
+    no_parts : {running : List NamedDecl} {met after : List NamedSymbol} {s : NamedSymbol} {f : Forest} → Finds links limit running met s f after → Walks links limit running met s [] f after
+    under : {running : List NamedDecl} {met mid after : List NamedSymbol} {s : NamedSymbol} {p : List ℕ} {ps : Parts} {f g : Forest} → Finds links limit running met s f mid → Changes links limit running mid p ps f g after → Walks links limit running met s (p ∷ ps) g after
+
+  -- each path changed, from left to right
+  pub data Changes (links : Links) (limit : ℕ) : List NamedDecl → List NamedSymbol → List ℕ → Parts → Forest → Forest → List NamedSymbol → Type 0 where
+    of_none : {running : List NamedDecl} {met : List NamedSymbol} {p : List ℕ} {ps : Parts} → Changes links limit running met p ps none none met
+    of_more : {running : List NamedDecl} {met mid after : List NamedSymbol} {p : List ℕ} {ps : Parts} {t : Tree} {f g h : Forest} → ChangesOne links limit running met p ps t g mid → Changes links limit running mid p ps f h after → Changes links limit running met p ps (more t f) (join g h) after
+
+  pub data ChangesOne (links : Links) (limit : ℕ) : List NamedDecl → List NamedSymbol → List ℕ → Parts → Tree → Forest → List NamedSymbol → Type 0 where
+    of_unresolved : {running : List NamedDecl} {met : List NamedSymbol} {p : List ℕ} {ps : Parts} {m : Missing} → ChangesOne links limit running met p ps (leaf (unresolved m)) (one (leaf (unresolved m))) met
+    of_link : {running : List NamedDecl} {met after : List NamedSymbol} {p : List ℕ} {ps : Parts} {head : LinkHead} {f g : Forest} → Changes links limit running met p ps f g after → ChangesOne links limit running met p ps (link head f) (link_to (under_parts head (p ∷ ps)) g) after
+    of_definition : {running : List NamedDecl} {met after : List NamedSymbol} {p : List ℕ} {ps : Parts} {x : Defined} {t : NamedSymbol} {f : Forest} → links.part x p ps ≡ to t → Walks links limit running met t ps f after → ChangesOne links limit running met p ps (leaf (definition x)) (link_to (part_head x (p ∷ ps)) f) after
+    of_itself : {running : List NamedDecl} {met : List NamedSymbol} {p : List ℕ} {ps : Parts} {x : Defined} → links.part x p ps ≡ itself → ChangesOne links limit running met p ps (leaf (definition x)) (one (leaf (definition x))) met
+    of_lacking : {running : List NamedDecl} {met : List NamedSymbol} {p : List ℕ} {ps : Parts} {x : Defined} {m : Missing} → links.part x p ps ≡ lacks m → ChangesOne links limit running met p ps (leaf (definition x)) (one (link (part_head x (p ∷ ps)) (one (leaf (unresolved m))))) met
+
+-- the paths of a symbol under parts, by a search of its own
+abbrev pub IsChosenUnder : Links → NamedSymbol → Parts → Forest → Type 0
+IsChosenUnder links s ps f = (limit : ℕ) × (after : List NamedSymbol) × Walks links limit [] [] s ps f after
+
+-- those of a symbol
+abbrev pub IsChosen : Links → NamedSymbol → Forest → Type 0
+IsChosen links s f = IsChosenUnder links s [] f

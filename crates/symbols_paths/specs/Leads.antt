@@ -9,24 +9,25 @@ use Rattle.symbols_syntax.specs.declared.tree.arena.SourceRange.{SourceRange}
 use Rattle.symbols_syntax.specs.Graph.{GraphView}
 use Rattle.symbols_syntax.specs.Ids.{IdView}
 use Rattle.symbols_table.specs.Changes.{mapped_after}
-use Rattle.symbols_table.specs.DeclViews.{all_names, one_name, DepView, DeclKind, target, qualified_target, file_ref, definition, Declaration}
+use Rattle.symbols_table.specs.DeclViews.{DepName, all_names, one_name, DepView, DeclKind, target, qualified_target, file_ref, definition, Declaration}
 use Rattle.symbols_table.specs.SymbolViews.{SymbolView, symbol_after}
 use Rattle.symbols_exports.specs.Exports.{Entry}
 use Rattle.symbols_exports.specs.OneName.{export_named}
 use Rattle.symbols_exports.specs.StarStatements.{changes_under, text_target, statements_of, owned_of}
-use Rattle.symbols_paths.specs.Trees.{NamedSymbol, Missing, no_symbol, no_module, no_part}
+use Rattle.symbols_paths.specs.Trees.{NamedSymbol, Parts, Missing, no_symbol, no_module, no_part}
 
 -- the ways on from a declaration: the symbol that its link tells, with the parts; the candidates, of which the first that has a path is taken; and the unresolved entry that stands where none has one
 pub record Ways : Type 0 where
   pub symbol : NamedSymbol
-  pub parts : List (List ℕ)
+  pub parts : Parts
   pub candidates : List NamedSymbol
   pub otherwise : Option Missing
 
--- a declaration defines, or is a star import, which tells what it takes; or it leads on
+-- a declaration defines, or is a star import, which tells what it takes; or it leads on; or it is an alias: parts behind a symbol of its module, which are looked for by a search of their own
 pub data Lead : Type 0 where
   defines : SourceRange → Option DepView → Lead
   leads : Ways → Lead
+  alias : NamedSymbol → Parts → Lead
 
 -- for each symbol where its declarations lead, in order
 abbrev pub Leads : Type 0
@@ -41,7 +42,7 @@ abbrev pub nowhere : NamedSymbol → Ways
 nowhere s = record { symbol = s; parts = []; candidates = []; otherwise = None }
 
 -- to an unresolved entry
-abbrev pub to_missing : NamedSymbol → List (List ℕ) → Missing → Ways
+abbrev pub to_missing : NamedSymbol → Parts → Missing → Ways
 to_missing s parts missing = record { symbol = s; parts = parts; candidates = []; otherwise = Some missing }
 
 -- to a symbol of another module
@@ -78,17 +79,17 @@ abbrev pub target_ways : NamedSymbol → Option SymbolId → Ways
 target_ways s None = nowhere s
 target_ways s (Some t) = record { symbol = record { specifier = s.specifier; number = t }; parts = []; candidates = record { specifier = s.specifier; number = t } ∷ []; otherwise = None }
 
--- parts after a name of the module: an unresolved entry where the name stands for no symbol. Where it stands for one, they lead nowhere so far
-abbrev pub alias_ways : NamedSymbol → IdView → List (List ℕ) → Option SymbolId → Ways
-alias_ways s id parts None = to_missing s parts (record { specifier = s.specifier; reason = no_symbol id; parts = parts })
-alias_ways s id parts (Some t) = nowhere s
+-- parts behind a name of the module: an unresolved entry where the name stands for no symbol
+abbrev pub alias_lead : NamedSymbol → IdView → Parts → Option SymbolId → Lead
+alias_lead s id parts None = leads (to_missing s parts (record { specifier = s.specifier; reason = no_symbol id; parts = parts }))
+alias_lead s id parts (Some t) = alias (record { specifier = s.specifier; number = t }) parts
 
 abbrev pub lead_of : GraphView → NamedSymbol → SourceRange → DeclKind → Lead
 lead_of graph s range (definition _) = defines range None
 lead_of graph s range (file_ref all_names text) = defines range (Some (record { name = all_names; specifier = text }))
 lead_of graph s range (file_ref (one_name name) text) = leads (import_ways graph s name text (text_target graph s.specifier text))
 lead_of graph s range (target id) = leads (target_ways s (symbol_of_id graph s.specifier id))
-lead_of graph s range (qualified_target id parts) = leads (alias_ways s id parts (symbol_of_id graph s.specifier id))
+lead_of graph s range (qualified_target id parts) = alias_lead s id parts (symbol_of_id graph s.specifier id)
 
 -- the declarations of a symbol; none where the module has no such symbol
 abbrev pub declarations_of : GraphView → NamedSymbol → List Declaration

@@ -1,11 +1,15 @@
 pub mod Trees
 pub mod Leads
+pub mod PartWays
 pub mod Derived
 pub mod Reach
 pub mod Choice
+pub mod Searches
 pub mod Computed
+pub mod Rebuilt
 pub mod Views
 pub mod Growing
 pub mod Needed
 pub mod Searching
 pub mod Answers
+pub mod DepAnswers

@@ -1,5 +1,5 @@
 -- For inner functions and proofs alone: what each step of a search promises.
-use Rattle.std.specs.Prelude.{◌≡◌, ℕ, ◌<◌, ◌≤◌, ◌^◌, List, length, map, All, Option, Some, None, Contains, slice_get}
+use Rattle.std.specs.Prelude.{◌≡◌, ℕ, ◌<◌, ◌≤◌, ◌^◌, true, false, List, [], ◌∷◌, ◌++◌, length, map, All, Option, Some, None, Contains, slice_get}
 use Rattle.std.specs.Borrow.{Bor}
 use Rattle.std.specs.Option.{option_map}
 use Rattle.symbols_syntax.specs.declared.ids.ModuleId.{ModuleId}
@@ -10,26 +10,38 @@ use Rattle.symbols_table.specs.DeclViews.{Declaration, file_ref, one_name}
 use Rattle.symbols_root.specs.Roots.{RootView}
 use Rattle.symbols_exports.specs.Exporting.{specifier_in}
 use Rattle.symbols_exports.specs.StarStatements.{text_target}
+use Rattle.symbols_paths.specs.declared.paths.definition.Definition.{Definition}
 use Rattle.symbols_paths.specs.declared.paths.leads.Lead.{Lead as ReadLead}
 use Rattle.symbols_paths.specs.declared.paths.leads.Lead.TheVariants as read
 use Rattle.symbols_paths.specs.declared.paths.node.DefinitionPathNode.{DefinitionPathNode}
-use Rattle.symbols_paths.specs.Trees.{NamedSymbol, Forest, none}
-use Rattle.symbols_paths.specs.Leads.{Ways, Lead, Leads, defines, leads, nowhere, target_ways, alias_ways, import_ways, ways_into, declarations_of, lead_of, leads_of}
-use Rattle.symbols_paths.specs.Choice.{Finds, Follows, Tries}
-use Rattle.symbols_paths.specs.Views.{named, named_in, star_of, forest_told, forest_of_option, AreStored}
+use Rattle.symbols_paths.specs.declared.paths.parts.PartWay.{PartWay as ReadWay}
+use Rattle.symbols_paths.specs.declared.paths.parts.PartWay.TheVariants as way
+use Rattle.symbols_paths.specs.declared.paths.resolving.AliasDecl.{AliasDecl}
+use Rattle.symbols_paths.specs.Trees.{NamedSymbol, NamedDecl, Parts, definition, Forest, leaf, none}
+use Rattle.symbols_paths.specs.Leads.{Ways, Lead, defines, leads, alias, nowhere, target_ways, alias_lead, import_ways, ways_into, declarations_of, lead_of}
+use Rattle.symbols_paths.specs.PartWays.{PartWay, to, itself, lacks, Links, links_of}
+use Rattle.symbols_paths.specs.Choice.{is_running, Finds, Follows, Tries, Walks, ChangesOne}
+use Rattle.symbols_paths.specs.Computed.{enough}
+use Rattle.symbols_paths.specs.Views.{named, named_in, decl_told, definition_told, unresolved_told, texts_in, first_text, later_texts, star_of, forest_told, forest_of_option, AreStored}
 use Rattle.symbols_paths.specs.Growing.{HasGrown}
 
 -- what is found of a symbol, if there is one
-abbrev pub FindsOne : Leads → List NamedSymbol → Option NamedSymbol → Forest → List NamedSymbol → Type 0
-FindsOne table before None f after = (f ≡ none) × (after ≡ before)
-FindsOne table before (Some s) f after = Finds table before s f after
+abbrev pub FindsOne : Links → ℕ → List NamedDecl → List NamedSymbol → Option NamedSymbol → Forest → List NamedSymbol → Type 0
+FindsOne links limit running before None f after = (f ≡ none) × (after ≡ before)
+FindsOne links limit running before (Some s) f after = Finds links limit running before s f after
+
+-- what an alias gives: nothing while it is being resolved, else its walk with met symbols of its own
+pub data Resolves (links : Links) (limit : ℕ) (running : List NamedDecl) (decl : NamedDecl) (t : NamedSymbol) (ps : Parts) : Forest → Type 0 where
+  while_running : is_running running decl ≡ true → Resolves links limit running decl t ps none
+  by_walk : {f : Forest} {after : List NamedSymbol} → is_running running decl ≡ false → length running < limit → length after ≤ limit → Walks links limit (running ++ decl ∷ []) [] t ps f after → Resolves links limit running decl t ps f
 
 -- where a declaration that was read leads
 abbrev pub lead_told : GraphView → NamedSymbol → ReadLead → Lead
 lead_told graph s (read.Defines kind range) = defines range (star_of kind)
 lead_told graph s read.Nowhere = leads (nowhere s)
 lead_told graph s (read.Target t) = leads (target_ways s (Some t))
-lead_told graph s (read.Unmapped id parts) = leads (alias_ways s (id_view id.now) (map (λ (part : Bor (List ℕ)). part.now) parts.items) None)
+lead_told graph s (read.Unmapped id parts) = alias_lead s (id_view id.now) (texts_in parts.items) None
+lead_told graph s (read.Alias t parts) = alias (record { specifier = s.specifier; number = t }) (texts_in parts.items)
 lead_told graph s (read.Import taken) = leads (import_ways graph s taken.name.now taken.text.now (text_target graph s.specifier taken.text.now))
 
 -- an import that was read is one by this name and text
@@ -64,16 +76,37 @@ pub record HasSearched (root : RootView) (before after : List UniqueSymbolId) (i
   pub few : length before ≤ 2 ^ 64 → length after ≤ 2 ^ 64
   pub stored : AreStored root ids
 
--- what was found, as each later root tells it
-abbrev pub IsFound : RootView → List UniqueSymbolId → UniqueSymbolId → List DefinitionPathNode → List UniqueSymbolId → Type 0
-IsFound root before s paths after = (later : RootView) → HasGrown root later → Finds (leads_of later.graph) (met_told later before) (named later s) (forest_told later paths) (met_told later after)
+-- the declarations of aliases that are being resolved are of stored modules
+abbrev pub AreAliasesNumbered : RootView → List AliasDecl → Type 0
+AreAliasesNumbered root running = All (λ (d : AliasDecl). d.«module».0 < length root.stored) running
 
-abbrev pub IsFollowed : RootView → List UniqueSymbolId → UniqueSymbolId → ℕ → ReadLead → Option DefinitionPathNode → List UniqueSymbolId → Type 0
-IsFollowed root before s index lead path after = (later : RootView) → HasGrown root later → Follows (leads_of later.graph) (met_told later before) (named later s) index (lead_told later.graph (named later s) lead) (forest_of_option later path) (met_told later after)
+abbrev pub alias_told : RootView → AliasDecl → NamedDecl
+alias_told root d = decl_told root d.«module» d.decl
+
+abbrev pub running_told : RootView → List AliasDecl → List NamedDecl
+running_told root running = map (alias_told root) running
+
+-- what a part leads to, as a root tells it, and that what it names is stored
+abbrev pub way_told : RootView → ReadWay → PartWay
+way_told root (way.To s) = to (named root s)
+way_told root way.Itself = itself
+way_told root (way.Lacks missing) = lacks (unresolved_told root missing)
+
+abbrev pub IsWayStored : RootView → ReadWay → Type 0
+IsWayStored root (way.To s) = s.module_id.0 < length root.stored
+IsWayStored root way.Itself = Unit {0}
+IsWayStored root (way.Lacks missing) = missing.«module».0 < length root.stored
+
+-- what was found, as each later root tells it
+abbrev pub IsFound : RootView → List AliasDecl → List UniqueSymbolId → UniqueSymbolId → List DefinitionPathNode → List UniqueSymbolId → Type 0
+IsFound root running before s paths after = (later : RootView) → HasGrown root later → Finds (links_of later.graph) enough (running_told later running) (met_told later before) (named later s) (forest_told later paths) (met_told later after)
+
+abbrev pub IsFollowed : RootView → List AliasDecl → List UniqueSymbolId → UniqueSymbolId → ℕ → ReadLead → Option DefinitionPathNode → List UniqueSymbolId → Type 0
+IsFollowed root running before s index lead path after = (later : RootView) → HasGrown root later → Follows (links_of later.graph) enough (running_told later running) (met_told later before) (named later s) index (lead_told later.graph (named later s) lead) (forest_of_option later path) (met_told later after)
 
 -- what the ways of an import came to
-abbrev pub IsTried : RootView → List UniqueSymbolId → (GraphView → RootView → Ways) → List DefinitionPathNode → List UniqueSymbolId → Type 0
-IsTried root before ways paths after = (later : RootView) → HasGrown root later → Tries (leads_of later.graph) (met_told later before) (ways later.graph later).candidates (ways later.graph later).otherwise (forest_told later paths) (met_told later after)
+abbrev pub IsTried : RootView → List AliasDecl → List UniqueSymbolId → (GraphView → RootView → Ways) → List DefinitionPathNode → List UniqueSymbolId → Type 0
+IsTried root running before ways paths after = (later : RootView) → HasGrown root later → Tries (links_of later.graph) enough (running_told later running) (met_told later before) (ways later.graph later).candidates (ways later.graph later).otherwise (forest_told later paths) (met_told later after)
 
 abbrev pub ways_of_import : UniqueSymbolId → List ℕ → List ℕ → GraphView → RootView → Ways
 ways_of_import s name text graph root = import_ways graph (named root s) name text (text_target graph (named root s).specifier text)
@@ -83,5 +116,17 @@ abbrev pub ways_along : ModuleId → List ℕ → GraphView → RootView → Way
 ways_along module_id name graph root = ways_into graph (named_in root module_id (record { 0 = 0 })) name (specifier_in root module_id) None
 
 -- what a candidate came to; nothing where there is none
-abbrev pub IsOffered : RootView → List UniqueSymbolId → Option UniqueSymbolId → List DefinitionPathNode → List UniqueSymbolId → Type 0
-IsOffered root before candidate paths after = (later : RootView) → HasGrown root later → FindsOne (leads_of later.graph) (met_told later before) (option_map (named later) candidate) (forest_told later paths) (met_told later after)
+abbrev pub IsOffered : RootView → List AliasDecl → List UniqueSymbolId → Option UniqueSymbolId → List DefinitionPathNode → List UniqueSymbolId → Type 0
+IsOffered root running before candidate paths after = (later : RootView) → HasGrown root later → FindsOne (links_of later.graph) enough (running_told later running) (met_told later before) (option_map (named later) candidate) (forest_told later paths) (met_told later after)
+
+-- what an alias came to
+abbrev pub IsResolved : RootView → List AliasDecl → AliasDecl → UniqueSymbolId → List (Bor (List ℕ)) → List DefinitionPathNode → Type 0
+IsResolved root running d target parts paths = (later : RootView) → HasGrown root later → Resolves (links_of later.graph) enough (running_told later running) (alias_told later d) (named later target) (texts_in parts) (forest_told later paths)
+
+-- what a symbol came to under parts
+abbrev pub IsWalked : RootView → List AliasDecl → List UniqueSymbolId → UniqueSymbolId → List (Bor (List ℕ)) → List DefinitionPathNode → List UniqueSymbolId → Type 0
+IsWalked root running before s parts paths after = (later : RootView) → HasGrown root later → Walks (links_of later.graph) enough (running_told later running) (met_told later before) (named later s) (texts_in parts) (forest_told later paths) (met_told later after)
+
+-- what stands in the place of a definition
+abbrev pub IsChanged : RootView → List AliasDecl → List UniqueSymbolId → Definition → List (Bor (List ℕ)) → Option DefinitionPathNode → List UniqueSymbolId → Type 0
+IsChanged root running before x parts path after = (later : RootView) → HasGrown root later → ChangesOne (links_of later.graph) enough (running_told later running) (met_told later before) (first_text parts) (later_texts parts) (leaf (definition (definition_told later x))) (forest_of_option later path) (met_told later after)

@@ -1,5 +1,5 @@
 -- Paths to definitions as trees. Symbols are told by the specifiers of their modules and their numbers there.
-use Rattle.std.specs.Prelude.{◌≡◌, ℕ, List, [], ◌∷◌, ◌++◌, Option, Contains}
+use Rattle.std.specs.Prelude.{◌≡◌, ℕ, List, [], ◌∷◌, ◌++◌, Option, Some, None, Contains}
 use Rattle.symbols_syntax.specs.declared.ids.SymbolId.{SymbolId}
 use Rattle.symbols_syntax.specs.declared.tree.arena.SourceRange.{SourceRange}
 use Rattle.symbols_syntax.specs.Ids.{IdView}
@@ -14,6 +14,10 @@ pub record NamedSymbol : Type 0 where
 pub record NamedDecl : Type 0 where
   pub symbol : NamedSymbol
   pub index : ℕ
+
+-- names of parts, one behind the other, as `b` and `c` in `a.b.c`
+abbrev pub Parts : Type 0
+Parts = List (List ℕ)
 
 -- a definition, or a star import: its declaration, where that stands in the text, and what a star import takes
 pub record Defined : Type 0 where
@@ -31,7 +35,7 @@ pub data Reason : Type 0 where
 pub record Missing : Type 0 where
   pub specifier : List ℕ
   pub reason : Reason
-  pub parts : List (List ℕ)
+  pub parts : Parts
 
 pub data Leaf : Type 0 where
   definition : Defined → Leaf
@@ -41,7 +45,7 @@ pub data Leaf : Type 0 where
 pub record LinkHead : Type 0 where
   pub symbol : NamedSymbol
   pub decl : NamedDecl
-  pub parts : List (List ℕ)
+  pub parts : Parts
 
 mutual
   pub data Tree : Type 0 where

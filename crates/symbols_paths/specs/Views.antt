@@ -1,6 +1,7 @@
 -- Paths of the library as trees, where a root tells the modules by their specifiers.
-use Rattle.std.specs.Prelude.{ℕ, ◌<◌, List, [], ◌∷◌, ◌++◌, length, map, All, Option, Some, None, String, string_bytes}
+use Rattle.std.specs.Prelude.{ℕ, ◌<◌, List, [], ◌∷◌, ◌++◌, length, map, All, Option, Some, None, String, string_bytes, Vec}
 use Rattle.std.specs.Global.{Global}
+use Rattle.std.specs.Borrow.{Bor}
 use Rattle.symbols_syntax.specs.declared.ids.ModuleId.{ModuleId}
 use Rattle.symbols_syntax.specs.declared.ids.SymbolId.{SymbolId}
 use Rattle.symbols_syntax.specs.declared.ids.UniqueSymbolId.{UniqueSymbolId}
@@ -25,7 +26,7 @@ use Rattle.symbols_paths.specs.declared.paths.node.DefinitionPathNodeResolved.{D
 use Rattle.symbols_paths.specs.declared.paths.unresolved.DefinitionUnresolved.{DefinitionUnresolved}
 use Rattle.symbols_paths.specs.declared.paths.unresolved.DefinitionUnresolvedKind.{DefinitionUnresolvedKind}
 use Rattle.symbols_paths.specs.declared.paths.unresolved.DefinitionUnresolvedKind.TheVariants as why
-use Rattle.symbols_paths.specs.Trees.{NamedSymbol, NamedDecl, Defined, Reason, no_symbol, no_module, no_part, Missing, Leaf, definition, unresolved, Tree, Forest, leaf, link, none, more, one}
+use Rattle.symbols_paths.specs.Trees.{NamedSymbol, NamedDecl, Parts, Defined, Reason, no_symbol, no_module, no_part, Missing, Leaf, definition, unresolved, LinkHead, Tree, Forest, leaf, link, none, more, one}
 
 -- a symbol of a module of a root
 abbrev pub named_in : RootView → ModuleId → SymbolId → NamedSymbol
@@ -52,8 +53,20 @@ reason_told (why.Specifier text) = no_module (string_bytes text)
 reason_told (why.Part name) = no_part (string_bytes name)
 
 -- texts by their bytes
-abbrev pub texts_of : List (String Global) → List (List ℕ)
+abbrev pub texts_of : List (String Global) → Parts
 texts_of texts = map (λ text. string_bytes text) texts
+
+-- names of parts that are lent: all of them, the first, and those behind it
+abbrev pub texts_in : List (Bor (List ℕ)) → Parts
+texts_in texts = map (λ (text : Bor (List ℕ)). text.now) texts
+
+abbrev pub first_text : List (Bor (List ℕ)) → List ℕ
+first_text [] = []
+first_text (text ∷ texts) = text.now
+
+abbrev pub later_texts : List (Bor (List ℕ)) → Parts
+later_texts [] = []
+later_texts (text ∷ texts) = texts_in texts
 
 abbrev pub unresolved_told : RootView → DefinitionUnresolved → Missing
 unresolved_told root x = record { specifier = specifier_in root x.«module»; reason = reason_told x.kind; parts = texts_of x.parts.items }
@@ -105,6 +118,15 @@ modules_of = fold-DefinitionPathNode (List ModuleId) (List ModuleId) (List Modul
 
 abbrev pub modules_in : List DefinitionPathNode → List ModuleId
 modules_in paths = joined (map modules_of paths)
+
+abbrev pub module_of_definition : Definition → ModuleId
+module_of_definition x = x.«module»
+
+-- the paths among these
+abbrev pub present : List (Option DefinitionPathNode) → List DefinitionPathNode
+present [] = []
+present (None ∷ rest) = present rest
+present (Some path ∷ rest) = path ∷ present rest
 
 -- all these modules are stored
 abbrev pub AreStored : RootView → List ModuleId → Type 0

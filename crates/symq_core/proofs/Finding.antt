@@ -1,6 +1,6 @@
 -- The answers on where a symbol is defined, by what the calls of the library say.
-use Rattle.std.proofs.Common.{◌≡◌, ◌<◌, ◌≤◌, ℕ, arith, length, ◌⊎◌, inl, inr, List, Option, None, Some, Result, Ok, Err, refl, sym, ap, ◌∙◌, subst}
-use Rattle.std.specs.Prelude.{◌≢◌, IfErr, IfSome, IsSome, OnOk}
+use Rattle.std.proofs.Common.{◌≡◌, ◌<◌, arith, length, inl, inr, Option, None, Some, Result, refl, sym, subst}
+use Rattle.std.specs.Prelude.{◌≢◌, IfSome, IsSome, OnOk}
 use Rattle.std.specs.declared.alloc.AllocError.{AllocError}
 use Rattle.json.specs.Written.{Written}
 use Rattle.symbols_syntax.specs.declared.ids.ModuleId.{ModuleId}

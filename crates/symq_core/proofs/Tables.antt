@@ -1,6 +1,6 @@
 -- The answer on a module, from its tables.
 use Rattle.std.proofs.Common.{◌≡◌, ℕ, zero, suc, List, [], ◌∷◌, ◌++◌, map, true, false, Option, None, Some, sym, ap, ◌∙◌, subst, refl}
-use Rattle.std.specs.Prelude.{slice_get, Result, Ok, Err, OnOk, IfSome, IsSome}
+use Rattle.std.specs.Prelude.{Result, Ok, Err, OnOk, IfSome, IsSome}
 use Rattle.std.specs.Option.{option_map, option_map_or}
 use Rattle.std.specs.declared.alloc.AllocError.{AllocError}
 use Rattle.std.proofs.lemmas.Option.{none-some, same_Some, get_or_from_slice_get}
@@ -10,28 +10,27 @@ use Rattle.symbols_syntax.specs.declared.ids.ModuleId.{ModuleId}
 use Rattle.symbols_syntax.specs.declared.ids.SymbolId.{SymbolId}
 use Rattle.symbols_syntax.specs.Graph.{GraphView, ModuleView}
 use Rattle.symbols_nodes.specs.declared.deps.dep.ResolveDepsMode.{ResolveDepsMode}
-use Rattle.symbols_table.specs.declared.decl.symbol.Symbol.{Symbol}
+use Rattle.symbols_nodes.specs.References.{Reference}
 use Rattle.symbols_table.specs.declared.info.fault.SymbolsFault.{SymbolsFault}
 use Rattle.symbols_table.specs.declared.info.fault.SymbolsFault.TheVariants as fault
 use Rattle.symbols_table.specs.Analysis.{source_changes}
-use Rattle.symbols_table.specs.Changes.{Change, exports_after}
-use Rattle.symbols_table.specs.SymbolViews.{SymbolView, symbol_view, symbol_made, symbol_after}
+use Rattle.symbols_table.specs.SymbolViews.{SymbolView, symbol_after}
 use Rattle.symbols_table.specs.QualifiedNames.{SymbolAt, path_below, path_within, qualified_name}
 use Rattle.symbols_table.specs.Modules.{Table, source_of, symbol_in}
 use Rattle.symbols_root.specs.Specifiers.{module_under}
 use Rattle.symbols_root.specs.Roots.{RootView, with_stored, specifier_under, IsStoredTable}
-use Rattle.symbols_table.specs.Symbols.{exports_in}
 use Rattle.symbols_exports.specs.Answers.{IsAnswer}
 use Rattle.symbols_exports.specs.Exporting.{specifier_in}
 use Rattle.symbols_exports.specs.Taking.{NameView}
 use Rattle.symbols_exports.specs.Told.{told_name, told_number}
 use Rattle.symbols_exports.specs.Ways.{exports_told, unresolved_told_in}
-use Rattle.symq_core.specs.Queries.{TableQuestionView, asks_module, asks_name, asks_deps, QuestionView, asks_exports, asks_paths, asks_definitions, asks_leaves, asks_table}
-use Rattle.symq_core.specs.AnswerViews.{AnswerView, tells_nothing, tells_module, tells_fault, tells_exports}
+use Rattle.symbols_paths.specs.DepAnswers.{entries_of}
+use Rattle.symq_core.specs.Queries.{TableQuestionView, asks_module, asks_name, asks_deps, QuestionView, asks_exports, asks_paths, asks_definitions, asks_leaves, asks_resolve, asks_table}
+use Rattle.symq_core.specs.AnswerViews.{AnswerView, tells_nothing, tells_module, tells_exports, tells_entries}
 use Rattle.symq_core.specs.AnswerData.{answer_data}
 use Rattle.symq_core.specs.Answering.{fault_view, TellsByTables}
 use Rattle.symq_core.specs.Telling.{Tells}
-use Rattle.symq_core.specs.Answers.{named_answer, deps_answer, changes_answer, paths_answer, definitions_answer, leaves_answer, found_answer}
+use Rattle.symq_core.specs.Answers.{named_answer, deps_answer, paths_answer, definitions_answer, leaves_answer, found_answer}
 
 -- what is called the same by two ways to find symbols that find the same
 path_same : (f g : SymbolAt) → ((s : SymbolId) → f s ≡ g s) → (n : ℕ) (s : SymbolId) → path_within f n s ≡ path_within g n s
@@ -121,6 +120,10 @@ module _ (r : Result (Unit {0}) AllocError) (old new : Written) where
   pub leaves_stand : (s : SymbolId) (standing : Option ModuleView) (graph : GraphView) (root : RootView) (id : ModuleId) → root.graph ≡ graph → Some (specifier_under root id) ≡ option_map (λ (s : List ℕ). Some s) (option_map (λ (m : ModuleView). m.specifier) standing)
       → Tells r old new (answer_data (leaves_answer s root.graph (specifier_in root id))) → Tells r old new (answer_data (found_answer graph (asks_leaves s) standing))
   leaves_stand s = graph_stands (asks_leaves s) (leaves_answer s) (λ g m. refl)
+
+  pub entries_stand : (reference : Reference) (standing : Option ModuleView) (graph : GraphView) (root : RootView) (id : ModuleId) → root.graph ≡ graph → Some (specifier_under root id) ≡ option_map (λ (s : List ℕ). Some s) (option_map (λ (m : ModuleView). m.specifier) standing)
+      → Tells r old new (answer_data (tells_entries (entries_of root.graph (specifier_in root id) reference))) → Tells r old new (answer_data (found_answer graph (asks_resolve reference) standing))
+  entries_stand reference = graph_stands (asks_resolve reference) (λ g s. tells_entries (entries_of g s reference)) (λ g m. refl)
 
 -- where memory is refused nothing is told
 pub no_success : (r : Result (Unit {0}) AllocError) (f : SymbolsFault) (P : Type 0) → f ≡ fault.OutOfMemory → OnOk r (IsSome (fault_view f)) → OnOk r P

@@ -1,5 +1,5 @@
 -- Tokens that are written behind tokens, and the text of a value by its tokens.
-use Rattle.std.proofs.Common.{◌≡◌, ℕ, List, [], ◌∷◌, ◌++◌, Result, Ok, OnOk, Option, None, Some, refl, ap, ◌∙◌, append_assoc}
+use Rattle.std.proofs.Common.{◌≡◌, ℕ, List, [], ◌∷◌, ◌++◌, Ok, Option, None, Some, refl, ap, ◌∙◌, append_assoc}
 use Rattle.json.specs.Token.{Token}
 use Rattle.json.specs.Print.{print}
 use Rattle.json.specs.Written.{Written, Writes}

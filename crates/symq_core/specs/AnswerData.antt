@@ -7,9 +7,9 @@ use Rattle.symbols_nodes.specs.declared.deps.dep.ReferenceNamespace.{ReferenceNa
 use Rattle.symbols_nodes.specs.declared.deps.dep.ReferenceNamespace.TheVariants as In
 use Rattle.symbols_nodes.specs.References.{Reference, id, qualified_id, import_type, Dependency}
 use Rattle.symbols_exports.specs.Told.{ToldExport, ToldStatement}
-use Rattle.symq_core.specs.AnswerViews.{AnswerFault, bad_query, too_many_modules, too_many_symbols, unknown_module, unknown_symbol, AnswerView, tells_nothing, tells_module, tells_fault, tells_exports, tells_symbol, tells_name, tells_deps, tells_paths, tells_definitions, tells_leaves}
+use Rattle.symq_core.specs.AnswerViews.{AnswerFault, bad_query, too_many_modules, too_many_symbols, unknown_module, unknown_symbol, AnswerView, tells_nothing, tells_module, tells_fault, tells_exports, tells_symbol, tells_name, tells_deps, tells_paths, tells_definitions, tells_leaves, tells_entries}
 use Rattle.symq_core.specs.TextsData.{texts_data}
-use Rattle.symq_core.specs.PathData.{defined_data, leaf_data, forest_items}
+use Rattle.symq_core.specs.PathData.{defined_data, leaf_data, forest_items, standing_data}
 
 abbrev pub fault_words : AnswerFault → List ℕ
 fault_words bad_query = codes "bad query"
@@ -71,3 +71,4 @@ answer_data (tells_deps lists) = object (member (codes "deps") (array (items_of 
 answer_data (tells_paths paths) = object (member (codes "paths") (array (forest_items paths)) no_members)
 answer_data (tells_definitions definitions) = object (member (codes "definitions") (array (items_of (map defined_data definitions))) no_members)
 answer_data (tells_leaves leaves) = object (member (codes "leaves") (array (items_of (map leaf_data leaves))) no_members)
+answer_data (tells_entries entries) = object (member (codes "entries") (array (items_of (map standing_data entries))) no_members)

@@ -4,6 +4,7 @@ use Rattle.symbols_syntax.specs.declared.ids.SymbolId.{SymbolId}
 use Rattle.symbols_nodes.specs.References.{Dependency}
 use Rattle.symbols_exports.specs.Told.{ToldExport, ToldStatement}
 use Rattle.symbols_paths.specs.Trees.{Defined, Leaf, Forest}
+use Rattle.symbols_paths.specs.DepAnswers.{EntryView}
 
 -- why a line has no other answer
 pub data AnswerFault : Type 0 where
@@ -15,7 +16,7 @@ pub data AnswerFault : Type 0 where
 
 -- nothing, where the specifier stands for no module; which module it stands for; why there is no other answer; what is exported, and the statements `export *` that
 -- lead to no module; which symbol a name stands for, if any; what a symbol is called in full, if it has a name; what each declaration of a
--- symbol depends on; the paths to where a symbol is defined; the definitions at their ends; and all their ends
+-- symbol depends on; the paths to where a symbol is defined; the definitions at their ends; all their ends; and what a reference stands for
 pub data AnswerView : Type 0 where
   tells_nothing : AnswerView
   tells_module : List ℕ → AnswerView
@@ -27,3 +28,4 @@ pub data AnswerView : Type 0 where
   tells_paths : Forest → AnswerView
   tells_definitions : List Defined → AnswerView
   tells_leaves : List Leaf → AnswerView
+  tells_entries : List EntryView → AnswerView

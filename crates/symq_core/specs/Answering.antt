@@ -2,12 +2,13 @@
 use Rattle.std.specs.Prelude.{List, Option, Some, None, Result}
 use Rattle.json.specs.Written.{Written}
 use Rattle.symbols_syntax.specs.Ids.{id_view}
+use Rattle.symbols_nodes.specs.References.{reference_view}
 use Rattle.symbols_table.specs.declared.info.fault.SymbolsFault.{SymbolsFault}
 use Rattle.symbols_table.specs.declared.info.fault.SymbolsFault.TheVariants as fault
 use Rattle.symbols_table.specs.Changes.{Change}
 use Rattle.symbols_table.specs.Analysis.{HasTables}
 use Rattle.symbols_table.specs.Modules.{Table}
-use Rattle.symq_core.specs.Queries.{TableQuestionView, asks_module, asks_symbol, asks_name, asks_deps, QuestionView, asks_exports, asks_paths, asks_definitions, asks_leaves, asks_table, QueryView}
+use Rattle.symq_core.specs.Queries.{TableQuestionView, asks_module, asks_symbol, asks_name, asks_deps, QuestionView, asks_exports, asks_paths, asks_definitions, asks_leaves, asks_resolve, asks_table, QueryView}
 use Rattle.symq_core.specs.AnswerViews.{AnswerFault, too_many_modules, too_many_symbols, unknown_module, unknown_symbol}
 use Rattle.symq_core.specs.AnswerData.{answer_data}
 use Rattle.symq_core.specs.Answers.{changes_answer}
@@ -28,6 +29,7 @@ question_view Question.Exports = asks_exports
 question_view (Question.Paths symbol) = asks_paths symbol
 question_view (Question.Definitions symbol) = asks_definitions symbol
 question_view (Question.Leaves symbol) = asks_leaves symbol
+question_view (Question.Resolve reference) = asks_resolve (reference_view reference)
 question_view (Question.Table question) = asks_table (table_question_view question)
 
 abbrev pub query_view : Query → QueryView

@@ -1,5 +1,5 @@
 -- What a query is answered with.
-use Rattle.std.specs.Prelude.{ℕ, List, [], map, Option, Some, None, option_map}
+use Rattle.std.specs.Prelude.{ℕ, List, map, Option, Some, None, option_map}
 use Rattle.symbols_syntax.specs.declared.ids.SymbolId.{SymbolId}
 use Rattle.symbols_syntax.specs.Graph.{GraphView, ModuleView}
 use Rattle.symbols_nodes.specs.declared.deps.dep.ResolveDepsMode.{ResolveDepsMode}
@@ -14,8 +14,9 @@ use Rattle.symbols_exports.specs.StarStatements.{changes_under}
 use Rattle.symbols_exports.specs.Ways.{exports_told, unresolved_told_in}
 use Rattle.symbols_paths.specs.Trees.{Forest, leaves_in, definitions_in}
 use Rattle.symbols_paths.specs.Computed.{paths_of}
-use Rattle.symq_core.specs.Queries.{TableQuestionView, asks_module, asks_symbol, asks_name, asks_deps, QuestionView, asks_exports, asks_paths, asks_definitions, asks_leaves, asks_table, QueryView}
-use Rattle.symq_core.specs.AnswerViews.{bad_query, unknown_symbol, AnswerView, tells_nothing, tells_module, tells_fault, tells_exports, tells_symbol, tells_name, tells_deps, tells_paths, tells_definitions, tells_leaves}
+use Rattle.symbols_paths.specs.DepAnswers.{entries_of}
+use Rattle.symq_core.specs.Queries.{TableQuestionView, asks_module, asks_symbol, asks_name, asks_deps, QuestionView, asks_exports, asks_paths, asks_definitions, asks_leaves, asks_resolve, asks_table, QueryView}
+use Rattle.symq_core.specs.AnswerViews.{bad_query, unknown_symbol, AnswerView, tells_nothing, tells_module, tells_fault, tells_exports, tells_symbol, tells_name, tells_deps, tells_paths, tells_definitions, tells_leaves, tells_entries}
 
 -- the name of a symbol, and a fault where there is no such symbol
 abbrev pub named_answer : Option SymbolView → Option (List ℕ) → AnswerView
@@ -69,13 +70,14 @@ definitions_answer s graph specifier = told_of (symbol_under graph specifier s) 
 abbrev pub leaves_answer : SymbolId → GraphView → List ℕ → AnswerView
 leaves_answer s graph specifier = told_of (symbol_under graph specifier s) (tells_leaves (leaves_in (paths_under graph specifier s)))
 
--- nothing where there is no module; what it exports, and its unresolved statements, and where a symbol of it is defined, by the whole graph
+-- nothing where there is no module; what it exports, and its unresolved statements, where a symbol of it is defined, and what a reference in it stands for, by the whole graph
 abbrev pub found_answer : GraphView → QuestionView → Option ModuleView → AnswerView
 found_answer graph question None = tells_nothing
 found_answer graph asks_exports (Some graph_module) = tells_exports (exports_told graph graph_module.specifier) (unresolved_told_in graph graph_module.specifier)
 found_answer graph (asks_paths s) (Some graph_module) = paths_answer s graph graph_module.specifier
 found_answer graph (asks_definitions s) (Some graph_module) = definitions_answer s graph graph_module.specifier
 found_answer graph (asks_leaves s) (Some graph_module) = leaves_answer s graph graph_module.specifier
+found_answer graph (asks_resolve reference) (Some graph_module) = tells_entries (entries_of graph graph_module.specifier reference)
 found_answer graph (asks_table question) (Some graph_module) = module_answer question graph_module
 
 -- the answer to a query on a graph: on the module that its specifier stands for

@@ -1,3 +1,4 @@
+pub mod ReferenceForms
 pub mod Queries
 pub mod AnswerViews
 pub mod TextsData

@@ -1,10 +1,10 @@
 -- The JSON value of paths to definitions.
-use Rattle.std.specs.Prelude.{ℕ, List, map, Option, Some, None, codes}
+use Rattle.std.specs.Prelude.{ℕ, List, Option, Some, None, codes}
 use Rattle.serde_json.specs.Data.{Data, number, unsigned, string, array, object, Items, no_items, item, Members, no_members, member}
-use Rattle.serde_json.specs.View.{items_of}
 use Rattle.symbols_table.specs.DeclViews.{DepView}
 use Rattle.symbols_syntax.specs.declared.ids.SymbolId.{SymbolId}
 use Rattle.symbols_paths.specs.Trees.{NamedDecl, Defined, Reason, no_symbol, no_module, no_part, Missing, Leaf, definition, unresolved, Tree, Forest, leaf, link, none, more}
+use Rattle.symbols_paths.specs.DepAnswers.{EntryView, a_path, a_module}
 use Rattle.symq_core.specs.TextsData.{texts_data}
 
 -- a declaration: the number of its symbol, and its place among the symbol's
@@ -74,3 +74,8 @@ abbrev mutual
   pub forest_items : Forest → Items
   forest_items none = no_items
   forest_items (more t f) = item (tree_data t) (forest_items f)
+
+-- what a reference stands for: a path, or a module
+abbrev pub standing_data : EntryView → Data
+standing_data (a_path path) = tree_data path
+standing_data (a_module specifier) = object (member (codes "import_type") (string specifier) no_members)

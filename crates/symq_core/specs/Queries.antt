@@ -7,7 +7,9 @@ use Rattle.symbols_syntax.specs.declared.ids.SymbolId.{SymbolId}
 use Rattle.symbols_syntax.specs.Ids.{IdView}
 use Rattle.symbols_nodes.specs.declared.deps.dep.ResolveDepsMode.{ResolveDepsMode}
 use Rattle.symbols_nodes.specs.declared.deps.dep.ResolveDepsMode.TheVariants.{TypesOnly, TypesAndExpressions}
+use Rattle.symbols_nodes.specs.References.{Reference}
 use Rattle.symq_reader.specs.UnderKeys.{as_u32}
+use Rattle.symq_core.specs.ReferenceForms.{read_id, reference_of}
 
 -- what the table of a module alone tells: which module it is; which symbol a name stands for in it; what a symbol of it is called in full; what the declarations of a symbol depend on
 pub data TableQuestionView : Type 0 where
@@ -16,12 +18,13 @@ pub data TableQuestionView : Type 0 where
   asks_name : SymbolId → TableQuestionView
   asks_deps : SymbolId → ResolveDepsMode → TableQuestionView
 
--- what is asked of a specifier, and of the module that it stands for: what it exports; the paths to where a symbol of it is defined, the definitions at their ends, or all their ends; or what its table tells
+-- what is asked of a specifier, and of the module that it stands for: what it exports; the paths to where a symbol of it is defined, the definitions at their ends, or all their ends; what a reference in it stands for; or what its table tells
 pub data QuestionView : Type 0 where
   asks_exports : QuestionView
   asks_paths : SymbolId → QuestionView
   asks_definitions : SymbolId → QuestionView
   asks_leaves : SymbolId → QuestionView
+  asks_resolve : Reference → QuestionView
   asks_table : TableQuestionView → QuestionView
 
 -- a question, and the specifier of the module that it is asked of
@@ -38,10 +41,6 @@ module_question _ = None
 abbrev pub exports_question : Items → Option QuestionView
 exports_question no_items = Some asks_exports
 exports_question _ = None
-
--- a text and a number that fits 32 bits
-abbrev pub read_id : Data → Data → Option IdView
-read_id name scope = option_and_then (λ n. option_map (λ s. record { name = n; scope = s }) (as_u32 scope)) (as_str name)
 
 -- the form `["symbol", specifier, name, scope]`, behind its specifier
 abbrev pub symbol_question : Items → Option QuestionView
@@ -67,6 +66,11 @@ definitions_question items = option_map asks_definitions (one_symbol items)
 abbrev pub leaves_question : Items → Option QuestionView
 leaves_question items = option_map asks_leaves (one_symbol items)
 
+-- the form `["resolve", specifier, reference]`, behind its specifier
+abbrev pub resolve_question : Items → Option QuestionView
+resolve_question (item reference no_items) = option_map asks_resolve (reference_of reference)
+resolve_question _ = None
+
 -- the word of a mode
 abbrev pub mode_named : List ℕ → Option ResolveDepsMode
 mode_named word = if bytes_eq word (codes "types") then Some TypesOnly else if bytes_eq word (codes "all") then Some TypesAndExpressions else None
@@ -78,7 +82,7 @@ deps_question _ = None
 
 -- the forms by their words
 abbrev pub forms : List (List ℕ × (Items → Option QuestionView))
-forms = (codes "module", module_question) ∷ (codes "exports", exports_question) ∷ (codes "symbol", symbol_question) ∷ (codes "name", name_question) ∷ (codes "deps", deps_question) ∷ (codes "paths", paths_question) ∷ (codes "definitions", definitions_question) ∷ (codes "leaves", leaves_question) ∷ []
+forms = (codes "module", module_question) ∷ (codes "exports", exports_question) ∷ (codes "symbol", symbol_question) ∷ (codes "name", name_question) ∷ (codes "deps", deps_question) ∷ (codes "paths", paths_question) ∷ (codes "definitions", definitions_question) ∷ (codes "leaves", leaves_question) ∷ (codes "resolve", resolve_question) ∷ []
 
 abbrev pub question_named : List ℕ → Items → Option QuestionView
 question_named word items = option_and_then (λ form. form.1 items) (find (λ form. bytes_eq word form.0) forms)

@@ -11,6 +11,8 @@ mod lines;
 mod memory;
 mod paths;
 mod query;
+mod references;
+mod resolving;
 mod session;
 mod start;
 mod stop;

@@ -6,6 +6,7 @@ use Rattle.serde_json.specs.Read.{number_of, of_json, of_items, of_members}
 use Rattle.serde_json.specs.Find.{as_u64}
 use Rattle.std.specs.Ordering.{match_ordering}
 use Rattle.std.specs.Cmp.Lexicographic.{slice_cmp}
+use Rattle.symq_reader.specs.Lists.{has_lists_only, items_have_lists_only}
 use Rattle.symq_reader.specs.Numbers.{is_whole, items_are_whole, members_are_whole}
 use Rattle.symq_reader.specs.Plain.{num_or, plain, plain_items, plain_members, fits, items_fit, members_fit}
 
@@ -118,3 +119,20 @@ mutual
   plain-of_members json.no_members found ns e = cc
   plain-of_members (json.member k j ms) found ns e =
       under_member (of_json j) ms k (plain j) found ns (plain-of_json j) (λ new h. plain-of_members ms new ns h) e
+
+-- ---- the numbers of a value without objects fit where those of its data do
+
+mutual
+  pub fits-lists : (j : json.Json) → has_lists_only (plain j) ≡ true → fits j ≡ true
+  fits-lists json.null e = refl
+  fits-lists (json.boolean b) e = refl
+  fits-lists (json.number s) e = e
+  fits-lists (json.string s) e = refl
+  fits-lists (json.array js) e = items_fit-lists js e
+  fits-lists (json.object ms) e = absurd (cc)
+
+  items_fit-lists : (js : json.Items) → items_have_lists_only (plain_items js) ≡ true → items_fit js ≡ true
+  items_fit-lists json.no_items e = refl
+  items_fit-lists (json.item j js) e =
+      let h = both (has_lists_only (plain j)) (items_have_lists_only (plain_items js)) e in
+      both_of (fits j) (items_fit js) (fits-lists j h.0) (items_fit-lists js h.1)

@@ -1,5 +1,6 @@
 -- From the value of a text, as `json` has it, to the outcome.
-use Rattle.std.proofs.Common.{◌≡◌, ℕ, List, [], Option, Some, option_and_then, Result, Ok, Err, refl, sym, ap, subst, ◌∙◌, true, false}
+use Rattle.std.proofs.Common.{◌≡◌, ℕ, List, [], Bool, Option, None, Some, option_and_then, Result, Ok, Err, refl, sym, ap, subst, ◌∙◌, true, false}
+use Rattle.std.specs.Prelude.{IfSome}
 use Rattle.std.proofs.lemmas.Str.{is_utf8-from_IsUtf8}
 use Rattle.std.specs.Str.{IsUtf8}
 use Rattle.json.specs.Token.{Token}
@@ -11,12 +12,13 @@ use Rattle.symbols_syntax.specs.declared.graph.raw.RawGraph.{RawGraph}
 use Rattle.symq_reader.specs.declared.faults.FormatFault.{FormatFault}
 use Rattle.symq_reader.specs.declared.faults.FormatFault.TheVariants.{BadForm}
 use Rattle.symq_reader.specs.GraphText.{GraphShape, graph_shape, if_object, graph_fields, graph_of, outcome_of, outcome_for, or_fault, json_of, IsOutcome}
+use Rattle.symq_reader.specs.Lists.{has_lists_only}
 use Rattle.symq_reader.specs.Numbers.{is_whole}
 use Rattle.symq_reader.specs.Plain.{plain, fits}
 use Rattle.symq_reader.specs.Reading.{Gives}
 use Rattle.symq_reader.specs.Streams.{Reads}
 use Rattle.symq_reader.proofs.Outcomes.{json_of-read, outcome_for-read}
-use Rattle.symq_reader.proofs.Plains.{of_json-fits, is_whole-fits, plain-of_json}
+use Rattle.symq_reader.proofs.Plains.{of_json-fits, is_whole-fits, plain-of_json, fits-lists}
 
 -- what `serde_json` makes of a whole text
 pub read_whole : (bytes text : List ℕ) (j : Json) → text ≡ bytes → value 127 (tokens text) ≡ Some (j, []) → read bytes ≡ of_json j
@@ -56,3 +58,24 @@ fitting_outcome bytes text j r utf8 same all fit gives =
 
 pub no_graph : (d : Data) → is_whole d ≡ false → outcome_for (Some d) ≡ Err BadForm
 no_graph d broken = rw broken refl
+
+-- ---- a value of lists, texts and whole numbers
+
+pub fitting_value : (bytes text : List ℕ) (j : Json) → IsUtf8 bytes → text ≡ bytes → value 127 (tokens text) ≡ Some (j, []) → fits j ≡ true → json_of bytes ≡ Some (plain j)
+fitting_value bytes text j utf8 same all fit = json_of-read bytes (plain j) utf8 (read_whole bytes text j same all ∙ of_json-fits j fit)
+
+not_lists : (j : Json) (b : Bool) → has_lists_only (plain j) ≡ b → fits j ≡ false → has_lists_only (plain j) ≡ false
+not_lists j true e misfits = absurd (let fit : true ≡ false = sym (fits-lists j e) ∙ misfits in cc)
+not_lists j false e misfits = e
+
+misfit_data : (j : Json) (o : Option Data) → of_json j ≡ o → fits j ≡ false → IfSome o (λ d. has_lists_only d ≡ false)
+misfit_data j None e misfits = tt
+misfit_data j (Some d) e misfits = ap has_lists_only (sym (plain-of_json j d e)) ∙ not_lists j _ refl misfits
+
+pub misfitting_value : (bytes text : List ℕ) (j : Json) → IsUtf8 bytes → text ≡ bytes → value 127 (tokens text) ≡ Some (j, []) → fits j ≡ false → IfSome (json_of bytes) (λ d. has_lists_only d ≡ false)
+misfitting_value bytes text j utf8 same all misfits =
+    let same_read : json_of bytes ≡ of_json j = json_of-text bytes utf8 ∙ read_whole bytes text j same all in
+    subst (λ (o : Option Data). IfSome o (λ d. has_lists_only d ≡ false)) (sym same_read) (misfit_data j (of_json j) refl misfits)
+
+pub no_value : (bytes : List ℕ) → json_of bytes ≡ None → IfSome (json_of bytes) (λ d. has_lists_only d ≡ false)
+no_value bytes none = rw none tt

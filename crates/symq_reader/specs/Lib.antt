@@ -1,6 +1,7 @@
 pub mod Reading
 pub mod UnderKeys
 pub mod Numbers
+pub mod Lists
 pub mod Plain
 pub mod Words
 pub mod Kinds

@@ -1,5 +1,5 @@
--- For inner functions and proofs alone: a JSON value as `json` has it, where numbers are texts and a key may come twice,
--- beside its data. Where all its numbers are whole, `serde_json` reads exactly these data.
+-- A JSON value as `json` has it, where numbers are texts and a key may come twice, beside its data. Where all its numbers are
+-- whole, `serde_json` reads exactly these data. What is said of whether numbers fit is for inner functions and proofs alone.
 use Rattle.std.specs.Prelude.{negsuc, List, Bool, true, ◌&&◌, Option, Some, None, is_some}
 use Rattle.std.specs.Borrow.{Bor}
 use Rattle.json.specs.Json as json
@@ -35,6 +35,10 @@ abbrev mutual
 -- the data that a value stands for
 abbrev pub data_of : {A : Type 0} → Value A → Data
 data_of v = plain (value_view v)
+
+-- those of a list of values
+abbrev pub items_data : {A : Type 0} → List (Value A) → Items
+items_data vs = plain_items (items_view vs)
 
 -- whether each number is whole, one that a later key replaces too
 abbrev mutual

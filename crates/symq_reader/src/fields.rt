@@ -3,8 +3,8 @@
 
 ghost use Rattle.std.specs.Prelude.{◌≡◌, option_map, string_bytes};
 ghost use Rattle.json.specs.Value.{items_view};
-ghost use Rattle.serde_json.specs.Find.{as_str};
-ghost use Rattle.symq_reader.specs.Plain.{data_of, data_listed, plain_items};
+ghost use Rattle.serde_json.specs.Find.{as_array, as_str};
+ghost use Rattle.symq_reader.specs.Plain.{data_of, items_data, data_listed, plain_items};
 ghost use Rattle.symq_reader.specs.Reading.{Gives};
 ghost use Rattle.symq_reader.specs.UnderKeys.{unless_null, field, required_under, optional_under, items_under, list_under, flag_under, as_u32, two_items, three_items, as_pair, as_triple, as_identifier};
 ghost use Rattle.symq_reader.specs.KindShapes.{identifier_view};
@@ -36,8 +36,18 @@ pub(crate) fn field<'v, 'a>(value: &'v Value<'a>, key: &str) -> Option<&'v Value
     }
 }
 
-/// The text that a value is.
-pub(crate) fn as_text<'a>(value: &Value<'a>) -> Option<&'a str>
+/// The items that a value lists, if it is a list.
+pub fn as_list<'v, 'a>(value: &'v Value<'a>) -> Option<&'v [Value<'a>]>
+    ensures { option_map (λ items. items_data items.now) result ≡ as_array (data_of value.now) }
+{
+    match value {
+        Value::Array(items) => Some(items.as_slice()),
+        _ => None,
+    }
+}
+
+/// The text that a value is, if it is one.
+pub fn as_text<'a>(value: &Value<'a>) -> Option<&'a str>
     ensures { option_map (λ s. s.now) result ≡ as_str (data_of value.now) }
 {
     match value {
@@ -86,7 +96,7 @@ pub(crate) fn flag(value: &Value<'_>, key: &str) -> Result<bool, FormatFault>
 fn node_id(value: &Value<'_>) -> Result<NodeId, FormatFault>
     ensures { Gives (λ n. n) result (as_u32 (data_of value.now)) }
 {
-    match numbers::number(value) {
+    match numbers::as_u32(value) {
         Some(number) => Ok(NodeId(number)),
         None => Err(FormatFault::BadForm),
     }
@@ -197,7 +207,7 @@ pub(crate) fn identifier(alloc: Global, value: &Value<'_>, key: &str) -> Result<
     let Some((name, scope)) = field(value, key).and_then(pair) else {
         return Err(FormatFault::BadForm);
     };
-    let (Some(name), Some(scope)) = (as_text(name), numbers::number(scope)) else {
+    let (Some(name), Some(scope)) = (as_text(name), numbers::as_u32(scope)) else {
         return Err(FormatFault::BadForm);
     };
     let name = String::from_str(alloc, name)?;

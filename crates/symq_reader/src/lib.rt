@@ -11,9 +11,12 @@ mod kinds;
 mod nodes;
 mod numbers;
 mod stream;
+mod values;
 mod whole;
 mod words;
 
 pub use faults::FormatFault;
+pub use fields::{as_list, as_text};
 pub use numbers::as_u32;
+pub use values::read_value;
 pub use whole::read_graph;

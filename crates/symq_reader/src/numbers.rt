@@ -13,13 +13,6 @@ use fast_float::Numeral;
 use json::Value;
 use serde_json::Map;
 
-/// The number that a value is, if it is whole and fits 32 bits, as those of nodes and scopes do.
-pub fn as_u32(value: &serde_json::Value) -> Option<u32>
-    ensures { result ≡ as_u32 (view value.now) }
-{
-    u32::try_from(value.as_u64()?).ok()
-}
-
 /// Whether each number of a value, at any depth, is whole and fits 64 bits.
 #[cycle(whole)]
 pub(crate) fn is_whole(value: &serde_json::Value) -> bool
@@ -97,8 +90,8 @@ pub(crate) fn offset(value: &Value<'_>) -> Option<u64>
     }
 }
 
-/// The number that a value is, if it is whole and fits 32 bits.
-pub(crate) fn number(value: &Value<'_>) -> Option<u32>
+/// The number that a value is, if it is whole and fits 32 bits, as those of nodes and scopes do.
+pub fn as_u32(value: &Value<'_>) -> Option<u32>
     ensures { result ≡ as_u32 (data_of value.now) }
 {
     u32::try_from(offset(value)?).ok()

@@ -16,7 +16,7 @@ use std::alloc::{AllocError, Global};
 use symbols_syntax::graph::RawGraph;
 
 /// The value of a text; none where `serde_json` reads none.
-fn whole_value<'a>(
+pub(crate) fn whole_value<'a>(
     alloc: Global,
     text: &'a str,
     scratch: &'a mut Scratch,

@@ -5,6 +5,8 @@
 #[cfg(test)]
 mod analysis;
 #[cfg(test)]
+mod asking;
+#[cfg(test)]
 mod definitions;
 #[cfg(test)]
 mod deps;

@@ -4,7 +4,7 @@ ghost use Rattle.std.specs.Prelude.{◌≡◌, ◌≢◌, ◌<◌, length, map, 
 ghost use Rattle.symbols_table.specs.declared.info.fault.SymbolsFault.TheVariants.{OutOfMemory};
 ghost use Rattle.symbols_root.specs.Roots.{widest};
 ghost use Rattle.symbols_paths.specs.Trees.{Forest, leaves_in, definitions_in};
-ghost use Rattle.symbols_paths.specs.Leads.{leads_of};
+ghost use Rattle.symbols_paths.specs.PartWays.{links_of};
 ghost use Rattle.symbols_paths.specs.Choice.{IsChosen};
 ghost use Rattle.symbols_paths.specs.Computed.{paths_of};
 ghost use Rattle.symbols_paths.specs.Views.{named_in, forest_told, definition_told, leaf_told, definitions_left, ends_left};
@@ -20,8 +20,10 @@ use symbols_table::info::SymbolsFault;
 use symbols_tree::ids::{ModuleId, SymbolId, UniqueSymbolId};
 
 /// The paths to what a symbol of a stored module is defined by (as deno_graph, which finds them by a
-/// module and a symbol of it): along other names of its module, imports, and `export *`. Each symbol
-/// is gone into once; of the exports along `export *` the first is taken that has a path.
+/// module and a symbol of it): along other names of its module, aliases with parts behind a name,
+/// imports, and `export *`. Each symbol is gone into once; of the exports along `export *` the first
+/// is taken that has a path. An alias is a search of its own, which gives nothing while it is being
+/// resolved (own rule; the crate recurses without end there).
 ///
 /// # Errors
 ///
@@ -36,7 +38,7 @@ pub fn find_definition_paths<'a>(
     ensures listed { IfOk result (λ paths. forest_told root.new paths.items ≡ paths_of root.old.graph (named_in root.old module_id symbol_id)) }
     ensures faults { IfErr result (IsPathsFault root.old root.new module_id symbol_id) }
     ensures kept { HasGrown root.old root.new }
-    ensures only { (f g : Forest) → IsChosen (leads_of root.old.graph) (named_in root.old module_id symbol_id) f → IsChosen (leads_of root.old.graph) (named_in root.old module_id symbol_id) g → f ≡ g }
+    ensures only { (f g : Forest) → IsChosen (links_of root.old.graph) (named_in root.old module_id symbol_id) f → IsChosen (links_of root.old.graph) (named_in root.old module_id symbol_id) g → f ≡ g }
     ensures enough { root.old.limits ≡ widest → module_id.0 < length root.old.stored → symbol_in root.old module_id symbol_id ≢ None → IfErr result (λ fault. fault ≡ OutOfMemory) }
 {
     match root.module_from_id(module_id) {
@@ -47,8 +49,14 @@ pub fn find_definition_paths<'a>(
             }
         }
     }
+    let mut resolving = IndexSet::new(root.alloc());
     let mut met = IndexSet::new(root.alloc());
-    find(root, &mut met, UniqueSymbolId::new(module_id, symbol_id))
+    find(
+        root,
+        &mut resolving,
+        &mut met,
+        UniqueSymbolId::new(module_id, symbol_id),
+    )
 }
 
 /// The ends of these paths from left to right: definitions, and where they aren't resolved (as

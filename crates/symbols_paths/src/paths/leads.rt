@@ -10,10 +10,11 @@ ghost use Rattle.symbols_exports.specs.Exporting.{specifier_in};
 ghost use Rattle.symbols_exports.specs.StarStatements.{star_texts};
 ghost use Rattle.symbols_paths.specs.Trees.{NamedSymbol};
 ghost use Rattle.symbols_paths.specs.Leads.{own_export, declarations_of, lead_of, symbol_of_id};
-ghost use Rattle.symbols_paths.specs.Views.{named};
+ghost use Rattle.symbols_paths.specs.PartWays.{export_of_symbol, is_class_at};
+ghost use Rattle.symbols_paths.specs.Views.{named, decl_told, first_text};
 ghost use Rattle.symbols_paths.specs.Searching.{lead_told, IsImportOf, IsRead};
 
-use crate::paths::definition::DefinitionKind;
+use crate::paths::definition::{DeclRef, DefinitionKind};
 use std::alloc::{AllocError, Global};
 use symbols_root::root::RootSymbol;
 use symbols_table::decl::{FileDepName, SymbolDecl, SymbolDeclKind};
@@ -29,13 +30,15 @@ pub(crate) struct NamedImport<'a> {
 }
 
 /// Where a declaration leads: it defines; it leads nowhere; it is another name of a symbol of the
-/// module; it has parts after a name that stands for no symbol; or it imports a name from a text.
+/// module; it has parts behind a name that stands for no symbol, or behind one that stands for a
+/// symbol of the module; or it imports a name from a text.
 #[derive(Drop)]
 pub(crate) enum Lead<'a> {
     Defines(DefinitionKind<'a>, SourceRange),
     Nowhere,
     Target(SymbolId),
     Unmapped(&'a Id, Vec<&'a str>),
+    Alias(SymbolId, Vec<&'a str>),
     Import(NamedImport<'a>),
 }
 
@@ -65,7 +68,7 @@ fn lead_of<'a>(
             None => Ok(Lead::Nowhere),
         },
         SymbolDeclKind::QualifiedTarget(id, parts) => match mapped(info, id) {
-            Some(_) => Ok(Lead::Nowhere),
+            Some(symbol_id) => Ok(Lead::Alias(symbol_id, parts.to_vec(alloc)?)),
             None => Ok(Lead::Unmapped(*id, parts.to_vec(alloc)?)),
         },
         SymbolDeclKind::FileRef(dep) => match dep.name {
@@ -150,5 +153,47 @@ pub(crate) fn specifier_of<'a>(root: &RootSymbol<'a>, module_id: ModuleId) -> &'
     match root.module_from_id(module_id) {
         Some(info) => info.specifier(),
         None => unreachable!(),
+    }
+}
+
+/// The symbol that a name of a stored module stands for.
+pub(crate) fn symbol_of_id(root: &RootSymbol<'_>, module_id: ModuleId, id: &Id) -> Option<SymbolId>
+    requires { module_id.0 < length root.now.stored }
+    ensures { result ≡ symbol_of_id root.now.graph (specifier_in root.now module_id) (id_view id.now) }
+{
+    match root.module_from_id(module_id) {
+        Some(info) => mapped(info, id),
+        None => unreachable!(),
+    }
+}
+
+/// The symbol that a symbol of a stored module exports under the first of these names; none where the
+/// module has no such symbol.
+pub(crate) fn export_of_symbol(
+    root: &RootSymbol<'_>,
+    symbol: UniqueSymbolId,
+    parts: &[&str],
+) -> Option<SymbolId>
+    requires known { symbol.module_id.0 < length root.now.stored }
+    requires some { 0 < length parts.now }
+    ensures { result ≡ export_of_symbol root.now.graph (named root.now symbol) (first_text parts.now) }
+{
+    match root.module_from_id(symbol.module_id)? {
+        ModuleInfoRef::Esm(esm) => esm.symbol(symbol.symbol_id)?.export(parts[0]),
+        ModuleInfoRef::Json(json) => json.symbol(symbol.symbol_id)?.export(parts[0]),
+    }
+}
+
+/// Whether a declaration of a stored module is a class; false where there is no such declaration.
+pub(crate) fn is_class_at(root: &RootSymbol<'_>, module_id: ModuleId, decl: DeclRef) -> bool
+    requires { module_id.0 < length root.now.stored }
+    ensures { result ≡ is_class_at root.now.graph (decl_told root.now module_id decl) }
+{
+    match declarations(root, UniqueSymbolId::new(module_id, decl.symbol)) {
+        Some(decls) => match decls.get(decl.index as usize) {
+            Some(decl) => decl.is_class(),
+            None => false,
+        },
+        None => false,
     }
 }

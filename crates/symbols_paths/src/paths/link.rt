@@ -1,13 +1,12 @@
 //! The parts that paths are made of.
 
-ghost use Rattle.std.specs.Prelude.{◌≡◌, ◌<◌, ◌++◌, [], ℕ, List, length, map, string_bytes, IfOk, IfSome, OnOk};
-ghost use Rattle.std.specs.Borrow.{Bor};
+ghost use Rattle.std.specs.Prelude.{◌≡◌, ◌<◌, ◌++◌, [], length, IfOk, IfSome, OnOk};
 ghost use Rattle.std.specs.Option.{option_to_list};
 ghost use Rattle.symbols_syntax.specs.Ids.{id_view};
 ghost use Rattle.symbols_root.specs.Roots.{RootView};
 ghost use Rattle.symbols_exports.specs.Exporting.{specifier_in};
 ghost use Rattle.symbols_paths.specs.Trees.{leaf, link, one, link_to, definition, unresolved, no_symbol};
-ghost use Rattle.symbols_paths.specs.Views.{named, decl_told, star_of, reason_told, texts_of, tree_told, forest_told, forest_of_option, modules_of, modules_in, AreStored};
+ghost use Rattle.symbols_paths.specs.Views.{named, decl_told, star_of, reason_told, texts_of, texts_in, unresolved_told, tree_told, forest_told, forest_of_option, modules_of, modules_in, AreStored};
 
 use crate::paths::definition::{DeclRef, Definition, DefinitionKind};
 use crate::paths::node::{DefinitionPathLink, DefinitionPathNode, DefinitionPathNodeResolved};
@@ -57,6 +56,30 @@ pub(crate) fn link<'a>(
     })))
 }
 
+/// A step to a symbol by a declaration of its module, where parts are looked for; none where nothing
+/// is next.
+pub(crate) fn link_under<'a>(
+    alloc: Global,
+    symbol: UniqueSymbolId,
+    symbol_decl: DeclRef,
+    parts: &[&str],
+    next: Vec<DefinitionPathNode<'a>>,
+) -> Result<Option<DefinitionPathNode<'a>>, AllocError>
+    ensures told { IfOk result (λ path. (root : RootView) → forest_of_option root path ≡ link_to (record { symbol = named root symbol; decl = decl_told root symbol.module_id symbol_decl; parts = texts_in parts.now }) (forest_told root next.entry.items)) }
+    ensures stored { IfOk result (λ path. (root : RootView) → symbol.module_id.0 < length root.stored → AreStored root (modules_in next.entry.items) → IfSome path (λ p. AreStored root (modules_of p))) }
+{
+    if next.is_empty() {
+        return Ok(None);
+    }
+    Ok(Some(DefinitionPathNode::Resolved(DefinitionPathNodeResolved::Link(DefinitionPathLink {
+        module: symbol.module_id,
+        symbol: symbol.symbol_id,
+        symbol_decl,
+        parts: copied_parts(alloc, parts)?,
+        next,
+    }))))
+}
+
 /// Adds a path, if there is one.
 pub(crate) fn add<'a>(
     paths: &mut Vec<DefinitionPathNode<'a>>,
@@ -70,6 +93,19 @@ pub(crate) fn add<'a>(
     Ok(())
 }
 
+/// An unresolved entry alone.
+pub(crate) fn one_unresolved<'a>(
+    alloc: Global,
+    missing: DefinitionUnresolved,
+) -> Result<Vec<DefinitionPathNode<'a>>, AllocError>
+    ensures told { IfOk result (λ paths. (root : RootView) → forest_told root paths.items ≡ one (leaf (unresolved (unresolved_told root missing)))) }
+    ensures stored { IfOk result (λ paths. (root : RootView) → missing.«module».0 < length root.stored → AreStored root (modules_in paths.items)) }
+{
+    let mut paths = Vec::new(alloc);
+    paths.push(DefinitionPathNode::Unresolved(missing))?;
+    Ok(paths)
+}
+
 /// One unresolved entry.
 pub(crate) fn unresolved<'a>(
     alloc: Global,
@@ -80,16 +116,15 @@ pub(crate) fn unresolved<'a>(
     ensures told { IfOk result (λ paths. (root : RootView) → forest_told root paths.items ≡ one (leaf (unresolved (record { specifier = specifier_in root module_id; reason = reason_told kind; parts = texts_of parts.items })))) }
     ensures stored { IfOk result (λ paths. (root : RootView) → module_id.0 < length root.stored → AreStored root (modules_in paths.items)) }
 {
-    let mut paths = Vec::new(alloc);
-    paths.push(DefinitionPathNode::Unresolved(DefinitionUnresolved {
+    let missing = DefinitionUnresolved {
         module: module_id,
         kind,
         parts,
-    }))?;
-    Ok(paths)
+    };
+    one_unresolved(alloc, missing)
 }
 
-fn copied_id(alloc: Global, id: &Id) -> Result<Id, AllocError>
+pub(crate) fn copied_id(alloc: Global, id: &Id) -> Result<Id, AllocError>
     ensures { IfOk result (λ copy. id_view copy ≡ id_view id.now) }
 {
     Ok(Id {
@@ -98,8 +133,8 @@ fn copied_id(alloc: Global, id: &Id) -> Result<Id, AllocError>
     })
 }
 
-fn copied_parts(alloc: Global, parts: &[&str]) -> Result<Vec<String>, AllocError>
-    ensures { IfOk result (λ copies. texts_of copies.items ≡ map (λ (part : Bor (List ℕ)). part.now) parts.now) }
+pub(crate) fn copied_parts(alloc: Global, parts: &[&str]) -> Result<Vec<String>, AllocError>
+    ensures { IfOk result (λ copies. texts_of copies.items ≡ texts_in parts.now) }
 {
     let mut copies = Vec::new(alloc);
     for part in parts {
@@ -116,7 +151,7 @@ pub(crate) fn unmapped<'a>(
     id: &Id,
     parts: &[&str],
 ) -> Result<DefinitionPathNode<'a>, AllocError>
-    ensures told { IfOk result (λ path. (root : RootView) → tree_told root path ≡ link (record { symbol = named root symbol; decl = decl_told root symbol.module_id symbol_decl; parts = map (λ (part : Bor (List ℕ)). part.now) parts.now }) (one (leaf (unresolved (record { specifier = specifier_in root symbol.module_id; reason = no_symbol (id_view id.now); parts = map (λ (part : Bor (List ℕ)). part.now) parts.now }))))) }
+    ensures told { IfOk result (λ path. (root : RootView) → tree_told root path ≡ link (record { symbol = named root symbol; decl = decl_told root symbol.module_id symbol_decl; parts = texts_in parts.now }) (one (leaf (unresolved (record { specifier = specifier_in root symbol.module_id; reason = no_symbol (id_view id.now); parts = texts_in parts.now }))))) }
     ensures stored { IfOk result (λ path. (root : RootView) → symbol.module_id.0 < length root.stored → AreStored root (modules_of path)) }
 {
     let kind = DefinitionUnresolvedKind::Id(copied_id(alloc, id)?);

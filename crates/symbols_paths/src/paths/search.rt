@@ -1,6 +1,6 @@
 //! The search for definitions: it goes from declaration to declaration, each symbol once.
 
-ghost use Rattle.std.specs.Prelude.{◌≡◌, ◌<◌, List, [], length, Contains, Some, IfOk, IfErr, IfSome};
+ghost use Rattle.std.specs.Prelude.{◌≡◌, ◌<◌, List, [], length, Contains, Some, IfOk, IfErr, IfSome, OnOk};
 ghost use Rattle.std.specs.List.{IsDistinct};
 ghost use Rattle.std.specs.Option.{option_to_list};
 ghost use Rattle.std.specs.Str.{bytes_eq};
@@ -10,18 +10,22 @@ ghost use Rattle.symbols_table.specs.DeclViews.{Declaration};
 ghost use Rattle.symbols_root.specs.Roots.{widest};
 ghost use Rattle.symbols_exports.specs.Exporting.{specifier_in};
 ghost use Rattle.symbols_paths.specs.Leads.{declarations_of};
-ghost use Rattle.symbols_paths.specs.Views.{named, modules_of, modules_in};
+ghost use Rattle.symbols_paths.specs.Views.{named, definition_told, modules_in, AreStored};
 ghost use Rattle.symbols_paths.specs.Growing.{HasGrown};
-ghost use Rattle.symbols_paths.specs.Needed.{IsRefused};
-ghost use Rattle.symbols_paths.specs.Searching.{AreNumbered, HasSearched, IsFound, IsFollowed, IsTried, IsOffered, IsImported, IsImportOf, ways_of_import, ways_along};
+ghost use Rattle.symbols_paths.specs.Needed.{IsRefused, IsStarDeclared};
+ghost use Rattle.symbols_paths.specs.Searching.{AreNumbered, AreAliasesNumbered, HasSearched, IsFound, IsFollowed, IsTried, IsOffered, IsResolved, IsWalked, IsChanged, IsImported, IsImportOf, ways_of_import, ways_along};
 
-use crate::paths::definition::DeclRef;
+use crate::paths::definition::{DeclRef, Definition};
 use crate::paths::leads::{Lead, NamedImport, lead_at, own_export, star_text};
-use crate::paths::link::{add, defined, link, unmapped, unresolved};
+use crate::paths::link::{add, defined, link, link_under, one_unresolved, unmapped, unresolved};
 use crate::paths::node::DefinitionPathNode;
+use crate::paths::parts::{PartWay, part_of};
+use crate::paths::rebuild::{definitions_in, rebuild};
+use crate::paths::resolving::AliasDecl;
 use crate::paths::targets::{export_along, text_target};
 use crate::paths::unresolved::DefinitionUnresolvedKind;
 use indexmap::IndexSet;
+use std::collections::VecDeque;
 use symbols_root::root::RootSymbol;
 use symbols_table::info::SymbolsFault;
 use symbols_tree::ids::{ModuleId, UniqueSymbolId};
@@ -30,15 +34,18 @@ use symbols_tree::ids::{ModuleId, UniqueSymbolId};
 #[cycle(search)]
 pub(crate) fn find<'a>(
     root: &mut RootSymbol<'a>,
+    resolving: &mut IndexSet<AliasDecl>,
     met: &mut IndexSet<UniqueSymbolId>,
     symbol: UniqueSymbolId,
 ) -> Result<Vec<DefinitionPathNode<'a>>, SymbolsFault>
     requires known { symbol.module_id.0 < length root.old.stored }
     requires met { AreNumbered root.old met.old.keys }
+    requires resolving { AreAliasesNumbered root.old resolving.old.keys }
     requires once { IsDistinct bytes_eq root.old.stored }
     ensures kept { HasGrown root.old root.new }
-    ensures found { IfOk result (λ paths. IsFound root.new met.old.keys symbol paths.items met.new.keys) }
+    ensures found { IfOk result (λ paths. IsFound root.new resolving.old.keys met.old.keys symbol paths.items met.new.keys) }
     ensures searched { IfOk result (λ paths. HasSearched root.new met.old.keys met.new.keys (modules_in paths.items)) }
+    ensures same { OnOk result (resolving.new.keys ≡ resolving.old.keys) }
     ensures refused { IfErr result (IsRefused root.new (specifier_in root.old symbol.module_id)) }
     ensures enough { root.old.limits ≡ widest → IfErr result (λ fault. fault ≡ OutOfMemory) }
 {
@@ -49,7 +56,7 @@ pub(crate) fn find<'a>(
     }
     let mut index = 0;
     while let Some(lead) = lead_at(root, symbol, index)? {
-        match follow(root, met, symbol, index, &lead) {
+        match follow(root, resolving, met, symbol, index, &lead) {
             Err(fault) => return Err(fault),
             Ok(path) => add(&mut paths, path)?,
         }
@@ -62,6 +69,7 @@ pub(crate) fn find<'a>(
 #[cycle(search)]
 fn follow<'a>(
     root: &mut RootSymbol<'a>,
+    resolving: &mut IndexSet<AliasDecl>,
     met: &mut IndexSet<UniqueSymbolId>,
     symbol: UniqueSymbolId,
     index: u32,
@@ -69,11 +77,13 @@ fn follow<'a>(
 ) -> Result<Option<DefinitionPathNode<'a>>, SymbolsFault>
     requires known { symbol.module_id.0 < length root.old.stored }
     requires met { AreNumbered root.old met.old.keys }
+    requires resolving { AreAliasesNumbered root.old resolving.old.keys }
     requires once { IsDistinct bytes_eq root.old.stored }
     requires declared { (decl : Declaration) × Contains (declarations_of root.old.graph (named root.old symbol)) decl × IsImportOf lead.now decl }
     ensures kept { HasGrown root.old root.new }
-    ensures followed { IfOk result (λ path. IsFollowed root.new met.old.keys symbol index lead.now path met.new.keys) }
+    ensures followed { IfOk result (λ path. IsFollowed root.new resolving.old.keys met.old.keys symbol index lead.now path met.new.keys) }
     ensures searched { IfOk result (λ path. HasSearched root.new met.old.keys met.new.keys (modules_in (option_to_list path))) }
+    ensures same { OnOk result (resolving.new.keys ≡ resolving.old.keys) }
     ensures refused { IfErr result (IsRefused root.new (specifier_in root.old symbol.module_id)) }
     ensures enough { root.old.limits ≡ widest → IfErr result (λ fault. fault ≡ OutOfMemory) }
 {
@@ -86,13 +96,24 @@ fn follow<'a>(
         Lead::Nowhere => Ok(None),
         Lead::Target(symbol_id) => {
             let target = UniqueSymbolId::new(symbol.module_id, *symbol_id);
-            match find(root, met, target) {
+            match find(root, resolving, met, target) {
                 Err(fault) => Err(fault),
                 Ok(next) => Ok(link(root.alloc(), target, decl, next)),
             }
         }
+        Lead::Alias(symbol_id, parts) => {
+            let target = UniqueSymbolId::new(symbol.module_id, *symbol_id);
+            let alias = AliasDecl {
+                module: symbol.module_id,
+                decl,
+            };
+            match resolve(root, resolving, alias, target, parts) {
+                Err(fault) => Err(fault),
+                Ok(next) => Ok(link_under(root.alloc(), symbol, decl, parts, next)?),
+            }
+        }
         Lead::Unmapped(id, parts) => Ok(Some(unmapped(root.alloc(), symbol, decl, id, parts)?)),
-        Lead::Import(taken) => match import(root, met, symbol, taken) {
+        Lead::Import(taken) => match import(root, resolving, met, symbol, taken) {
             Err(fault) => Err(fault),
             Ok(next) => Ok(link(root.alloc(), symbol, decl, next)),
         },
@@ -103,17 +124,20 @@ fn follow<'a>(
 #[cycle(search)]
 fn import<'a>(
     root: &mut RootSymbol<'a>,
+    resolving: &mut IndexSet<AliasDecl>,
     met: &mut IndexSet<UniqueSymbolId>,
     symbol: UniqueSymbolId,
     taken: &NamedImport<'a>,
 ) -> Result<Vec<DefinitionPathNode<'a>>, SymbolsFault>
     requires known { symbol.module_id.0 < length root.old.stored }
     requires met { AreNumbered root.old met.old.keys }
+    requires resolving { AreAliasesNumbered root.old resolving.old.keys }
     requires once { IsDistinct bytes_eq root.old.stored }
     requires declared { IsImported root.old.graph (named root.old symbol) taken.now.name.now taken.now.text.now }
     ensures kept { HasGrown root.old root.new }
-    ensures tried { IfOk result (λ paths. IsTried root.new met.old.keys (ways_of_import symbol taken.now.name.now taken.now.text.now) paths.items met.new.keys) }
+    ensures tried { IfOk result (λ paths. IsTried root.new resolving.old.keys met.old.keys (ways_of_import symbol taken.now.name.now taken.now.text.now) paths.items met.new.keys) }
     ensures searched { IfOk result (λ paths. HasSearched root.new met.old.keys met.new.keys (modules_in paths.items)) }
+    ensures same { OnOk result (resolving.new.keys ≡ resolving.old.keys) }
     ensures refused { IfErr result (IsRefused root.new (specifier_in root.old symbol.module_id)) }
     ensures enough { root.old.limits ≡ widest → IfErr result (λ fault. fault ≡ OutOfMemory) }
 {
@@ -128,8 +152,8 @@ fn import<'a>(
         Ok(Some(module_id)) => module_id,
     };
     match own_export(root, module_id, taken.name) {
-        Some(owned) => find(root, met, UniqueSymbolId::new(module_id, owned)),
-        None => import_along(root, met, module_id, taken),
+        Some(owned) => find(root, resolving, met, UniqueSymbolId::new(module_id, owned)),
+        None => import_along(root, resolving, met, module_id, taken),
     }
 }
 
@@ -138,16 +162,19 @@ fn import<'a>(
 #[cycle(search)]
 fn import_along<'a>(
     root: &mut RootSymbol<'a>,
+    resolving: &mut IndexSet<AliasDecl>,
     met: &mut IndexSet<UniqueSymbolId>,
     module_id: ModuleId,
     taken: &NamedImport<'a>,
 ) -> Result<Vec<DefinitionPathNode<'a>>, SymbolsFault>
     requires known { module_id.0 < length root.old.stored }
     requires met { AreNumbered root.old met.old.keys }
+    requires resolving { AreAliasesNumbered root.old resolving.old.keys }
     requires once { IsDistinct bytes_eq root.old.stored }
     ensures kept { HasGrown root.old root.new }
-    ensures tried { IfOk result (λ paths. IsTried root.new met.old.keys (ways_along module_id taken.now.name.now) paths.items met.new.keys) }
+    ensures tried { IfOk result (λ paths. IsTried root.new resolving.old.keys met.old.keys (ways_along module_id taken.now.name.now) paths.items met.new.keys) }
     ensures searched { IfOk result (λ paths. HasSearched root.new met.old.keys met.new.keys (modules_in paths.items)) }
+    ensures same { OnOk result (resolving.new.keys ≡ resolving.old.keys) }
     ensures refused { IfErr result (IsRefused root.new (specifier_in root.old module_id)) }
     ensures enough { root.old.limits ≡ widest → IfErr result (λ fault. fault ≡ OutOfMemory) }
 {
@@ -157,7 +184,7 @@ fn import_along<'a>(
             Err(fault) => return Err(fault),
             Ok(candidate) => candidate,
         };
-        match offered(root, met, candidate) {
+        match offered(root, resolving, met, candidate) {
             Err(fault) => return Err(fault),
             Ok(paths) => {
                 if !paths.is_empty() {
@@ -176,20 +203,134 @@ fn import_along<'a>(
 #[cycle(search)]
 fn offered<'a>(
     root: &mut RootSymbol<'a>,
+    resolving: &mut IndexSet<AliasDecl>,
     met: &mut IndexSet<UniqueSymbolId>,
     candidate: Option<UniqueSymbolId>,
 ) -> Result<Vec<DefinitionPathNode<'a>>, SymbolsFault>
     requires known { IfSome candidate (λ symbol. symbol.module_id.0 < length root.old.stored) }
     requires met { AreNumbered root.old met.old.keys }
+    requires resolving { AreAliasesNumbered root.old resolving.old.keys }
     requires once { IsDistinct bytes_eq root.old.stored }
     ensures kept { HasGrown root.old root.new }
-    ensures offered { IfOk result (λ paths. IsOffered root.new met.old.keys candidate paths.items met.new.keys) }
+    ensures offered { IfOk result (λ paths. IsOffered root.new resolving.old.keys met.old.keys candidate paths.items met.new.keys) }
     ensures searched { IfOk result (λ paths. HasSearched root.new met.old.keys met.new.keys (modules_in paths.items)) }
+    ensures same { OnOk result (resolving.new.keys ≡ resolving.old.keys) }
     ensures refused { IfErr result (λ fault. (symbol : UniqueSymbolId) × (candidate ≡ Some symbol) × IsRefused root.new (specifier_in root.old symbol.module_id) fault) }
     ensures enough { root.old.limits ≡ widest → IfErr result (λ fault. fault ≡ OutOfMemory) }
 {
     match candidate {
         None => Ok(Vec::new(root.alloc())),
-        Some(symbol) => find(root, met, symbol),
+        Some(symbol) => find(root, resolving, met, symbol),
+    }
+}
+
+/// The paths of an alias's symbol under its parts, by a search of its own; none while it is being
+/// resolved.
+#[cycle(search)]
+fn resolve<'a>(
+    root: &mut RootSymbol<'a>,
+    resolving: &mut IndexSet<AliasDecl>,
+    alias: AliasDecl,
+    target: UniqueSymbolId,
+    parts: &[&str],
+) -> Result<Vec<DefinitionPathNode<'a>>, SymbolsFault>
+    requires known { target.module_id.0 < length root.old.stored }
+    requires alias { alias.«module».0 < length root.old.stored }
+    requires resolving { AreAliasesNumbered root.old resolving.old.keys }
+    requires once { IsDistinct bytes_eq root.old.stored }
+    ensures kept { HasGrown root.old root.new }
+    ensures resolved { IfOk result (λ paths. IsResolved root.new resolving.old.keys alias target parts.now paths.items) }
+    ensures stored { IfOk result (λ paths. AreStored root.new (modules_in paths.items)) }
+    ensures same { OnOk result (resolving.new.keys ≡ resolving.old.keys) }
+    ensures refused { IfErr result (IsRefused root.new (specifier_in root.old target.module_id)) }
+    ensures enough { root.old.limits ≡ widest → IfErr result (λ fault. fault ≡ OutOfMemory) }
+{
+    let (_, is_new) = resolving.insert_full(alias)?;
+    if !is_new {
+        return Ok(Vec::new(root.alloc()));
+    }
+    let mut met = IndexSet::new(root.alloc());
+    match walk(root, resolving, &mut met, target, parts) {
+        Err(fault) => Err(fault),
+        Ok(paths) => {
+            let _ = resolving.pop();
+            Ok(paths)
+        }
+    }
+}
+
+/// The paths of a symbol under parts.
+#[cycle(search)]
+pub(crate) fn walk<'a>(
+    root: &mut RootSymbol<'a>,
+    resolving: &mut IndexSet<AliasDecl>,
+    met: &mut IndexSet<UniqueSymbolId>,
+    symbol: UniqueSymbolId,
+    parts: &[&str],
+) -> Result<Vec<DefinitionPathNode<'a>>, SymbolsFault>
+    requires known { symbol.module_id.0 < length root.old.stored }
+    requires met { AreNumbered root.old met.old.keys }
+    requires resolving { AreAliasesNumbered root.old resolving.old.keys }
+    requires once { IsDistinct bytes_eq root.old.stored }
+    ensures kept { HasGrown root.old root.new }
+    ensures walked { IfOk result (λ paths. IsWalked root.new resolving.old.keys met.old.keys symbol parts.now paths.items met.new.keys) }
+    ensures searched { IfOk result (λ paths. HasSearched root.new met.old.keys met.new.keys (modules_in paths.items)) }
+    ensures same { OnOk result (resolving.new.keys ≡ resolving.old.keys) }
+    ensures refused { IfErr result (IsRefused root.new (specifier_in root.old symbol.module_id)) }
+    ensures enough { root.old.limits ≡ widest → IfErr result (λ fault. fault ≡ OutOfMemory) }
+{
+    let paths = match find(root, resolving, met, symbol) {
+        Err(fault) => return Err(fault),
+        Ok(paths) => paths,
+    };
+    if parts.is_empty() {
+        return Ok(paths);
+    }
+    let mut changed = VecDeque::new(root.alloc());
+    let definitions = definitions_in(root.alloc(), &paths)?;
+    for definition in definitions {
+        match step(root, resolving, met, &definition, parts) {
+            Err(fault) => return Err(fault),
+            Ok(path) => changed.push_back(path)?,
+        }
+    }
+    Ok(rebuild(root.alloc(), paths, parts, &mut changed)?)
+}
+
+/// What stands in the place of a definition under parts.
+#[cycle(search)]
+fn step<'a>(
+    root: &mut RootSymbol<'a>,
+    resolving: &mut IndexSet<AliasDecl>,
+    met: &mut IndexSet<UniqueSymbolId>,
+    definition: &Definition<'a>,
+    parts: &[&str],
+) -> Result<Option<DefinitionPathNode<'a>>, SymbolsFault>
+    requires known { definition.now.«module».0 < length root.old.stored }
+    requires some { 0 < length parts.now }
+    requires declared { IsStarDeclared root.old.graph (definition_told root.old definition.now) }
+    requires met { AreNumbered root.old met.old.keys }
+    requires resolving { AreAliasesNumbered root.old resolving.old.keys }
+    requires once { IsDistinct bytes_eq root.old.stored }
+    ensures kept { HasGrown root.old root.new }
+    ensures changed { IfOk result (λ path. IsChanged root.new resolving.old.keys met.old.keys definition.now parts.now path met.new.keys) }
+    ensures searched { IfOk result (λ path. HasSearched root.new met.old.keys met.new.keys (modules_in (option_to_list path))) }
+    ensures same { OnOk result (resolving.new.keys ≡ resolving.old.keys) }
+    ensures refused { IfErr result (IsRefused root.new (specifier_in root.old definition.now.«module»)) }
+    ensures enough { root.old.limits ≡ widest → IfErr result (λ fault. fault ≡ OutOfMemory) }
+{
+    let symbol = UniqueSymbolId::new(definition.module, definition.symbol_decl.symbol);
+    let decl = definition.symbol_decl;
+    match part_of(root, definition, parts) {
+        Err(fault) => Err(fault),
+        Ok(PartWay::Itself) => Ok(Some(defined(symbol, decl, definition.kind, definition.range))),
+        Ok(PartWay::Lacks(missing)) => {
+            let next = one_unresolved(root.alloc(), missing)?;
+            Ok(link_under(root.alloc(), symbol, decl, parts, next)?)
+        }
+        Ok(PartWay::To(target)) => match walk(root, resolving, met, target, &parts[1..]) {
+            Err(fault) => Err(fault),
+            Ok(next) => Ok(link_under(root.alloc(), symbol, decl, parts, next)?),
+        },
     }
 }

@@ -2,7 +2,6 @@
 
 ghost use Rattle.std.specs.Prelude.{◌≡◌, ◌<◌, ◌++◌, length, IfOk};
 ghost use Rattle.std.specs.Option.{option_and_then};
-ghost use Rattle.serde_json.specs.View.{view};
 ghost use Rattle.symbols_syntax.specs.Ids.{id_view};
 ghost use Rattle.symbols_table.specs.Modules.{lent_table, symbol_in, mapped_in};
 ghost use Rattle.symbols_table.specs.QualifiedNames.{qualified_name};
@@ -10,6 +9,7 @@ ghost use Rattle.symbols_root.specs.Roots.{widest};
 ghost use Rattle.symbols_exports.specs.Exporting.{specifier_in};
 ghost use Rattle.symbols_exports.specs.Ways.{exports_told, unresolved_told_in};
 ghost use Rattle.symq_reader.specs.GraphText.{json_of};
+ghost use Rattle.symq_reader.specs.Plain.{data_of};
 ghost use Rattle.symq_core.specs.Queries.{query_of};
 ghost use Rattle.symq_core.specs.AnswerViews.{tells_exports, tells_symbol};
 ghost use Rattle.symq_core.specs.AnswerData.{answer_data};
@@ -21,16 +21,17 @@ ghost use Rattle.symq_core.specs.Telling.{Tells};
 use crate::program::dependencies::tell_deps;
 use crate::program::exporting::tell_exports;
 use crate::program::paths::{tell_definitions, tell_leaves, tell_paths};
-use crate::program::query::{Query, Question, TableQuestion, line_value, read_query};
+use crate::program::query::{Query, Question, TableQuestion, read_query};
+use crate::program::resolving::tell_entries;
 use crate::program::telling::{tell_fault, tell_null, tell_number, tell_text};
-use json::Writer;
-use serde_json::Value;
+use json::{Scratch, Value, Writer};
 use std::alloc::{AllocError, Global};
 use symbols_exports::exports::exports;
 use symbols_root::root::RootSymbol;
 use symbols_table::info::ModuleInfoRef;
 use symbols_tree::ids::{ModuleId, SymbolId};
 use symbols_tree::tree::Id;
+use symq_reader::read_value;
 
 /// What a name stands for.
 fn tell_symbol(out: &mut Writer, symbol: Option<SymbolId>) -> Result<(), AllocError>
@@ -124,6 +125,7 @@ fn tell_query(
         Question::Paths(symbol) => tell_paths(out, root, module_id, *symbol),
         Question::Definitions(symbol) => tell_definitions(out, root, module_id, *symbol),
         Question::Leaves(symbol) => tell_leaves(out, root, module_id, *symbol),
+        Question::Resolve(reference) => tell_entries(out, root, module_id, reference),
         Question::Table(question) => match root.module_from_id(module_id) {
             Some(info) => tell_info(alloc, out, info, question),
             None => unreachable!(),
@@ -136,11 +138,11 @@ fn tell_asked(
     alloc: Global,
     out: &mut Writer,
     root: &mut RootSymbol<'_>,
-    value: &Value,
+    value: &Value<'_>,
 ) -> Result<(), AllocError>
     requires { root.old.limits ≡ widest }
     ensures kept { (root.new.graph ≡ root.old.graph) × (root.new.limits ≡ root.old.limits) }
-    ensures value { Tells result out.old out.new (answer_data (asked_answer root.old.graph (query_of (view value.now)))) }
+    ensures value { Tells result out.old out.new (answer_data (asked_answer root.old.graph (query_of (data_of value.now)))) }
 {
     match read_query(alloc, value)? {
         Some(query) => tell_query(alloc, out, root, &query),
@@ -151,6 +153,7 @@ fn tell_asked(
 /// The answer to a line, be it JSON or not.
 fn tell_line(
     alloc: Global,
+    scratch: &mut Scratch,
     out: &mut Writer,
     root: &mut RootSymbol<'_>,
     line: &[u8],
@@ -159,7 +162,7 @@ fn tell_line(
     ensures kept { (root.new.graph ≡ root.old.graph) × (root.new.limits ≡ root.old.limits) }
     ensures value { Tells result out.old out.new (answer_data (asked_answer root.old.graph (option_and_then query_of (json_of line.now)))) }
 {
-    let value = line_value(alloc, line)?;
+    let value = read_value(alloc, line, scratch)?;
     match &value {
         Some(value) => tell_asked(alloc, out, root, value),
         None => tell_text(out, "fault", "bad query"),
@@ -169,6 +172,7 @@ fn tell_line(
 /// The text of the answer to a line, without a line end, behind the bytes.
 pub(crate) fn answer(
     alloc: Global,
+    scratch: &mut Scratch,
     root: &mut RootSymbol<'_>,
     line: &[u8],
     bytes: Vec<u8>,
@@ -178,6 +182,6 @@ pub(crate) fn answer(
     ensures text { IfOk result (λ text. text.items ≡ bytes.items ++ answer_text root.old.graph line.now) }
 {
     let mut out = Writer::new(bytes);
-    tell_line(alloc, &mut out, root, line)?;
+    tell_line(alloc, scratch, &mut out, root, line)?;
     Ok(out.into_inner())
 }

@@ -115,7 +115,7 @@ fn tell_unresolved(
 
 /// A path.
 #[cycle(paths)]
-fn tell_path(
+pub(crate) fn tell_path(
     out: &mut Writer,
     root: &RootSymbol<'_>,
     path: &DefinitionPathNode<'_>,

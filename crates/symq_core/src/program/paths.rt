@@ -19,7 +19,7 @@ use symbols_root::root::RootSymbol;
 use symbols_tree::ids::{ModuleId, SymbolId};
 
 /// An object with one member, an array that is begun.
-fn begin_list(out: &mut Writer, key: &str) -> Result<(), AllocError>
+pub(crate) fn begin_list(out: &mut Writer, key: &str) -> Result<(), AllocError>
     ensures { Adds result out.old out.new (token.begin_object ∷ token.key key.now ∷ token.begin_array ∷ []) }
 {
     out.begin_object()?;

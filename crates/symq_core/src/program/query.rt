@@ -1,17 +1,17 @@
 //! What a line asks.
 
 ghost use Rattle.std.specs.Prelude.{◌≡◌, option_map, IfOk};
-ghost use Rattle.serde_json.specs.View.{view, items_view};
-ghost use Rattle.symq_reader.specs.GraphText.{json_of};
-ghost use Rattle.symq_core.specs.Queries.{query_of, parts_of_query, module_question, exports_question, symbol_question, one_symbol, name_question, paths_question, definitions_question, leaves_question, mode_named, deps_question};
+ghost use Rattle.symq_reader.specs.Plain.{data_of, items_data};
+ghost use Rattle.symq_core.specs.Queries.{query_of, parts_of_query, module_question, exports_question, symbol_question, one_symbol, name_question, paths_question, definitions_question, leaves_question, mode_named, deps_question, resolve_question};
 ghost use Rattle.symq_core.specs.Answering.{question_view, query_view};
 
-use serde_json::Value;
+use crate::program::references::{read_id, read_reference};
+use json::Value;
 use std::alloc::{AllocError, Global};
-use symbols_nodes::deps::ResolveDepsMode;
+use symbols_nodes::deps::{ResolveDepsMode, SymbolNodeDep};
 use symbols_tree::ids::SymbolId;
 use symbols_tree::tree::Id;
-use symq_reader::as_u32;
+use symq_reader::{as_list, as_text, as_u32};
 
 /// What the table of a module alone tells.
 #[derive(Drop)]
@@ -37,6 +37,8 @@ pub(crate) enum Question {
     Definitions(SymbolId),
     /// All ends of these paths.
     Leaves(SymbolId),
+    /// What a reference in it stands for.
+    Resolve(SymbolNodeDep),
     /// What its table tells.
     Table(TableQuestion),
 }
@@ -48,32 +50,21 @@ pub(crate) struct Query<'a> {
     pub(crate) question: Question,
 }
 
-/// The value of a line; none where it is no JSON.
-pub(crate) fn line_value(alloc: Global, line: &[u8]) -> Result<Option<Value>, AllocError>
-    ensures { IfOk result (λ value. option_map view value ≡ json_of line.now) }
-{
-    match Value::from_slice(alloc, line) {
-        Ok(value) => Ok(Some(value)),
-        Err(error) if error.is_memory() => Err(AllocError),
-        Err(_) => Ok(None),
-    }
-}
-
 /// The word and the specifier that a list begins with, and the items behind them.
 #[tactic(auto, using(crate::proofs::Forms::two_short))]
-fn parts_of_query(value: &Value) -> Option<(&str, &str, &[Value])>
-    ensures { option_map (λ parts. (parts.0.now, parts.1.now, items_view parts.2.now)) result ≡ parts_of_query (view value.now) }
+fn parts_of_query<'v, 'a>(value: &'v Value<'a>) -> Option<(&'a str, &'a str, &'v [Value<'a>])>
+    ensures { option_map (λ parts. (parts.0.now, parts.1.now, items_data parts.2.now)) result ≡ parts_of_query (data_of value.now) }
 {
-    match value.as_array()?.as_slice() {
-        [word, specifier, rest @ ..] => Some((word.as_str()?, specifier.as_str()?, rest)),
+    match as_list(value)? {
+        [word, specifier, rest @ ..] => Some((as_text(word)?, as_text(specifier)?, rest)),
         _ => None,
     }
 }
 
 /// The items behind the word `module` and a specifier: none.
 #[tactic(auto, using(crate::proofs::Forms::module_long))]
-fn module_question(items: &[Value]) -> Option<Question>
-    ensures { option_map question_view result ≡ module_question (items_view items.now) }
+fn module_question(items: &[Value<'_>]) -> Option<Question>
+    ensures { option_map question_view result ≡ module_question (items_data items.now) }
 {
     match items {
         [] => Some(Question::Table(TableQuestion::Module)),
@@ -83,8 +74,8 @@ fn module_question(items: &[Value]) -> Option<Question>
 
 /// The items behind the word `exports` and a specifier: none.
 #[tactic(auto, using(crate::proofs::Forms::exports_long))]
-fn exports_question(items: &[Value]) -> Option<Question>
-    ensures { option_map question_view result ≡ exports_question (items_view items.now) }
+fn exports_question(items: &[Value<'_>]) -> Option<Question>
+    ensures { option_map question_view result ≡ exports_question (items_data items.now) }
 {
     match items {
         [] => Some(Question::Exports),
@@ -94,23 +85,20 @@ fn exports_question(items: &[Value]) -> Option<Question>
 
 /// The items behind the word `symbol` and a specifier: a name with its scope.
 #[tactic(auto, using(crate::proofs::Forms::symbol_short, crate::proofs::Forms::symbol_long))]
-fn symbol_question(alloc: Global, items: &[Value]) -> Result<Option<Question>, AllocError>
-    ensures { IfOk result (λ question. option_map question_view question ≡ symbol_question (items_view items.now)) }
+fn symbol_question(alloc: Global, items: &[Value<'_>]) -> Result<Option<Question>, AllocError>
+    ensures { IfOk result (λ question. option_map question_view question ≡ symbol_question (items_data items.now)) }
 {
     let [name, scope] = items else {
         return Ok(None);
     };
-    let (Some(name), Some(scope)) = (name.as_str(), as_u32(scope)) else {
-        return Ok(None);
-    };
-    let name = String::from_str(alloc, name)?;
-    Ok(Some(Question::Table(TableQuestion::Symbol(Id { name, scope }))))
+    let id = read_id(alloc, name, scope)?;
+    Ok(id.map(|id| Question::Table(TableQuestion::Symbol(id))))
 }
 
 /// The items behind a word and a specifier: the number of a symbol.
 #[tactic(auto, using(crate::proofs::Forms::symbols_short, crate::proofs::Forms::symbols_long))]
-fn one_symbol(items: &[Value]) -> Option<SymbolId>
-    ensures { result ≡ one_symbol (items_view items.now) }
+fn one_symbol(items: &[Value<'_>]) -> Option<SymbolId>
+    ensures { result ≡ one_symbol (items_data items.now) }
 {
     match items {
         [number] => Some(SymbolId::from_number(as_u32(number)?)),
@@ -119,32 +107,44 @@ fn one_symbol(items: &[Value]) -> Option<SymbolId>
 }
 
 /// The items behind the word `name` and a specifier.
-fn name_question(items: &[Value]) -> Option<Question>
-    ensures { option_map question_view result ≡ name_question (items_view items.now) }
+fn name_question(items: &[Value<'_>]) -> Option<Question>
+    ensures { option_map question_view result ≡ name_question (items_data items.now) }
 {
     let symbol = one_symbol(items)?;
     Some(Question::Table(TableQuestion::Name(symbol)))
 }
 
 /// The items behind the word `paths` and a specifier.
-fn paths_question(items: &[Value]) -> Option<Question>
-    ensures { option_map question_view result ≡ paths_question (items_view items.now) }
+fn paths_question(items: &[Value<'_>]) -> Option<Question>
+    ensures { option_map question_view result ≡ paths_question (items_data items.now) }
 {
     Some(Question::Paths(one_symbol(items)?))
 }
 
 /// The items behind the word `definitions` and a specifier.
-fn definitions_question(items: &[Value]) -> Option<Question>
-    ensures { option_map question_view result ≡ definitions_question (items_view items.now) }
+fn definitions_question(items: &[Value<'_>]) -> Option<Question>
+    ensures { option_map question_view result ≡ definitions_question (items_data items.now) }
 {
     Some(Question::Definitions(one_symbol(items)?))
 }
 
 /// The items behind the word `leaves` and a specifier.
-fn leaves_question(items: &[Value]) -> Option<Question>
-    ensures { option_map question_view result ≡ leaves_question (items_view items.now) }
+fn leaves_question(items: &[Value<'_>]) -> Option<Question>
+    ensures { option_map question_view result ≡ leaves_question (items_data items.now) }
 {
     Some(Question::Leaves(one_symbol(items)?))
+}
+
+/// The items behind the word `resolve` and a specifier: a reference.
+#[tactic(auto, using(crate::proofs::Forms::resolve_short, crate::proofs::Forms::resolve_long))]
+fn resolve_question(alloc: Global, items: &[Value<'_>]) -> Result<Option<Question>, AllocError>
+    ensures { IfOk result (λ question. option_map question_view question ≡ resolve_question (items_data items.now)) }
+{
+    let [reference] = items else {
+        return Ok(None);
+    };
+    let reference = read_reference(alloc, reference)?;
+    Ok(reference.map(|reference| Question::Resolve(reference)))
 }
 
 /// The mode of a word.
@@ -160,20 +160,23 @@ fn mode_named(word: &str) -> Option<ResolveDepsMode>
 
 /// The items behind the word `deps` and a specifier: the number of a symbol, and the word of a mode.
 #[tactic(auto, using(crate::proofs::Forms::deps_short, crate::proofs::Forms::deps_long))]
-fn deps_question(items: &[Value]) -> Option<Question>
-    ensures { option_map question_view result ≡ deps_question (items_view items.now) }
+fn deps_question(items: &[Value<'_>]) -> Option<Question>
+    ensures { option_map question_view result ≡ deps_question (items_data items.now) }
 {
     let [number, mode] = items else {
         return None;
     };
     let symbol = SymbolId::from_number(as_u32(number)?);
-    let mode = mode_named(mode.as_str()?)?;
+    let mode = mode_named(as_text(mode)?)?;
     Some(Question::Table(TableQuestion::Deps(symbol, mode)))
 }
 
 /// The query that a value is, if it is one.
-pub(crate) fn read_query(alloc: Global, value: &Value) -> Result<Option<Query<'_>>, AllocError>
-    ensures { IfOk result (λ query. option_map query_view query ≡ query_of (view value.now)) }
+pub(crate) fn read_query<'a>(
+    alloc: Global,
+    value: &Value<'a>,
+) -> Result<Option<Query<'a>>, AllocError>
+    ensures { IfOk result (λ query. option_map query_view query ≡ query_of (data_of value.now)) }
 {
     let Some((word, specifier, items)) = parts_of_query(value) else {
         return Ok(None);
@@ -187,6 +190,7 @@ pub(crate) fn read_query(alloc: Global, value: &Value) -> Result<Option<Query<'_
         "paths" => paths_question(items),
         "definitions" => definitions_question(items),
         "leaves" => leaves_question(items),
+        "resolve" => resolve_question(alloc, items)?,
         _ => None,
     };
     Ok(question.map(|question| Query {

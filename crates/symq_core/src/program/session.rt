@@ -14,6 +14,7 @@ use crate::program::device::Output;
 use crate::program::fault::EngineFault;
 use crate::program::lines::split_line;
 use crate::program::writing::write_all;
+use json::Scratch;
 use std::alloc::{AllocError, Global};
 use std::mem;
 use symbols_root::root::RootSymbol;
@@ -34,6 +35,8 @@ pub(crate) struct Session<'g> {
     answers: Vec<u8>,
     /// The text of the last answer, kept for its room alone.
     text: Vec<u8>,
+    /// What reading a line needs, kept for its room alone.
+    scratch: Scratch,
     ghost widest: { root.limits ≡ widest },
 }
 
@@ -41,6 +44,7 @@ pub(crate) struct Session<'g> {
 /// let go, and its room used again.
 fn add_answer(
     alloc: Global,
+    scratch: &mut Scratch,
     root: &mut RootSymbol<'_>,
     line: &[u8],
     text: &mut Vec<u8>,
@@ -52,7 +56,7 @@ fn add_answer(
 {
     text.clear();
     let begun = mem::replace(text, Vec::new(alloc));
-    let told = answer(alloc, root, line, begun)?;
+    let told = answer(alloc, scratch, root, line, begun)?;
     answers.extend_from_slice(told.as_slice())?;
     answers.push(b'\n')?;
     *text = told;
@@ -72,6 +76,7 @@ impl<'g> Session<'g> {
             line: Vec::new(alloc),
             answers: Vec::new(alloc),
             text: Vec::new(alloc),
+            scratch: Scratch::new(alloc),
         }
     }
 
@@ -99,6 +104,7 @@ impl<'g> Session<'g> {
         if self.line.is_empty() {
             return add_answer(
                 self.alloc,
+                &mut self.scratch,
                 &mut self.root,
                 tail,
                 &mut self.text,
@@ -108,6 +114,7 @@ impl<'g> Session<'g> {
         self.line.extend_from_slice(tail)?;
         add_answer(
             self.alloc,
+            &mut self.scratch,
             &mut self.root,
             self.line.as_slice(),
             &mut self.text,

@@ -1,19 +1,31 @@
-use Rattle.std.proofs.Common.{◌≡◌, ◌<◌, length, Some, Result, Ok, Err, IfOk, IfErr, option_map, sym, ap, subst, ◌∙◌, arith}
+use Rattle.std.proofs.Common.{◌≡◌, ◌<◌, ◌^◌, ℕ, List, [], ◌∷◌, refl, length, map, drop, take, ◌-◌, Some, None, Option, Result, Ok, Err, IfOk, IfErr, ◌+◌, option_map, sym, ap, subst, ◌∙◌, arith}
+use Rattle.std.specs.Prelude.{IfSome, string_bytes}
+use Rattle.std.specs.Option.{option_to_list}
+use Rattle.std.proofs.lemmas.List.{length-append, nil_from_length}
 use Rattle.symbols_syntax.specs.declared.ids.ModuleId.{ModuleId}
+use Rattle.symbols_syntax.specs.declared.ids.UniqueSymbolId.{UniqueSymbolId}
 use Rattle.symbols_table.specs.declared.info.fault.SymbolsFault.{SymbolsFault}
 use Rattle.symbols_root.specs.Roots.{RootView}
 use Rattle.symbols_exports.specs.Exporting.{specifier_in}
-use Rattle.symbols_exports.specs.StarStatements.{text_target}
-use Rattle.symbols_paths.specs.Trees.{no_module, no_part, unresolved, leaf, one}
-use Rattle.symbols_paths.specs.Views.{named, texts_of}
+use Rattle.symbols_exports.specs.StarStatements.{star_texts, text_target}
+use Rattle.symbols_paths.specs.declared.paths.definition.Definition.{Definition}
+use Rattle.symbols_paths.specs.declared.paths.node.DefinitionPathNode.{DefinitionPathNode}
+use Rattle.symbols_paths.specs.declared.paths.resolving.AliasDecl.{AliasDecl}
+use Rattle.symbols_paths.specs.Trees.{no_module, no_part, unresolved, leaf, one, link_to}
+use Rattle.symbols_paths.specs.Leads.{declarations_of}
+use Rattle.symbols_paths.specs.Views.{named, forest_told, modules_of, modules_in, texts_of, texts_in, AreStored}
+use Rattle.symbols_paths.specs.Growing.{HasGrown}
 use Rattle.symbols_paths.specs.Needed.{IsNeeded, IsRefused}
-use Rattle.symbols_paths.specs.Searching.{IsRead}
-use Rattle.symbols_paths.proofs.Growing.{grown_on, same_specifier, still_stored, still_numbered}
-use Rattle.symbols_paths.proofs.Told.{is_some, is_none, not_none}
+use Rattle.symbols_paths.specs.Searching.{AreNumbered, AreAliasesNumbered, HasSearched, IsFound, IsTried, IsRead, ways_of_import}
+use Rattle.symbols_paths.proofs.Growing.{grown_not, grown_on, same_specifier, still_stored, still_numbered, all_still_stored}
+use Rattle.symbols_paths.proofs.Told.{is_some, is_none, none_at, some_at, not_none}
 use Rattle.symbols_paths.proofs.Targets.{target_is, no_target}
-use Rattle.symbols_paths.proofs.Finding.{new_symbol, old_symbol, new_few, found_old, finding_first, finding_next, finding_last, finding_searched, now_within, index_within, index_before, stands_among, fewer_steps, one_met_more}
-use Rattle.symbols_paths.proofs.Following.{followed_itself, followed_nowhere, followed_unmapped, followed_target, followed_import, option_stored, target_later, tried_nowhere, tried_owned, tried_along}
-use Rattle.symbols_paths.proofs.Trying.{asking_first, asking_within, position_within, position_before, asking_next, asking_here, here_searched, asking_last, last_searched}
+use Rattle.symbols_paths.proofs.Finding.{IsFinding, new_symbol, old_symbol, new_few, found_old, finding_first, finding_next, finding_last, finding_searched, now_within, index_within, index_before, stands_among, left, fewer_steps, one_met_more, for_alias, one_alias_more, without_parts, one_part_less}
+use Rattle.symbols_paths.proofs.Following.{followed_itself, followed_alias, followed_nowhere, followed_unmapped, followed_target, followed_import, option_stored, target_later, tried_nowhere, tried_owned, tried_along}
+use Rattle.symbols_paths.proofs.Trying.{IsAsking, asking_first, asking_within, position_within, position_before, asking_next, asking_here, here_searched, asking_last, last_searched}
+use Rattle.symbols_paths.proofs.SearchSteps.{still_aliases, aliases_with}
+use Rattle.symbols_paths.proofs.Aliases.{new_alias, old_alias, alias_few, popped}
+use Rattle.symbols_paths.proofs.Walking.{IsWalking, AreGiven, head_in_place, definition_in_place, parts_behind, one_less, walked_alone, changed_itself, changed_lacking, changed_on, walking_first, walking_next, walking_last, resolved_open, resolved_walk, first_given, others_given, given_first, refused_given, refused_on}
 use Rattle.symbols_paths.proofs.Needing.{refused_from, needed_import, refused_import, needed_candidate}
 use Rattle.symbols_paths.proofs.paths.search.+search.Goals as goal
 
@@ -31,13 +43,13 @@ on_fault (Err e) f h = f e h
 pub find-returns-then-not-is_new-clause-found : goal.find-returns-then-not-is_new-clause-found
 find-returns-then-not-is_new-clause-found t c =
     let old = old_symbol c.args.met.now.keys c.insert_full.new.self.keys c.args.symbol c.in_ok-is_new.is_new c.in_ok-is_new.ensures.added c.in_ok-is_new.ensures.keys c.if-not-is_new.true in
-    rw (c.new-paths.ensures.items, old.1) (found_old c.args.root.now c.requires.once c.args.met.now.keys c.args.symbol c.requires.met c.requires.known old.0)
+    rw (c.new-paths.ensures.items, old.1) (found_old c.args.root.now c.requires.once c.args.resolving.now.keys c.args.met.now.keys c.args.symbol c.requires.met c.requires.known old.0)
 
 pub find-loop-paths-init : goal.find-loop-paths-init
 find-loop-paths-init t c =
     let new = new_symbol c.args.met.now.keys c.insert_full.new.self.keys c.args.symbol c.in_ok-is_new.is_new c.in_ok-is_new.ensures.added c.in_ok-is_new.ensures.keys c.if-not-is_new.false in
     let few = new_few c.args.met.now.keys c.args.symbol c.in_ok-is_new.field-0-0 new.0 c.in_ok-is_new.ensures.index (omega arith) in
-    rw (c.new-paths.ensures.items, new.1) (finding_first c.args.root.now c.args.met.now.keys c.args.symbol c.requires.met c.requires.known new.0 few)
+    rw (c.new-paths.ensures.items, new.1) (finding_first c.args.root.now c.args.resolving.now.keys c.args.met.now.keys c.args.symbol c.requires.met c.requires.known new.0 few)
 
 pub find-lead_at-requires : goal.find-lead_at-requires
 find-lead_at-requires t c = now_within c.loop-paths.invariant c.requires.known
@@ -49,8 +61,9 @@ pub find-follow-requires : goal.find-follow-requires
 find-follow-requires t c =
     let is = c.loop-paths.invariant in
     let read : IsRead c.loop-paths.root.graph (named c.loop-paths.root c.args.symbol) c.loop-paths.index c.in-Some.lead = rw c.in-Some.is at c.in_ok-lead.ensures.reads in
-    let less = one_met_more (length c.args.met.now.keys) (length c.loop-paths.met.keys) 4 is.longer is.few (omega arith) in
-    (omega (arith, c.decreases, less), (now_within is c.requires.known, (is.numbered, (is.grown.once c.requires.once, (read.decl, stands_among read, read.imports)))))
+    let less = subst (λ (r : List AliasDecl). left (length r) 0 (length c.loop-paths.met.keys) 4 < left (length c.args.resolving.now.keys) 0 (length c.args.met.now.keys) 0) (sym is.same) (one_met_more (length c.args.resolving.now.keys) 0 (length c.args.met.now.keys) (length c.loop-paths.met.keys) 4 is.longer is.few (omega arith)) in
+    let numbered = subst (AreAliasesNumbered c.loop-paths.root) (sym is.same) (still_aliases is.grown c.args.resolving.now.keys c.requires.resolving) in
+    (omega (arith, c.decreases, less), (now_within is c.requires.known, (is.numbered, (numbered, (is.grown.once c.requires.once, (read.decl, stands_among read, read.imports))))))
 
 pub find-returns-in-Err-clause-kept : goal.find-returns-in-Err-clause-kept
 find-returns-in-Err-clause-kept t c = grown_on c.loop-paths.invariant.grown c.in-Err.ensures.kept
@@ -77,7 +90,17 @@ find-loop-paths-smaller-in_ok-add-in-Ok t c =
 pub find-loop-paths-preserved-in_ok-add-in-Ok : goal.find-loop-paths-preserved-in_ok-add-in-Ok
 find-loop-paths-preserved-in_ok-add-in-Ok t c =
     let read : IsRead c.loop-paths.root.graph (named c.loop-paths.root c.args.symbol) c.loop-paths.index c.in-Some.lead = rw c.in-Some.is at c.in_ok-lead.ensures.reads in
-    rw c.in_ok-add-in-Ok.ensures (finding_next c.loop-paths.invariant c.requires.known c.in-Some.lead read c.in-Ok.ensures.kept c.in-Ok.path c.in-Ok.ensures.followed c.in-Ok.ensures.searched)
+    rw c.in_ok-add-in-Ok.ensures (finding_next c.loop-paths.invariant c.requires.known c.in-Some.lead read c.in-Ok.ensures.kept c.in-Ok.path c.in-Ok.ensures.followed c.follow.new.resolving.keys c.in-Ok.ensures.same c.in-Ok.ensures.searched)
+
+pub find-loop-paths-smaller-in_ok-add-in-Ok-2 : goal.find-loop-paths-smaller-in_ok-add-in-Ok-2
+find-loop-paths-smaller-in_ok-add-in-Ok-2 t c =
+    let read : IsRead c.loop-paths.root.graph (named c.loop-paths.root c.args.symbol) c.loop-paths.index c.in-Some.lead = rw c.in-Some.is at c.in_ok-lead.ensures.reads in
+    omega (arith, index_before c.loop-paths.invariant c.requires.known c.in-Some.lead read)
+
+pub find-loop-paths-preserved-in_ok-add-in-Ok-2 : goal.find-loop-paths-preserved-in_ok-add-in-Ok-2
+find-loop-paths-preserved-in_ok-add-in-Ok-2 t c =
+    let read : IsRead c.loop-paths.root.graph (named c.loop-paths.root c.args.symbol) c.loop-paths.index c.in-Some.lead = rw c.in-Some.is at c.in_ok-lead.ensures.reads in
+    rw c.in_ok-add-in-Ok.ensures (finding_next c.loop-paths.invariant c.requires.known c.in-Some.lead read c.in-Ok.ensures.kept c.in-Ok.path c.in-Ok.ensures.followed c.follow.new.resolving.keys c.in-Ok.ensures.same c.in-Ok.ensures.searched)
 
 pub find-loop-paths-smaller : goal.find-loop-paths-smaller
 find-loop-paths-smaller t c =
@@ -87,7 +110,10 @@ find-loop-paths-smaller t c =
 pub find-loop-paths-preserved : goal.find-loop-paths-preserved
 find-loop-paths-preserved t c =
     let read : IsRead c.loop-paths.root.graph (named c.loop-paths.root c.args.symbol) c.loop-paths.index c.in-Some.lead = rw c.in-Some.is at c.in_ok-lead.ensures.reads in
-    rw c.in_ok-add-in-Ok.ensures (finding_next c.loop-paths.invariant c.requires.known c.in-Some.lead read c.in-Ok.ensures.kept c.in-Ok.path c.in-Ok.ensures.followed c.in-Ok.ensures.searched)
+    rw c.in_ok-add-in-Ok.ensures (finding_next c.loop-paths.invariant c.requires.known c.in-Some.lead read c.in-Ok.ensures.kept c.in-Ok.path c.in-Ok.ensures.followed c.follow.new.resolving.keys c.in-Ok.ensures.same c.in-Ok.ensures.searched)
+
+pub find-returns-clause-same : goal.find-returns-clause-same
+find-returns-clause-same t c = c.loop-paths.invariant.same
 
 pub find-returns-clause-found : goal.find-returns-clause-found
 find-returns-clause-found t c = finding_last c.loop-paths.invariant c.requires.known c.requires.once c.requires.met (rw c.in_default.is at c.in_ok-lead.ensures.reads)
@@ -99,17 +125,17 @@ find-returns-clause-searched t c = finding_searched c.loop-paths.invariant c.req
 
 pub follow-find-requires : goal.follow-find-requires
 follow-find-requires t c =
-    let less = fewer_steps (length c.args.met.now.keys) (length c.args.met.now.keys) 0 4 (omega arith) (omega arith) in
-    (omega (arith, c.decreases, less), (subst (λ (id : ModuleId). id.0 < length c.args.root.now.stored) (sym c.new-target.ensures.module) c.requires.known, (c.requires.met, c.requires.once)))
+    let less = fewer_steps (length c.args.resolving.now.keys) 0 (length c.args.met.now.keys) (length c.args.met.now.keys) 0 4 (omega arith) (omega arith) in
+    (omega (arith, c.decreases, less), (subst (λ (id : ModuleId). id.0 < length c.args.root.now.stored) (sym c.new-target.ensures.module) c.requires.known, (c.requires.met, (c.requires.resolving, c.requires.once))))
 
 pub follow-returns-in-Defines-clause-followed : goal.follow-returns-in-Defines-clause-followed
-follow-returns-in-Defines-clause-followed t c = rw c.in-Defines.is (followed_itself c.args.root.now c.args.met.now.keys c.args.symbol c.args.index c.in-Defines.kind c.in-Defines.range c.defined.result c.defined.ensures.told)
+follow-returns-in-Defines-clause-followed t c = rw c.in-Defines.is (followed_itself c.args.root.now c.args.resolving.now.keys c.args.met.now.keys c.args.symbol c.args.index c.in-Defines.kind c.in-Defines.range c.defined.result c.defined.ensures.told)
 
 pub follow-returns-in-Nowhere-clause-followed : goal.follow-returns-in-Nowhere-clause-followed
-follow-returns-in-Nowhere-clause-followed t c = rw c.in-Nowhere.is (followed_nowhere c.args.root.now c.args.met.now.keys c.args.symbol c.args.index)
+follow-returns-in-Nowhere-clause-followed t c = rw c.in-Nowhere.is (followed_nowhere c.args.root.now c.args.resolving.now.keys c.args.met.now.keys c.args.symbol c.args.index)
 
 pub follow-returns-in-Ok-clause-followed : goal.follow-returns-in-Ok-clause-followed
-follow-returns-in-Ok-clause-followed t c = rw c.in-Target.is (followed_target c.find.new.root c.args.met.now.keys c.find.new.met.keys c.args.symbol c.new-target.result c.in-Target.symbol_id c.args.index c.in-Ok.next.items c.link.result c.new-target.ensures.module c.new-target.ensures.symbol c.in-Ok.ensures.found c.link.ensures.told)
+follow-returns-in-Ok-clause-followed t c = rw c.in-Target.is (followed_target c.find.new.root c.args.resolving.now.keys c.args.met.now.keys c.find.new.met.keys c.args.symbol c.new-target.result c.in-Target.symbol_id c.args.index c.in-Ok.next.items c.link.result c.new-target.ensures.module c.new-target.ensures.symbol c.in-Ok.ensures.found c.link.ensures.told)
 
 pub follow-returns-in-Ok-clause-searched : goal.follow-returns-in-Ok-clause-searched
 follow-returns-in-Ok-clause-searched t c =
@@ -119,10 +145,10 @@ follow-returns-in-Ok-clause-searched t c =
 
 pub follow-returns-in_ok-unmapped-in-Unmapped-clause-followed : goal.follow-returns-in_ok-unmapped-in-Unmapped-clause-followed
 follow-returns-in_ok-unmapped-in-Unmapped-clause-followed t c =
-    rw c.in-Unmapped.is (followed_unmapped c.args.root.now c.args.met.now.keys c.args.symbol c.args.index c.in-Unmapped.id c.in-Unmapped.parts c.in_ok-unmapped-in-Unmapped.field-0 (λ later. ap one (rw c.deref.ensures.value at c.in_ok-unmapped-in-Unmapped.ensures.told later)))
+    rw c.in-Unmapped.is (followed_unmapped c.args.root.now c.args.resolving.now.keys c.args.met.now.keys c.args.symbol c.args.index c.in-Unmapped.id c.in-Unmapped.parts c.in_ok-unmapped-in-Unmapped.field-0 (λ later. ap one (rw c.deref-in-Unmapped.ensures.value at c.in_ok-unmapped-in-Unmapped.ensures.told later)))
 
 pub follow-returns-in-Ok-import-clause-followed : goal.follow-returns-in-Ok-import-clause-followed
-follow-returns-in-Ok-import-clause-followed t c = rw c.in-Import.is (followed_import c.import.new.root c.args.met.now.keys c.import.new.met.keys c.args.symbol c.in-Import.taken c.args.index c.in-Ok-import.next.items c.link-in-Ok-import.result c.in-Ok-import.ensures.tried c.link-in-Ok-import.ensures.told)
+follow-returns-in-Ok-import-clause-followed t c = rw c.in-Import.is (followed_import c.import.new.root c.args.resolving.now.keys c.args.met.now.keys c.import.new.met.keys c.args.symbol c.in-Import.taken c.args.index c.in-Ok-import.next.items c.link-in-Ok-import.result c.in-Ok-import.ensures.tried c.link-in-Ok-import.ensures.told)
 
 pub follow-returns-in-Ok-import-clause-searched : goal.follow-returns-in-Ok-import-clause-searched
 follow-returns-in-Ok-import-clause-searched t c =
@@ -131,9 +157,9 @@ follow-returns-in-Ok-import-clause-searched t c =
 
 pub follow-import-requires : goal.follow-import-requires
 follow-import-requires t c =
-    let less = fewer_steps (length c.args.met.now.keys) (length c.args.met.now.keys) 3 4 (omega arith) (omega arith) in
+    let less = fewer_steps (length c.args.resolving.now.keys) 0 (length c.args.met.now.keys) (length c.args.met.now.keys) 3 4 (omega arith) (omega arith) in
     let declared = c.requires.declared in
-    (omega (arith, c.decreases, less), (c.requires.known, (c.requires.met, (c.requires.once, record { decl = declared.0; stands = declared.1; imports = rw c.in-Import.is at declared.2 }))))
+    (omega (arith, c.decreases, less), (c.requires.known, (c.requires.met, (c.requires.resolving, (c.requires.once, record { decl = declared.0; stands = declared.1; imports = rw c.in-Import.is at declared.2 })))))
 
 -- ---- an import
 
@@ -144,7 +170,7 @@ pub import-returns-in-Ok-None-clause-tried : goal.import-returns-in-Ok-None-clau
 import-returns-in-Ok-None-clause-tried t c =
     let nowhere = no_target (text_target c.args.root.now.graph (specifier_in c.args.root.now c.args.symbol.module_id) c.args.taken.now.text.now) (rw c.in-Ok-None.field-0-is at c.in-Ok-None.ensures.gives) in
     let told = λ (later : RootView). c.in_ok-unresolved-in-Ok-None.ensures.told later ∙ (λ i. one (leaf (unresolved (record { specifier = specifier_in later c.args.symbol.module_id; reason = no_module (c.in_ok-text-in-Ok-None.ensures.ok i); parts = texts_of (c.new-parts.ensures.items i) })))) in
-    λ later grown. tried_nowhere c.args.root.now c.args.met.now.keys c.args.symbol c.args.taken.now.name.now c.args.taken.now.text.now c.in_ok-unresolved-in-Ok-None.field-0.items c.requires.known nowhere told later (grown_on c.in-Ok-None.ensures.kept grown)
+    λ later grown. tried_nowhere c.args.root.now c.args.resolving.now.keys c.args.met.now.keys c.args.symbol c.args.taken.now.name.now c.args.taken.now.text.now c.in_ok-unresolved-in-Ok-None.field-0.items c.requires.known nowhere told later (grown_on c.in-Ok-None.ensures.kept grown)
 
 pub import-own_export-requires : goal.import-own_export-requires
 import-own_export-requires t c = (target_is c.text_target.new.root c.in-Ok-Some.module_id (text_target c.args.root.now.graph (specifier_in c.args.root.now c.args.symbol.module_id) c.args.taken.now.text.now) (rw c.in-Ok-Some.field-0-is at c.in-Ok-Some.ensures.gives)).within
@@ -152,14 +178,14 @@ import-own_export-requires t c = (target_is c.text_target.new.root c.in-Ok-Some.
 pub import-find-requires : goal.import-find-requires
 import-find-requires t c =
     let leads = target_is c.text_target.new.root c.in-Ok-Some.module_id (text_target c.args.root.now.graph (specifier_in c.args.root.now c.args.symbol.module_id) c.args.taken.now.text.now) (rw c.in-Ok-Some.field-0-is at c.in-Ok-Some.ensures.gives) in
-    let less = fewer_steps (length c.args.met.now.keys) (length c.args.met.now.keys) 0 3 (omega arith) (omega arith) in
-    (omega (arith, c.decreases, less), (subst (λ (id : ModuleId). id.0 < length c.text_target.new.root.stored) (sym c.new.ensures.module) leads.within, (still_numbered c.in-Ok-Some.ensures.kept c.args.met.now.keys c.requires.met, c.in-Ok-Some.ensures.kept.once c.requires.once)))
+    let less = fewer_steps (length c.args.resolving.now.keys) 0 (length c.args.met.now.keys) (length c.args.met.now.keys) 0 3 (omega arith) (omega arith) in
+    (omega (arith, c.decreases, less), (subst (λ (id : ModuleId). id.0 < length c.text_target.new.root.stored) (sym c.new.ensures.module) leads.within, (still_numbered c.in-Ok-Some.ensures.kept c.args.met.now.keys c.requires.met, (still_aliases c.in-Ok-Some.ensures.kept c.args.resolving.now.keys c.requires.resolving, c.in-Ok-Some.ensures.kept.once c.requires.once))))
 
 pub import-import_along-requires : goal.import-import_along-requires
 import-import_along-requires t c =
     let leads = target_is c.text_target.new.root c.in-Ok-Some.module_id (text_target c.args.root.now.graph (specifier_in c.args.root.now c.args.symbol.module_id) c.args.taken.now.text.now) (rw c.in-Ok-Some.field-0-is at c.in-Ok-Some.ensures.gives) in
-    let less = fewer_steps (length c.args.met.now.keys) (length c.args.met.now.keys) 2 3 (omega arith) (omega arith) in
-    (omega (arith, c.decreases, less), (leads.within, (still_numbered c.in-Ok-Some.ensures.kept c.args.met.now.keys c.requires.met, c.in-Ok-Some.ensures.kept.once c.requires.once)))
+    let less = fewer_steps (length c.args.resolving.now.keys) 0 (length c.args.met.now.keys) (length c.args.met.now.keys) 2 3 (omega arith) (omega arith) in
+    (omega (arith, c.decreases, less), (leads.within, (still_numbered c.in-Ok-Some.ensures.kept c.args.met.now.keys c.requires.met, (still_aliases c.in-Ok-Some.ensures.kept c.args.resolving.now.keys c.requires.resolving, c.in-Ok-Some.ensures.kept.once c.requires.once))))
 
 pub import-returns-in-Some-clause-tried : goal.import-returns-in-Some-clause-tried
 import-returns-in-Some-clause-tried t c =
@@ -169,7 +195,7 @@ import-returns-in-Some-clause-tried t c =
     let leads = target_is mid id (text_target c.args.root.now.graph (specifier_in c.args.root.now c.args.symbol.module_id) c.args.taken.now.text.now) (rw c.in-Ok-Some.field-0-is at c.in-Ok-Some.ensures.gives) in
     let within = still_stored kept c.args.symbol.module_id.0 c.requires.known in
     let there = target_later kept c.args.symbol.module_id c.requires.known c.args.taken.now.text.now ∙ leads.is in
-    on_answer c.find.result (λ paths found. tried_owned mid c.args.met.now.keys c.find.new.met.keys c.args.symbol c.new.result id c.in-Some.owned c.args.taken.now.name.now c.args.taken.now.text.now paths.items within leads.within there (sym c.in-Some.ensures) c.new.ensures.module c.new.ensures.symbol c.find.new.root c.find.ensures.kept found) c.find.ensures.found
+    on_answer c.find.result (λ paths found. tried_owned mid c.args.resolving.now.keys c.args.met.now.keys c.find.new.met.keys c.args.symbol c.new.result id c.in-Some.owned c.args.taken.now.name.now c.args.taken.now.text.now paths.items within leads.within there (sym c.in-Some.ensures) c.new.ensures.module c.new.ensures.symbol c.find.new.root c.find.ensures.kept found) c.find.ensures.found
 
 pub import-returns-in-Some-clause-refused : goal.import-returns-in-Some-clause-refused
 import-returns-in-Some-clause-refused t c =
@@ -190,7 +216,7 @@ import-returns-in-None-clause-tried t c =
     let leads = target_is mid id (text_target c.args.root.now.graph (specifier_in c.args.root.now c.args.symbol.module_id) c.args.taken.now.text.now) (rw c.in-Ok-Some.field-0-is at c.in-Ok-Some.ensures.gives) in
     let within = still_stored kept c.args.symbol.module_id.0 c.requires.known in
     let there = target_later kept c.args.symbol.module_id c.requires.known c.args.taken.now.text.now ∙ leads.is in
-    on_answer c.import_along.result (λ paths tried. tried_along mid c.args.met.now.keys c.import_along.new.met.keys c.args.symbol id c.args.taken.now.name.now c.args.taken.now.text.now paths.items within leads.within there (sym c.in-None.ensures) c.import_along.new.root c.import_along.ensures.kept tried) c.import_along.ensures.tried
+    on_answer c.import_along.result (λ paths tried. tried_along mid c.args.resolving.now.keys c.args.met.now.keys c.import_along.new.met.keys c.args.symbol id c.args.taken.now.name.now c.args.taken.now.text.now paths.items within leads.within there (sym c.in-None.ensures) c.import_along.new.root c.import_along.ensures.kept tried) c.import_along.ensures.tried
 
 pub import-returns-in-None-clause-refused : goal.import-returns-in-None-clause-refused
 import-returns-in-None-clause-refused t c =
@@ -206,7 +232,7 @@ import-returns-in-None-clause-refused t c =
 -- ---- the statements `export *`
 
 pub import_along-loop-text-init : goal.import_along-loop-text-init
-import_along-loop-text-init t c = asking_first c.args.root.now c.args.met.now.keys c.args.module_id c.args.taken.now.name.now c.requires.met
+import_along-loop-text-init t c = asking_first c.args.root.now c.args.resolving.now.keys c.args.met.now.keys c.args.module_id c.args.taken.now.name.now c.requires.met
 
 pub import_along-star_text-requires : goal.import_along-star_text-requires
 import_along-star_text-requires t c = asking_within c.loop-text.invariant c.requires.known
@@ -226,8 +252,9 @@ import_along-returns-in-Err-clause-enough t c = λ wide. c.in-Err.ensures.enough
 pub import_along-offered-requires : goal.import_along-offered-requires
 import_along-offered-requires t c =
     let is = c.loop-text.invariant in
-    let less = fewer_steps (length c.args.met.now.keys) (length c.loop-text.met.keys) 1 2 is.longer (omega arith) in
-    (omega (arith, c.decreases, less), (c.in-Ok.ensures.stored, (still_numbered c.in-Ok.ensures.kept c.loop-text.met.keys is.numbered, c.in-Ok.ensures.kept.once (is.grown.once c.requires.once))))
+    let less = subst (λ (r : List AliasDecl). left (length r) 0 (length c.loop-text.met.keys) 1 < left (length c.args.resolving.now.keys) 0 (length c.args.met.now.keys) 2) (sym is.same) (fewer_steps (length c.args.resolving.now.keys) 0 (length c.args.met.now.keys) (length c.loop-text.met.keys) 1 2 is.longer (omega arith)) in
+    let numbered = subst (AreAliasesNumbered c.export_along.new.root) (sym is.same) (still_aliases (grown_on is.grown c.in-Ok.ensures.kept) c.args.resolving.now.keys c.requires.resolving) in
+    (omega (arith, c.decreases, less), (c.in-Ok.ensures.stored, (still_numbered c.in-Ok.ensures.kept c.loop-text.met.keys is.numbered, (numbered, c.in-Ok.ensures.kept.once (is.grown.once c.requires.once)))))
 
 pub import_along-returns-in-Err-offered-clause-kept : goal.import_along-returns-in-Err-offered-clause-kept
 import_along-returns-in-Err-offered-clause-kept t c = grown_on c.loop-text.invariant.grown (grown_on c.in-Ok.ensures.kept c.in-Err-offered.ensures.kept)
@@ -252,6 +279,12 @@ import_along-returns-in-Err-offered-clause-enough t c = λ wide. c.in-Err-offere
 pub import_along-returns-then-not-is_empty-clause-kept : goal.import_along-returns-then-not-is_empty-clause-kept
 import_along-returns-then-not-is_empty-clause-kept t c = grown_on c.loop-text.invariant.grown (grown_on c.in-Ok.ensures.kept c.in-Ok-offered.ensures.kept)
 
+pub import_along-returns-then-not-is_empty-clause-same : goal.import_along-returns-then-not-is_empty-clause-same
+import_along-returns-then-not-is_empty-clause-same t c = c.in-Ok-offered.ensures.same ∙ c.loop-text.invariant.same
+
+pub import_along-returns-clause-same : goal.import_along-returns-clause-same
+import_along-returns-clause-same t c = c.loop-text.invariant.same
+
 pub import_along-returns-then-not-is_empty-clause-tried : goal.import_along-returns-then-not-is_empty-clause-tried
 import_along-returns-then-not-is_empty-clause-tried t c =
     asking_here c.loop-text.invariant c.requires.known c.offered.new.met.keys c.in-Some.text.now c.in-Ok.candidate c.in-Ok-offered.paths.items (sym c.in-Some.ensures.text) c.in-Ok.ensures.kept c.in-Ok.ensures.gives c.in-Ok.ensures.stored c.in-Ok-offered.ensures.kept c.in-Ok-offered.ensures.offered
@@ -268,7 +301,7 @@ import_along-loop-text-smaller t c = omega (arith, position_before c.loop-text.i
 
 pub import_along-loop-text-preserved : goal.import_along-loop-text-preserved
 import_along-loop-text-preserved t c =
-    asking_next c.loop-text.invariant c.requires.known c.in-Some.text.now c.in-Ok.candidate c.in-Ok-offered.paths.items (sym c.in-Some.ensures.text) c.in-Ok.ensures.kept c.in-Ok.ensures.gives c.in-Ok.ensures.stored c.in-Ok-offered.ensures.kept c.in-Ok-offered.ensures.offered c.in-Ok-offered.ensures.searched
+    asking_next c.loop-text.invariant c.requires.known c.in-Some.text.now c.in-Ok.candidate c.in-Ok-offered.paths.items (sym c.in-Some.ensures.text) c.in-Ok.ensures.kept c.in-Ok.ensures.gives c.in-Ok.ensures.stored c.in-Ok-offered.ensures.kept c.in-Ok-offered.ensures.offered c.offered.new.resolving.keys c.in-Ok-offered.ensures.same c.in-Ok-offered.ensures.searched
     (λ later. is_none later c.in-Ok-offered.paths (sym c.if-not-is_empty.false ∙ c.is_empty.ensures))
 
 pub import_along-returns-in_err-from_str-clause-kept : goal.import_along-returns-in_err-from_str-clause-kept
@@ -292,5 +325,199 @@ import_along-returns-clause-searched t c = last_searched c.loop-text.invariant c
 
 pub offered-find-requires : goal.offered-find-requires
 offered-find-requires t c =
-    let less = fewer_steps (length c.args.met.now.keys) (length c.args.met.now.keys) 0 1 (omega arith) (omega arith) in
-    (omega (arith, c.decreases, less), (rw c.in-Some.is at c.requires.known, (c.requires.met, c.requires.once)))
+    let less = fewer_steps (length c.args.resolving.now.keys) 0 (length c.args.met.now.keys) (length c.args.met.now.keys) 0 1 (omega arith) (omega arith) in
+    (omega (arith, c.decreases, less), (rw c.in-Some.is at c.requires.known, (c.requires.met, (c.requires.resolving, c.requires.once))))
+
+-- ---- an alias
+
+pub follow-resolve-requires : goal.follow-resolve-requires
+follow-resolve-requires t c =
+    let within : c.new-target-in-Alias.result.module_id.0 < length c.args.root.now.stored = subst (λ (id : ModuleId). id.0 < length c.args.root.now.stored) (sym c.new-target-in-Alias.ensures.module) c.requires.known in
+    (omega (arith, c.decreases, for_alias (length c.args.resolving.now.keys) (length c.args.met.now.keys) 3 4 (omega arith)), (within, (c.requires.known, (c.requires.resolving, c.requires.once))))
+
+pub follow-returns-in_ok-link_under-in-Ok-resolve-clause-followed : goal.follow-returns-in_ok-link_under-in-Ok-resolve-clause-followed
+follow-returns-in_ok-link_under-in-Ok-resolve-clause-followed t c =
+    rw c.in-Alias.is (followed_alias c.resolve.new.root c.args.resolving.now.keys c.args.met.now.keys c.args.symbol c.new-target-in-Alias.result c.in-Alias.symbol_id c.args.index c.in-Alias.parts c.in-Ok-resolve.next.items c.in_ok-link_under-in-Ok-resolve.field-0 c.new-target-in-Alias.ensures.module c.new-target-in-Alias.ensures.symbol (rw c.deref.ensures.value at c.in-Ok-resolve.ensures.resolved) (λ later. rw c.deref-in-Ok-resolve.ensures.value at c.in_ok-link_under-in-Ok-resolve.ensures.told later))
+
+pub follow-returns-in_ok-link_under-in-Ok-resolve-clause-searched : goal.follow-returns-in_ok-link_under-in-Ok-resolve-clause-searched
+follow-returns-in_ok-link_under-in-Ok-resolve-clause-searched t c =
+    let kept = c.in-Ok-resolve.ensures.kept in
+    let root = c.resolve.new.root in
+    let within = still_stored kept c.args.symbol.module_id.0 c.requires.known in
+    record { numbered = still_numbered kept c.args.met.now.keys c.requires.met; longer = omega arith; few = λ h. h; stored = option_stored root c.in_ok-link_under-in-Ok-resolve.field-0 (c.in_ok-link_under-in-Ok-resolve.ensures.stored root within c.in-Ok-resolve.ensures.stored) }
+
+pub resolve-returns-then-not-is_new-clause-resolved : goal.resolve-returns-then-not-is_new-clause-resolved
+resolve-returns-then-not-is_new-clause-resolved t c =
+    let old = old_alias c.args.resolving.now.keys c.insert_full.new.self.keys c.args.alias c.in_ok-is_new.is_new c.in_ok-is_new.ensures.added c.in_ok-is_new.ensures.keys c.if-not-is_new.true in
+    rw c.new.ensures.items (resolved_open c.args.root.now c.requires.once c.args.resolving.now.keys c.args.alias c.requires.resolving c.requires.alias c.args.target c.args.parts.now old.0)
+
+pub resolve-returns-then-not-is_new-clause-same : goal.resolve-returns-then-not-is_new-clause-same
+resolve-returns-then-not-is_new-clause-same t c = (old_alias c.args.resolving.now.keys c.insert_full.new.self.keys c.args.alias c.in_ok-is_new.is_new c.in_ok-is_new.ensures.added c.in_ok-is_new.ensures.keys c.if-not-is_new.true).1
+
+pub resolve-walk-requires : goal.resolve-walk-requires
+resolve-walk-requires t c =
+    let running = c.args.resolving.now.keys in
+    let new = new_alias running c.insert_full.new.self.keys c.args.alias c.in_ok-is_new.is_new c.in_ok-is_new.ensures.added c.in_ok-is_new.ensures.keys c.if-not-is_new.false in
+    let few = alias_few running c.args.alias c.in_ok-is_new.field-0-0 new.0 c.in_ok-is_new.ensures.index (omega arith) in
+    let longer : length c.insert_full.new.self.keys ≡ length running + 1 = ap length new.1 ∙ length-append running (c.args.alias ∷ []) in
+    let none_met : length c.new-met.result.keys ≡ 0 = ap length c.new-met.ensures.empty in
+    let short : length c.args.parts.now < 2 ^ 64 = omega arith in
+    let parts = length c.args.parts.now in
+    let less = subst (λ n. left n parts (length c.new-met.result.keys) 6 < left (length running) 0 (2 ^ 64) 3) (sym longer) (subst (λ n. left (length running + 1) parts n 6 < left (length running) 0 (2 ^ 64) 3) (sym none_met) (one_alias_more (length running) parts 6 3 few short (omega arith))) in
+    let numbered = subst (AreAliasesNumbered c.args.root.now) (sym new.1) (aliases_with c.args.root.now running c.args.alias c.requires.resolving c.requires.alias) in
+    let met = subst (AreNumbered c.args.root.now) (sym c.new-met.ensures.empty) (λ k d h. absurd (omega (arith, h))) in
+    (omega (arith, c.decreases, less), (c.requires.known, (met, (numbered, c.requires.once))))
+
+pub resolve-returns-clause-resolved : goal.resolve-returns-clause-resolved
+resolve-returns-clause-resolved t c =
+    let running = c.args.resolving.now.keys in
+    let new = new_alias running c.insert_full.new.self.keys c.args.alias c.in_ok-is_new.is_new c.in_ok-is_new.ensures.added c.in_ok-is_new.ensures.keys c.if-not-is_new.false in
+    let few = alias_few running c.args.alias c.in_ok-is_new.field-0-0 new.0 c.in_ok-is_new.ensures.index (omega arith) in
+    let walked = rw (new.1, c.new-met.ensures.empty) at c.in-Ok.ensures.walked in
+    let none_met : length c.new-met.result.keys ≡ 0 = ap length c.new-met.ensures.empty in
+    let fits = c.in-Ok.ensures.searched.few (omega (arith, none_met)) in
+    resolved_walk c.args.root.now c.requires.once running c.args.alias c.requires.resolving c.requires.alias c.args.target c.args.parts.now c.in-Ok.paths.items c.walk.new.met.keys new.0 few fits c.in-Ok.ensures.kept walked
+
+pub resolve-returns-clause-same : goal.resolve-returns-clause-same
+resolve-returns-clause-same t c =
+    let running = c.args.resolving.now.keys in
+    let new = new_alias running c.insert_full.new.self.keys c.args.alias c.in_ok-is_new.is_new c.in_ok-is_new.ensures.added c.in_ok-is_new.ensures.keys c.if-not-is_new.false in
+    popped running c.walk.new.resolving.keys c.pop.new.self.keys c.args.alias c.pop.result (length c.walk.new.resolving.keys) (c.in-Ok.ensures.same ∙ new.1) c.pop.ensures.keys refl c.pop.ensures.found
+
+-- ---- a walk
+
+pub walk-find-requires : goal.walk-find-requires
+walk-find-requires t c = (omega (arith, c.decreases, without_parts (length c.args.resolving.now.keys) (length c.args.parts.now) (length c.args.met.now.keys) 0 6 (omega arith)), (c.requires.known, (c.requires.met, (c.requires.resolving, c.requires.once))))
+
+pub walk-returns-then-is_empty-clause-walked : goal.walk-returns-then-is_empty-clause-walked
+walk-returns-then-is_empty-clause-walked t c = walked_alone c.find.new.root c.args.resolving.now.keys c.args.met.now.keys c.find.new.met.keys c.args.symbol c.args.parts.now c.in-Ok.paths.items (none_at (length c.args.parts.now) (sym c.if-is_empty.true ∙ c.is_empty.ensures)) c.in-Ok.ensures.found
+
+pub walk-loop-definition-init : goal.walk-loop-definition-init
+walk-loop-definition-init t c =
+    let root = c.find.new.root in
+    let searched = c.in-Ok.ensures.searched in
+    let told = rw c.deref.ensures.value at c.in_ok-definitions.ensures.told in
+    let kept = rw c.deref.ensures.value at c.in_ok-definitions.ensures.stored in
+    let listed = kept root searched.stored in
+    let given : c.into_iter-definition-iterator.result.rest.items ≡ c.in_ok-definitions.definitions.items = c.into_iter-definition-iterator.ensures.into_iter_gives.0 in
+    rw (c.new-changed.ensures.items, given) (walking_first root root c.args.resolving.now.keys c.args.met.now.keys c.find.new.met.keys c.args.symbol c.args.parts.now c.in-Ok.paths.items c.in_ok-definitions.definitions.items c.find.new.resolving.keys c.in-Ok.ensures.same (grown_not root) searched told, given_first root c.args.resolving.now.keys c.args.met.now.keys c.find.new.met.keys c.args.symbol c.in-Ok.paths.items c.in_ok-definitions.definitions.items c.in-Ok.ensures.found (told root) listed)
+
+pub walk-step-requires : goal.walk-step-requires
+walk-step-requires t c =
+    let is = c.loop-definition.invariant.0 in
+    let given = first_given c.in-Some.definition c.next.new.self.rest.items (subst (AreGiven c.args.symbol c.loop-definition.root) c.in-Some.ensures.steps.0 c.loop-definition.invariant.1) in
+    let parts = length c.args.parts.now in
+    let less = subst (λ (r : List AliasDecl). left (length r) parts (length c.loop-definition.met.keys) 5 < left (length c.args.resolving.now.keys) parts (length c.args.met.now.keys) 6) (sym is.same) (fewer_steps (length c.args.resolving.now.keys) parts (length c.args.met.now.keys) (length c.loop-definition.met.keys) 5 6 is.longer (omega arith)) in
+    let grown = grown_on c.in-Ok.ensures.kept is.grown in
+    let numbered = subst (AreAliasesNumbered c.loop-definition.root) (sym is.same) (still_aliases grown c.args.resolving.now.keys c.requires.resolving) in
+    let some = some_at parts (sym c.if-is_empty.false ∙ c.is_empty.ensures) in
+    (omega (arith, c.decreases, less), (given.within, (some, (given.declared, (is.numbered, (numbered, grown.once c.requires.once))))))
+
+pub walk-returns-in_err-push_back-in-Ok-step-clause-kept : goal.walk-returns-in_err-push_back-in-Ok-step-clause-kept
+walk-returns-in_err-push_back-in-Ok-step-clause-kept t c = grown_on (grown_on c.in-Ok.ensures.kept c.loop-definition.invariant.0.grown) c.in-Ok-step.ensures.kept
+
+pub walk-returns-in_err-rebuild-clause-kept : goal.walk-returns-in_err-rebuild-clause-kept
+walk-returns-in_err-rebuild-clause-kept t c = grown_on c.in-Ok.ensures.kept c.loop-definition.invariant.0.grown
+
+pub walk-returns-in-Err-step-clause-kept : goal.walk-returns-in-Err-step-clause-kept
+walk-returns-in-Err-step-clause-kept t c = grown_on (grown_on c.in-Ok.ensures.kept c.loop-definition.invariant.0.grown) c.in-Err-step.ensures.kept
+
+pub walk-returns-in-Err-step-clause-refused : goal.walk-returns-in-Err-step-clause-refused
+walk-returns-in-Err-step-clause-refused t c =
+    let given = first_given c.in-Some.definition c.next.new.self.rest.items (subst (AreGiven c.args.symbol c.loop-definition.root) c.in-Some.ensures.steps.0 c.loop-definition.invariant.1) in
+    refused_given c.args.root.now c.step.new.root c.in-Some.definition c.in-Err-step.fault c.requires.known (grown_on c.in-Ok.ensures.kept c.loop-definition.invariant.0.grown) c.in-Err-step.ensures.kept given c.in-Err-step.ensures.refused
+
+pub walk-returns-in-Err-step-clause-enough : goal.walk-returns-in-Err-step-clause-enough
+walk-returns-in-Err-step-clause-enough t c = λ wide. c.in-Err-step.ensures.enough (c.loop-definition.invariant.0.grown.limits ∙ (c.in-Ok.ensures.kept.limits ∙ wide))
+
+pub walk-loop-definition-preserved : goal.walk-loop-definition-preserved
+walk-loop-definition-preserved t c =
+    let root = c.find.new.root in
+    let here = c.loop-definition.root in
+    let rest = c.next.new.self.rest.items in
+    let is = subst (λ (r : List Definition). IsWalking root c.args.resolving.now.keys c.args.met.now.keys c.find.new.met.keys c.args.symbol c.args.parts.now c.in-Ok.paths.items here c.loop-definition.resolving.keys r c.loop-definition.met.keys c.loop-definition.changed.items) c.in-Some.ensures.steps.0 c.loop-definition.invariant.0 in
+    let given = subst (AreGiven c.args.symbol here) c.in-Some.ensures.steps.0 c.loop-definition.invariant.1 in
+    let known = still_stored (grown_on c.in-Ok.ensures.kept is.grown) c.args.symbol.module_id.0 c.requires.known in
+    rw c.in_ok-push_back-in-Ok-step.ensures.items (walking_next c.in-Some.definition is c.in-Ok-step.ensures.kept c.in-Ok-step.path c.in-Ok-step.ensures.changed c.step.new.resolving.keys c.in-Ok-step.ensures.same c.in-Ok-step.ensures.searched, others_given c.in-Some.definition rest known c.in-Ok-step.ensures.kept given)
+
+pub walk-returns-clause-kept : goal.walk-returns-clause-kept
+walk-returns-clause-kept t c = grown_on c.in-Ok.ensures.kept c.loop-definition.invariant.0.grown
+
+pub walk-returns-clause-same : goal.walk-returns-clause-same
+walk-returns-clause-same t c = c.loop-definition.invariant.0.same
+
+pub walk-returns-clause-walked : goal.walk-returns-clause-walked
+walk-returns-clause-walked t c =
+    let rest = c.loop-definition.definition-iterator.rest in
+    let over = nil_from_length rest.items (omega (arith, c.in-None.ensures.steps.0, rest.ok.0)) in
+    let is = subst (λ (r : List Definition). IsWalking c.find.new.root c.args.resolving.now.keys c.args.met.now.keys c.find.new.met.keys c.args.symbol c.args.parts.now c.in-Ok.paths.items c.loop-definition.root c.loop-definition.resolving.keys r c.loop-definition.met.keys c.loop-definition.changed.items) over c.loop-definition.invariant.0 in
+    let some = some_at (length c.args.parts.now) (sym c.if-is_empty.false ∙ c.is_empty.ensures) in
+    walking_last c.in_ok-rebuild.field-0.items is some is.grown c.in-Ok.ensures.found c.in_ok-rebuild.ensures.found
+
+pub walk-returns-clause-searched : goal.walk-returns-clause-searched
+walk-returns-clause-searched t c =
+    let is = c.loop-definition.invariant.0 in
+    let root = c.loop-definition.root in
+    let stored = c.in_ok-rebuild.ensures.stored root (all_still_stored is.grown (modules_in c.in-Ok.paths.items) c.in-Ok.ensures.searched.stored) is.stored in
+    record { numbered = is.numbered; longer = is.longer; few = is.few; stored = stored.0 }
+
+-- ---- in a definition's place
+
+pub step-returns-in-Ok-Itself-clause-changed : goal.step-returns-in-Ok-Itself-clause-changed
+step-returns-in-Ok-Itself-clause-changed t c =
+    let x = c.args.definition.now in
+    changed_itself c.args.resolving.now.keys c.args.met.now.keys x c.args.parts.now c.requires.known c.in-Ok-Itself.field-0 c.in-Ok-Itself.ensures.kept c.in-Ok-Itself.ensures.stored c.in-Ok-Itself.ensures.told c.in-Ok-Itself.field-0-is c.defined.result (λ later. c.defined.ensures.told later ∙ definition_in_place later c.new-symbol.result x c.new-symbol.ensures.module)
+
+pub step-returns-in-Ok-Itself-clause-searched : goal.step-returns-in-Ok-Itself-clause-searched
+step-returns-in-Ok-Itself-clause-searched t c =
+    let kept = c.in-Ok-Itself.ensures.kept in
+    let root = c.part_of.new.root in
+    let within : c.new-symbol.result.module_id.0 < length root.stored = subst (λ (id : ModuleId). id.0 < length root.stored) (sym c.new-symbol.ensures.module) (still_stored kept c.args.definition.now.«module».0 c.requires.known) in
+    record { numbered = still_numbered kept c.args.met.now.keys c.requires.met; longer = omega arith; few = λ h. h; stored = option_stored root (Some c.defined.result) (c.defined.ensures.stored root within) }
+
+pub step-returns-in_ok-link_under-in-Ok-Lacks-clause-changed : goal.step-returns-in_ok-link_under-in-Ok-Lacks-clause-changed
+step-returns-in_ok-link_under-in-Ok-Lacks-clause-changed t c =
+    let x = c.args.definition.now in
+    let parts = c.args.parts.now in
+    let told = λ (later : RootView). c.in_ok-link_under-in-Ok-Lacks.ensures.told later ∙ (λ i. link_to (head_in_place later c.new-symbol.result x (texts_in parts) c.new-symbol.ensures.module c.new-symbol.ensures.symbol i) (c.in_ok-next-in-Ok-Lacks.ensures.told later i)) in
+    changed_lacking c.args.resolving.now.keys c.args.met.now.keys x parts c.requires.known c.in-Ok-Lacks.field-0 c.in-Ok-Lacks.ensures.kept c.in-Ok-Lacks.ensures.stored c.in-Ok-Lacks.ensures.told c.in-Ok-Lacks.missing c.in-Ok-Lacks.field-0-is c.requires.some c.in_ok-link_under-in-Ok-Lacks.field-0 told
+
+pub step-returns-in_ok-link_under-in-Ok-Lacks-clause-searched : goal.step-returns-in_ok-link_under-in-Ok-Lacks-clause-searched
+step-returns-in_ok-link_under-in-Ok-Lacks-clause-searched t c =
+    let kept = c.in-Ok-Lacks.ensures.kept in
+    let root = c.part_of.new.root in
+    let within : c.new-symbol.result.module_id.0 < length root.stored = subst (λ (id : ModuleId). id.0 < length root.stored) (sym c.new-symbol.ensures.module) (still_stored kept c.args.definition.now.«module».0 c.requires.known) in
+    let missing : c.in-Ok-Lacks.missing.«module».0 < length root.stored = rw c.in-Ok-Lacks.field-0-is at c.in-Ok-Lacks.ensures.stored in
+    record { numbered = still_numbered kept c.args.met.now.keys c.requires.met; longer = omega arith; few = λ h. h; stored = option_stored root c.in_ok-link_under-in-Ok-Lacks.field-0 (c.in_ok-link_under-in-Ok-Lacks.ensures.stored root within (c.in_ok-next-in-Ok-Lacks.ensures.stored root missing)) }
+
+pub step-walk-requires : goal.step-walk-requires
+step-walk-requires t c =
+    let kept = c.in-Ok-To.ensures.kept in
+    let parts = c.args.parts.now in
+    let rest = take (length parts - 1) (drop 1 parts) in
+    let met = length c.args.met.now.keys in
+    let less = one_part_less (length c.args.resolving.now.keys) (length parts) (length rest) met met 6 5 (one_less parts c.requires.some) (omega arith) (omega arith) in
+    let within : c.in-Ok-To.target.module_id.0 < length c.part_of.new.root.stored = rw c.in-Ok-To.field-0-is at c.in-Ok-To.ensures.stored in
+    (omega (arith, c.decreases, less), (within, (still_numbered kept c.args.met.now.keys c.requires.met, (still_aliases kept c.args.resolving.now.keys c.requires.resolving, kept.once c.requires.once))))
+
+pub step-returns-in-Err-walk-clause-kept : goal.step-returns-in-Err-walk-clause-kept
+step-returns-in-Err-walk-clause-kept t c = grown_on c.in-Ok-To.ensures.kept c.in-Err-walk.ensures.kept
+
+pub step-returns-in-Err-walk-clause-refused : goal.step-returns-in-Err-walk-clause-refused
+step-returns-in-Err-walk-clause-refused t c = refused_on c.args.root.now c.part_of.new.root c.walk.new.root c.args.definition.now c.args.parts.now c.in-Ok-To.target c.in-Err-walk.fault c.in-Ok-To.ensures.kept c.in-Err-walk.ensures.kept c.requires.declared (rw c.in-Ok-To.field-0-is at c.in-Ok-To.ensures.told) c.in-Err-walk.ensures.refused
+
+pub step-returns-in_ok-link_under-in-Ok-clause-changed : goal.step-returns-in_ok-link_under-in-Ok-clause-changed
+step-returns-in_ok-link_under-in-Ok-clause-changed t c =
+    let x = c.args.definition.now in
+    let parts = c.args.parts.now in
+    let rest = take (length parts - 1) (drop 1 parts) in
+    let told = λ (later : RootView). c.in_ok-link_under-in-Ok.ensures.told later ∙ ap (λ head. link_to head (forest_told later c.in-Ok.next.items)) (head_in_place later c.new-symbol.result x (texts_in parts) c.new-symbol.ensures.module c.new-symbol.ensures.symbol) in
+    changed_on c.args.resolving.now.keys c.args.met.now.keys x parts c.requires.known c.in-Ok-To.field-0 c.in-Ok-To.ensures.kept c.in-Ok-To.ensures.stored c.in-Ok-To.ensures.told c.in-Ok-To.target c.in-Ok-To.field-0-is c.requires.some rest (parts_behind parts) c.in-Ok.ensures.kept c.walk.new.met.keys c.in-Ok.next.items c.in-Ok.ensures.walked c.in_ok-link_under-in-Ok.field-0 told
+
+pub step-returns-in_ok-link_under-in-Ok-clause-searched : goal.step-returns-in_ok-link_under-in-Ok-clause-searched
+step-returns-in_ok-link_under-in-Ok-clause-searched t c =
+    let is = c.in-Ok.ensures.searched in
+    let root = c.walk.new.root in
+    let kept = grown_on c.in-Ok-To.ensures.kept c.in-Ok.ensures.kept in
+    let within : c.new-symbol.result.module_id.0 < length root.stored = subst (λ (id : ModuleId). id.0 < length root.stored) (sym c.new-symbol.ensures.module) (still_stored kept c.args.definition.now.«module».0 c.requires.known) in
+    record { numbered = is.numbered; longer = is.longer; few = is.few; stored = option_stored root c.in_ok-link_under-in-Ok.field-0 (c.in_ok-link_under-in-Ok.ensures.stored root within is.stored) }

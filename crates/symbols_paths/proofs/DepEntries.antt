@@ -1,0 +1,130 @@
+-- Paths as entries, and texts that are lent.
+use Rattle.std.proofs.Common.{◌≡◌, ℕ, zero, suc, ◌<◌, true, false, true≢false, arith, List, [], ◌∷◌, ◌++◌, length, map, drop, Option, None, Some, option_map, refl, sym, ap, subst, ◌∙◌, append_assoc, append-nil}
+use Rattle.std.specs.Prelude.{MatchOption, ◌==◌}
+use Rattle.std.specs.Borrow.{Bor}
+use Rattle.std.specs.Option.{option_map_or}
+use Rattle.std.proofs.lemmas.List.{map-append}
+use Rattle.std.proofs.lemmas.Option.{none-some, same_Some}
+use Rattle.symbols_syntax.specs.declared.ids.ModuleId.{ModuleId}
+use Rattle.symbols_syntax.specs.declared.ids.SymbolId.{SymbolId}
+use Rattle.symbols_syntax.specs.declared.ids.UniqueSymbolId.{UniqueSymbolId}
+use Rattle.symbols_syntax.specs.Graph.{GraphView}
+use Rattle.symbols_syntax.specs.Ids.{IdView}
+use Rattle.symbols_nodes.specs.References.{import_type}
+use Rattle.symbols_table.specs.declared.info.fault.SymbolsFault.{SymbolsFault}
+use Rattle.symbols_root.specs.Roots.{RootView, IsRefusal}
+use Rattle.symbols_exports.specs.Exporting.{specifier_in}
+use Rattle.symbols_exports.specs.StarStatements.{text_target}
+use Rattle.symbols_paths.specs.declared.paths.node.DefinitionPathNode.{DefinitionPathNode}
+use Rattle.symbols_paths.specs.declared.paths.resolve.ResolvedSymbolDepEntry.{ResolvedSymbolDepEntry}
+use Rattle.symbols_paths.specs.declared.paths.resolve.ResolvedSymbolDepEntry.TheVariants as entry
+use Rattle.symbols_paths.specs.Trees.{NamedSymbol, Parts, Missing, no_module, unresolved, Forest, leaf, none, one}
+use Rattle.symbols_paths.specs.Leads.{symbol_of_id}
+use Rattle.symbols_paths.specs.PartWays.{PartWay, to, itself, lacks, text_part}
+use Rattle.symbols_paths.specs.Computed.{paths_under}
+use Rattle.symbols_paths.specs.Growing.{HasGrown}
+use Rattle.symbols_paths.specs.Needed.{IsNeeded, begun, IsRefused}
+use Rattle.symbols_paths.specs.Views.{named, tree_told, forest_told, texts_in, first_text, later_texts}
+use Rattle.symbols_paths.specs.Answers.{ArePathsUnder}
+use Rattle.symbols_paths.specs.DepAnswers.{EntryView, a_path, a_module, entry_told, entries_in, Asked, asked_by_id, asked_by_way, missing_id, missing_way, module_entry, other_entries, entries_of, ArePathsOf, IsDepAnswer, IsDepRefused, on_the_way, of_import}
+use Rattle.symbols_paths.proofs.Growing.{same_specifier}
+use Rattle.symbols_paths.proofs.LeafNeeds.{needed_from, text_part_needed}
+use Rattle.symbols_paths.proofs.Needing.{refused_from}
+use Rattle.symbols_paths.proofs.Walking.{some_parts, no_part_left}
+
+-- the entries so far, and the paths that are left
+abbrev pub AreEntriesSo : List ResolvedSymbolDepEntry → List DefinitionPathNode → List DefinitionPathNode → Type 0
+AreEntriesSo entries rest paths = (root : RootView) → map (entry_told root) entries ++ entries_in (forest_told root rest) ≡ entries_in (forest_told root paths)
+
+pub entries_next : (entries more : List ResolvedSymbolDepEntry) (path : DefinitionPathNode) (rest paths : List DefinitionPathNode) → AreEntriesSo entries (path ∷ rest) paths → more ≡ entries ++ entry.Path path ∷ [] → AreEntriesSo more rest paths
+entries_next entries more path rest paths so put = λ root.
+    ap (λ es. map (entry_told root) es ++ entries_in (forest_told root rest)) put
+    ∙ (ap (λ es. es ++ entries_in (forest_told root rest)) (map-append (entry_told root) entries (entry.Path path ∷ []))
+    ∙ (append_assoc (map (entry_told root) entries) (a_path (tree_told root path) ∷ []) (entries_in (forest_told root rest)) ∙ so root))
+
+pub entries_last : (entries : List ResolvedSymbolDepEntry) (rest paths : List DefinitionPathNode) → rest ≡ [] → AreEntriesSo entries rest paths → (root : RootView) → map (entry_told root) entries ≡ entries_in (forest_told root paths)
+entries_last entries rest paths over so root = sym (append-nil (map (entry_told root) entries)) ∙ (ap (λ xs. map (entry_told root) entries ++ entries_in (forest_told root xs)) (sym over) ∙ so root)
+
+-- ---- what a reference asks for, and what was found of it
+
+pub id_found : (graph : GraphView) (specifier : List ℕ) (name : IdView) (parts : Parts) (t : SymbolId) (paths : Forest) → symbol_of_id graph specifier name ≡ Some t → ArePathsUnder graph (record { specifier = specifier; number = t }) parts paths → paths ≡ paths_under graph (record { specifier = specifier; number = t }) parts → ArePathsOf graph (asked_by_id graph specifier name parts) (missing_id specifier name parts) paths
+id_found graph specifier name parts t paths is found listed = subst (λ (o : Option SymbolId). ArePathsOf graph (option_map (λ (u : SymbolId). (record { specifier = specifier; number = u }, parts)) o) (missing_id specifier name parts) paths) (sym is) (found, listed)
+
+pub id_missing : (graph : GraphView) (specifier : List ℕ) (name : IdView) (parts : Parts) (paths : Forest) → symbol_of_id graph specifier name ≡ None → paths ≡ missing_id specifier name parts → ArePathsOf graph (asked_by_id graph specifier name parts) (missing_id specifier name parts) paths
+id_missing graph specifier name parts paths is same = subst (λ (o : Option SymbolId). ArePathsOf graph (option_map (λ (u : SymbolId). (record { specifier = specifier; number = u }, parts)) o) (missing_id specifier name parts) paths) (sym is) same
+
+pub way_found : (graph : GraphView) (rest : Parts) (w : PartWay) (t : NamedSymbol) (paths : Forest) → to t ≡ w → ArePathsUnder graph t rest paths → paths ≡ paths_under graph t rest → ArePathsOf graph (asked_by_way rest w) (missing_way w) paths
+way_found graph rest w t paths is found listed = subst (λ v. ArePathsOf graph (asked_by_way rest v) (missing_way v) paths) is (found, listed)
+
+pub way_missing : (graph : GraphView) (rest : Parts) (w : PartWay) (m : Missing) (paths : Forest) → lacks m ≡ w → paths ≡ one (leaf (unresolved m)) → ArePathsOf graph (asked_by_way rest w) (missing_way w) paths
+way_missing graph rest w m paths is same = subst (λ v. ArePathsOf graph (asked_by_way rest v) (missing_way v) paths) is same
+
+-- the entries are those of what was found
+pub entries_answer : (graph : GraphView) (asked : Option Asked) (otherwise paths : Forest) (entries others : List EntryView) → ArePathsOf graph asked otherwise paths → entries ≡ entries_in paths → entries_in otherwise ≡ others → MatchOption asked (entries ≡ others) (λ it. (f : Forest) × ArePathsUnder graph it.0 it.1 f × (entries ≡ entries_in f))
+entries_answer graph None otherwise paths entries others same told other = told ∙ (ap entries_in same ∙ other)
+entries_answer graph (Some it) otherwise paths entries others found told other = (paths, found.0, told)
+
+pub entries_listed : (graph : GraphView) (asked : Option Asked) (otherwise paths : Forest) (entries others : List EntryView) → ArePathsOf graph asked otherwise paths → entries ≡ entries_in paths → entries_in otherwise ≡ others → entries ≡ option_map_or (λ (it : Asked). entries_in (paths_under graph it.0 it.1)) asked others
+entries_listed graph None otherwise paths entries others same told other = told ∙ (ap entries_in same ∙ other)
+entries_listed graph (Some it) otherwise paths entries others found told other = told ∙ ap entries_in found.1
+
+-- ---- parts of a module
+
+pub behind_first : (parts : List (Bor (List ℕ))) → texts_in (drop 1 parts) ≡ later_texts parts
+behind_first [] = refl
+behind_first (x ∷ xs) = refl
+
+-- what the first part leads to is a symbol, and its paths were found under the others, once its module was stored
+pub import_found : (old mid : RootView) (rest : Parts) (w : PartWay) (target : UniqueSymbolId) (texts : List (Bor (List ℕ))) (paths : Forest) → HasGrown old mid → to (named mid target) ≡ w → texts_in texts ≡ rest → ArePathsUnder mid.graph (named mid target) (texts_in texts) paths → paths ≡ paths_under mid.graph (named mid target) (texts_in texts) → ArePathsOf old.graph (asked_by_way rest w) (missing_way w) paths
+import_found old mid rest w target texts paths grown is same found listed =
+    let t = named mid target in
+    let found_here : ArePathsUnder old.graph t rest paths = subst (λ g. ArePathsUnder g t rest paths) grown.graph (subst (λ ps. ArePathsUnder mid.graph t ps paths) same found) in
+    let listed_here : paths ≡ paths_under old.graph t rest = subst (λ g. paths ≡ paths_under g t rest) grown.graph (subst (λ ps. paths ≡ paths_under mid.graph t ps) same listed) in
+    way_found old.graph rest w t paths is found_here listed_here
+
+pub way_itself : (graph : GraphView) (rest : Parts) (w : PartWay) (paths : Forest) → itself ≡ w → paths ≡ none → ArePathsOf graph (asked_by_way rest w) (missing_way w) paths
+way_itself graph rest w paths is same = subst (λ v. ArePathsOf graph (asked_by_way rest v) (missing_way v) paths) is same
+
+-- what was refused on from there is needed on from the module that the text stands for
+pub import_refused : (old mid new : RootView) (m text p : List ℕ) (ps : Parts) (target : UniqueSymbolId) (fault : SymbolsFault) → HasGrown old mid → HasGrown mid new → to (named mid target) ≡ text_part old.graph m text p ps (text_target old.graph m text) → IsRefused new (specifier_in mid target.module_id) fault
+    → (start : List ℕ) → ((k : List ℕ) → text_target old.graph m text ≡ Some k → IsNeeded old.graph start k) → IsRefused new start fault
+import_refused old mid new m text p ps target fault grown further leads refused start needed =
+    let at = text_part_needed old.graph m text p ps (named mid target) (sym leads) in
+    refused_from new (subst (λ g. IsNeeded g start (specifier_in mid target.module_id)) (sym (further.graph ∙ grown.graph)) (needed_from (needed at.0 at.1) at.2)) refused
+
+pub dep_refused : (old new : RootView) (m text : List ℕ) (parts : Parts) (fault : SymbolsFault) → HasGrown old new → ((start : List ℕ) → ((k : List ℕ) → text_target old.graph m text ≡ Some k → IsNeeded old.graph start k) → IsRefused new start fault) → IsDepRefused new m (import_type text parts) fault
+dep_refused old new m text parts fault grown refused = by (text_target old.graph m text) refl
+  where
+    by : (found : Option (List ℕ)) → text_target old.graph m text ≡ found → IsDepRefused new m (import_type text parts) fault
+    by None is = on_the_way (refused m (λ k e. absurd (none-some k (sym is ∙ e))))
+    by (Some v) is = of_import text parts v refl (subst (λ g. text_target g m text ≡ Some v) (sym grown.graph) is) (refused v (λ k e. subst (IsNeeded old.graph v) (same_Some v k (sym is ∙ e)) begun))
+
+-- what was refused itself is the module that the text stands for
+pub target_refused : (old new : RootView) (m text : List ℕ) (fault : SymbolsFault) → new ≡ old → IsRefusal old (text_target old.graph m text) fault → (start : List ℕ) → ((k : List ℕ) → text_target old.graph m text ≡ Some k → IsNeeded old.graph start k) → IsRefused new start fault
+target_refused old new m text fault same refusal start needed = subst (λ root. IsRefused root start fault) (sym same) (record { needed = text_target old.graph m text; is_needed = λ v e. needed v e; refused = refusal })
+
+pub some_left : (n : ℕ) → false ≡ (n == 0) → 0 < n
+some_left zero e = absurd (true≢false (sym e))
+some_left (suc n) e = omega arith
+
+-- ---- the entries of an import type
+
+pub import_answer : (graph : GraphView) (m text : List ℕ) (parts : List (Bor (List ℕ))) (paths : Forest) (entries : List EntryView) → 0 < length parts → ArePathsOf graph (asked_by_way (later_texts parts) (text_part graph m text (first_text parts) (later_texts parts) (text_target graph m text))) (missing_way (text_part graph m text (first_text parts) (later_texts parts) (text_target graph m text))) paths → entries ≡ entries_in paths
+    → IsDepAnswer graph m (import_type text (texts_in parts)) entries × (entries ≡ entries_of graph m (import_type text (texts_in parts)))
+import_answer graph m text parts paths entries some found told =
+    let w = text_part graph m text (first_text parts) (later_texts parts) (text_target graph m text) in
+    let asked = asked_by_way (later_texts parts) w in
+    subst (λ ps. IsDepAnswer graph m (import_type text ps) entries × (entries ≡ entries_of graph m (import_type text ps))) (sym (some_parts parts some))
+    (entries_answer graph asked (missing_way w) paths entries (entries_in (missing_way w)) found told refl, entries_listed graph asked (missing_way w) paths entries (entries_in (missing_way w)) found told refl)
+
+pub module_answer : (graph : GraphView) (m text : List ℕ) (parts : List (Bor (List ℕ))) (entries : List EntryView) → length parts ≡ 0 → entries ≡ other_entries graph m (import_type text [])
+    → IsDepAnswer graph m (import_type text (texts_in parts)) entries × (entries ≡ entries_of graph m (import_type text (texts_in parts)))
+module_answer graph m text parts entries none_left told = subst (λ ps. IsDepAnswer graph m (import_type text ps) entries × (entries ≡ entries_of graph m (import_type text ps))) (sym (no_part_left parts none_left)) (told, told)
+
+-- the module, or one unresolved entry
+pub module_there : (m text : List ℕ) (found : Option (List ℕ)) (v : List ℕ) (entries : List EntryView) → found ≡ Some v → entries ≡ a_module v ∷ [] → entries ≡ module_entry m text found ∷ []
+module_there m text found v entries is told = told ∙ ap (λ f. module_entry m text f ∷ []) (sym is)
+
+pub module_missing : (old new : RootView) (id : ModuleId) (text : List ℕ) (found : Option (List ℕ)) (entries : List EntryView) → HasGrown old new → id.0 < length old.stored → found ≡ None → entries ≡ a_path (leaf (unresolved (record { specifier = specifier_in new id; reason = no_module text; parts = [] }))) ∷ [] → entries ≡ module_entry (specifier_in old id) text found ∷ []
+module_missing old new id text found entries grown within is told =
+    told ∙ ((λ i. a_path (leaf (unresolved (record { specifier = same_specifier grown id within i; reason = no_module text; parts = [] }))) ∷ []) ∙ ap (λ f. module_entry (specifier_in old id) text f ∷ []) (sym is))

@@ -1,0 +1,255 @@
+-- The definitions of a symbol are of modules that are needed on from its own, and star imports stand among declarations.
+use Rattle.std.proofs.Common.{◌≡◌, ℕ, zero, suc, ◌+◌, ◌<◌, Bool, true, false, List, [], ◌∷◌, length, map, Option, None, Some, option_map, option_and_then, refl, sym, ap, subst, ◌∙◌, slice_get, arith}
+use Rattle.std.specs.Prelude.{Contains, slice_index_or, if◌then◌else◌, ◌&&◌}
+use Rattle.std.specs.Str.{bytes_eq}
+use Rattle.std.specs.List.{filter_map, cons_option}
+use Rattle.std.proofs.lemmas.Option.{get_or_from_slice_get, same_Some}
+use Rattle.symbols_syntax.specs.declared.ids.SymbolId.{SymbolId}
+use Rattle.symbols_syntax.specs.declared.tree.arena.SourceRange.{SourceRange}
+use Rattle.symbols_syntax.specs.Graph.{GraphView}
+use Rattle.symbols_syntax.specs.Ids.{IdView}
+use Rattle.symbols_table.specs.DeclViews.{DepView, DeclKind, target, qualified_target, file_ref, definition as defines_node, all_names, one_name, Declaration}
+use Rattle.symbols_exports.specs.Chains.{target as statement_target}
+use Rattle.symbols_exports.specs.Exports.{Entry}
+use Rattle.symbols_exports.specs.OneName.{export_named}
+use Rattle.symbols_exports.specs.StarStatements.{text_target, statements_of}
+use Rattle.symbols_paths.specs.Trees.{NamedSymbol, NamedDecl, Parts, Defined, Missing, no_part, Leaf, definition, unresolved}
+use Rattle.symbols_paths.specs.Leads.{Ways, Lead, defines, leads, alias, StandsAt, symbol_of_id, own_export, export_along, exports_along, to_missing, target_ways, alias_lead, import_ways, ways_into, declarations_of, lead_of, leads_of}
+use Rattle.symbols_paths.specs.PartWays.{PartWay, to, itself, lacks, export_of_symbol, own_part, module_part, text_part, defined_part, part_of, is_class_at, prototype_name, Links, links_of}
+use Rattle.symbols_paths.specs.Derived.{defined_at}
+use Rattle.symbols_paths.specs.Reach.{IsLeaf, given, led, by_alias, IsWalk, no_parts, stays, goes, is_itself, lacking}
+use Rattle.symbols_paths.specs.Needed.{IsNeeded, begun, imported, passed_on, owner, IsStarDeclared}
+
+pub needed_from : {graph : GraphView} {a b c : List ℕ} → IsNeeded graph a b → IsNeeded graph b c → IsNeeded graph a c
+needed_from x begun = x
+needed_from x (imported s decl name text is has kind leads_on) = imported s decl name text (needed_from x is) has kind leads_on
+needed_from x (passed_on specifier position is leads_on) = passed_on specifier position (needed_from x is) leads_on
+needed_from x (owner specifier name entry is named) = owner specifier name entry (needed_from x is) named
+
+-- ---- a declaration that stands there
+
+record IsDeclAt (graph : GraphView) (s : NamedSymbol) (lead : Lead) : Type 0 where
+  decl : Declaration
+  stands : Contains (declarations_of graph s) decl
+  leads_so : lead_of graph s decl.range decl.kind ≡ lead
+
+decl_there : (graph : GraphView) (s : NamedSymbol) (i : ℕ) (lead : Lead) → StandsAt (leads_of graph) s i lead → IsDeclAt graph s lead
+decl_there graph s i lead st = by (declarations_of graph s) i (λ d h. h) st
+  where
+    same : (a b : Lead) → Some a ≡ Some b → a ≡ b
+    same a b e = cc
+
+    by : (decls : List Declaration) (k : ℕ) → ((d : Declaration) → Contains decls d → Contains (declarations_of graph s) d) → slice_get (map (λ (decl : Declaration). lead_of graph s decl.range decl.kind) decls) k ≡ Some lead → IsDeclAt graph s lead
+    by [] k among e = absurd cc
+    by (d ∷ decls) zero among e = record { decl = d; stands = among d (0, omega arith, refl); leads_so = same (lead_of graph s d.range d.kind) lead e }
+    by (d ∷ decls) (suc k) among e = by decls k (λ x h. among x (suc h.0, omega (arith, h.1), h.2)) e
+
+-- ---- a star import
+
+abbrev IsStarKind : DeclKind → Option DepView → Type 0
+IsStarKind kind star = (dep : DepView) → star ≡ Some dep → kind ≡ file_ref dep.name dep.specifier
+
+same_star : (a b : SourceRange) (x y : Option DepView) → defines a x ≡ defines b y → x ≡ y
+same_star a b x y e = cc
+
+same_dep : (x y : DepView) → Some x ≡ Some y → x ≡ y
+same_dep x y e = cc
+
+no_dep : (dep : DepView) → None ≡ Some dep → ⊥
+no_dep dep e = cc
+
+no_definition : (ways : Ways) (range : SourceRange) (star : Option DepView) → leads ways ≡ defines range star → ⊥
+no_definition ways range star e = cc
+
+no_alias_definition : (t : NamedSymbol) (ps : Parts) (range : SourceRange) (star : Option DepView) → alias t ps ≡ defines range star → ⊥
+no_alias_definition t ps range star e = cc
+
+star_kind : (graph : GraphView) (s : NamedSymbol) (r range : SourceRange) (star : Option DepView) (kind : DeclKind) → lead_of graph s r kind ≡ defines range star → IsStarKind kind star
+star_kind graph s r range star (defines_node x) e = λ dep is. absurd (no_dep dep (same_star r range None star e ∙ is))
+star_kind graph s r range star (file_ref all_names text) e = λ dep is.
+    let same : record { name = all_names; specifier = text } ≡ dep = same_dep (record { name = all_names; specifier = text }) dep (same_star r range (Some (record { name = all_names; specifier = text })) star e ∙ is) in
+    ap (λ (d : DepView). file_ref d.name d.specifier) same
+star_kind graph s r range star (file_ref (one_name name) text) e = absurd (no_definition (import_ways graph s name text (text_target graph s.specifier text)) range star e)
+star_kind graph s r range star (target id) e = absurd (no_definition (target_ways s (symbol_of_id graph s.specifier id)) range star e)
+star_kind graph s r range star (qualified_target id parts) e = absurd (by (symbol_of_id graph s.specifier id) e)
+  where
+    by : (t : Option SymbolId) → alias_lead s id parts t ≡ defines range star → ⊥
+    by None q = no_definition _ range star q
+    by (Some t) q = no_alias_definition _ parts range star q
+
+star_declared : (graph : GraphView) (s : NamedSymbol) (i : ℕ) (range : SourceRange) (star : Option DepView) → StandsAt (leads_of graph) s i (defines range star) → IsStarDeclared graph (defined_at s i range star)
+star_declared graph s i range star st dep is =
+    let there = decl_there graph s i (defines range star) st in
+    (there.decl, there.stands, star_kind graph s there.decl.range range star there.decl.kind there.leads_so dep is)
+
+-- ---- where declarations lead
+
+abbrev NeedsAll : GraphView → NamedSymbol → Lead → Type 0
+NeedsAll graph s lead = (ways : Ways) → lead ≡ leads ways → (t : NamedSymbol) → Contains ways.candidates t → IsNeeded graph s.specifier t.specifier
+
+same_ways : (a b : Ways) → leads a ≡ leads b → a ≡ b
+same_ways a b e = cc
+
+led_needs : (graph : GraphView) (s : NamedSymbol) (ways : Ways) → ((t : NamedSymbol) → Contains ways.candidates t → IsNeeded graph s.specifier t.specifier) → NeedsAll graph s (leads ways)
+led_needs graph s ways h other e t has = h t (subst (λ (w : Ways). Contains w.candidates t) (sym (same_ways ways other e)) has)
+
+none_there : (t : NamedSymbol) → Contains [] t → ⊥
+none_there t h = omega (arith, h.1)
+
+only_one : (c t : NamedSymbol) → Contains (c ∷ []) t → c ≡ t
+only_one c t (zero, lt, e) = e
+only_one c t (suc k, lt, e) = absurd (omega (arith, lt))
+
+abbrev entered : Entry → NamedSymbol
+entered entry = record { specifier = entry.owner; number = entry.symbol }
+
+-- an export along `export *` is of a module that is needed
+along_needed : (graph : GraphView) (m name : List ℕ) (c : NamedSymbol) → Contains (exports_along graph m name) c → IsNeeded graph m c.specifier
+along_needed graph m name c has = by (statements_of graph m) (λ k v e. passed_on m k begun e) has
+  where
+    one : (v : List ℕ) → IsNeeded graph m v → (found : Option Entry) → export_named graph v name ≡ found → (rest : List NamedSymbol) → Contains (cons_option (option_map entered found) rest) c → (Contains rest c → IsNeeded graph m c.specifier) → IsNeeded graph m c.specifier
+    one v is None e rest h others = others h
+    one v is (Some entry) e rest (zero, lt, q) others = subst (λ (s : NamedSymbol). IsNeeded graph m s.specifier) q (owner v name entry is e)
+    one v is (Some entry) e rest (suc k, lt, q) others = others (k, omega (arith, lt), q)
+
+    by : (statements : List (Option (List ℕ))) → ((k : ℕ) (v : List ℕ) → slice_index_or statements k None ≡ Some v → IsNeeded graph m v) → Contains (filter_map (export_along graph name) statements) c → IsNeeded graph m c.specifier
+    by [] needs h = absurd (none_there c h)
+    by (None ∷ statements) needs h = by statements (λ k v e. needs (suc k) v e) h
+    by (Some v ∷ statements) needs h = one v (needs 0 v refl) (export_named graph v name) refl (filter_map (export_along graph name) statements) h (λ q. by statements (λ k w e. needs (suc k) w e) q)
+
+module _ (graph : GraphView) (s : NamedSymbol) (decl : Declaration) (stands : Contains (declarations_of graph s) decl) where
+  into_needs : (name text v : List ℕ) → IsNeeded graph s.specifier v → (owned : Option SymbolId) → NeedsAll graph s (leads (ways_into graph s name v owned))
+  into_needs name text v is (Some u) = led_needs graph s (ways_into graph s name v (Some u)) (λ t has. subst (λ (x : NamedSymbol). IsNeeded graph s.specifier x.specifier) (only_one (record { specifier = v; number = u }) t has) is)
+  into_needs name text v is None = led_needs graph s (ways_into graph s name v None) (λ t has. needed_from is (along_needed graph v name t has))
+
+  import_needs : (name text : List ℕ) → decl.kind ≡ file_ref (one_name name) text → (found : Option (List ℕ)) → text_target graph s.specifier text ≡ found → NeedsAll graph s (leads (import_ways graph s name text found))
+  import_needs name text kind None e = led_needs graph s (import_ways graph s name text None) (λ t has. absurd (none_there t has))
+  import_needs name text kind (Some v) e = into_needs name text v (imported s decl (one_name name) text begun stands kind e) (own_export graph v name)
+
+  target_needs : (t : Option SymbolId) → NeedsAll graph s (leads (target_ways s t))
+  target_needs None = led_needs graph s (target_ways s None) (λ t has. absurd (none_there t has))
+  target_needs (Some u) = led_needs graph s (target_ways s (Some u)) (λ t has. subst (λ (x : NamedSymbol). IsNeeded graph s.specifier x.specifier) (only_one (record { specifier = s.specifier; number = u }) t has) begun)
+
+  alias_needs : (id : IdView) (ps : Parts) (t : Option SymbolId) → NeedsAll graph s (alias_lead s id ps t)
+  alias_needs id ps None = led_needs graph s _ (λ t has. absurd (none_there t has))
+  alias_needs id ps (Some u) = λ ways e. absurd (alias_ways_apart (record { specifier = s.specifier; number = u }) ps ways e)
+    where
+      alias_ways_apart : (t : NamedSymbol) (qs : Parts) (w : Ways) → alias t qs ≡ leads w → ⊥
+      alias_ways_apart t qs w q = cc
+
+  lead_needs : (r : SourceRange) (kind : DeclKind) → decl.kind ≡ kind → NeedsAll graph s (lead_of graph s r kind)
+  lead_needs r (defines_node x) e = λ ways q. absurd (no_definition ways r None (sym q))
+  lead_needs r (file_ref all_names text) e = λ ways q. absurd (no_definition ways r (Some (record { name = all_names; specifier = text })) (sym q))
+  lead_needs r (file_ref (one_name name) text) e = import_needs name text e (text_target graph s.specifier text) refl
+  lead_needs r (target id) e = target_needs (symbol_of_id graph s.specifier id)
+  lead_needs r (qualified_target id parts) e = alias_needs id parts (symbol_of_id graph s.specifier id)
+
+leads_needed : (graph : GraphView) (s : NamedSymbol) (i : ℕ) (ways : Ways) (t : NamedSymbol) → StandsAt (leads_of graph) s i (leads ways) → Contains ways.candidates t → IsNeeded graph s.specifier t.specifier
+leads_needed graph s i ways t st has =
+    let there = decl_there graph s i (leads ways) st in
+    lead_needs graph s there.decl there.stands there.decl.range there.decl.kind refl ways there.leads_so t has
+
+-- an alias is of its own module
+alias_same : (graph : GraphView) (s : NamedSymbol) (i : ℕ) (t : NamedSymbol) (ps : Parts) → StandsAt (leads_of graph) s i (alias t ps) → t.specifier ≡ s.specifier
+alias_same graph s i t ps st = let there = decl_there graph s i (alias t ps) st in by there.decl.range there.decl.kind there.leads_so
+  where
+    led : (w : Ways) → leads w ≡ alias t ps → ⊥
+    led w e = cc
+
+    defined : (r : SourceRange) (star : Option DepView) → defines r star ≡ alias t ps → ⊥
+    defined r star e = cc
+
+    same : (a b : NamedSymbol) (qs rs : Parts) → alias a qs ≡ alias b rs → a ≡ b
+    same a b qs rs e = cc
+
+    by_id : (id : IdView) (qs : Parts) (u : Option SymbolId) → alias_lead s id qs u ≡ alias t ps → t.specifier ≡ s.specifier
+    by_id id qs None e = absurd (led _ e)
+    by_id id qs (Some u) e = sym (ap (λ (x : NamedSymbol). x.specifier) (same (record { specifier = s.specifier; number = u }) t qs ps e))
+
+    by : (r : SourceRange) (kind : DeclKind) → lead_of graph s r kind ≡ alias t ps → t.specifier ≡ s.specifier
+    by r (defines_node x) e = absurd (defined r None e)
+    by r (file_ref all_names text) e = absurd (defined r (Some (record { name = all_names; specifier = text })) e)
+    by r (file_ref (one_name name) text) e = absurd (led _ e)
+    by r (target id) e = absurd (led _ e)
+    by r (qualified_target id parts) e = by_id id parts (symbol_of_id graph s.specifier id) e
+
+-- ---- where parts lead
+
+same_to : (a b : NamedSymbol) → to a ≡ to b → a ≡ b
+same_to a b e = cc
+
+lacks_to : (m : Missing) (t : NamedSymbol) → lacks m ≡ to t → ⊥
+lacks_to m t e = cc
+
+itself_to : (t : NamedSymbol) → itself ≡ to t → ⊥
+itself_to t e = cc
+
+module_part_needed : (graph : GraphView) (m p : List ℕ) (ps : Parts) (found : Option Entry) (t : NamedSymbol) → export_named graph m p ≡ found → module_part m p ps found ≡ to t → IsNeeded graph m t.specifier
+module_part_needed graph m p ps None t named e = absurd (lacks_to _ t e)
+module_part_needed graph m p ps (Some entry) t named e = subst (λ (x : NamedSymbol). IsNeeded graph m x.specifier) (same_to (record { specifier = entry.owner; number = entry.symbol }) t e) (owner m p entry begun named)
+
+pub text_part_needed : (graph : GraphView) (m text p : List ℕ) (ps : Parts) (t : NamedSymbol) → text_part graph m text p ps (text_target graph m text) ≡ to t → (v : List ℕ) × (text_target graph m text ≡ Some v) × IsNeeded graph v t.specifier
+text_part_needed graph m text p ps t e = by (text_target graph m text) refl e
+  where
+    by : (found : Option (List ℕ)) → text_target graph m text ≡ found → text_part graph m text p ps found ≡ to t → (v : List ℕ) × (text_target graph m text ≡ Some v) × IsNeeded graph v t.specifier
+    by None is q = absurd (lacks_to _ t q)
+    by (Some v) is q = (v, is, module_part_needed graph v p ps (export_named graph v p) t refl q)
+
+neither : (b : Bool) (m : Missing) (t : NamedSymbol) → (if b then itself else lacks m) ≡ to t → ⊥
+neither true m t q = itself_to t q
+neither false m t q = lacks_to m t q
+
+own_part_needed : (graph : GraphView) (d : NamedDecl) (p : List ℕ) (ps : Parts) (u : Option SymbolId) (t : NamedSymbol) → own_part graph d p ps u ≡ to t → t.specifier ≡ d.symbol.specifier
+own_part_needed graph d p ps (Some u) t e = sym (ap (λ (x : NamedSymbol). x.specifier) (same_to (record { specifier = d.symbol.specifier; number = u }) t e))
+own_part_needed graph d p ps None t e = absurd (neither (bytes_eq prototype_name p && is_class_at graph d) (record { specifier = d.symbol.specifier; reason = no_part p; parts = p ∷ ps }) t e)
+
+pub part_needed : (graph : GraphView) (y : Defined) (p : List ℕ) (ps : Parts) (t : NamedSymbol) → IsStarDeclared graph y → part_of graph y p ps ≡ to t → IsNeeded graph y.decl.symbol.specifier t.specifier
+part_needed graph y p ps t declared e = by y.star refl e
+  where
+    by : (star : Option DepView) → y.star ≡ star → defined_part graph y.decl p ps star ≡ to t → IsNeeded graph y.decl.symbol.specifier t.specifier
+    by None is q = subst (IsNeeded graph y.decl.symbol.specifier) (sym (own_part_needed graph y.decl p ps (export_of_symbol graph y.decl.symbol p) t q)) begun
+    by (Some dep) is q =
+        let d = declared dep is in
+        let h = text_part_needed graph y.decl.symbol.specifier dep.specifier p ps t q in
+        needed_from (imported y.decl.symbol d.0 dep.name dep.specifier begun d.1 d.2 h.1) h.2
+
+-- ---- leaves
+
+pub record IsLeafGiven (graph : GraphView) (start : List ℕ) (y : Defined) : Type 0 where
+  pub needed : IsNeeded graph start y.decl.symbol.specifier
+  pub declared : IsStarDeclared graph y
+
+onward : {graph : GraphView} {a b : List ℕ} {y : Defined} → IsNeeded graph a b → IsLeafGiven graph b y → IsLeafGiven graph a y
+onward x is = record { needed = needed_from x is.needed; declared = is.declared }
+
+not_missing : (m : Missing) (y : Defined) → unresolved m ≡ definition y → ⊥
+not_missing m y e = cc
+
+same_definition : (x y : Defined) → definition x ≡ definition y → x ≡ y
+same_definition x y e = cc
+
+module _ (graph : GraphView) (links : Links) (same : links ≡ links_of graph) where
+  stands_in : (s : NamedSymbol) (i : ℕ) (lead : Lead) → StandsAt links.leads s i lead → StandsAt (leads_of graph) s i lead
+  stands_in s i lead st = subst (λ (l : Links). StandsAt l.leads s i lead) same st
+
+  mutual
+    leaf_of_graph : {s : NamedSymbol} {x : Leaf} → IsLeaf links s x → (y : Defined) → x ≡ definition y → IsLeafGiven graph s.specifier y
+    leaf_of_graph (given {s = s} i (defines range star) st is) y e = subst (IsLeafGiven graph s.specifier) (same_definition (defined_at s i range star) y (sym is ∙ e)) (record { needed = begun; declared = star_declared graph s i range star (stands_in s i (defines range star) st) })
+    leaf_of_graph (given i (leads ways) st is) y e = absurd (not_missing is.0 y (sym is.2 ∙ e))
+    leaf_of_graph (given i (alias t ps) st is) y e = absurd is
+    leaf_of_graph (led i (defines range star) t st to_t h) y e = absurd to_t
+    leaf_of_graph (led {s = s} i (leads ways) t st to_t h) y e = onward (leads_needed graph s i ways t (stands_in s i (leads ways) st) to_t) (leaf_of_graph h y e)
+    leaf_of_graph (led i (alias u ps) t st to_t h) y e = absurd to_t
+    leaf_of_graph (by_alias {s = s} i t ps st h) y e = subst (λ v. IsLeafGiven graph v y) (alias_same graph s i t ps (stands_in s i (alias t ps) st)) (walk_of_graph h y e)
+
+    walk_of_graph : {s : NamedSymbol} {ps : Parts} {x : Leaf} → IsWalk links s ps x → (y : Defined) → x ≡ definition y → IsLeafGiven graph s.specifier y
+    walk_of_graph (no_parts h) y e = leaf_of_graph h y e
+    walk_of_graph (stays m h) y e = absurd (not_missing m y e)
+    walk_of_graph (goes {p = p} {ps = ps} z t h part walk) y e =
+        let at = leaf_of_graph h z refl in
+        onward (needed_from at.needed (part_needed graph z p ps t at.declared (subst (λ (l : Links). l.part z p ps ≡ to t) same part))) (walk_of_graph walk y e)
+    walk_of_graph (is_itself z h part) y e = leaf_of_graph h y e
+    walk_of_graph (lacking z m h part) y e = absurd (not_missing m y e)
+
+pub leaf_given : (graph : GraphView) (s : NamedSymbol) (y : Defined) → IsLeaf (links_of graph) s (definition y) → IsLeafGiven graph s.specifier y
+leaf_given graph s y h = leaf_of_graph graph (links_of graph) refl h y refl

@@ -1,0 +1,46 @@
+use Rattle.std.proofs.Common.{◌≡◌, None, ◌∙◌, sym, ap, subst}
+use Rattle.symbols_exports.specs.Exporting.{specifier_in}
+use Rattle.symbols_exports.specs.OneName.{export_named}
+use Rattle.symbols_paths.specs.Trees.{no_part}
+use Rattle.symbols_paths.specs.PartWays.{lacks, module_part}
+use Rattle.symbols_paths.specs.Views.{first_text, later_texts}
+use Rattle.symbols_paths.proofs.Growing.{same_specifier, still_stored}
+use Rattle.symbols_paths.proofs.PartReading.{first_read}
+use Rattle.symbols_paths.proofs.Walking.{some_parts}
+use Rattle.symbols_paths.proofs.Targets.{grown_answer, grown_fault, refused_export, none_exported}
+use Rattle.symbols_paths.proofs.paths.parts.module_part.Goals as goal
+
+pub returns-in-Err-clause-kept : goal.returns-in-Err-clause-kept
+returns-in-Err-clause-kept c = grown_fault c.in-Err.ensures.faults.1
+
+pub returns-in-Err-clause-refused : goal.returns-in-Err-clause-refused
+returns-in-Err-clause-refused c = refused_export c.args.root.now c.export_of.new.root _ c.args.module_id c.in-Err.fault c.in-Err.ensures.faults.0 c.requires.known c.in-Err.ensures.faults.1
+
+pub returns-in_err-name-in-Ok-None-clause-kept : goal.returns-in_err-name-in-Ok-None-clause-kept
+returns-in_err-name-in-Ok-None-clause-kept c = grown_answer c.in-Ok-None.ensures.answers.1
+
+pub returns-in_err-lacking-in-Ok-None-clause-kept : goal.returns-in_err-lacking-in-Ok-None-clause-kept
+returns-in_err-lacking-in-Ok-None-clause-kept c = grown_answer c.in-Ok-None.ensures.answers.1
+
+pub returns-in_ok-lacking-in-Ok-None-clause-kept : goal.returns-in_ok-lacking-in-Ok-None-clause-kept
+returns-in_ok-lacking-in-Ok-None-clause-kept c = grown_answer c.in-Ok-None.ensures.answers.1
+
+pub returns-in_ok-lacking-in-Ok-None-clause-told : goal.returns-in_ok-lacking-in-Ok-None-clause-told
+returns-in_ok-lacking-in-Ok-None-clause-told c =
+    let old = c.args.root.now in
+    let new = c.export_of.new.root in
+    let grown = grown_answer c.in-Ok-None.ensures.answers.1 in
+    let parts = c.args.parts.now in
+    let v = specifier_in old c.args.module_id in
+    let first = first_read parts _ c.requires.some in
+    let none_there = none_exported old new c.args.module_id _ c.in-Ok-None.ensures.answers.0 (rw c.in-Ok-None.field-0-is at c.in-Ok-None.ensures.answers.1) in
+    let none_first : export_named old.graph v (first_text parts) ≡ None = subst (λ name. export_named old.graph v name ≡ None) first none_there in
+    c.in_ok-lacking-in-Ok-None.ensures.told new
+    ∙ ((λ i. lacks (record { specifier = same_specifier grown c.args.module_id c.requires.known i; reason = no_part ((c.in_ok-name-in-Ok-None.ensures.ok ∙ first) i); parts = some_parts parts c.requires.some i }))
+    ∙ sym (ap (module_part v (first_text parts) (later_texts parts)) none_first))
+
+pub returns-in_ok-lacking-in-Ok-None-clause-stored : goal.returns-in_ok-lacking-in-Ok-None-clause-stored
+returns-in_ok-lacking-in-Ok-None-clause-stored c = c.in_ok-lacking-in-Ok-None.ensures.stored c.export_of.new.root (still_stored (grown_answer c.in-Ok-None.ensures.answers.1) c.args.module_id.0 c.requires.known)
+
+pub returns-in-Ok-Some-clause-kept : goal.returns-in-Ok-Some-clause-kept
+returns-in-Ok-Some-clause-kept c = grown_answer c.in-Ok-Some.ensures.answers.1

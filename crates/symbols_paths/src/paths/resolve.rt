@@ -1,0 +1,243 @@
+//! What a reference to a symbol stands for.
+
+ghost use Rattle.std.specs.Prelude.{◌≡◌, ◌<◌, ℕ, List, [], ◌∷◌, length, map, Some, string_bytes, IfOk, IfErr};
+ghost use Rattle.std.specs.List.{IsDistinct};
+ghost use Rattle.std.specs.Str.{bytes_eq};
+ghost use Rattle.symbols_syntax.specs.Ids.{id_view};
+ghost use Rattle.symbols_nodes.specs.References.{qualified_id, import_type, reference_view};
+ghost use Rattle.symbols_table.specs.declared.info.fault.SymbolsFault.TheVariants.{OutOfMemory};
+ghost use Rattle.symbols_root.specs.Roots.{RootView, widest};
+ghost use Rattle.symbols_exports.specs.Exporting.{specifier_in};
+ghost use Rattle.symbols_exports.specs.StarStatements.{text_target};
+ghost use Rattle.symbols_paths.specs.PartWays.{text_part};
+ghost use Rattle.symbols_paths.specs.Computed.{paths_under};
+ghost use Rattle.symbols_paths.specs.Views.{named, texts_in, first_text, later_texts, forest_told};
+ghost use Rattle.symbols_paths.specs.Growing.{HasGrown};
+ghost use Rattle.symbols_paths.specs.Needed.{IsNeeded, IsRefused};
+ghost use Rattle.symbols_paths.specs.Answers.{ArePathsUnder};
+ghost use Rattle.symbols_paths.specs.DepAnswers.{entry_told, entries_in, asked_by_id, asked_by_way, missing_id, missing_way, other_entries, entries_of, ArePathsOf, IsDepAnswer, IsDepFault};
+
+use crate::paths::leads::symbol_of_id;
+use crate::paths::link::{copied_id, copied_parts, one_unresolved, unresolved};
+use crate::paths::node::DefinitionPathNode;
+use crate::paths::parts::{PartWay, text_part};
+use crate::paths::search::walk;
+use crate::paths::targets::text_target;
+use crate::paths::unresolved::DefinitionUnresolvedKind;
+use indexmap::IndexSet;
+use std::alloc::{AllocError, Global};
+use symbols_nodes::deps::SymbolNodeDep;
+use symbols_root::root::RootSymbol;
+use symbols_table::info::SymbolsFault;
+use symbols_tree::ids::{ModuleId, UniqueSymbolId};
+use symbols_tree::tree::Id;
+
+/// What a reference to a symbol stands for, one entry of several: a path; or, for an import type
+/// without parts, as `typeof import("./a.ts")`, the module (as deno_graph).
+#[derive(Drop)]
+pub enum ResolvedSymbolDepEntry<'a> {
+    Path(DefinitionPathNode<'a>),
+    ImportType(ModuleId),
+}
+
+/// The paths of a symbol of a stored module under parts, by a search of its own.
+fn paths_under<'a>(
+    root: &mut RootSymbol<'a>,
+    symbol: UniqueSymbolId,
+    parts: &[&str],
+) -> Result<Vec<DefinitionPathNode<'a>>, SymbolsFault>
+    requires known { symbol.module_id.0 < length root.old.stored }
+    requires once { IsDistinct bytes_eq root.old.stored }
+    ensures kept { HasGrown root.old root.new }
+    ensures found { IfOk result (λ paths. ArePathsUnder root.old.graph (named root.old symbol) (texts_in parts.now) (forest_told root.new paths.items)) }
+    ensures listed { IfOk result (λ paths. forest_told root.new paths.items ≡ paths_under root.old.graph (named root.old symbol) (texts_in parts.now)) }
+    ensures refused { IfErr result (IsRefused root.new (specifier_in root.old symbol.module_id)) }
+    ensures enough { root.old.limits ≡ widest → IfErr result (λ fault. fault ≡ OutOfMemory) }
+{
+    let mut resolving = IndexSet::new(root.alloc());
+    let mut met = IndexSet::new(root.alloc());
+    walk(root, &mut resolving, &mut met, symbol, parts)
+}
+
+/// Texts, lent.
+fn lent<'p>(alloc: Global, parts: &'p [String]) -> Result<Vec<&'p str>, AllocError>
+    ensures { IfOk result (λ texts. texts_in texts.items ≡ map string_bytes parts.now) }
+{
+    let mut texts = Vec::new(alloc);
+    for part in parts {
+        texts.push(part.as_str())?;
+    }
+    Ok(texts)
+}
+
+/// The paths of what a name of a stored module stands for, under parts; one unresolved entry where it
+/// stands for no symbol.
+fn paths_of_id<'a>(
+    root: &mut RootSymbol<'a>,
+    module_id: ModuleId,
+    id: &Id,
+    parts: &[&str],
+) -> Result<Vec<DefinitionPathNode<'a>>, SymbolsFault>
+    requires known { module_id.0 < length root.old.stored }
+    requires once { IsDistinct bytes_eq root.old.stored }
+    ensures kept { HasGrown root.old root.new }
+    ensures found { IfOk result (λ paths. ArePathsOf root.old.graph (asked_by_id root.old.graph (specifier_in root.old module_id) (id_view id.now) (texts_in parts.now)) (missing_id (specifier_in root.old module_id) (id_view id.now) (texts_in parts.now)) (forest_told root.new paths.items)) }
+    ensures refused { IfErr result (IsRefused root.new (specifier_in root.old module_id)) }
+    ensures enough { root.old.limits ≡ widest → IfErr result (λ fault. fault ≡ OutOfMemory) }
+{
+    match symbol_of_id(root, module_id, id) {
+        Some(symbol_id) => paths_under(root, UniqueSymbolId::new(module_id, symbol_id), parts),
+        None => {
+            let kind = DefinitionUnresolvedKind::Id(copied_id(root.alloc(), id)?);
+            let parts = copied_parts(root.alloc(), parts)?;
+            Ok(unresolved(root.alloc(), module_id, kind, parts)?)
+        }
+    }
+}
+
+/// The paths of what the first of some parts of a module leads to, under the others.
+fn paths_of_import<'a>(
+    root: &mut RootSymbol<'a>,
+    module_id: ModuleId,
+    text: &str,
+    parts: &[&str],
+) -> Result<Vec<DefinitionPathNode<'a>>, SymbolsFault>
+    requires known { module_id.0 < length root.old.stored }
+    requires some { 0 < length parts.now }
+    requires once { IsDistinct bytes_eq root.old.stored }
+    ensures kept { HasGrown root.old root.new }
+    ensures found { IfOk result (λ paths. ArePathsOf root.old.graph (asked_by_way (later_texts parts.now) (text_part root.old.graph (specifier_in root.old module_id) text.now (first_text parts.now) (later_texts parts.now) (text_target root.old.graph (specifier_in root.old module_id) text.now))) (missing_way (text_part root.old.graph (specifier_in root.old module_id) text.now (first_text parts.now) (later_texts parts.now) (text_target root.old.graph (specifier_in root.old module_id) text.now))) (forest_told root.new paths.items)) }
+    ensures refused { IfErr result (λ fault. (start : List ℕ) → ((k : List ℕ) → text_target root.old.graph (specifier_in root.old module_id) text.now ≡ Some k → IsNeeded root.old.graph start k) → IsRefused root.new start fault) }
+    ensures enough { root.old.limits ≡ widest → IfErr result (λ fault. fault ≡ OutOfMemory) }
+{
+    match text_part(root, module_id, text, parts) {
+        Err(fault) => Err(fault),
+        Ok(PartWay::To(target)) => paths_under(root, target, &parts[1..]),
+        Ok(PartWay::Lacks(missing)) => Ok(one_unresolved(root.alloc(), missing)?),
+        Ok(PartWay::Itself) => Ok(Vec::new(root.alloc())),
+    }
+}
+
+/// The module that a text of a stored module stands for, or one unresolved entry.
+fn module_of_import<'a>(
+    root: &mut RootSymbol<'a>,
+    module_id: ModuleId,
+    text: &str,
+) -> Result<Vec<ResolvedSymbolDepEntry<'a>>, SymbolsFault>
+    requires known { module_id.0 < length root.old.stored }
+    ensures kept { HasGrown root.old root.new }
+    ensures found { IfOk result (λ entries. map (entry_told root.new) entries.items ≡ other_entries root.old.graph (specifier_in root.old module_id) (import_type text.now [])) }
+    ensures refused { IfErr result (λ fault. (start : List ℕ) → ((k : List ℕ) → text_target root.old.graph (specifier_in root.old module_id) text.now ≡ Some k → IsNeeded root.old.graph start k) → IsRefused root.new start fault) }
+    ensures enough { root.old.limits ≡ widest → IfErr result (λ fault. fault ≡ OutOfMemory) }
+{
+    match text_target(root, module_id, text) {
+        Err(fault) => Err(fault),
+        Ok(None) => {
+            let text = String::from_str(root.alloc(), text)?;
+            let kind = DefinitionUnresolvedKind::Specifier(text);
+            let parts = Vec::new(root.alloc());
+            let paths = unresolved(root.alloc(), module_id, kind, parts)?;
+            Ok(entries_of(root.alloc(), paths)?)
+        }
+        Ok(Some(target)) => {
+            let mut entries = Vec::new(root.alloc());
+            entries.push(ResolvedSymbolDepEntry::ImportType(target))?;
+            Ok(entries)
+        }
+    }
+}
+
+/// Each path as an entry.
+fn entries_of<'a>(
+    alloc: Global,
+    paths: Vec<DefinitionPathNode<'a>>,
+) -> Result<Vec<ResolvedSymbolDepEntry<'a>>, AllocError>
+    ensures { IfOk result (λ entries. (root : RootView) → map (entry_told root) entries.items ≡ entries_in (forest_told root paths.entry.items)) }
+{
+    let mut entries = Vec::new(alloc);
+    for path in paths {
+        entries.push(ResolvedSymbolDepEntry::Path(path))?;
+    }
+    Ok(entries)
+}
+
+/// What a name of a stored module stands for, with the parts behind it.
+fn entries_of_id<'a>(
+    root: &mut RootSymbol<'a>,
+    module_id: ModuleId,
+    id: &Id,
+    parts: &[&str],
+) -> Result<Vec<ResolvedSymbolDepEntry<'a>>, SymbolsFault>
+    requires known { module_id.0 < length root.old.stored }
+    requires once { IsDistinct bytes_eq root.old.stored }
+    ensures kept { HasGrown root.old root.new }
+    ensures answers { IfOk result (λ entries. IsDepAnswer root.old.graph (specifier_in root.old module_id) (qualified_id (id_view id.now) (texts_in parts.now)) (map (entry_told root.new) entries.items)) }
+    ensures listed { IfOk result (λ entries. map (entry_told root.new) entries.items ≡ entries_of root.old.graph (specifier_in root.old module_id) (qualified_id (id_view id.now) (texts_in parts.now))) }
+    ensures refused { IfErr result (IsRefused root.new (specifier_in root.old module_id)) }
+    ensures enough { root.old.limits ≡ widest → IfErr result (λ fault. fault ≡ OutOfMemory) }
+{
+    match paths_of_id(root, module_id, id, parts) {
+        Err(fault) => Err(fault),
+        Ok(paths) => Ok(entries_of(root.alloc(), paths)?),
+    }
+}
+
+/// What an import type in a stored module stands for, by its text and the parts behind it.
+fn entries_of_import<'a>(
+    root: &mut RootSymbol<'a>,
+    module_id: ModuleId,
+    text: &str,
+    parts: &[&str],
+) -> Result<Vec<ResolvedSymbolDepEntry<'a>>, SymbolsFault>
+    requires known { module_id.0 < length root.old.stored }
+    requires once { IsDistinct bytes_eq root.old.stored }
+    ensures kept { HasGrown root.old root.new }
+    ensures answers { IfOk result (λ entries. IsDepAnswer root.old.graph (specifier_in root.old module_id) (import_type text.now (texts_in parts.now)) (map (entry_told root.new) entries.items)) }
+    ensures listed { IfOk result (λ entries. map (entry_told root.new) entries.items ≡ entries_of root.old.graph (specifier_in root.old module_id) (import_type text.now (texts_in parts.now))) }
+    ensures refused { IfErr result (λ fault. (start : List ℕ) → ((k : List ℕ) → text_target root.old.graph (specifier_in root.old module_id) text.now ≡ Some k → IsNeeded root.old.graph start k) → IsRefused root.new start fault) }
+    ensures enough { root.old.limits ≡ widest → IfErr result (λ fault. fault ≡ OutOfMemory) }
+{
+    if parts.is_empty() {
+        return module_of_import(root, module_id, text);
+    }
+    match paths_of_import(root, module_id, text, parts) {
+        Err(fault) => Err(fault),
+        Ok(paths) => Ok(entries_of(root.alloc(), paths)?),
+    }
+}
+
+/// What a reference in a stored module stands for (as deno_graph): a name, the paths of its symbol; a
+/// name with parts behind it, its paths under the parts; an import type, the module itself or, with
+/// parts, the paths of what the first leads to under the others. One unresolved entry where the name
+/// stands for no symbol, the text for no module, or the module has no such part.
+///
+/// # Errors
+///
+/// `UnknownModule` where the id names no stored module; else what storing a module on the way refuses.
+/// What was stored stays.
+pub fn resolve_symbol_dep<'a>(
+    root: &mut RootSymbol<'a>,
+    module_id: ModuleId,
+    dep: &SymbolNodeDep,
+) -> Result<Vec<ResolvedSymbolDepEntry<'a>>, SymbolsFault>
+    ensures answers { IfOk result (λ entries. (module_id.0 < length root.old.stored) × IsDepAnswer root.old.graph (specifier_in root.old module_id) (reference_view dep.now) (map (entry_told root.new) entries.items)) }
+    ensures listed { IfOk result (λ entries. map (entry_told root.new) entries.items ≡ entries_of root.old.graph (specifier_in root.old module_id) (reference_view dep.now)) }
+    ensures faults { IfErr result (IsDepFault root.old root.new module_id (reference_view dep.now)) }
+    ensures kept { HasGrown root.old root.new }
+    ensures enough { root.old.limits ≡ widest → module_id.0 < length root.old.stored → IfErr result (λ fault. fault ≡ OutOfMemory) }
+{
+    if root.module_from_id(module_id).is_none() {
+        return Err(SymbolsFault::UnknownModule);
+    }
+    match dep {
+        SymbolNodeDep::Id(id) => entries_of_id(root, module_id, id, &[]),
+        SymbolNodeDep::QualifiedId(id, parts) => {
+            let parts = lent(root.alloc(), parts)?;
+            entries_of_id(root, module_id, id, &parts)
+        }
+        SymbolNodeDep::ImportType(text, parts) => {
+            let parts = lent(root.alloc(), parts)?;
+            entries_of_import(root, module_id, text.as_str(), &parts)
+        }
+    }
+}

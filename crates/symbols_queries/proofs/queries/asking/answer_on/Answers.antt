@@ -1,0 +1,29 @@
+use Rattle.std.proofs.Common.{Result, Ok, Err, IfErr}
+use Rattle.symbols_table.specs.declared.info.fault.SymbolsFault.{SymbolsFault}
+use Rattle.symbols_exports.specs.Exporting.{specifier_in}
+use Rattle.symbols_paths.proofs.Growing.{grown_not}
+use Rattle.symbols_queries.specs.Queries.{asks_name, asks_deps}
+use Rattle.symbols_queries.proofs.Asking.{no_refusal}
+use Rattle.symbols_queries.proofs.queries.asking.answer_on.Goals as goal
+
+on_fault : {A : Type 0} {P Q : SymbolsFault → Type 0} (r : Result A SymbolsFault) → IfErr r P → ((e : SymbolsFault) → P e → Q e) → IfErr r Q
+on_fault (Ok x) h f = tt
+on_fault (Err e) h f = f e h
+
+pub returns-in-Module-clause-kept : goal.returns-in-Module-clause-kept
+returns-in-Module-clause-kept c = grown_not c.args.root.now
+
+pub returns-in-Symbol-clause-kept : goal.returns-in-Symbol-clause-kept
+returns-in-Symbol-clause-kept c = grown_not c.args.root.now
+
+pub returns-in-Name-clause-kept : goal.returns-in-Name-clause-kept
+returns-in-Name-clause-kept c = grown_not c.args.root.now
+
+pub returns-in-Deps-clause-kept : goal.returns-in-Deps-clause-kept
+returns-in-Deps-clause-kept c = grown_not c.args.root.now
+
+pub returns-in-Name-clause-enough : goal.returns-in-Name-clause-enough
+returns-in-Name-clause-enough c = λ wide. on_fault c.name_answer.result c.name_answer.ensures.faults (λ f is. no_refusal c.args.root.now (specifier_in c.args.root.now c.args.module_id) (asks_name c.in-Name.symbol) f (λ v w. w) is)
+
+pub returns-in-Deps-clause-enough : goal.returns-in-Deps-clause-enough
+returns-in-Deps-clause-enough c = λ wide. on_fault c.deps_answer.result c.deps_answer.ensures.faults (λ f is. no_refusal c.args.root.now (specifier_in c.args.root.now c.args.module_id) (asks_deps c.in-Deps.symbol c.in-Deps.mode) f (λ v w. w) is)

@@ -1,0 +1,25 @@
+use Rattle.std.proofs.Common.{ℕ, List, map, refl, ap, ◌∙◌}
+use Rattle.symbols_syntax.specs.Graph.{GraphView}
+use Rattle.symbols_exports.specs.Exporting.{specifier_in}
+use Rattle.symbols_paths.specs.Trees.{leaves_in, definitions_in}
+use Rattle.symbols_queries.specs.Queries.{asks_definitions}
+use Rattle.symbols_queries.specs.AnswerViews.{AnswerView, tells_definitions, defined_view}
+use Rattle.symbols_queries.specs.QueryAnswers.{paths_from}
+use Rattle.symbols_queries.proofs.Asking.{memory_refused, found_told, refused_told, paths_enough}
+use Rattle.symbols_queries.proofs.queries.asking.definitions_answer.Goals as goal
+
+pub returns-in-Err-clause-faults : goal.returns-in-Err-clause-faults
+returns-in-Err-clause-faults c =
+    let s = c.args.symbol in
+    refused_told (asks_definitions s) s (λ (graph : GraphView) (specifier : List ℕ). tells_definitions (definitions_in (leaves_in (paths_from graph specifier s)))) (λ graph specifier. refl) (λ graph specifier v is. is) c.args.root.now c.go_to_definitions.new.root c.args.module_id c.in-Err.fault c.requires c.in-Err.ensures.faults
+
+pub returns-in-Err-clause-enough : goal.returns-in-Err-clause-enough
+returns-in-Err-clause-enough c = λ wide. paths_enough c.args.root.now c.go_to_definitions.new.root c.args.module_id c.args.symbol c.in-Err.fault c.requires c.in-Err.ensures.faults (c.in-Err.ensures.enough wide c.requires)
+
+pub returns-in_err-named-in-Ok-clause-faults : goal.returns-in_err-named-in-Ok-clause-faults
+returns-in_err-named-in-Ok-clause-faults c = memory_refused c.from_residual.result c.go_to_definitions.new.root (specifier_in c.args.root.now c.args.module_id) (asks_definitions c.args.symbol) c.from_residual.ensures.1
+
+pub returns-in_ok-named-in-Ok-clause-answers : goal.returns-in_ok-named-in-Ok-clause-answers
+returns-in_ok-named-in-Ok-clause-answers c =
+    let s = c.args.symbol in
+    found_told (asks_definitions s) s (λ (graph : GraphView) (specifier : List ℕ). tells_definitions (definitions_in (leaves_in (paths_from graph specifier s)))) (λ graph specifier. refl) (λ graph specifier v is. is) c.args.root.now c.args.module_id (tells_definitions (map defined_view c.in_ok-named-in-Ok.named.items)) c.in-Ok.ensures.known.1 (ap tells_definitions (c.in_ok-named-in-Ok.ensures ∙ c.in-Ok.ensures.listed))

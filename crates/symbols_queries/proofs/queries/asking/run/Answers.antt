@@ -1,0 +1,28 @@
+use Rattle.std.proofs.Common.{◌∙◌, arith}
+use Rattle.symbols_paths.proofs.Growing.{grown_on}
+use Rattle.symbols_queries.proofs.Asking.{answered_first, answered_on, answered_last, run_refused, run_out_of_memory}
+use Rattle.symbols_queries.proofs.queries.asking.run.Goals as goal
+
+pub loop-query-init : goal.loop-query-init
+loop-query-init c = answered_first c.args.root.now c.new-answers.result.items c.args.queries.now c.new-answers.ensures.items
+
+pub loop-query-preserved : goal.loop-query-preserved
+loop-query-preserved c = answered_on c.args.root.now c.loop-query.root c.answer.new.root c.loop-query.answers.items c.push.new.self.items c.in-Ok.given c.args.queries.now c.loop-query.query-index c.query-item.result c.loop-query.invariant (omega (arith, c.loop-query-test.true)) c.query-item.is c.in-Ok.ensures.kept c.in-Ok.ensures.answers c.in_ok-push-in-Ok.ensures.items
+
+pub returns-in-Err-clause-kept : goal.returns-in-Err-clause-kept
+returns-in-Err-clause-kept c = grown_on c.loop-query.invariant.grown c.in-Err.ensures.kept
+
+pub returns-in-Err-clause-faults : goal.returns-in-Err-clause-faults
+returns-in-Err-clause-faults c = run_refused c.args.root.now c.loop-query.root c.answer.new.root c.loop-query.answers.items c.args.queries.now c.loop-query.query-index c.query-item.result c.in-Err.fault c.loop-query.invariant (omega (arith, c.loop-query-test.true)) c.query-item.is c.in-Err.ensures.kept c.in-Err.ensures.faults
+
+pub returns-in-Err-clause-enough : goal.returns-in-Err-clause-enough
+returns-in-Err-clause-enough c = λ wide. c.in-Err.ensures.enough (c.loop-query.invariant.grown.limits ∙ wide)
+
+pub returns-in_err-push-in-Ok-clause-faults : goal.returns-in_err-push-in-Ok-clause-faults
+returns-in_err-push-in-Ok-clause-faults c = run_out_of_memory c.from_residual.result c.args.root.now c.loop-query.root c.answer.new.root c.loop-query.answers.items c.args.queries.now c.loop-query.query-index c.query-item.result c.loop-query.invariant (omega (arith, c.loop-query-test.true)) c.query-item.is c.in-Ok.ensures.kept c.from_residual.ensures.1
+
+pub returns-clause-kept : goal.returns-clause-kept
+returns-clause-kept c = c.loop-query.invariant.grown
+
+pub returns-clause-answers : goal.returns-clause-answers
+returns-clause-answers c = answered_last c.args.root.now c.loop-query.root c.loop-query.answers.items c.args.queries.now c.loop-query.query-index c.loop-query.invariant (omega (arith, c.loop-query-test.false))

@@ -1,0 +1,101 @@
+-- What an answer says.
+use Rattle.std.specs.Prelude.{ℕ, List, map, Option, Vec, string_bytes}
+use Rattle.std.specs.Option.{option_map}
+use Rattle.std.specs.Global.{Global}
+use Rattle.symbols_syntax.specs.declared.ids.SymbolId.{SymbolId}
+use Rattle.symbols_nodes.specs.declared.deps.dep.ReferenceNamespace.{ReferenceNamespace}
+use Rattle.symbols_nodes.specs.declared.deps.dep.SymbolNodeDep.{SymbolNodeDep}
+use Rattle.symbols_nodes.specs.References.{Dependency, dependency_view}
+use Rattle.symbols_exports.specs.Told.{ToldExport, ToldStatement}
+use Rattle.symbols_paths.specs.declared.paths.definition.DeclRef.{DeclRef}
+use Rattle.symbols_paths.specs.Trees.{NamedDecl, Defined, Missing, Leaf, definition, unresolved, Tree, Forest, leaf, link}
+use Rattle.symbols_paths.specs.Views.{star_of, reason_told, texts_of, forest_in}
+use Rattle.symbols_paths.specs.DepAnswers.{EntryView, a_path, a_module}
+use Rattle.symbols_queries.specs.declared.queries.answers.Answer.{Answer}
+use Rattle.symbols_queries.specs.declared.queries.exports.NamedExport.{NamedExport}
+use Rattle.symbols_queries.specs.declared.queries.exports.NamedStatement.{NamedStatement}
+use Rattle.symbols_queries.specs.declared.queries.paths.NamedDefinition.{NamedDefinition}
+use Rattle.symbols_queries.specs.declared.queries.paths.NamedEnd.{NamedEnd}
+use Rattle.symbols_queries.specs.declared.queries.paths.NamedEntry.{NamedEntry}
+use Rattle.symbols_queries.specs.declared.queries.paths.NamedLink.{NamedLink, NamedLink-F}
+use Rattle.symbols_queries.specs.declared.queries.paths.NamedPath.{NamedPath}
+use Rattle.symbols_queries.specs.declared.queries.paths.NamedPath.TheFolds.{fold-NamedPath, fold-NamedLink}
+use Rattle.symbols_queries.specs.declared.queries.paths.NamedPath.TheOpen as open_path
+use Rattle.symbols_queries.specs.declared.queries.paths.NamedUnresolved.{NamedUnresolved}
+
+-- nothing, where the specifier stands for no module; which module it stands for; what is exported, and the statements `export *` that lead to no module; which symbol a name stands for, if any; what a symbol is called in full, if it has a name; what each declaration of a symbol depends on; the paths to what a symbol is defined by; the definitions at their ends; all their ends; and what a reference stands for
+pub data AnswerView : Type 0 where
+  tells_nothing : AnswerView
+  tells_module : List ℕ → AnswerView
+  tells_exports : List ToldExport → List ToldStatement → AnswerView
+  tells_symbol : Option SymbolId → AnswerView
+  tells_name : Option (List ℕ) → AnswerView
+  tells_deps : List (List Dependency) → AnswerView
+  tells_paths : Forest → AnswerView
+  tells_definitions : List Defined → AnswerView
+  tells_leaves : List Leaf → AnswerView
+  tells_entries : List EntryView → AnswerView
+
+-- ---- exports
+
+abbrev pub statement_view : NamedStatement → ToldStatement
+statement_view statement = (statement.referrer.now, statement.specifier.now)
+
+abbrev pub export_view : NamedExport → ToldExport
+export_view named = record { name = string_bytes named.name; statements = map statement_view named.chain.items; owner = named.«module».now; symbol = named.symbol }
+
+-- ---- dependencies
+
+abbrev pub deps_view : Vec (SymbolNodeDep × ReferenceNamespace) Global → List Dependency
+deps_view deps = map dependency_view deps.items
+
+-- ---- paths
+
+abbrev pub decl_named : List ℕ → DeclRef → NamedDecl
+decl_named specifier decl = record { symbol = record { specifier = specifier; number = decl.symbol }; index = decl.index }
+
+abbrev pub defined_view : NamedDefinition → Defined
+defined_view x = record { decl = decl_named x.«module».now x.decl; range = x.range; star = star_of x.kind }
+
+abbrev pub missing_view : NamedUnresolved → Missing
+missing_view x = record { specifier = x.«module».now; reason = reason_told x.kind; parts = texts_of x.parts.items }
+
+-- a path, with the trees of what it goes on to in their places
+abbrev pub path_step : open_path.NamedPath-F Tree Tree → Tree
+path_step (open_path.Link t) = t
+path_step (open_path.Definition x) = leaf (definition (defined_view x))
+path_step (open_path.Unresolved x) = leaf (unresolved (missing_view x))
+
+abbrev pub link_step : NamedLink-F Tree Tree → Tree
+link_step x = link (record { symbol = record { specifier = x.«module».now; number = x.symbol }; decl = decl_named x.«module».now x.decl; parts = texts_of x.parts.items }) (forest_in x.next.items)
+
+abbrev pub tree_view : NamedPath → Tree
+tree_view = fold-NamedPath Tree Tree path_step link_step
+
+abbrev pub link_view : NamedLink → Tree
+link_view = fold-NamedLink Tree Tree path_step link_step
+
+abbrev pub forest_view : List NamedPath → Forest
+forest_view paths = forest_in (map tree_view paths)
+
+abbrev pub end_view : NamedEnd → Leaf
+end_view (NamedEnd.Definition x) = definition (defined_view x)
+end_view (NamedEnd.Unresolved x) = unresolved (missing_view x)
+
+abbrev pub entry_view : NamedEntry → EntryView
+entry_view (NamedEntry.Path path) = a_path (tree_view path)
+entry_view (NamedEntry.ImportType specifier) = a_module specifier.now
+
+-- ---- answers
+
+abbrev pub answer_view : Answer → AnswerView
+answer_view Answer.NoModule = tells_nothing
+answer_view (Answer.Module specifier) = tells_module specifier.now
+answer_view (Answer.Exports named) = tells_exports (map export_view named.exports.items) (map statement_view named.unresolved.items)
+answer_view (Answer.Symbol symbol) = tells_symbol symbol
+answer_view (Answer.Name name) = tells_name (option_map string_bytes name)
+answer_view (Answer.Deps deps) = tells_deps (map deps_view deps.items)
+answer_view (Answer.Paths paths) = tells_paths (forest_view paths.items)
+answer_view (Answer.Definitions definitions) = tells_definitions (map defined_view definitions.items)
+answer_view (Answer.Leaves leaves) = tells_leaves (map end_view leaves.items)
+answer_view (Answer.Resolve entries) = tells_entries (map entry_view entries.items)

@@ -1,0 +1,4 @@
+pub mod Queries
+pub mod AnswerViews
+pub mod QueryAnswers
+pub mod QueryFaults

@@ -1,0 +1,242 @@
+//! The answers to queries.
+
+ghost use Rattle.std.specs.Prelude.{◌≡◌, ◌<◌, ◌⊎◌, length, map, Some, IfOk, IfErr};
+ghost use Rattle.symbols_syntax.specs.Ids.{id_view};
+ghost use Rattle.symbols_nodes.specs.References.{reference_view};
+ghost use Rattle.symbols_table.specs.declared.info.fault.SymbolsFault.TheVariants.{OutOfMemory, UnknownSymbol};
+ghost use Rattle.symbols_table.specs.Changes.{mapped_after};
+ghost use Rattle.symbols_root.specs.Roots.{widest};
+ghost use Rattle.symbols_exports.specs.Exporting.{specifier_in};
+ghost use Rattle.symbols_exports.specs.StarStatements.{changes_under};
+ghost use Rattle.symbols_paths.specs.Growing.{HasGrown};
+ghost use Rattle.symbols_queries.specs.Queries.{asks_exports, asks_name, asks_deps, asks_paths, asks_definitions, asks_leaves, asks_entries, query_view};
+ghost use Rattle.symbols_queries.specs.AnswerViews.{answer_view};
+ghost use Rattle.symbols_queries.specs.QueryAnswers.{module_answer, query_answer};
+ghost use Rattle.symbols_queries.specs.QueryFaults.{IsQuestionFault, IsQueryFault, IsRunFault};
+
+use crate::queries::answers::Answer;
+use crate::queries::deps::symbol_deps;
+use crate::queries::exports::{named_exports, specifier_of};
+use crate::queries::paths::{named_definitions, named_ends, named_entries, named_paths};
+use crate::queries::query::Query;
+use symbols_exports::exports::exports;
+use symbols_nodes::deps::{ResolveDepsMode, SymbolNodeDep};
+use symbols_paths::paths::{
+    find_definition_paths, go_to_definitions, go_to_definitions_or_unresolveds, resolve_symbol_dep,
+};
+use symbols_root::root::RootSymbol;
+use symbols_table::info::{ModuleInfoRef, SymbolsFault};
+use symbols_tree::ids::{ModuleId, SymbolId};
+use symbols_tree::tree::Id;
+
+/// What a stored module exports.
+fn exports_answer<'a>(
+    root: &mut RootSymbol<'a>,
+    module_id: ModuleId,
+) -> Result<Answer<'a>, SymbolsFault>
+    requires { module_id.0 < length root.old.stored }
+    ensures kept { HasGrown root.old root.new }
+    ensures answers { IfOk result (λ answer. module_answer root.old.graph (specifier_in root.old module_id) asks_exports ≡ Some (answer_view answer)) }
+    ensures faults { IfErr result (IsQuestionFault root.new (specifier_in root.old module_id) asks_exports) }
+    ensures enough { root.old.limits ≡ widest → IfErr result (λ fault. fault ≡ OutOfMemory) }
+{
+    match exports(root, module_id) {
+        Err(fault) => Err(fault),
+        Ok(found) => Ok(Answer::Exports(named_exports(root.alloc(), root, found)?)),
+    }
+}
+
+/// The symbol that a name of a stored module stands for.
+fn mapped_symbol(root: &RootSymbol<'_>, module_id: ModuleId, id: &Id) -> Option<SymbolId>
+    requires { module_id.0 < length root.now.stored }
+    ensures { result ≡ mapped_after (changes_under root.now.graph (specifier_in root.now module_id)) (id_view id.now) }
+{
+    match root.module_from_id(module_id) {
+        Some(ModuleInfoRef::Esm(esm)) => esm.symbol_id_from_swc(id),
+        Some(ModuleInfoRef::Json(_)) => None,
+        None => unreachable!(),
+    }
+}
+
+/// What a symbol of a stored module is called in full.
+fn name_answer<'a>(
+    root: &RootSymbol<'a>,
+    module_id: ModuleId,
+    symbol: SymbolId,
+) -> Result<Answer<'a>, SymbolsFault>
+    requires { module_id.0 < length root.now.stored }
+    ensures answers { IfOk result (λ answer. module_answer root.now.graph (specifier_in root.now module_id) (asks_name symbol) ≡ Some (answer_view answer)) }
+    ensures faults { IfErr result (IsQuestionFault root.now (specifier_in root.now module_id) (asks_name symbol)) }
+{
+    match root.module_from_id(module_id) {
+        Some(info) => match info.fully_qualified_symbol_name(root.alloc(), symbol) {
+            Ok(name) => Ok(Answer::Name(name)),
+            Err(fault) => Err(fault),
+        },
+        None => unreachable!(),
+    }
+}
+
+/// What each declaration of a symbol of a stored module depends on.
+fn deps_answer<'a>(
+    root: &RootSymbol<'a>,
+    module_id: ModuleId,
+    symbol_id: SymbolId,
+    mode: ResolveDepsMode,
+) -> Result<Answer<'a>, SymbolsFault>
+    requires { module_id.0 < length root.now.stored }
+    ensures answers { IfOk result (λ answer. module_answer root.now.graph (specifier_in root.now module_id) (asks_deps symbol_id mode) ≡ Some (answer_view answer)) }
+    ensures faults { IfErr result (IsQuestionFault root.now (specifier_in root.now module_id) (asks_deps symbol_id mode)) }
+{
+    match root.module_from_id(module_id) {
+        Some(info) => match info.symbol(symbol_id) {
+            Some(symbol) => Ok(Answer::Deps(symbol_deps(root.alloc(), symbol, mode)?)),
+            None => Err(SymbolsFault::UnknownSymbol),
+        },
+        None => unreachable!(),
+    }
+}
+
+/// The paths to what a symbol of a stored module is defined by.
+fn paths_answer<'a>(
+    root: &mut RootSymbol<'a>,
+    module_id: ModuleId,
+    symbol: SymbolId,
+) -> Result<Answer<'a>, SymbolsFault>
+    requires { module_id.0 < length root.old.stored }
+    ensures kept { HasGrown root.old root.new }
+    ensures answers { IfOk result (λ answer. module_answer root.old.graph (specifier_in root.old module_id) (asks_paths symbol) ≡ Some (answer_view answer)) }
+    ensures faults { IfErr result (IsQuestionFault root.new (specifier_in root.old module_id) (asks_paths symbol)) }
+    ensures enough { root.old.limits ≡ widest → IfErr result (λ fault. (fault ≡ OutOfMemory) ⊎ (fault ≡ UnknownSymbol)) }
+{
+    match find_definition_paths(root, module_id, symbol) {
+        Err(fault) => Err(fault),
+        Ok(paths) => Ok(Answer::Paths(named_paths(root.alloc(), root, paths)?)),
+    }
+}
+
+/// The definitions at the ends of these paths.
+fn definitions_answer<'a>(
+    root: &mut RootSymbol<'a>,
+    module_id: ModuleId,
+    symbol: SymbolId,
+) -> Result<Answer<'a>, SymbolsFault>
+    requires { module_id.0 < length root.old.stored }
+    ensures kept { HasGrown root.old root.new }
+    ensures answers { IfOk result (λ answer. module_answer root.old.graph (specifier_in root.old module_id) (asks_definitions symbol) ≡ Some (answer_view answer)) }
+    ensures faults { IfErr result (IsQuestionFault root.new (specifier_in root.old module_id) (asks_definitions symbol)) }
+    ensures enough { root.old.limits ≡ widest → IfErr result (λ fault. (fault ≡ OutOfMemory) ⊎ (fault ≡ UnknownSymbol)) }
+{
+    match go_to_definitions(root, module_id, symbol) {
+        Err(fault) => Err(fault),
+        Ok(definitions) => {
+            let named = named_definitions(root.alloc(), root, definitions)?;
+            Ok(Answer::Definitions(named))
+        }
+    }
+}
+
+/// All ends of these paths.
+fn leaves_answer<'a>(
+    root: &mut RootSymbol<'a>,
+    module_id: ModuleId,
+    symbol: SymbolId,
+) -> Result<Answer<'a>, SymbolsFault>
+    requires { module_id.0 < length root.old.stored }
+    ensures kept { HasGrown root.old root.new }
+    ensures answers { IfOk result (λ answer. module_answer root.old.graph (specifier_in root.old module_id) (asks_leaves symbol) ≡ Some (answer_view answer)) }
+    ensures faults { IfErr result (IsQuestionFault root.new (specifier_in root.old module_id) (asks_leaves symbol)) }
+    ensures enough { root.old.limits ≡ widest → IfErr result (λ fault. (fault ≡ OutOfMemory) ⊎ (fault ≡ UnknownSymbol)) }
+{
+    match go_to_definitions_or_unresolveds(root, module_id, symbol) {
+        Err(fault) => Err(fault),
+        Ok(ends) => Ok(Answer::Leaves(named_ends(root.alloc(), root, ends)?)),
+    }
+}
+
+/// What a reference in a stored module stands for.
+fn entries_answer<'a>(
+    root: &mut RootSymbol<'a>,
+    module_id: ModuleId,
+    dep: &SymbolNodeDep,
+) -> Result<Answer<'a>, SymbolsFault>
+    requires { module_id.0 < length root.old.stored }
+    ensures kept { HasGrown root.old root.new }
+    ensures answers { IfOk result (λ answer. module_answer root.old.graph (specifier_in root.old module_id) (asks_entries (reference_view dep.now)) ≡ Some (answer_view answer)) }
+    ensures faults { IfErr result (IsQuestionFault root.new (specifier_in root.old module_id) (asks_entries (reference_view dep.now))) }
+    ensures enough { root.old.limits ≡ widest → IfErr result (λ fault. fault ≡ OutOfMemory) }
+{
+    match resolve_symbol_dep(root, module_id, dep) {
+        Err(fault) => Err(fault),
+        Ok(entries) => Ok(Answer::Resolve(named_entries(root.alloc(), root, entries)?)),
+    }
+}
+
+/// The answer on a stored module.
+fn answer_on<'a>(
+    root: &mut RootSymbol<'a>,
+    module_id: ModuleId,
+    query: &Query,
+) -> Result<Answer<'a>, SymbolsFault>
+    requires { module_id.0 < length root.old.stored }
+    ensures kept { HasGrown root.old root.new }
+    ensures answers { IfOk result (λ answer. module_answer root.old.graph (specifier_in root.old module_id) (query_view query.now).question ≡ Some (answer_view answer)) }
+    ensures faults { IfErr result (IsQuestionFault root.new (specifier_in root.old module_id) (query_view query.now).question) }
+    ensures enough { root.old.limits ≡ widest → IfErr result (λ fault. (fault ≡ OutOfMemory) ⊎ (fault ≡ UnknownSymbol)) }
+{
+    match query {
+        Query::Module(_) => Ok(Answer::Module(specifier_of(root, module_id))),
+        Query::Exports(_) => exports_answer(root, module_id),
+        Query::Symbol(_, id) => Ok(Answer::Symbol(mapped_symbol(root, module_id, id))),
+        Query::Name(_, symbol) => name_answer(root, module_id, *symbol),
+        Query::Deps(_, symbol, mode) => deps_answer(root, module_id, *symbol, *mode),
+        Query::Paths(_, symbol) => paths_answer(root, module_id, *symbol),
+        Query::Definitions(_, symbol) => definitions_answer(root, module_id, *symbol),
+        Query::Leaves(_, symbol) => leaves_answer(root, module_id, *symbol),
+        Query::Resolve(_, dep) => entries_answer(root, module_id, dep),
+    }
+}
+
+/// The answer to a query (own rule): the same whatever was asked before.
+///
+/// # Errors
+///
+/// `UnknownSymbol` where the module has no such symbol; else what storing a module refuses that the
+/// answer needs. What was stored stays.
+pub fn answer<'a>(root: &mut RootSymbol<'a>, query: &Query) -> Result<Answer<'a>, SymbolsFault>
+    ensures kept { HasGrown root.old root.new }
+    ensures answers { IfOk result (λ answer. query_answer root.old.graph (query_view query.now) ≡ Some (answer_view answer)) }
+    ensures faults { IfErr result (IsQueryFault root.new (query_view query.now)) }
+    ensures enough { root.old.limits ≡ widest → IfErr result (λ fault. (fault ≡ OutOfMemory) ⊎ (fault ≡ UnknownSymbol)) }
+{
+    match root.module_from_specifier(query.specifier()) {
+        Err(fault) => Err(fault),
+        Ok(None) => Ok(Answer::NoModule),
+        Ok(Some(module_id)) => answer_on(root, module_id, query),
+    }
+}
+
+/// The answers to queries, in order, each the same whatever was asked before (own rule).
+///
+/// # Errors
+///
+/// The fault of the first query that has no answer, as `answer` gives it; the answers to those before
+/// are dropped. What was stored stays.
+pub fn run<'a>(
+    root: &mut RootSymbol<'a>,
+    queries: &[Query],
+) -> Result<Vec<Answer<'a>>, SymbolsFault>
+    ensures kept { HasGrown root.old root.new }
+    ensures answers { IfOk result (λ answers. map (λ answer. Some (answer_view answer)) answers.items ≡ map (λ query. query_answer root.old.graph (query_view query)) queries.now) }
+    ensures faults { IfErr result (IsRunFault root.new (map query_view queries.now)) }
+    ensures enough { root.old.limits ≡ widest → IfErr result (λ fault. (fault ≡ OutOfMemory) ⊎ (fault ≡ UnknownSymbol)) }
+{
+    let mut answers = Vec::new(root.alloc());
+    for query in queries {
+        match answer(root, query) {
+            Err(fault) => return Err(fault),
+            Ok(given) => answers.push(given)?,
+        }
+    }
+    Ok(answers)
+}

@@ -1,0 +1,151 @@
+//! What a module exports, its ways told by specifiers.
+
+ghost use Rattle.std.specs.Prelude.{◌≡◌, map, string_bytes, IfOk};
+ghost use Rattle.symbols_exports.specs.Exporting.{specifier_in};
+ghost use Rattle.symbols_exports.specs.Paths.{resolved_export, statements_on};
+ghost use Rattle.symbols_exports.specs.Taking.{names_view, unresolved_told};
+ghost use Rattle.symbols_exports.specs.Told.{told_number, told_name};
+ghost use Rattle.symbols_queries.specs.AnswerViews.{statement_view, export_view};
+
+use indexmap::IndexMap;
+use std::alloc::{AllocError, Global};
+use symbols_exports::exports::{
+    ModuleExports, ResolvedExportOrReExportAllPath, UnresolvedSpecifier,
+};
+use symbols_root::root::RootSymbol;
+use symbols_tree::ids::{ModuleId, SymbolId};
+
+/// A statement `export *` (own rule; its module by specifier).
+#[derive(Clone, Copy)]
+pub struct NamedStatement<'a> {
+    /// The specifier of the module that has it.
+    pub referrer: &'a str,
+    /// Its text.
+    pub specifier: &'a str,
+}
+
+/// An exported name (own rule; modules by specifier).
+#[derive(Drop)]
+pub struct NamedExport<'a> {
+    pub name: String,
+    /// The statements `export *` that it comes by, in order; none for a name of the module itself.
+    pub chain: Vec<NamedStatement<'a>>,
+    /// The specifier of the module at the end.
+    pub module: &'a str,
+    /// The symbol of that module.
+    pub symbol: SymbolId,
+}
+
+/// What a module exports (own rule; modules by specifier).
+#[derive(Drop)]
+pub struct NamedExports<'a> {
+    /// The exported names, in chain order, and by one chain in the order of the module at its end.
+    pub exports: Vec<NamedExport<'a>>,
+    /// The statements `export *` that lead to no module, in chain order.
+    pub unresolved: Vec<NamedStatement<'a>>,
+}
+
+/// The specifier of a stored module; empty where none has the number.
+pub(crate) fn specifier_of<'a>(root: &RootSymbol<'a>, module_id: ModuleId) -> &'a str
+    ensures { result.now ≡ specifier_in root.now module_id }
+{
+    match root.module_from_id(module_id) {
+        Some(info) => info.specifier(),
+        None => "",
+    }
+}
+
+fn named_statement<'a>(
+    root: &RootSymbol<'a>,
+    referrer: ModuleId,
+    specifier: &'a str,
+) -> NamedStatement<'a>
+    ensures { statement_view result ≡ told_number root.now (referrer, specifier.now) }
+{
+    NamedStatement {
+        referrer: specifier_of(root, referrer),
+        specifier,
+    }
+}
+
+/// The statements on a way, in order.
+#[tactic(auto, using(crate::proofs::Naming::statements_of_rests))]
+fn named_chain<'a>(
+    alloc: Global,
+    root: &RootSymbol<'a>,
+    path: &ResolvedExportOrReExportAllPath<'a>,
+) -> Result<Vec<NamedStatement<'a>>, AllocError>
+    ensures { IfOk result (λ chain. map statement_view chain.items ≡ map (told_number root.now) (statements_on path.now)) }
+{
+    let mut chain = Vec::new(alloc);
+    for rest in path.iter() {
+        if let ResolvedExportOrReExportAllPath::ReExportAllPath(re_export) = rest {
+            chain.push(named_statement(root, re_export.referrer_module, re_export.specifier))?;
+        }
+    }
+    Ok(chain)
+}
+
+fn named_export<'a>(
+    alloc: Global,
+    root: &RootSymbol<'a>,
+    name: String,
+    path: &ResolvedExportOrReExportAllPath<'a>,
+) -> Result<NamedExport<'a>, AllocError>
+    ensures { IfOk result (λ named. export_view named ≡ told_name root.now (record { name = string_bytes name; statements = statements_on path.now; export = resolved_export path.now })) }
+{
+    let export = path.as_resolved_export();
+    Ok(NamedExport {
+        name,
+        chain: named_chain(alloc, root, path)?,
+        module: specifier_of(root, export.module),
+        symbol: export.symbol_id,
+    })
+}
+
+/// The exported names, in order.
+fn named_names<'a>(
+    alloc: Global,
+    root: &RootSymbol<'a>,
+    resolved: IndexMap<String, ResolvedExportOrReExportAllPath<'a>>,
+) -> Result<Vec<NamedExport<'a>>, AllocError>
+    ensures { IfOk result (λ exports. map export_view exports.items ≡ map (told_name root.now) (names_view resolved.entry.entries)) }
+{
+    let mut exports = Vec::new(alloc);
+    for (name, path) in resolved {
+        exports.push(named_export(alloc, root, name, &path)?)?;
+    }
+    Ok(exports)
+}
+
+/// The statements that lead to no module, in order.
+fn named_unresolved<'a>(
+    alloc: Global,
+    root: &RootSymbol<'a>,
+    unresolved: &[UnresolvedSpecifier<'a>],
+) -> Result<Vec<NamedStatement<'a>>, AllocError>
+    ensures { IfOk result (λ statements. map statement_view statements.items ≡ map (told_number root.now) (map unresolved_told unresolved.now)) }
+{
+    let mut statements = Vec::new(alloc);
+    for statement in unresolved {
+        statements.push(named_statement(root, statement.referrer, statement.specifier))?;
+    }
+    Ok(statements)
+}
+
+/// What a module exports, by the root that told it.
+pub(crate) fn named_exports<'a>(
+    alloc: Global,
+    root: &RootSymbol<'a>,
+    exports: ModuleExports<'a>,
+) -> Result<NamedExports<'a>, AllocError>
+    ensures names { IfOk result (λ named. map export_view named.exports.items ≡ map (told_name root.now) (names_view exports.entry.resolved.entries)) }
+    ensures statements { IfOk result (λ named. map statement_view named.unresolved.items ≡ map (told_number root.now) (map unresolved_told exports.entry.unresolved_specifiers.items)) }
+{
+    let unresolved = named_unresolved(alloc, root, &exports.unresolved_specifiers)?;
+    let exports = named_names(alloc, root, exports.resolved)?;
+    Ok(NamedExports {
+        exports,
+        unresolved,
+    })
+}

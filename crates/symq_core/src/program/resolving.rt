@@ -1,0 +1,74 @@
+//! The answer on what a reference stands for.
+
+ghost use Rattle.std.specs.Prelude.{◌≡◌, ◌<◌, length, map};
+ghost use Rattle.symbols_nodes.specs.References.{reference_view};
+ghost use Rattle.symbols_root.specs.Roots.{widest};
+ghost use Rattle.symbols_exports.specs.Exporting.{specifier_in};
+ghost use Rattle.symbols_paths.specs.DepAnswers.{entry_told, entries_of};
+ghost use Rattle.symq_core.specs.AnswerViews.{tells_entries};
+ghost use Rattle.symq_core.specs.AnswerData.{answer_data};
+ghost use Rattle.symq_core.specs.PathData.{standing_data};
+ghost use Rattle.symq_core.specs.Telling.{Adds, Tells, rest_tokens};
+
+use crate::program::exporting::specifier_of;
+use crate::program::finding::tell_path;
+use crate::program::paths::begin_list;
+use crate::program::telling::{tell_fault, tell_text};
+use json::Writer;
+use std::alloc::AllocError;
+use symbols_nodes::deps::SymbolNodeDep;
+use symbols_paths::paths::{ResolvedSymbolDepEntry, resolve_symbol_dep};
+use symbols_root::root::RootSymbol;
+use symbols_tree::ids::ModuleId;
+
+/// A path, or a module.
+fn tell_entry(
+    out: &mut Writer,
+    root: &RootSymbol<'_>,
+    entry: &ResolvedSymbolDepEntry<'_>,
+) -> Result<(), AllocError>
+    ensures { Tells result out.old out.new (standing_data (entry_told root.now entry.now)) }
+{
+    match entry {
+        ResolvedSymbolDepEntry::Path(path) => tell_path(out, root, path),
+        ResolvedSymbolDepEntry::ImportType(module_id) => {
+            tell_text(out, "import_type", specifier_of(root, *module_id))
+        }
+    }
+}
+
+/// Entries in order, as the items of an array, and its end.
+fn end_entries(
+    out: &mut Writer,
+    root: &RootSymbol<'_>,
+    entries: &Vec<ResolvedSymbolDepEntry<'_>>,
+) -> Result<(), AllocError>
+    ensures { Adds result out.old out.new (rest_tokens (map standing_data (map (entry_told root.now) entries.now.items))) }
+{
+    for entry in entries {
+        tell_entry(out, root, entry)?;
+    }
+    out.end_array()
+}
+
+/// What a reference in a stored module stands for.
+pub(crate) fn tell_entries(
+    out: &mut Writer,
+    root: &mut RootSymbol<'_>,
+    module_id: ModuleId,
+    reference: &SymbolNodeDep,
+) -> Result<(), AllocError>
+    requires widest { root.old.limits ≡ widest }
+    requires known { module_id.0 < length root.old.stored }
+    ensures kept { (root.new.graph ≡ root.old.graph) × (root.new.limits ≡ root.old.limits) }
+    ensures value { Tells result out.old out.new (answer_data (tells_entries (entries_of root.old.graph (specifier_in root.old module_id) (reference_view reference.now)))) }
+{
+    match resolve_symbol_dep(root, module_id, reference) {
+        Ok(entries) => {
+            begin_list(out, "entries")?;
+            end_entries(out, root, &entries)?;
+            out.end_object()
+        }
+        Err(fault) => tell_fault(out, &fault),
+    }
+}
