@@ -220,6 +220,44 @@ def candidates_of(n):
     return resolved(modules)
 
 
+def namespaces(tree, n):
+    """A namespace `N`, and n more of that name, each exported by the one around it."""
+    outer = decl = tree.add('TsModuleDecl')
+    tree.nodes[decl]['id'] = tree.add('Ident', sym=['N', 1])
+    for k in range(n):
+        block, export, inner = tree.add('TsModuleBlock'), tree.add('ExportDecl'), tree.add('TsModuleDecl')
+        tree.nodes[decl]['body'] = block
+        tree.nodes[block]['body'] = [export]
+        tree.nodes[export]['decl'] = inner
+        tree.nodes[inner]['id'] = tree.add('Ident', sym=['N', k + 2])
+        decl = inner
+    return outer
+
+
+def alias(tree, name, first, parts):
+    """An alias of a name with so many parts `N` behind it."""
+    at = tree.add('TsImportEqualsDecl')
+    tree.nodes[at]['id'] = tree.add('Ident', sym=[name, 1])
+    names = [tree.add('TsQualifiedName', right='N') for _ in range(parts)] + [tree.add('Ident', sym=[first, 1])]
+    for left, right in zip(names, names[1:]):
+        tree.nodes[left]['left'] = right
+    tree.nodes[at]['entity'] = names[0]
+    return at
+
+
+def aliases_of(n):
+    """n aliases in a chain, each of the one behind it with one part, the last of the outermost of namespaces in a nest."""
+    tree = Tree()
+    aliases = [alias(tree, 'A%d' % k, 'A%d' % (k + 1) if k + 1 < n else 'N', 1) for k in range(n)]
+    return {'modules': [tree.module('m', aliases + [namespaces(tree, n)])]}
+
+
+def parts_of(n):
+    """An alias of a name with n parts, of namespaces in a nest."""
+    tree = Tree()
+    return {'modules': [tree.module('m', [alias(tree, 'A', 'N', n), namespaces(tree, n)])]}
+
+
 def hub_of(n):
     """n modules in webs of ten, a module with an `export *` for each web, and an import of a name that a web in the
     middle owns, along one `export *` of that module."""
@@ -248,6 +286,8 @@ MADE = [
     ('webs of ten modules', 2000, webs_of, ('export',), (1, 2, 4)),
     ('re-exports in a row', 10000, row_of, ('path',), (1, 2)),
     ('candidates of an import', 10000, candidates_of, ('path',), (1, 2)),
+    ('aliases in a chain', 600, aliases_of, ('path',), (1, 2)),
+    ('an alias of many parts', 600, parts_of, ('path',), (1, 2)),
     ('one name of webs', 20000, hub_of, ('name', 'whole'), (1, 2)),
 ]
 

@@ -96,20 +96,37 @@ fn is_right(place: usize, answer: &Answer<'_>) -> bool {
     }
 }
 
+/// The answers to the queries from the last to the first, each asked for alone, are right.
+fn are_right_backwards<'a>(
+    root: &mut RootSymbol<'a>,
+    queries: &[Query],
+) -> Result<bool, SymbolsFault> {
+    for (place, query) in queries.iter().enumerate().rev() {
+        let given = answer(root, query)?;
+        if !is_right(place, &given) {
+            return Ok(false);
+        }
+    }
+    Ok(true)
+}
+
+/// There is an answer to each query, and each is right.
+fn are_right(answers: &[Answer<'_>], queries: &[Query]) -> bool {
+    answers.len() == queries.len()
+        && answers
+            .iter()
+            .enumerate()
+            .all(|(place, given)| is_right(place, given))
+}
+
 #[test]
 fn answers_each_form_in_any_order(rt: HostRuntime) -> Result<(), Fail> {
     let graph = graph(rt.alloc())?;
     let queries = queries(rt.alloc())?;
     let mut root = RootSymbol::new(rt.alloc(), &graph);
-    for (place, query) in queries.iter().enumerate().rev() {
-        let backwards = answer(&mut root, query)?;
-        assert!(&rt; is_right(place, &backwards));
-    }
+    assert!(&rt; are_right_backwards(&mut root, &queries)?);
     let answers = run(&mut root, &queries)?;
-    assert_eq!(&rt; answers.len(), queries.len());
-    for (place, given) in answers.iter().enumerate() {
-        assert!(&rt; is_right(place, given));
-    }
+    assert!(&rt; are_right(&answers, &queries));
     Ok(())
 }
 
