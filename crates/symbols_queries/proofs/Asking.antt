@@ -1,23 +1,20 @@
 -- The answers to questions, by what the calls of the library say.
-use Rattle.std.proofs.Common.{◌≡◌, ◌≢◌, ℕ, zero, suc, ◌+◌, ◌<◌, ◌≤◌, ◌⊎◌, inl, inr, List, [], ◌∷◌, ◌++◌, length, map, take, drop, get_or, slice_get, Option, None, Some, option_map, option_copied, refl, sym, ap, subst, ◌∙◌, arith}
+use Rattle.std.proofs.Common.{◌≡◌, ◌≢◌, ℕ, zero, suc, ◌+◌, ◌<◌, ◌≤◌, ◌⊎◌, inl, inr, List, [], ◌∷◌, ◌++◌, length, map, take, drop, get_or, slice_get, Option, None, Some, option_map, refl, sym, ap, subst, ◌∙◌, arith}
 use Rattle.std.specs.Prelude.{All, IsSome, Result, Ok, Err, IfErr, string_bytes}
 use Rattle.std.specs.Result.{IsErrAnd}
-use Rattle.std.specs.Borrow.{Bor}
 use Rattle.std.specs.Option.{option_map_or}
-use Rattle.std.proofs.lemmas.List.{take-append-drop, drop_more, take_more, take_all, map-append, length-map}
+use Rattle.std.proofs.lemmas.List.{take-append-drop, drop_more, take_more, take_all, map-append}
 use Rattle.std.proofs.lemmas.Option.{none-some}
 use Rattle.symbols_syntax.specs.declared.ids.ModuleId.{ModuleId}
 use Rattle.symbols_syntax.specs.declared.ids.SymbolId.{SymbolId}
 use Rattle.symbols_syntax.specs.Graph.{GraphView}
-use Rattle.symbols_syntax.specs.Ids.{IdView}
 use Rattle.symbols_nodes.specs.declared.deps.dep.ResolveDepsMode.{ResolveDepsMode}
 use Rattle.symbols_nodes.specs.References.{Reference, Dependency, id, qualified_id, import_type}
 use Rattle.symbols_table.specs.declared.decl.symbol.Symbol.{Symbol}
 use Rattle.symbols_table.specs.declared.info.fault.SymbolsFault.{SymbolsFault}
 use Rattle.symbols_table.specs.declared.info.fault.SymbolsFault.TheVariants as fault
-use Rattle.symbols_table.specs.Changes.{mapped_after}
 use Rattle.symbols_table.specs.DeclViews.{decl_dependencies}
-use Rattle.symbols_table.specs.Modules.{Table, symbol_in, mapped_in}
+use Rattle.symbols_table.specs.Modules.{Table, symbol_in}
 use Rattle.symbols_table.specs.QualifiedNames.{qualified_name, IsNameFault}
 use Rattle.symbols_table.specs.Symbols.{decls_in}
 use Rattle.symbols_table.specs.SymbolViews.{SymbolView, symbol_view}
@@ -25,23 +22,25 @@ use Rattle.symbols_root.specs.Roots.{RootView, with_stored, specifier_under, IsR
 use Rattle.symbols_root.specs.TypesChains.{stands_for}
 use Rattle.symbols_exports.specs.Answers.{IsAnswer, IsFault}
 use Rattle.symbols_exports.specs.Chains.{IsReached}
-use Rattle.symbols_exports.specs.Exporting.{specifier_in, all_stored}
-use Rattle.symbols_exports.specs.StarStatements.{changes_under, statements_of, text_target}
+use Rattle.symbols_exports.specs.Exporting.{specifier_in}
+use Rattle.symbols_exports.specs.StarStatements.{statements_of}
 use Rattle.symbols_exports.specs.Taking.{NameView}
 use Rattle.symbols_exports.specs.Told.{ToldExport, ToldStatement, told_name, told_number}
 use Rattle.symbols_paths.specs.Growing.{HasGrown}
-use Rattle.symbols_paths.specs.Needed.{IsNeeded, IsRefused}
+use Rattle.symbols_paths.specs.Needed.{IsNeeded}
 use Rattle.symbols_paths.specs.Answers.{symbol_in as symbol_stored, IsPathsFault}
 use Rattle.symbols_paths.specs.DepAnswers.{IsDepRefused, on_the_way, of_import, IsDepFault}
 use Rattle.symbols_paths.proofs.Growing.{grown_not, grown_on, grown_by_one, grown_by_all}
 use Rattle.symbols_paths.proofs.Reading.{stored_symbol}
 use Rattle.symbols_paths.proofs.Targets.{target_is, no_target}
+use Rattle.symbols_answers.specs.Questions.{QuestionView, asks_exports, asks_name, asks_deps, asks_entries, QueryView}
+use Rattle.symbols_answers.specs.Answers.{AnswerView, tells_nothing, tells_exports, tells_name, tells_deps}
+use Rattle.symbols_answers.specs.QueryAnswers.{symbol_under, dependencies_told, told_of, module_answer, query_answer}
 use Rattle.symbols_queries.specs.declared.queries.answers.Answer.{Answer}
 use Rattle.symbols_queries.specs.declared.queries.query.Query.{Query}
-use Rattle.symbols_queries.specs.Queries.{QuestionView, asks_exports, asks_name, asks_deps, asks_entries, QueryView, query_view}
-use Rattle.symbols_queries.specs.AnswerViews.{AnswerView, tells_nothing, tells_exports, tells_name, tells_deps, answer_view}
-use Rattle.symbols_queries.specs.QueryAnswers.{symbol_under, dependencies_told, told_of, module_answer, query_answer}
-use Rattle.symbols_queries.specs.QueryFaults.{IsNeededFor, IsAskedFor, IsQuestionFault, no_such_symbol, refused_module, IsNeededBy, the_module, besides_it, IsQueryFault, no_answer, broken_off, IsRunFault}
+use Rattle.symbols_queries.specs.Queries.{query_view}
+use Rattle.symbols_queries.specs.AnswerViews.{answer_view}
+use Rattle.symbols_queries.specs.QueryFaults.{IsNeededFor, IsAskedFor, IsQuestionFault, no_such_symbol, refused_module, the_module, besides_it, IsQueryFault, no_answer, broken_off, IsRunFault}
 
 -- ---- a symbol of a stored module
 

@@ -1,11 +1,8 @@
 -- Lists that are named one item after the other, and links as trees.
-use Rattle.std.proofs.Common.{◌≡◌, ℕ, List, [], ◌∷◌, ◌++◌, map, Option, None, Some, Vec, refl, sym, ap, ◌∙◌, append_assoc, append-nil}
-use Rattle.std.specs.Prelude.{filter_map, String}
-use Rattle.std.specs.Borrow.{Bor}
-use Rattle.std.specs.Global.{Global}
+use Rattle.std.proofs.Common.{◌≡◌, ℕ, List, [], ◌∷◌, ◌++◌, map, Option, None, Some, refl, sym, ap, ◌∙◌, append_assoc, append-nil}
+use Rattle.std.specs.Prelude.{filter_map}
 use Rattle.std.proofs.lemmas.List.{map-append}
 use Rattle.symbols_syntax.specs.declared.ids.ModuleId.{ModuleId}
-use Rattle.symbols_syntax.specs.declared.ids.SymbolId.{SymbolId}
 use Rattle.symbols_exports.specs.declared.exports.path.ResolvedExportOrReExportAllPath.{ResolvedExportOrReExportAllPath}
 use Rattle.symbols_exports.specs.declared.exports.path.ResolvedExportOrReExportAllPath.TheVariants.{Export, ReExportAllPath'}
 use Rattle.symbols_exports.specs.Paths.{statements_on, rests_of}

@@ -1,8 +1,7 @@
--- What an answer says.
-use Rattle.std.specs.Prelude.{ℕ, List, map, Option, Vec, string_bytes}
+-- What an answer of the library says.
+use Rattle.std.specs.Prelude.{ℕ, List, map, Vec, string_bytes}
 use Rattle.std.specs.Option.{option_map}
 use Rattle.std.specs.Global.{Global}
-use Rattle.symbols_syntax.specs.declared.ids.SymbolId.{SymbolId}
 use Rattle.symbols_nodes.specs.declared.deps.dep.ReferenceNamespace.{ReferenceNamespace}
 use Rattle.symbols_nodes.specs.declared.deps.dep.SymbolNodeDep.{SymbolNodeDep}
 use Rattle.symbols_nodes.specs.References.{Dependency, dependency_view}
@@ -11,6 +10,7 @@ use Rattle.symbols_paths.specs.declared.paths.definition.DeclRef.{DeclRef}
 use Rattle.symbols_paths.specs.Trees.{NamedDecl, Defined, Missing, Leaf, definition, unresolved, Tree, Forest, leaf, link}
 use Rattle.symbols_paths.specs.Views.{star_of, reason_told, texts_of, forest_in}
 use Rattle.symbols_paths.specs.DepAnswers.{EntryView, a_path, a_module}
+use Rattle.symbols_answers.specs.Answers.{AnswerView, tells_nothing, tells_module, tells_exports, tells_symbol, tells_name, tells_deps, tells_paths, tells_definitions, tells_leaves, tells_entries}
 use Rattle.symbols_queries.specs.declared.queries.answers.Answer.{Answer}
 use Rattle.symbols_queries.specs.declared.queries.exports.NamedExport.{NamedExport}
 use Rattle.symbols_queries.specs.declared.queries.exports.NamedStatement.{NamedStatement}
@@ -22,19 +22,6 @@ use Rattle.symbols_queries.specs.declared.queries.paths.NamedPath.{NamedPath}
 use Rattle.symbols_queries.specs.declared.queries.paths.NamedPath.TheFolds.{fold-NamedPath, fold-NamedLink}
 use Rattle.symbols_queries.specs.declared.queries.paths.NamedPath.TheOpen as open_path
 use Rattle.symbols_queries.specs.declared.queries.paths.NamedUnresolved.{NamedUnresolved}
-
--- nothing, where the specifier stands for no module; which module it stands for; what is exported, and the statements `export *` that lead to no module; which symbol a name stands for, if any; what a symbol is called in full, if it has a name; what each declaration of a symbol depends on; the paths to what a symbol is defined by; the definitions at their ends; all their ends; and what a reference stands for
-pub data AnswerView : Type 0 where
-  tells_nothing : AnswerView
-  tells_module : List ℕ → AnswerView
-  tells_exports : List ToldExport → List ToldStatement → AnswerView
-  tells_symbol : Option SymbolId → AnswerView
-  tells_name : Option (List ℕ) → AnswerView
-  tells_deps : List (List Dependency) → AnswerView
-  tells_paths : Forest → AnswerView
-  tells_definitions : List Defined → AnswerView
-  tells_leaves : List Leaf → AnswerView
-  tells_entries : List EntryView → AnswerView
 
 -- ---- exports
 

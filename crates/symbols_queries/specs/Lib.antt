@@ -1,4 +1,3 @@
 pub mod Queries
 pub mod AnswerViews
-pub mod QueryAnswers
 pub mod QueryFaults

@@ -8,10 +8,9 @@ use Rattle.symbols_root.specs.TypesChains.{stands_for}
 use Rattle.symbols_root.specs.Roots.{RootView, IsRefusal}
 use Rattle.symbols_exports.specs.Chains.{IsReached}
 use Rattle.symbols_exports.specs.StarStatements.{text_target, statements_of}
-use Rattle.symbols_paths.specs.Growing.{HasGrown}
 use Rattle.symbols_paths.specs.Needed.{IsNeeded}
-use Rattle.symbols_queries.specs.Queries.{QuestionView, asks_module, asks_exports, asks_symbol, asks_name, asks_deps, asks_paths, asks_definitions, asks_leaves, asks_entries, QueryView}
-use Rattle.symbols_queries.specs.QueryAnswers.{module_answer, query_answer}
+use Rattle.symbols_answers.specs.Questions.{QuestionView, asks_module, asks_exports, asks_symbol, asks_name, asks_deps, asks_paths, asks_definitions, asks_leaves, asks_entries, QueryView}
+use Rattle.symbols_answers.specs.QueryAnswers.{module_answer, query_answer}
 
 -- the modules that a reference in a module may need: those needed on from the module, and from that which an import type stands for
 abbrev pub IsNeededFor : GraphView → List ℕ → Reference → List ℕ → Type 0

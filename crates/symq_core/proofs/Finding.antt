@@ -10,25 +10,25 @@ use Rattle.symbols_table.specs.declared.info.fault.SymbolsFault.TheVariants as f
 use Rattle.symbols_table.specs.SymbolViews.{SymbolView}
 use Rattle.symbols_root.specs.Roots.{RootView, widest}
 use Rattle.symbols_paths.specs.Answers.{symbol_in, IsPathsFault}
-use Rattle.symq_core.specs.AnswerViews.{AnswerView, tells_fault}
-use Rattle.symq_core.specs.AnswerData.{answer_data}
-use Rattle.symq_core.specs.Answers.{told_of}
-use Rattle.symq_core.specs.Answering.{fault_view}
+use Rattle.symbols_answers.specs.Answers.{AnswerView}
+use Rattle.symbols_answers.specs.QueryAnswers.{told_of}
+use Rattle.symq_core.specs.AnswerData.{fault_data, answer_data, found_data}
+use Rattle.symq_core.specs.Answering.{fault_words}
 use Rattle.symq_core.specs.Telling.{Tells}
 use Rattle.symq_core.proofs.Tables.{no_success}
 
 module _ (r : Result (Unit {0}) AllocError) (a b : Written) where
   -- what is told of a symbol that there is
-  pub found_told : (found : Option SymbolView) (told : AnswerView) → found ≢ None → Tells r a b (answer_data told) → Tells r a b (answer_data (told_of found told))
+  pub found_told : (found : Option SymbolView) (told : AnswerView) → found ≢ None → Tells r a b (answer_data told) → Tells r a b (found_data (told_of found told))
   found_told None told some tells = absurd (some refl)
   found_told (Some symbol) told some tells = tells
 
   -- and where a call gave nothing
   pub refused_told : (old new : RootView) (id : ModuleId) (s : SymbolId) (f : SymbolsFault) (told : AnswerView) → old.limits ≡ widest → id.0 < length old.stored → IsPathsFault old new id s f
       → (old.limits ≡ widest → id.0 < length old.stored → symbol_in old id s ≢ None → f ≡ fault.OutOfMemory)
-      → IfSome (fault_view f) (λ x. Tells r a b (answer_data (tells_fault x))) → OnOk r (IsSome (fault_view f)) → Tells r a b (answer_data (told_of (symbol_in old id s) told))
+      → IfSome (fault_words f) (λ words. Tells r a b (fault_data words)) → OnOk r (IsSome (fault_words f)) → Tells r a b (found_data (told_of (symbol_in old id s) told))
   refused_told old new id s f told wide known (inl unknown) enough tells memory = absurd (omega (arith, known, unknown.unknown))
   refused_told old new id s f told wide known (inr (inl unknown)) enough tells memory =
-      let is_told = subst (λ (g : SymbolsFault). IfSome (fault_view g) (λ x. Tells r a b (answer_data (tells_fault x)))) unknown.fault_is tells in
-      subst (λ (o : Option SymbolView). Tells r a b (answer_data (told_of o told))) (sym unknown.unknown) is_told
+      let is_told = subst (λ (g : SymbolsFault). IfSome (fault_words g) (λ words. Tells r a b (fault_data words))) unknown.fault_is tells in
+      subst (λ (o : Option SymbolView). Tells r a b (found_data (told_of o told))) (sym unknown.unknown) is_told
   refused_told old new id s f told wide known (inr (inr refused)) enough tells memory = no_success r f _ (enough wide known refused.has_symbol) memory

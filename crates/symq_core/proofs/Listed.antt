@@ -6,9 +6,9 @@ use Rattle.serde_json.specs.Data.{Data, null, boolean, number, string, array, ob
 use Rattle.serde_json.specs.Find.{as_u64, as_str}
 use Rattle.symq_reader.specs.Lists.{has_lists_only, items_have_lists_only}
 use Rattle.symq_reader.specs.UnderKeys.{each_item, as_u32, unless_wide}
-use Rattle.symbols_nodes.specs.References.{Reference}
-use Rattle.symq_core.specs.ReferenceForms.{read_id, read_parts, id_form, qualified_form, import_form, reference_forms, reference_named, word_and_rest, reference_of}
-use Rattle.symq_core.specs.Queries.{QuestionView, QueryView, module_question, exports_question, symbol_question, one_symbol, deps_question, resolve_question, forms, question_named, query_of}
+use Rattle.symq_core.specs.ReferenceForms.{read_id, read_parts, id_form, qualified_form, import_form, reference_forms, reference_named, reference_of}
+use Rattle.symbols_answers.specs.Questions.{QueryView}
+use Rattle.symq_core.specs.Queries.{module_question, exports_question, symbol_question, one_symbol, deps_question, resolve_question, forms, question_named, query_of}
 
 -- a value is a text, and then it has lists only, or none
 text_has : (d : Data) → has_lists_only d ≡ false → as_str d ≡ None

@@ -3,20 +3,20 @@ use Rattle.std.specs.Prelude.{ℕ, List, map, Option, Some, None, codes}
 use Rattle.serde_json.specs.Data.{Data, null, number, unsigned, string, array, object, no_items, item, no_members, member}
 use Rattle.serde_json.specs.View.{items_of}
 use Rattle.symbols_syntax.specs.declared.ids.SymbolId.{SymbolId}
+use Rattle.symbols_syntax.specs.Graph.{GraphView}
 use Rattle.symbols_nodes.specs.declared.deps.dep.ReferenceNamespace.{ReferenceNamespace}
 use Rattle.symbols_nodes.specs.declared.deps.dep.ReferenceNamespace.TheVariants as In
 use Rattle.symbols_nodes.specs.References.{Reference, id, qualified_id, import_type, Dependency}
 use Rattle.symbols_exports.specs.Told.{ToldExport, ToldStatement}
-use Rattle.symq_core.specs.AnswerViews.{AnswerFault, bad_query, too_many_modules, too_many_symbols, unknown_module, unknown_symbol, AnswerView, tells_nothing, tells_module, tells_fault, tells_exports, tells_symbol, tells_name, tells_deps, tells_paths, tells_definitions, tells_leaves, tells_entries}
+use Rattle.symbols_answers.specs.Questions.{QueryView}
+use Rattle.symbols_answers.specs.Answers.{AnswerView, tells_nothing, tells_module, tells_exports, tells_symbol, tells_name, tells_deps, tells_paths, tells_definitions, tells_leaves, tells_entries}
+use Rattle.symbols_answers.specs.QueryAnswers.{query_answer}
 use Rattle.symq_core.specs.TextsData.{texts_data}
 use Rattle.symq_core.specs.PathData.{defined_data, leaf_data, forest_items, standing_data}
 
-abbrev pub fault_words : AnswerFault → List ℕ
-fault_words bad_query = codes "bad query"
-fault_words too_many_modules = codes "too many modules"
-fault_words too_many_symbols = codes "too many symbols"
-fault_words unknown_module = codes "unknown module"
-fault_words unknown_symbol = codes "unknown symbol"
+-- why there is no other answer
+abbrev pub fault_data : List ℕ → Data
+fault_data words = object (member (codes "fault") (string words) no_members)
 
 -- a statement `export *`, by its referrer and its text
 abbrev pub statement_data : ToldStatement → Data
@@ -63,7 +63,6 @@ dependencies_data dependencies = array (items_of (map dependency_data dependenci
 abbrev pub answer_data : AnswerView → Data
 answer_data tells_nothing = null
 answer_data (tells_module specifier) = object (member (codes "module") (string specifier) no_members)
-answer_data (tells_fault fault) = object (member (codes "fault") (string (fault_words fault)) no_members)
 answer_data (tells_exports entries unresolved) = object (member (codes "exports") (array (items_of (map entry_data entries))) (member (codes "unresolved") (statements_data unresolved) no_members))
 answer_data (tells_symbol found) = object (member (codes "symbol") (symbol_number found) no_members)
 answer_data (tells_name name) = object (member (codes "name") (name_text name) no_members)
@@ -72,3 +71,13 @@ answer_data (tells_paths paths) = object (member (codes "paths") (array (forest_
 answer_data (tells_definitions definitions) = object (member (codes "definitions") (array (items_of (map defined_data definitions))) no_members)
 answer_data (tells_leaves leaves) = object (member (codes "leaves") (array (items_of (map leaf_data leaves))) no_members)
 answer_data (tells_entries entries) = object (member (codes "entries") (array (items_of (map standing_data entries))) no_members)
+
+-- the value of an answer; a fault where the module has no such symbol
+abbrev pub found_data : Option AnswerView → Data
+found_data None = fault_data (codes "unknown symbol")
+found_data (Some answer) = answer_data answer
+
+-- the value of the answer to what a line asks; a fault where it asks nothing
+abbrev pub asked_data : GraphView → Option QueryView → Data
+asked_data graph None = fault_data (codes "bad query")
+asked_data graph (Some query) = found_data (query_answer graph query)

@@ -4,9 +4,8 @@ use Rattle.serde_json.specs.Written.{compact_text}
 use Rattle.symbols_syntax.specs.Graph.{GraphView}
 use Rattle.symq_reader.specs.GraphText.{json_of}
 use Rattle.symq_core.specs.Queries.{query_of}
-use Rattle.symq_core.specs.Answers.{asked_answer}
-use Rattle.symq_core.specs.AnswerData.{answer_data}
+use Rattle.symq_core.specs.AnswerData.{asked_data}
 
 -- the text of the answer to what a line asks, without a line end
 unfoldable pub answer_text : GraphView → List ℕ → List ℕ
-answer_text graph line = compact_text (answer_data (asked_answer graph (option_and_then query_of (json_of line))))
+answer_text graph line = compact_text (asked_data graph (option_and_then query_of (json_of line)))

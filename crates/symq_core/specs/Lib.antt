@@ -1,10 +1,8 @@
 pub mod ReferenceForms
 pub mod Queries
-pub mod AnswerViews
 pub mod TextsData
 pub mod PathData
 pub mod AnswerData
-pub mod Answers
 pub mod AnswerTexts
 pub mod Telling
 pub mod Answering

@@ -4,37 +4,15 @@ use Rattle.std.specs.Str.{bytes_eq}
 use Rattle.serde_json.specs.Data.{Data, Items, no_items, item}
 use Rattle.serde_json.specs.Find.{as_array, as_str}
 use Rattle.symbols_syntax.specs.declared.ids.SymbolId.{SymbolId}
-use Rattle.symbols_syntax.specs.Ids.{IdView}
 use Rattle.symbols_nodes.specs.declared.deps.dep.ResolveDepsMode.{ResolveDepsMode}
 use Rattle.symbols_nodes.specs.declared.deps.dep.ResolveDepsMode.TheVariants.{TypesOnly, TypesAndExpressions}
-use Rattle.symbols_nodes.specs.References.{Reference}
+use Rattle.symbols_answers.specs.Questions.{QuestionView, asks_module, asks_exports, asks_symbol, asks_name, asks_deps, asks_paths, asks_definitions, asks_leaves, asks_entries, QueryView}
 use Rattle.symq_reader.specs.UnderKeys.{as_u32}
 use Rattle.symq_core.specs.ReferenceForms.{read_id, reference_of}
 
--- what the table of a module alone tells: which module it is; which symbol a name stands for in it; what a symbol of it is called in full; what the declarations of a symbol depend on
-pub data TableQuestionView : Type 0 where
-  asks_module : TableQuestionView
-  asks_symbol : IdView → TableQuestionView
-  asks_name : SymbolId → TableQuestionView
-  asks_deps : SymbolId → ResolveDepsMode → TableQuestionView
-
--- what is asked of a specifier, and of the module that it stands for: what it exports; the paths to where a symbol of it is defined, the definitions at their ends, or all their ends; what a reference in it stands for; or what its table tells
-pub data QuestionView : Type 0 where
-  asks_exports : QuestionView
-  asks_paths : SymbolId → QuestionView
-  asks_definitions : SymbolId → QuestionView
-  asks_leaves : SymbolId → QuestionView
-  asks_resolve : Reference → QuestionView
-  asks_table : TableQuestionView → QuestionView
-
--- a question, and the specifier of the module that it is asked of
-pub record QueryView : Type 0 where
-  pub specifier : List ℕ
-  pub question : QuestionView
-
 -- the form `["module", specifier]`, behind its specifier
 abbrev pub module_question : Items → Option QuestionView
-module_question no_items = Some (asks_table asks_module)
+module_question no_items = Some asks_module
 module_question _ = None
 
 -- the form `["exports", specifier]`, behind its specifier
@@ -44,7 +22,7 @@ exports_question _ = None
 
 -- the form `["symbol", specifier, name, scope]`, behind its specifier
 abbrev pub symbol_question : Items → Option QuestionView
-symbol_question (item name (item scope no_items)) = option_map (λ id. asks_table (asks_symbol id)) (read_id name scope)
+symbol_question (item name (item scope no_items)) = option_map asks_symbol (read_id name scope)
 symbol_question _ = None
 
 -- the number of a symbol
@@ -54,7 +32,7 @@ one_symbol _ = None
 
 -- the form `["name", specifier, number]`, behind its specifier
 abbrev pub name_question : Items → Option QuestionView
-name_question items = option_map (λ s. asks_table (asks_name s)) (one_symbol items)
+name_question items = option_map asks_name (one_symbol items)
 
 -- the forms `["paths", specifier, number]`, `["definitions", specifier, number]` and `["leaves", specifier, number]`, behind their specifiers
 abbrev pub paths_question : Items → Option QuestionView
@@ -68,7 +46,7 @@ leaves_question items = option_map asks_leaves (one_symbol items)
 
 -- the form `["resolve", specifier, reference]`, behind its specifier
 abbrev pub resolve_question : Items → Option QuestionView
-resolve_question (item reference no_items) = option_map asks_resolve (reference_of reference)
+resolve_question (item reference no_items) = option_map asks_entries (reference_of reference)
 resolve_question _ = None
 
 -- the word of a mode
@@ -77,7 +55,7 @@ mode_named word = if bytes_eq word (codes "types") then Some TypesOnly else if b
 
 -- the form `["deps", specifier, number, mode]`, behind its specifier
 abbrev pub deps_question : Items → Option QuestionView
-deps_question (item symbol (item mode no_items)) = option_and_then (λ n. option_map (λ m. asks_table (asks_deps (record { 0 = n }) m)) (option_and_then mode_named (as_str mode))) (as_u32 symbol)
+deps_question (item symbol (item mode no_items)) = option_and_then (λ n. option_map (λ m. asks_deps (record { 0 = n }) m) (option_and_then mode_named (as_str mode))) (as_u32 symbol)
 deps_question _ = None
 
 -- the forms by their words

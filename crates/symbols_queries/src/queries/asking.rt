@@ -9,9 +9,10 @@ ghost use Rattle.symbols_root.specs.Roots.{widest};
 ghost use Rattle.symbols_exports.specs.Exporting.{specifier_in};
 ghost use Rattle.symbols_exports.specs.StarStatements.{changes_under};
 ghost use Rattle.symbols_paths.specs.Growing.{HasGrown};
-ghost use Rattle.symbols_queries.specs.Queries.{asks_exports, asks_name, asks_deps, asks_paths, asks_definitions, asks_leaves, asks_entries, query_view};
+ghost use Rattle.symbols_answers.specs.Questions.{asks_exports, asks_name, asks_deps, asks_paths, asks_definitions, asks_leaves, asks_entries};
+ghost use Rattle.symbols_answers.specs.QueryAnswers.{module_answer, query_answer};
+ghost use Rattle.symbols_queries.specs.Queries.{query_view};
 ghost use Rattle.symbols_queries.specs.AnswerViews.{answer_view};
-ghost use Rattle.symbols_queries.specs.QueryAnswers.{module_answer, query_answer};
 ghost use Rattle.symbols_queries.specs.QueryFaults.{IsQuestionFault, IsQueryFault, IsRunFault};
 
 use crate::queries::answers::Answer;

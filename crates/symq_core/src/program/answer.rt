@@ -8,14 +8,14 @@ ghost use Rattle.symbols_table.specs.QualifiedNames.{qualified_name};
 ghost use Rattle.symbols_root.specs.Roots.{widest};
 ghost use Rattle.symbols_exports.specs.Exporting.{specifier_in};
 ghost use Rattle.symbols_exports.specs.Ways.{exports_told, unresolved_told_in};
+ghost use Rattle.symbols_answers.specs.Answers.{tells_exports, tells_symbol, tells_name};
+ghost use Rattle.symbols_answers.specs.QueryAnswers.{told_of, query_answer};
 ghost use Rattle.symq_reader.specs.GraphText.{json_of};
 ghost use Rattle.symq_reader.specs.Plain.{data_of};
 ghost use Rattle.symq_core.specs.Queries.{query_of};
-ghost use Rattle.symq_core.specs.AnswerViews.{tells_exports, tells_symbol};
-ghost use Rattle.symq_core.specs.AnswerData.{answer_data};
-ghost use Rattle.symq_core.specs.Answers.{named_answer, query_answer, asked_answer};
+ghost use Rattle.symq_core.specs.AnswerData.{answer_data, found_data, asked_data};
 ghost use Rattle.symq_core.specs.AnswerTexts.{answer_text};
-ghost use Rattle.symq_core.specs.Answering.{table_question_view, query_view, TellsByTables};
+ghost use Rattle.symq_core.specs.Answering.{query_view, table_answer};
 ghost use Rattle.symq_core.specs.Telling.{Tells};
 
 use crate::program::dependencies::tell_deps;
@@ -60,7 +60,7 @@ fn tell_name(
     info: ModuleInfoRef<'_, '_>,
     symbol: SymbolId,
 ) -> Result<(), AllocError>
-    ensures { Tells result out.old out.new (answer_data (named_answer (symbol_in (lent_table info.entry) symbol) (qualified_name (symbol_in (lent_table info.entry)) symbol))) }
+    ensures { Tells result out.old out.new (found_data (told_of (symbol_in (lent_table info.entry) symbol) (tells_name (qualified_name (symbol_in (lent_table info.entry)) symbol)))) }
 {
     match info.fully_qualified_symbol_name(alloc, symbol) {
         Ok(Some(name)) => tell_text(out, "name", name.as_str()),
@@ -76,7 +76,7 @@ fn tell_info(
     info: ModuleInfoRef<'_, '_>,
     question: &TableQuestion,
 ) -> Result<(), AllocError>
-    ensures { TellsByTables result out.old out.new (table_question_view question.now) (lent_table info.entry) }
+    ensures { Tells result out.old out.new (found_data (table_answer question.now (lent_table info.entry))) }
 {
     match question {
         TableQuestion::Module => tell_text(out, "module", info.specifier()),
@@ -113,7 +113,7 @@ fn tell_query(
 ) -> Result<(), AllocError>
     requires { root.old.limits ≡ widest }
     ensures kept { (root.new.graph ≡ root.old.graph) × (root.new.limits ≡ root.old.limits) }
-    ensures value { Tells result out.old out.new (answer_data (query_answer root.old.graph (query_view query.now))) }
+    ensures value { Tells result out.old out.new (found_data (query_answer root.old.graph (query_view query.now))) }
 {
     let module_id = match root.module_from_specifier(query.specifier) {
         Ok(Some(module_id)) => module_id,
@@ -142,7 +142,7 @@ fn tell_asked(
 ) -> Result<(), AllocError>
     requires { root.old.limits ≡ widest }
     ensures kept { (root.new.graph ≡ root.old.graph) × (root.new.limits ≡ root.old.limits) }
-    ensures value { Tells result out.old out.new (answer_data (asked_answer root.old.graph (query_of (data_of value.now)))) }
+    ensures value { Tells result out.old out.new (asked_data root.old.graph (query_of (data_of value.now))) }
 {
     match read_query(alloc, value)? {
         Some(query) => tell_query(alloc, out, root, &query),
@@ -160,7 +160,7 @@ fn tell_line(
 ) -> Result<(), AllocError>
     requires { root.old.limits ≡ widest }
     ensures kept { (root.new.graph ≡ root.old.graph) × (root.new.limits ≡ root.old.limits) }
-    ensures value { Tells result out.old out.new (answer_data (asked_answer root.old.graph (option_and_then query_of (json_of line.now)))) }
+    ensures value { Tells result out.old out.new (asked_data root.old.graph (option_and_then query_of (json_of line.now))) }
 {
     let value = read_value(alloc, line, scratch)?;
     match &value {

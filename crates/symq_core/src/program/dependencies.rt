@@ -1,12 +1,13 @@
 //! What the declarations of a symbol depend on, as text.
 
 ghost use Rattle.std.specs.Prelude.{◌≡◌, map, string_bytes};
+ghost use Rattle.std.specs.Option.{option_map};
 ghost use Rattle.symbols_syntax.specs.Ids.{id_view};
 ghost use Rattle.symbols_nodes.specs.References.{id as by_id, qualified_id, import_type, reference_view, dependency_view};
 ghost use Rattle.symbols_table.specs.DeclViews.{decl_view, decl_dependencies};
 ghost use Rattle.symbols_table.specs.Modules.{lent_table, symbol_in};
-ghost use Rattle.symq_core.specs.AnswerData.{reference_data, namespace_words, dependency_data, dependencies_data, answer_data};
-ghost use Rattle.symq_core.specs.Answers.{deps_answer};
+ghost use Rattle.symbols_answers.specs.QueryAnswers.{dependencies_told};
+ghost use Rattle.symq_core.specs.AnswerData.{reference_data, namespace_words, dependency_data, dependencies_data, found_data};
 ghost use Rattle.symq_core.specs.Telling.{Tells, Adds, rest_tokens};
 
 use crate::program::telling::{tell_text, tell_texts};
@@ -145,7 +146,7 @@ pub(crate) fn tell_deps(
     symbol: SymbolId,
     mode: ResolveDepsMode,
 ) -> Result<(), AllocError>
-    ensures { Tells result out.old out.new (answer_data (deps_answer mode (symbol_in (lent_table info.entry) symbol))) }
+    ensures { Tells result out.old out.new (found_data (option_map (dependencies_told mode) (symbol_in (lent_table info.entry) symbol))) }
 {
     match info.symbol(symbol) {
         Some(symbol) => {

@@ -5,7 +5,7 @@ ghost use Rattle.symbols_exports.specs.Exporting.{specifier_in};
 ghost use Rattle.symbols_exports.specs.Paths.{resolved_export, statements_on};
 ghost use Rattle.symbols_exports.specs.Taking.{names_view, unresolved_told};
 ghost use Rattle.symbols_exports.specs.Told.{told_number, told_name};
-ghost use Rattle.symq_core.specs.AnswerViews.{tells_exports};
+ghost use Rattle.symbols_answers.specs.Answers.{tells_exports};
 ghost use Rattle.symq_core.specs.AnswerData.{statement_data, statements_data, entry_data, answer_data};
 ghost use Rattle.symq_core.specs.Telling.{Tells, Adds, rest_tokens};
 

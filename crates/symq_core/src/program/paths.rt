@@ -4,8 +4,9 @@ ghost use Rattle.std.specs.Prelude.{◌≡◌, ◌<◌, ◌∷◌, [], length};
 ghost use Rattle.json.specs.Token as token;
 ghost use Rattle.symbols_root.specs.Roots.{widest};
 ghost use Rattle.symbols_exports.specs.Exporting.{specifier_in};
-ghost use Rattle.symq_core.specs.AnswerData.{answer_data};
-ghost use Rattle.symq_core.specs.Answers.{paths_answer, definitions_answer, leaves_answer};
+ghost use Rattle.symbols_answers.specs.Questions.{asks_paths, asks_definitions, asks_leaves};
+ghost use Rattle.symbols_answers.specs.QueryAnswers.{module_answer};
+ghost use Rattle.symq_core.specs.AnswerData.{found_data};
 ghost use Rattle.symq_core.specs.Telling.{Adds, Tells};
 
 use crate::program::finding::{end_definitions, end_leaves, end_paths};
@@ -37,7 +38,7 @@ pub(crate) fn tell_paths(
     requires widest { root.old.limits ≡ widest }
     requires known { module_id.0 < length root.old.stored }
     ensures kept { (root.new.graph ≡ root.old.graph) × (root.new.limits ≡ root.old.limits) }
-    ensures value { Tells result out.old out.new (answer_data (paths_answer symbol root.old.graph (specifier_in root.old module_id))) }
+    ensures value { Tells result out.old out.new (found_data (module_answer root.old.graph (specifier_in root.old module_id) (asks_paths symbol))) }
 {
     match find_definition_paths(root, module_id, symbol) {
         Ok(paths) => {
@@ -59,7 +60,7 @@ pub(crate) fn tell_definitions(
     requires widest { root.old.limits ≡ widest }
     requires known { module_id.0 < length root.old.stored }
     ensures kept { (root.new.graph ≡ root.old.graph) × (root.new.limits ≡ root.old.limits) }
-    ensures value { Tells result out.old out.new (answer_data (definitions_answer symbol root.old.graph (specifier_in root.old module_id))) }
+    ensures value { Tells result out.old out.new (found_data (module_answer root.old.graph (specifier_in root.old module_id) (asks_definitions symbol))) }
 {
     match go_to_definitions(root, module_id, symbol) {
         Ok(definitions) => {
@@ -81,7 +82,7 @@ pub(crate) fn tell_leaves(
     requires widest { root.old.limits ≡ widest }
     requires known { module_id.0 < length root.old.stored }
     ensures kept { (root.new.graph ≡ root.old.graph) × (root.new.limits ≡ root.old.limits) }
-    ensures value { Tells result out.old out.new (answer_data (leaves_answer symbol root.old.graph (specifier_in root.old module_id))) }
+    ensures value { Tells result out.old out.new (found_data (module_answer root.old.graph (specifier_in root.old module_id) (asks_leaves symbol))) }
 {
     match go_to_definitions_or_unresolveds(root, module_id, symbol) {
         Ok(ends) => {

@@ -5,7 +5,7 @@ ghost use Rattle.symbols_nodes.specs.References.{reference_view};
 ghost use Rattle.symbols_root.specs.Roots.{widest};
 ghost use Rattle.symbols_exports.specs.Exporting.{specifier_in};
 ghost use Rattle.symbols_paths.specs.DepAnswers.{entry_told, entries_of};
-ghost use Rattle.symq_core.specs.AnswerViews.{tells_entries};
+ghost use Rattle.symbols_answers.specs.Answers.{tells_entries};
 ghost use Rattle.symq_core.specs.AnswerData.{answer_data};
 ghost use Rattle.symq_core.specs.PathData.{standing_data};
 ghost use Rattle.symq_core.specs.Telling.{Adds, Tells, rest_tokens};

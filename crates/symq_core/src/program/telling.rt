@@ -3,10 +3,9 @@
 ghost use Rattle.std.specs.Prelude.{[], ◌∷◌, map, decimal, string_bytes, OnOk, IfSome, IsSome};
 ghost use Rattle.json.specs.Token as token;
 ghost use Rattle.serde_json.specs.Data.{null, number, unsigned, string, object, no_members, member};
-ghost use Rattle.symq_core.specs.AnswerViews.{tells_fault};
-ghost use Rattle.symq_core.specs.AnswerData.{answer_data};
+ghost use Rattle.symq_core.specs.AnswerData.{fault_data};
 ghost use Rattle.symq_core.specs.TextsData.{texts_data};
-ghost use Rattle.symq_core.specs.Answering.{fault_view};
+ghost use Rattle.symq_core.specs.Answering.{fault_words};
 ghost use Rattle.symq_core.specs.Telling.{Adds, Tells};
 
 use json::Writer;
@@ -70,8 +69,8 @@ pub(crate) fn tell_texts(out: &mut Writer, texts: &[String]) -> Result<(), Alloc
 
 /// The answer where a call on symbols gave nothing, want of memory apart.
 pub(crate) fn tell_fault(out: &mut Writer, fault: &SymbolsFault) -> Result<(), AllocError>
-    ensures told { IfSome (fault_view fault.now) (λ told. Tells result out.old out.new (answer_data (tells_fault told))) }
-    ensures memory { OnOk result (IsSome (fault_view fault.now)) }
+    ensures told { IfSome (fault_words fault.now) (λ words. Tells result out.old out.new (fault_data words)) }
+    ensures memory { OnOk result (IsSome (fault_words fault.now)) }
 {
     match fault {
         SymbolsFault::OutOfMemory => Err(AllocError),

@@ -2,7 +2,7 @@ use Rattle.std.proofs.Common.{Result, Ok, Err, IfErr}
 use Rattle.symbols_table.specs.declared.info.fault.SymbolsFault.{SymbolsFault}
 use Rattle.symbols_exports.specs.Exporting.{specifier_in}
 use Rattle.symbols_paths.proofs.Growing.{grown_not}
-use Rattle.symbols_queries.specs.Queries.{asks_name, asks_deps}
+use Rattle.symbols_answers.specs.Questions.{asks_name, asks_deps}
 use Rattle.symbols_queries.proofs.Asking.{no_refusal}
 use Rattle.symbols_queries.proofs.queries.asking.answer_on.Goals as goal
 

@@ -2,9 +2,10 @@ use Rattle.std.proofs.Common.{ℕ, List, map, refl, ap, ◌∙◌}
 use Rattle.symbols_syntax.specs.Graph.{GraphView}
 use Rattle.symbols_exports.specs.Exporting.{specifier_in}
 use Rattle.symbols_paths.specs.Trees.{leaves_in, definitions_in}
-use Rattle.symbols_queries.specs.Queries.{asks_definitions}
-use Rattle.symbols_queries.specs.AnswerViews.{AnswerView, tells_definitions, defined_view}
-use Rattle.symbols_queries.specs.QueryAnswers.{paths_from}
+use Rattle.symbols_answers.specs.Questions.{asks_definitions}
+use Rattle.symbols_answers.specs.Answers.{tells_definitions}
+use Rattle.symbols_answers.specs.QueryAnswers.{paths_from}
+use Rattle.symbols_queries.specs.AnswerViews.{defined_view}
 use Rattle.symbols_queries.proofs.Asking.{memory_refused, found_told, refused_told, paths_enough}
 use Rattle.symbols_queries.proofs.queries.asking.definitions_answer.Goals as goal
 

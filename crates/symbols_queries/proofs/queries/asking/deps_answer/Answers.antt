@@ -1,7 +1,7 @@
 use Rattle.std.proofs.Common.{map}
 use Rattle.symbols_table.specs.Modules.{lent_table}
 use Rattle.symbols_exports.specs.Exporting.{specifier_in}
-use Rattle.symbols_queries.specs.Queries.{asks_deps}
+use Rattle.symbols_answers.specs.Questions.{asks_deps}
 use Rattle.symbols_queries.specs.AnswerViews.{deps_view}
 use Rattle.symbols_queries.proofs.Asking.{memory_refused, deps_answered, no_deps}
 use Rattle.symbols_queries.proofs.queries.asking.deps_answer.Goals as goal

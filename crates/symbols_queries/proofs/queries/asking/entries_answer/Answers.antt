@@ -1,8 +1,8 @@
 use Rattle.std.proofs.Common.{Some, sym, ap, ◌∙◌}
 use Rattle.symbols_nodes.specs.References.{reference_view}
 use Rattle.symbols_exports.specs.Exporting.{specifier_in}
-use Rattle.symbols_queries.specs.Queries.{asks_entries}
-use Rattle.symbols_queries.specs.AnswerViews.{tells_entries}
+use Rattle.symbols_answers.specs.Questions.{asks_entries}
+use Rattle.symbols_answers.specs.Answers.{tells_entries}
 use Rattle.symbols_queries.proofs.Asking.{memory_refused, entries_refused}
 use Rattle.symbols_queries.proofs.queries.asking.entries_answer.Goals as goal
 

@@ -1,7 +1,7 @@
 use Rattle.std.proofs.Common.{map}
 use Rattle.symbols_exports.specs.Exporting.{specifier_in}
 use Rattle.symbols_exports.specs.Taking.{names_view, unresolved_told}
-use Rattle.symbols_queries.specs.Queries.{asks_exports}
+use Rattle.symbols_answers.specs.Questions.{asks_exports}
 use Rattle.symbols_queries.specs.AnswerViews.{statement_view, export_view}
 use Rattle.symbols_queries.proofs.Asking.{memory_refused, grown_exports, grown_broken, exports_answered, exports_refused}
 use Rattle.symbols_queries.proofs.queries.asking.exports_answer.Goals as goal

@@ -1,9 +1,10 @@
-use Rattle.std.proofs.Common.{ℕ, List, map, refl, ap, ◌∙◌}
+use Rattle.std.proofs.Common.{ℕ, List, refl, ap, ◌∙◌}
 use Rattle.symbols_syntax.specs.Graph.{GraphView}
 use Rattle.symbols_exports.specs.Exporting.{specifier_in}
-use Rattle.symbols_queries.specs.Queries.{asks_paths}
-use Rattle.symbols_queries.specs.AnswerViews.{AnswerView, tells_paths, forest_view}
-use Rattle.symbols_queries.specs.QueryAnswers.{paths_from}
+use Rattle.symbols_answers.specs.Questions.{asks_paths}
+use Rattle.symbols_answers.specs.Answers.{tells_paths}
+use Rattle.symbols_answers.specs.QueryAnswers.{paths_from}
+use Rattle.symbols_queries.specs.AnswerViews.{forest_view}
 use Rattle.symbols_queries.proofs.Asking.{memory_refused, found_told, refused_told, paths_enough}
 use Rattle.symbols_queries.proofs.queries.asking.paths_answer.Goals as goal
 

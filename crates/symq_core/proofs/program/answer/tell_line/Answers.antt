@@ -4,9 +4,9 @@ use Rattle.serde_json.specs.Data.{Data}
 use Rattle.symq_reader.specs.GraphText.{json_of}
 use Rattle.symq_reader.specs.Lists.{has_lists_only}
 use Rattle.symq_reader.specs.Plain.{data_of}
-use Rattle.symq_core.specs.AnswerData.{answer_data}
-use Rattle.symq_core.specs.Answers.{asked_answer}
-use Rattle.symq_core.specs.Queries.{QueryView, query_of}
+use Rattle.symbols_answers.specs.Questions.{QueryView}
+use Rattle.symq_core.specs.AnswerData.{asked_data}
+use Rattle.symq_core.specs.Queries.{query_of}
 use Rattle.symq_core.specs.Telling.{Tells}
 use Rattle.symq_core.proofs.Listed.{no_query}
 use Rattle.symq_core.proofs.program.answer.tell_line.Goals as goal
@@ -14,9 +14,9 @@ use Rattle.symq_core.proofs.program.answer.tell_line.Goals as goal
 pub returns-in-Some-clause-value : goal.returns-in-Some-clause-value
 returns-in-Some-clause-value c =
     let is : json_of c.args.line.now ≡ Some (data_of c.in-Some.value) = search rules in
-    subst (λ (o : Option Data). Tells c.tell_asked.result c.args.out.now c.tell_asked.new.out (answer_data (asked_answer c.args.root.now.graph (option_and_then query_of o)))) (sym is) c.tell_asked.ensures.value
+    subst (λ (o : Option Data). Tells c.tell_asked.result c.args.out.now c.tell_asked.new.out (asked_data c.args.root.now.graph (option_and_then query_of o))) (sym is) c.tell_asked.ensures.value
 
 pub returns-clause-value : goal.returns-clause-value
 returns-clause-value c =
     let others : IfSome (json_of c.args.line.now) (λ d. has_lists_only d ≡ false) = search rules in
-    subst (λ (q : Option QueryView). Tells c.tell_text.result c.args.out.now c.tell_text.new.out (answer_data (asked_answer c.args.root.now.graph q))) (sym (no_query (json_of c.args.line.now) others)) c.tell_text.ensures
+    subst (λ (q : Option QueryView). Tells c.tell_text.result c.args.out.now c.tell_text.new.out (asked_data c.args.root.now.graph q)) (sym (no_query (json_of c.args.line.now) others)) c.tell_text.ensures

@@ -2,7 +2,7 @@ use Rattle.std.proofs.Common.{List, subst}
 use Rattle.std.proofs.lemmas.Result.{on_ok_weaker}
 use Rattle.std.specs.Prelude.{map}
 use Rattle.symbols_paths.specs.DepAnswers.{EntryView, entry_told}
-use Rattle.symq_core.specs.AnswerViews.{tells_entries}
+use Rattle.symbols_answers.specs.Answers.{tells_entries}
 use Rattle.symq_core.specs.AnswerData.{answer_data}
 use Rattle.symq_core.specs.Telling.{Tells}
 use Rattle.symq_core.proofs.Texts.{then}

@@ -14,8 +14,8 @@ use Rattle.symbols_exports.specs.Ways.{exports_told, unresolved_told_in}
 use Rattle.symbols_paths.specs.Trees.{Forest, leaves_in, definitions_in}
 use Rattle.symbols_paths.specs.Computed.{paths_of}
 use Rattle.symbols_paths.specs.DepAnswers.{entries_of}
-use Rattle.symbols_queries.specs.Queries.{QuestionView, asks_module, asks_exports, asks_symbol, asks_name, asks_deps, asks_paths, asks_definitions, asks_leaves, asks_entries, QueryView}
-use Rattle.symbols_queries.specs.AnswerViews.{AnswerView, tells_nothing, tells_module, tells_exports, tells_symbol, tells_name, tells_deps, tells_paths, tells_definitions, tells_leaves, tells_entries}
+use Rattle.symbols_answers.specs.Questions.{QuestionView, asks_module, asks_exports, asks_symbol, asks_name, asks_deps, asks_paths, asks_definitions, asks_leaves, asks_entries, QueryView}
+use Rattle.symbols_answers.specs.Answers.{AnswerView, tells_nothing, tells_module, tells_exports, tells_symbol, tells_name, tells_deps, tells_paths, tells_definitions, tells_leaves, tells_entries}
 
 -- a symbol of the module of this specifier
 abbrev pub symbol_under : GraphView → List ℕ → SymbolId → Option SymbolView

@@ -6,21 +6,10 @@ use Rattle.symbols_exports.specs.Told.{ToldExport, ToldStatement}
 use Rattle.symbols_paths.specs.Trees.{Defined, Leaf, Forest}
 use Rattle.symbols_paths.specs.DepAnswers.{EntryView}
 
--- why a line has no other answer
-pub data AnswerFault : Type 0 where
-  bad_query : AnswerFault
-  too_many_modules : AnswerFault
-  too_many_symbols : AnswerFault
-  unknown_module : AnswerFault
-  unknown_symbol : AnswerFault
-
--- nothing, where the specifier stands for no module; which module it stands for; why there is no other answer; what is exported, and the statements `export *` that
--- lead to no module; which symbol a name stands for, if any; what a symbol is called in full, if it has a name; what each declaration of a
--- symbol depends on; the paths to where a symbol is defined; the definitions at their ends; all their ends; and what a reference stands for
+-- nothing, where the specifier stands for no module; which module it stands for; what is exported, and the statements `export *` that lead to no module; which symbol a name stands for, if any; what a symbol is called in full, if it has a name; what each declaration of a symbol depends on; the paths to what a symbol is defined by; the definitions at their ends; all their ends; and what a reference stands for
 pub data AnswerView : Type 0 where
   tells_nothing : AnswerView
   tells_module : List ℕ → AnswerView
-  tells_fault : AnswerFault → AnswerView
   tells_exports : List ToldExport → List ToldStatement → AnswerView
   tells_symbol : Option SymbolId → AnswerView
   tells_name : Option (List ℕ) → AnswerView
