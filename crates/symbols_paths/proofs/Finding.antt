@@ -6,24 +6,24 @@ use Rattle.std.specs.List.{IsDistinct, list_any, position_or_len}
 use Rattle.std.specs.Str.{bytes_eq}
 use Rattle.std.proofs.lemmas.List.{length-append}
 use Rattle.indexmap.specs.IndexSet.{insert_key}
-use Rattle.symbols_syntax.specs.declared.ids.ModuleId.{ModuleId}
 use Rattle.symbols_syntax.specs.declared.ids.UniqueSymbolId.{UniqueSymbolId}
 use Rattle.symbols_table.specs.DeclViews.{Declaration}
 use Rattle.symbols_root.specs.Roots.{RootView}
-use Rattle.symbols_exports.specs.Exporting.{specifier_in}
 use Rattle.symbols_paths.specs.declared.paths.leads.Lead.{Lead as ReadLead}
-use Rattle.symbols_paths.specs.declared.paths.node.DefinitionPathNode.{DefinitionPathNode}
 use Rattle.symbols_paths.specs.declared.paths.resolving.AliasDecl.{AliasDecl}
-use Rattle.symbols_paths.specs.Trees.{NamedSymbol, Forest, none, join}
-use Rattle.symbols_paths.specs.Leads.{Lead, leads_of, lead_of, declarations_of}
+use Rattle.symbols_paths.specs.declared.paths.trail.Trail.{Trail}
+use Rattle.symbols_paths.specs.Trees.{NamedSymbol, none, join}
+use Rattle.symbols_paths.specs.Leads.{leads_of, lead_of, declarations_of}
 use Rattle.symbols_paths.specs.PartWays.{links_of}
-use Rattle.symbols_paths.specs.Choice.{is_met, Finds, was_met, Follows}
+use Rattle.symbols_paths.specs.Choice.{is_met, was_met}
 use Rattle.symbols_paths.specs.Computed.{enough}
 use Rattle.symbols_paths.specs.Growing.{HasGrown}
-use Rattle.symbols_paths.specs.Views.{named, forest_told, forest_of_option, tree_told, modules_of, modules_in, AreStored}
+use Rattle.symbols_paths.specs.Views.{named, AreStored}
+use Rattle.symbols_paths.specs.Trails.{trails_told, trails_of_option, modules_of_trail, modules_of_trails}
 use Rattle.symbols_paths.specs.Searching.{AreNumbered, met_told, running_told, HasSearched, IsFound, IsFollowed, IsRead, lead_told}
 use Rattle.symbols_paths.proofs.Growing.{grown_not, grown_on, same_specifier, still_stored, still_numbered, all_still_stored}
-use Rattle.symbols_paths.proofs.Told.{forest_with, modules_with, stored_both}
+use Rattle.symbols_paths.proofs.Told.{stored_both}
+use Rattle.symbols_paths.proofs.Trailing.{told_with_trail, modules_with_trail}
 use Rattle.symbols_paths.proofs.Loops.{join_none, IsExpanding, expanding_first, expanding_next, expanding_last}
 use Rattle.symbols_paths.proofs.SearchSteps.{is_symbol, met_by_name, told_with, numbered_with}
 
@@ -70,15 +70,15 @@ module _ (root : RootView) (once : IsDistinct bytes_eq root.stored) (running : L
 -- ---- the loop
 
 -- before the declaration at the index
-pub record IsFinding (old : RootView) (running : List AliasDecl) (begun : List UniqueSymbolId) (symbol : UniqueSymbolId) (root : RootView) (now : List AliasDecl) (index : ℕ) (met : List UniqueSymbolId) (paths : List DefinitionPathNode) : Type 0 where
+pub record IsFinding (old : RootView) (running : List AliasDecl) (begun : List UniqueSymbolId) (symbol : UniqueSymbolId) (root : RootView) (now : List AliasDecl) (index : ℕ) (met : List UniqueSymbolId) (paths : List Trail) : Type 0 where
   pub grown : HasGrown old root
   pub same : now ≡ running
   pub fresh : list_any (is_symbol symbol) begun ≡ false
   pub numbered : AreNumbered root met
   pub longer : length begun + 1 ≤ length met
   pub few : length met ≤ 2 ^ 64
-  pub stored : AreStored root (modules_in paths)
-  pub told : (later : RootView) → HasGrown root later → IsExpanding (links_of later.graph) enough (running_told later running) (met_told later begun) (named later symbol) index (met_told later met) (forest_told later paths)
+  pub stored : AreStored root (modules_of_trails paths)
+  pub told : (later : RootView) → HasGrown root later → IsExpanding (links_of later.graph) enough (running_told later running) (met_told later begun) (named later symbol) index (met_told later met) (trails_told later paths)
 
 pub finding_first : (root : RootView) (running : List AliasDecl) (begun : List UniqueSymbolId) (symbol : UniqueSymbolId) → AreNumbered root begun → symbol.module_id.0 < length root.stored → list_any (is_symbol symbol) begun ≡ false → length begun < 2 ^ 64 → IsFinding root running begun symbol root running 0 (begun ++ symbol ∷ []) []
 finding_first root running begun symbol numbered within fresh few = record {
@@ -131,11 +131,11 @@ index_within {graph = graph} {s = s} {index = index} read = by (declarations_of 
 pub stands_among : {graph : _} {s : NamedSymbol} {index : ℕ} {lead : ReadLead} (read : IsRead graph s index lead) → Contains (declarations_of graph s) read.decl
 stands_among {graph = graph} {s = s} {index = index} read = (index, index_within read, get_or_from_slice_get (declarations_of graph s) index read.decl read.decl read.stands)
 
-module _ {old : RootView} {running : List AliasDecl} {begun : List UniqueSymbolId} {symbol : UniqueSymbolId} {root : RootView} {now : List AliasDecl} {index : ℕ} {met : List UniqueSymbolId} {paths : List DefinitionPathNode} (is : IsFinding old running begun symbol root now index met paths) (known : symbol.module_id.0 < length old.stored) where
+module _ {old : RootView} {running : List AliasDecl} {begun : List UniqueSymbolId} {symbol : UniqueSymbolId} {root : RootView} {now : List AliasDecl} {index : ℕ} {met : List UniqueSymbolId} {paths : List Trail} (is : IsFinding old running begun symbol root now index met paths) (known : symbol.module_id.0 < length old.stored) where
   pub now_within : symbol.module_id.0 < length root.stored
   now_within = still_stored is.grown symbol.module_id.0 known
 
-  told_next : {after : RootView} (mid : List UniqueSymbolId) (lead : ReadLead) → IsRead root.graph (named root symbol) index lead → HasGrown root after → (path : Option DefinitionPathNode) → IsFollowed after now met symbol index lead path mid → (later : RootView) → HasGrown after later → IsExpanding (links_of later.graph) enough (running_told later running) (met_told later begun) (named later symbol) (index + 1) (met_told later mid) (join (forest_told later paths) (forest_of_option later path))
+  told_next : {after : RootView} (mid : List UniqueSymbolId) (lead : ReadLead) → IsRead root.graph (named root symbol) index lead → HasGrown root after → (path : Option Trail) → IsFollowed after now met symbol index lead path mid → (later : RootView) → HasGrown after later → IsExpanding (links_of later.graph) enough (running_told later running) (met_told later begun) (named later symbol) (index + 1) (met_told later mid) (join (trails_told later paths) (trails_of_option later path))
   told_next {after = after} mid lead read kept path followed later grown =
       let whole = grown_on kept grown in
       expanding_next (links_of later.graph) enough (running_told later running) (lead_told later.graph (named later symbol) lead) (is.told later whole) (stands_told later.graph (named later symbol) index lead (read_later whole symbol now_within index lead read)) (subst (λ r. IsFollowed after r met symbol index lead path mid) is.same followed later grown)
@@ -148,11 +148,11 @@ module _ {old : RootView} {running : List AliasDecl} {begun : List UniqueSymbolI
     numbered = searched.numbered;
     longer = omega (arith, is.longer, searched.longer);
     few = searched.few is.few;
-    stored = all_still_stored kept (modules_in paths) is.stored;
-    told = λ later grown. subst (λ f. IsExpanding (links_of later.graph) enough (running_told later running) (met_told later begun) (named later symbol) (index + 1) (met_told later mid) f) (join_none (forest_told later paths)) (told_next mid lead read kept None followed later grown);
+    stored = all_still_stored kept (modules_of_trails paths) is.stored;
+    told = λ later grown. subst (λ f. IsExpanding (links_of later.graph) enough (running_told later running) (met_told later begun) (named later symbol) (index + 1) (met_told later mid) f) (join_none (trails_told later paths)) (told_next mid lead read kept None followed later grown);
   }
 
-  pub finding_more : {after : RootView} {mid : List UniqueSymbolId} (lead : ReadLead) → IsRead root.graph (named root symbol) index lead → HasGrown root after → (path : DefinitionPathNode) → IsFollowed after now met symbol index lead (Some path) mid → (onward : List AliasDecl) → onward ≡ now → HasSearched after met mid (modules_in (path ∷ [])) → IsFinding old running begun symbol after onward (index + 1) mid (paths ++ path ∷ [])
+  pub finding_more : {after : RootView} {mid : List UniqueSymbolId} (lead : ReadLead) → IsRead root.graph (named root symbol) index lead → HasGrown root after → (path : Trail) → IsFollowed after now met symbol index lead (Some path) mid → (onward : List AliasDecl) → onward ≡ now → HasSearched after met mid (modules_of_trails (path ∷ [])) → IsFinding old running begun symbol after onward (index + 1) mid (paths ++ path ∷ [])
   finding_more {after = after} {mid = mid} lead read kept path followed onward on searched = record {
     grown = grown_on is.grown kept;
     same = on ∙ is.same;
@@ -160,11 +160,11 @@ module _ {old : RootView} {running : List AliasDecl} {begun : List UniqueSymbolI
     numbered = searched.numbered;
     longer = omega (arith, is.longer, searched.longer);
     few = searched.few is.few;
-    stored = subst (AreStored after) (sym (modules_with paths path)) (stored_both after (modules_in paths) (modules_of path) (all_still_stored kept (modules_in paths) is.stored) (subst (AreStored after) (append-nil (modules_of path)) searched.stored));
-    told = λ later grown. subst (λ f. IsExpanding (links_of later.graph) enough (running_told later running) (met_told later begun) (named later symbol) (index + 1) (met_told later mid) f) (sym (forest_with later paths path)) (told_next mid lead read kept (Some path) followed later grown);
+    stored = subst (AreStored after) (sym (modules_with_trail paths path)) (stored_both after (modules_of_trails paths) (modules_of_trail path) (all_still_stored kept (modules_of_trails paths) is.stored) (subst (AreStored after) (append-nil (modules_of_trail path)) searched.stored));
+    told = λ later grown. subst (λ f. IsExpanding (links_of later.graph) enough (running_told later running) (met_told later begun) (named later symbol) (index + 1) (met_told later mid) f) (sym (told_with_trail later paths path)) (told_next mid lead read kept (Some path) followed later grown);
   }
 
-  pub finding_next : {after : RootView} {mid : List UniqueSymbolId} (lead : ReadLead) → IsRead root.graph (named root symbol) index lead → HasGrown root after → (path : Option DefinitionPathNode) → IsFollowed after now met symbol index lead path mid → (onward : List AliasDecl) → onward ≡ now → HasSearched after met mid (modules_in (option_to_list path)) → IsFinding old running begun symbol after onward (index + 1) mid (paths ++ option_to_list path)
+  pub finding_next : {after : RootView} {mid : List UniqueSymbolId} (lead : ReadLead) → IsRead root.graph (named root symbol) index lead → HasGrown root after → (path : Option Trail) → IsFollowed after now met symbol index lead path mid → (onward : List AliasDecl) → onward ≡ now → HasSearched after met mid (modules_of_trails (option_to_list path)) → IsFinding old running begun symbol after onward (index + 1) mid (paths ++ option_to_list path)
   finding_next {after = after} {mid = mid} lead read kept None followed onward on searched = subst (λ ps. IsFinding old running begun symbol after onward (index + 1) mid ps) (sym (append-nil paths)) (finding_on lead read kept followed onward on searched)
   finding_next lead read kept (Some path) followed onward on searched = finding_more lead read kept path followed onward on searched
 
@@ -177,7 +177,7 @@ module _ {old : RootView} {running : List AliasDecl} {begun : List UniqueSymbolI
       let fresh = sym (later_met root (is.grown.once once) running begun symbol (still_numbered is.grown begun numbered) now_within later grown) ∙ is.fresh in
       expanding_last (links_of later.graph) enough (running_told later running) (is.told later grown) fresh (past_later grown symbol now_within index past)
 
-  pub finding_searched : HasSearched root begun met (modules_in paths)
+  pub finding_searched : HasSearched root begun met (modules_of_trails paths)
   finding_searched = record { numbered = is.numbered; longer = omega (arith, is.longer); few = λ h. is.few; stored = is.stored }
 
 -- ---- how much is left to be done

@@ -1,6 +1,6 @@
 -- What a declaration that leads on comes to, as later roots tell it.
-use Rattle.std.proofs.Common.{◌≡◌, ℕ, zero, suc, ◌+◌, ◌<◌, ◌≤◌, ◌^◌, List, [], ◌∷◌, ◌++◌, length, map, Option, None, Some, option_map, option_to_list, refl, sym, ap, subst, ◌∙◌, arith, slice_get, append-nil}
-use Rattle.std.specs.Prelude.{Contains, IfSome, Vec}
+use Rattle.std.proofs.Common.{◌≡◌, ℕ, ◌<◌, List, [], ◌∷◌, length, Option, None, Some, option_to_list, refl, sym, ap, subst, ◌∙◌, arith, append-nil}
+use Rattle.std.specs.Prelude.{IfSome, Vec}
 use Rattle.std.specs.Global.{Global}
 use Rattle.std.specs.Borrow.{Bor}
 use Rattle.symbols_syntax.specs.declared.ids.ModuleId.{ModuleId}
@@ -13,22 +13,22 @@ use Rattle.symbols_syntax.specs.Ids.{IdView, id_view}
 use Rattle.symbols_root.specs.Roots.{RootView}
 use Rattle.symbols_exports.specs.Exporting.{specifier_in}
 use Rattle.symbols_exports.specs.StarStatements.{text_target}
-use Rattle.symbols_paths.specs.declared.paths.definition.DeclRef.{DeclRef}
 use Rattle.symbols_paths.specs.declared.paths.definition.DefinitionKind.{DefinitionKind}
 use Rattle.symbols_paths.specs.declared.paths.leads.Lead.TheVariants as read
 use Rattle.symbols_paths.specs.declared.paths.leads.NamedImport.{NamedImport}
-use Rattle.symbols_paths.specs.declared.paths.node.DefinitionPathNode.{DefinitionPathNode}
 use Rattle.symbols_paths.specs.declared.paths.resolving.AliasDecl.{AliasDecl}
-use Rattle.symbols_paths.specs.Trees.{NamedSymbol, NamedDecl, Parts, Missing, no_symbol, definition, LinkHead, Tree, Forest, leaf, none, more, one, join, link_to}
-use Rattle.symbols_paths.specs.Leads.{Ways, Lead, defines, leads, alias, nowhere, to_missing, target_ways, import_ways, ways_into, own_export}
+use Rattle.symbols_paths.specs.declared.paths.trail.Trail.{Trail}
+use Rattle.symbols_paths.specs.Trees.{NamedSymbol, NamedDecl, Parts, no_symbol, definition, Forest, leaf, none, more, one, link_to}
+use Rattle.symbols_paths.specs.Leads.{Ways, defines, leads, alias, nowhere, to_missing, target_ways, import_ways, ways_into, own_export}
 use Rattle.symbols_paths.specs.PartWays.{Links, links_of}
-use Rattle.symbols_paths.specs.Derived.{decl_at, defined_at, head_at, alias_head}
+use Rattle.symbols_paths.specs.Derived.{decl_at, head_at, alias_head}
 use Rattle.symbols_paths.specs.Choice.{Finds, Follows, by_itself, by_ways, by_running, by_alias, Tries, no_more, first_with, passes, missing_in}
 use Rattle.symbols_paths.specs.Computed.{enough}
 use Rattle.symbols_paths.specs.Growing.{HasGrown}
-use Rattle.symbols_paths.specs.Views.{named, named_in, decl_told, texts_in, star_of, tree_told, forest_told, forest_of_option, modules_of, modules_in, AreStored}
+use Rattle.symbols_paths.specs.Views.{named, named_in, decl_told, texts_in, star_of, AreStored}
+use Rattle.symbols_paths.specs.Trails.{trail_told, trails_told, trails_of_option, modules_of_trail, modules_of_trails}
 use Rattle.symbols_paths.specs.Searching.{met_told, running_told, Resolves, while_running, by_walk, IsFound, IsFollowed, IsTried, IsResolved, ways_of_import, ways_along}
-use Rattle.symbols_paths.proofs.Growing.{grown_on, same_specifier, all_still_stored}
+use Rattle.symbols_paths.proofs.Growing.{grown_on, same_specifier}
 
 -- one candidate alone
 pub tries_one : {links : Links} {limit : ℕ} {running : List NamedDecl} {met after : List NamedSymbol} {c : NamedSymbol} (f : Forest) → Finds links limit running met c f after → Tries links limit running met (c ∷ []) None f after
@@ -40,15 +40,15 @@ tries_one (more t f) x = first_with x
 abbrev pub unmapped_ways : NamedSymbol → IdView → Parts → Ways
 unmapped_ways s id parts = to_missing s parts (record { specifier = s.specifier; reason = no_symbol id; parts = parts })
 
-pub followed_itself : (root : RootView) (running : List AliasDecl) (met : List UniqueSymbolId) (symbol : UniqueSymbolId) (index : ℕ) (kind : DefinitionKind) (range : SourceRange) (path : DefinitionPathNode) → ((later : RootView) → tree_told later path ≡ leaf (definition (record { decl = decl_told later symbol.module_id (record { symbol = symbol.symbol_id; index = index }); range = range; star = star_of kind }))) → IsFollowed root running met symbol index (read.Defines kind range) (Some path) met
+pub followed_itself : (root : RootView) (running : List AliasDecl) (met : List UniqueSymbolId) (symbol : UniqueSymbolId) (index : ℕ) (kind : DefinitionKind) (range : SourceRange) (path : Trail) → ((later : RootView) → trail_told later path ≡ one (leaf (definition (record { decl = decl_told later symbol.module_id (record { symbol = symbol.symbol_id; index = index }); range = range; star = star_of kind })))) → IsFollowed root running met symbol index (read.Defines kind range) (Some path) met
 followed_itself root running met symbol index kind range path told = λ later grown.
-    subst (λ t. Follows (links_of later.graph) enough (running_told later running) (met_told later met) (named later symbol) index (defines range (star_of kind)) (one t) (met_told later met)) (sym (told later)) by_itself
+    subst (λ f. Follows (links_of later.graph) enough (running_told later running) (met_told later met) (named later symbol) index (defines range (star_of kind)) f (met_told later met)) (sym (told later)) by_itself
 
 pub followed_nowhere : (root : RootView) (running : List AliasDecl) (met : List UniqueSymbolId) (symbol : UniqueSymbolId) (index : ℕ) → IsFollowed root running met symbol index read.Nowhere None met
 followed_nowhere root running met symbol index = λ later grown. by_ways {ways = nowhere (named later symbol)} no_more
 
 -- an unresolved name with parts behind it
-pub followed_unmapped : (root : RootView) (running : List AliasDecl) (met : List UniqueSymbolId) (symbol : UniqueSymbolId) (index : ℕ) (id : Bor Id) (parts : Vec (Bor (List ℕ)) Global) (path : DefinitionPathNode) → ((later : RootView) → forest_of_option later (Some path) ≡ link_to (head_at (named later symbol) index (unmapped_ways (named later symbol) (id_view id.now) (texts_in parts.items))) (missing_in (unmapped_ways (named later symbol) (id_view id.now) (texts_in parts.items)).otherwise)) → IsFollowed root running met symbol index (read.Unmapped id parts) (Some path) met
+pub followed_unmapped : (root : RootView) (running : List AliasDecl) (met : List UniqueSymbolId) (symbol : UniqueSymbolId) (index : ℕ) (id : Bor Id) (parts : Vec (Bor (List ℕ)) Global) (path : Option Trail) → ((later : RootView) → trails_of_option later path ≡ link_to (head_at (named later symbol) index (unmapped_ways (named later symbol) (id_view id.now) (texts_in parts.items))) (missing_in (unmapped_ways (named later symbol) (id_view id.now) (texts_in parts.items)).otherwise)) → IsFollowed root running met symbol index (read.Unmapped id parts) path met
 followed_unmapped root running met symbol index id parts path told = λ later grown.
     let ways = unmapped_ways (named later symbol) (id_view id.now) (texts_in parts.items) in
     subst (λ f. Follows (links_of later.graph) enough (running_told later running) (met_told later met) (named later symbol) index (leads ways) f (met_told later met)) (sym (told later)) (by_ways {ways = ways} no_more)
@@ -58,27 +58,27 @@ follows_alias : {links : Links} {limit : ℕ} {running : List NamedDecl} {met : 
 follows_alias (while_running e) = by_running e
 follows_alias (by_walk e few fits x) = by_alias e few fits x
 
-pub followed_alias : (root : RootView) (running : List AliasDecl) (met : List UniqueSymbolId) (symbol target : UniqueSymbolId) (t : SymbolId) (index : ℕ) (parts : Vec (Bor (List ℕ)) Global) (next : List DefinitionPathNode) (path : Option DefinitionPathNode) → target.module_id ≡ symbol.module_id → target.symbol_id ≡ t → IsResolved root running (record { «module» = symbol.module_id; decl = record { symbol = symbol.symbol_id; index = index } }) target parts.items next → ((later : RootView) → forest_of_option later path ≡ link_to (record { symbol = named later symbol; decl = decl_told later symbol.module_id (record { symbol = symbol.symbol_id; index = index }); parts = texts_in parts.items }) (forest_told later next)) → IsFollowed root running met symbol index (read.Alias t parts) path met
+pub followed_alias : (root : RootView) (running : List AliasDecl) (met : List UniqueSymbolId) (symbol target : UniqueSymbolId) (t : SymbolId) (index : ℕ) (parts : Vec (Bor (List ℕ)) Global) (next : List Trail) (path : Option Trail) → target.module_id ≡ symbol.module_id → target.symbol_id ≡ t → IsResolved root running (record { «module» = symbol.module_id; decl = record { symbol = symbol.symbol_id; index = index } }) target parts.items next → ((later : RootView) → trails_of_option later path ≡ link_to (record { symbol = named later symbol; decl = decl_told later symbol.module_id (record { symbol = symbol.symbol_id; index = index }); parts = texts_in parts.items }) (trails_told later next)) → IsFollowed root running met symbol index (read.Alias t parts) path met
 followed_alias root running met symbol target t index parts next path in_module number resolved told = λ later grown.
     let same : target ≡ record { module_id = symbol.module_id; symbol_id = t } = (λ i. record { module_id = in_module i; symbol_id = number i }) in
     let s = named later symbol in
-    let to : Resolves (links_of later.graph) enough (running_told later running) (decl_at s index) (named_in later symbol.module_id t) (texts_in parts.items) (forest_told later next) = subst (λ (u : UniqueSymbolId). Resolves (links_of later.graph) enough (running_told later running) (decl_at s index) (named later u) (texts_in parts.items) (forest_told later next)) same (resolved later grown) in
+    let to : Resolves (links_of later.graph) enough (running_told later running) (decl_at s index) (named_in later symbol.module_id t) (texts_in parts.items) (trails_told later next) = subst (λ (u : UniqueSymbolId). Resolves (links_of later.graph) enough (running_told later running) (decl_at s index) (named later u) (texts_in parts.items) (trails_told later next)) same (resolved later grown) in
     subst (λ f. Follows (links_of later.graph) enough (running_told later running) (met_told later met) s index (alias (named_in later symbol.module_id t) (texts_in parts.items)) f (met_told later met)) (sym (told later)) (follows_alias to)
 
 -- what is stored of a path, if there is one
-pub option_stored : (root : RootView) (path : Option DefinitionPathNode) → IfSome path (λ p. AreStored root (modules_of p)) → AreStored root (modules_in (option_to_list path))
+pub option_stored : (root : RootView) (path : Option Trail) → IfSome path (λ p. AreStored root (modules_of_trail p)) → AreStored root (modules_of_trails (option_to_list path))
 option_stored root None h = λ k d within. absurd (omega (arith, within))
-option_stored root (Some path) h = subst (AreStored root) (sym (append-nil (modules_of path))) h
+option_stored root (Some path) h = subst (AreStored root) (sym (append-nil (modules_of_trail path))) h
 
 -- ---- along another name of the module
 
-pub followed_target : (root : RootView) (running : List AliasDecl) (met after : List UniqueSymbolId) (symbol target : UniqueSymbolId) (t : SymbolId) (index : ℕ) (next : List DefinitionPathNode) (path : Option DefinitionPathNode) → target.module_id ≡ symbol.module_id → target.symbol_id ≡ t → IsFound root running met target next after → ((later : RootView) → forest_of_option later path ≡ link_to (record { symbol = named later target; decl = decl_told later target.module_id (record { symbol = symbol.symbol_id; index = index }); parts = [] }) (forest_told later next)) → IsFollowed root running met symbol index (read.Target t) path after
+pub followed_target : (root : RootView) (running : List AliasDecl) (met after : List UniqueSymbolId) (symbol target : UniqueSymbolId) (t : SymbolId) (index : ℕ) (next : List Trail) (path : Option Trail) → target.module_id ≡ symbol.module_id → target.symbol_id ≡ t → IsFound root running met target next after → ((later : RootView) → trails_of_option later path ≡ link_to (record { symbol = named later target; decl = decl_told later target.module_id (record { symbol = symbol.symbol_id; index = index }); parts = [] }) (trails_told later next)) → IsFollowed root running met symbol index (read.Target t) path after
 followed_target root running met after symbol target t index next path in_module number found told = λ later grown.
     let same : target ≡ record { module_id = symbol.module_id; symbol_id = t } = (λ i. record { module_id = in_module i; symbol_id = number i }) in
     let s = named later symbol in
-    let to : Finds (links_of later.graph) enough (running_told later running) (met_told later met) (named_in later symbol.module_id t) (forest_told later next) (met_told later after) = subst (λ (u : UniqueSymbolId). Finds (links_of later.graph) enough (running_told later running) (met_told later met) (named later u) (forest_told later next) (met_told later after)) same (found later grown) in
-    let is : forest_of_option later path ≡ link_to (head_at s index (target_ways s (Some t))) (forest_told later next) = told later ∙ ap (λ (u : UniqueSymbolId). link_to (record { symbol = named later u; decl = decl_told later u.module_id (record { symbol = symbol.symbol_id; index = index }); parts = [] }) (forest_told later next)) same in
-    subst (λ f. Follows (links_of later.graph) enough (running_told later running) (met_told later met) s index (leads (target_ways s (Some t))) f (met_told later after)) (sym is) (by_ways {ways = target_ways s (Some t)} (tries_one (forest_told later next) to))
+    let to : Finds (links_of later.graph) enough (running_told later running) (met_told later met) (named_in later symbol.module_id t) (trails_told later next) (met_told later after) = subst (λ (u : UniqueSymbolId). Finds (links_of later.graph) enough (running_told later running) (met_told later met) (named later u) (trails_told later next) (met_told later after)) same (found later grown) in
+    let is : trails_of_option later path ≡ link_to (head_at s index (target_ways s (Some t))) (trails_told later next) = told later ∙ ap (λ (u : UniqueSymbolId). link_to (record { symbol = named later u; decl = decl_told later u.module_id (record { symbol = symbol.symbol_id; index = index }); parts = [] }) (trails_told later next)) same in
+    subst (λ f. Follows (links_of later.graph) enough (running_told later running) (met_told later met) s index (leads (target_ways s (Some t))) f (met_told later after)) (sym is) (by_ways {ways = target_ways s (Some t)} (tries_one (trails_told later next) to))
 
 -- ---- along an import
 
@@ -90,12 +90,12 @@ import_head graph s index name text (Some specifier) = by (own_export graph spec
     by None = refl
     by (Some u) = refl
 
-pub followed_import : (root : RootView) (running : List AliasDecl) (met after : List UniqueSymbolId) (symbol : UniqueSymbolId) (taken : NamedImport) (index : ℕ) (next : List DefinitionPathNode) (path : Option DefinitionPathNode) → IsTried root running met (ways_of_import symbol taken.name.now taken.text.now) next after → ((later : RootView) → forest_of_option later path ≡ link_to (record { symbol = named later symbol; decl = decl_told later symbol.module_id (record { symbol = symbol.symbol_id; index = index }); parts = [] }) (forest_told later next)) → IsFollowed root running met symbol index (read.Import taken) path after
+pub followed_import : (root : RootView) (running : List AliasDecl) (met after : List UniqueSymbolId) (symbol : UniqueSymbolId) (taken : NamedImport) (index : ℕ) (next : List Trail) (path : Option Trail) → IsTried root running met (ways_of_import symbol taken.name.now taken.text.now) next after → ((later : RootView) → trails_of_option later path ≡ link_to (record { symbol = named later symbol; decl = decl_told later symbol.module_id (record { symbol = symbol.symbol_id; index = index }); parts = [] }) (trails_told later next)) → IsFollowed root running met symbol index (read.Import taken) path after
 followed_import root running met after symbol taken index next path tried told = λ later grown.
     let s = named later symbol in
     let found = text_target later.graph s.specifier taken.text.now in
     let ways = import_ways later.graph s taken.name.now taken.text.now found in
-    let is : forest_of_option later path ≡ link_to (head_at s index ways) (forest_told later next) = told later ∙ sym (ap (λ head. link_to head (forest_told later next)) (import_head later.graph s index taken.name.now taken.text.now found)) in
+    let is : trails_of_option later path ≡ link_to (head_at s index ways) (trails_told later next) = told later ∙ sym (ap (λ head. link_to head (trails_told later next)) (import_head later.graph s index taken.name.now taken.text.now found)) in
     subst (λ f. Follows (links_of later.graph) enough (running_told later running) (met_told later met) s index (leads ways) f (met_told later after)) (sym is) (by_ways {ways = ways} (tried later grown))
 
 -- ---- what an import comes to
@@ -104,15 +104,15 @@ pub target_later : {root later : RootView} → HasGrown root later → (id : Mod
 target_later grown id within text = λ i. text_target (grown.graph i) (same_specifier grown id within i) text
 
 -- the text leads to no module
-pub tried_nowhere : (root : RootView) (running : List AliasDecl) (met : List UniqueSymbolId) (symbol : UniqueSymbolId) (name text : List ℕ) (paths : List DefinitionPathNode) → symbol.module_id.0 < length root.stored → text_target root.graph (specifier_in root symbol.module_id) text ≡ None → ((later : RootView) → forest_told later paths ≡ missing_in (import_ways later.graph (named later symbol) name text None).otherwise) → IsTried root running met (ways_of_import symbol name text) paths met
+pub tried_nowhere : (root : RootView) (running : List AliasDecl) (met : List UniqueSymbolId) (symbol : UniqueSymbolId) (name text : List ℕ) (paths : List Trail) → symbol.module_id.0 < length root.stored → text_target root.graph (specifier_in root symbol.module_id) text ≡ None → ((later : RootView) → trails_told later paths ≡ missing_in (import_ways later.graph (named later symbol) name text None).otherwise) → IsTried root running met (ways_of_import symbol name text) paths met
 tried_nowhere root running met symbol name text paths within leads_nowhere told = λ later grown.
     let s = named later symbol in
     let none_there : text_target later.graph s.specifier text ≡ None = target_later grown symbol.module_id within text ∙ leads_nowhere in
-    subst (λ (found : Option (List ℕ)). Tries (links_of later.graph) enough (running_told later running) (met_told later met) (import_ways later.graph s name text found).candidates (import_ways later.graph s name text found).otherwise (forest_told later paths) (met_told later met)) (sym none_there)
+    subst (λ (found : Option (List ℕ)). Tries (links_of later.graph) enough (running_told later running) (met_told later met) (import_ways later.graph s name text found).candidates (import_ways later.graph s name text found).otherwise (trails_told later paths) (met_told later met)) (sym none_there)
     (subst (λ f. Tries (links_of later.graph) enough (running_told later running) (met_told later met) [] (import_ways later.graph s name text None).otherwise f (met_told later met)) (sym (told later)) no_more)
 
 -- the module exports the name itself
-pub tried_owned : (root : RootView) (running : List AliasDecl) (met after : List UniqueSymbolId) (symbol u : UniqueSymbolId) (id : ModuleId) (owned : SymbolId) (name text : List ℕ) (paths : List DefinitionPathNode) → symbol.module_id.0 < length root.stored → id.0 < length root.stored → text_target root.graph (specifier_in root symbol.module_id) text ≡ Some (specifier_in root id) → own_export root.graph (specifier_in root id) name ≡ Some owned → u.module_id ≡ id → u.symbol_id ≡ owned → (new : RootView) → HasGrown root new → IsFound new running met u paths after → IsTried new running met (ways_of_import symbol name text) paths after
+pub tried_owned : (root : RootView) (running : List AliasDecl) (met after : List UniqueSymbolId) (symbol u : UniqueSymbolId) (id : ModuleId) (owned : SymbolId) (name text : List ℕ) (paths : List Trail) → symbol.module_id.0 < length root.stored → id.0 < length root.stored → text_target root.graph (specifier_in root symbol.module_id) text ≡ Some (specifier_in root id) → own_export root.graph (specifier_in root id) name ≡ Some owned → u.module_id ≡ id → u.symbol_id ≡ owned → (new : RootView) → HasGrown root new → IsFound new running met u paths after → IsTried new running met (ways_of_import symbol name text) paths after
 tried_owned root running met after symbol u id owned name text paths within id_within leads_to own in_module number new onward found = λ later grown.
     let whole = grown_on onward grown in
     let s = named later symbol in
@@ -120,18 +120,18 @@ tried_owned root running met after symbol u id owned name text paths within id_w
     let there : text_target later.graph s.specifier text ≡ Some v = target_later whole symbol.module_id within text ∙ (leads_to ∙ ap Some (sym (same_specifier whole id id_within))) in
     let owns : own_export later.graph v name ≡ Some owned = (λ i. own_export (whole.graph i) (same_specifier whole id id_within i) name) ∙ own in
     let same : u ≡ record { module_id = id; symbol_id = owned } = (λ i. record { module_id = in_module i; symbol_id = number i }) in
-    let to : Finds (links_of later.graph) enough (running_told later running) (met_told later met) (named_in later id owned) (forest_told later paths) (met_told later after) = subst (λ (w : UniqueSymbolId). Finds (links_of later.graph) enough (running_told later running) (met_told later met) (named later w) (forest_told later paths) (met_told later after)) same (found later grown) in
-    let at : Tries (links_of later.graph) enough (running_told later running) (met_told later met) (ways_into later.graph s name v (Some owned)).candidates (ways_into later.graph s name v (Some owned)).otherwise (forest_told later paths) (met_told later after) = tries_one (forest_told later paths) to in
-    let here : Tries (links_of later.graph) enough (running_told later running) (met_told later met) (ways_into later.graph s name v (own_export later.graph v name)).candidates (ways_into later.graph s name v (own_export later.graph v name)).otherwise (forest_told later paths) (met_told later after) = subst (λ (o : Option SymbolId). Tries (links_of later.graph) enough (running_told later running) (met_told later met) (ways_into later.graph s name v o).candidates (ways_into later.graph s name v o).otherwise (forest_told later paths) (met_told later after)) (sym owns) at in
-    subst (λ (w : Option (List ℕ)). Tries (links_of later.graph) enough (running_told later running) (met_told later met) (import_ways later.graph s name text w).candidates (import_ways later.graph s name text w).otherwise (forest_told later paths) (met_told later after)) (sym there) here
+    let to : Finds (links_of later.graph) enough (running_told later running) (met_told later met) (named_in later id owned) (trails_told later paths) (met_told later after) = subst (λ (w : UniqueSymbolId). Finds (links_of later.graph) enough (running_told later running) (met_told later met) (named later w) (trails_told later paths) (met_told later after)) same (found later grown) in
+    let at : Tries (links_of later.graph) enough (running_told later running) (met_told later met) (ways_into later.graph s name v (Some owned)).candidates (ways_into later.graph s name v (Some owned)).otherwise (trails_told later paths) (met_told later after) = tries_one (trails_told later paths) to in
+    let here : Tries (links_of later.graph) enough (running_told later running) (met_told later met) (ways_into later.graph s name v (own_export later.graph v name)).candidates (ways_into later.graph s name v (own_export later.graph v name)).otherwise (trails_told later paths) (met_told later after) = subst (λ (o : Option SymbolId). Tries (links_of later.graph) enough (running_told later running) (met_told later met) (ways_into later.graph s name v o).candidates (ways_into later.graph s name v o).otherwise (trails_told later paths) (met_told later after)) (sym owns) at in
+    subst (λ (w : Option (List ℕ)). Tries (links_of later.graph) enough (running_told later running) (met_told later met) (import_ways later.graph s name text w).candidates (import_ways later.graph s name text w).otherwise (trails_told later paths) (met_told later after)) (sym there) here
 
 -- it doesn't: what the exports of its statements `export *` come to
-pub tried_along : (root : RootView) (running : List AliasDecl) (met after : List UniqueSymbolId) (symbol : UniqueSymbolId) (id : ModuleId) (name text : List ℕ) (paths : List DefinitionPathNode) → symbol.module_id.0 < length root.stored → id.0 < length root.stored → text_target root.graph (specifier_in root symbol.module_id) text ≡ Some (specifier_in root id) → own_export root.graph (specifier_in root id) name ≡ None → (new : RootView) → HasGrown root new → IsTried new running met (ways_along id name) paths after → IsTried new running met (ways_of_import symbol name text) paths after
+pub tried_along : (root : RootView) (running : List AliasDecl) (met after : List UniqueSymbolId) (symbol : UniqueSymbolId) (id : ModuleId) (name text : List ℕ) (paths : List Trail) → symbol.module_id.0 < length root.stored → id.0 < length root.stored → text_target root.graph (specifier_in root symbol.module_id) text ≡ Some (specifier_in root id) → own_export root.graph (specifier_in root id) name ≡ None → (new : RootView) → HasGrown root new → IsTried new running met (ways_along id name) paths after → IsTried new running met (ways_of_import symbol name text) paths after
 tried_along root running met after symbol id name text paths within id_within leads_to own new onward tried = λ later grown.
     let whole = grown_on onward grown in
     let s = named later symbol in
     let v = specifier_in later id in
     let there : text_target later.graph s.specifier text ≡ Some v = target_later whole symbol.module_id within text ∙ (leads_to ∙ ap Some (sym (same_specifier whole id id_within))) in
     let owns : own_export later.graph v name ≡ None = (λ i. own_export (whole.graph i) (same_specifier whole id id_within i) name) ∙ own in
-    let here : Tries (links_of later.graph) enough (running_told later running) (met_told later met) (ways_into later.graph s name v (own_export later.graph v name)).candidates (ways_into later.graph s name v (own_export later.graph v name)).otherwise (forest_told later paths) (met_told later after) = subst (λ (o : Option SymbolId). Tries (links_of later.graph) enough (running_told later running) (met_told later met) (ways_into later.graph s name v o).candidates (ways_into later.graph s name v o).otherwise (forest_told later paths) (met_told later after)) (sym owns) (tried later grown) in
-    subst (λ (w : Option (List ℕ)). Tries (links_of later.graph) enough (running_told later running) (met_told later met) (import_ways later.graph s name text w).candidates (import_ways later.graph s name text w).otherwise (forest_told later paths) (met_told later after)) (sym there) here
+    let here : Tries (links_of later.graph) enough (running_told later running) (met_told later met) (ways_into later.graph s name v (own_export later.graph v name)).candidates (ways_into later.graph s name v (own_export later.graph v name)).otherwise (trails_told later paths) (met_told later after) = subst (λ (o : Option SymbolId). Tries (links_of later.graph) enough (running_told later running) (met_told later met) (ways_into later.graph s name v o).candidates (ways_into later.graph s name v o).otherwise (trails_told later paths) (met_told later after)) (sym owns) (tried later grown) in
+    subst (λ (w : Option (List ℕ)). Tries (links_of later.graph) enough (running_told later running) (met_told later met) (import_ways later.graph s name text w).candidates (import_ways later.graph s name text w).otherwise (trails_told later paths) (met_told later after)) (sym there) here

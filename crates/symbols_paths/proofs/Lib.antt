@@ -15,6 +15,8 @@ mod Loops
 pub mod Growing
 pub mod Reading
 mod Told
+mod Trailing
+mod Unrolling
 pub mod Targets
 mod SearchSteps
 mod Computing

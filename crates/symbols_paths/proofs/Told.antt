@@ -1,8 +1,7 @@
 -- Paths as trees, and what they name, part by part.
-use Rattle.std.proofs.Common.{◌≡◌, ℕ, zero, suc, ◌<◌, ◌⊎◌, inl, inr, List, [], ◌∷◌, ◌++◌, length, map, get_or, Bool, true, false, Option, None, Some, Vec, refl, sym, ◌∙◌, ap, arith, append_assoc, append-nil, true≢false}
+use Rattle.std.proofs.Common.{◌≡◌, ℕ, zero, suc, ◌<◌, List, [], ◌∷◌, ◌++◌, length, true, false, Vec, refl, sym, ◌∙◌, ap, arith, true≢false}
 use Rattle.std.specs.Prelude.{String, vec_len, ◌==◌}
 use Rattle.std.proofs.lemmas.Bool.Decides.{nat_tests}
-use Rattle.std.proofs.lemmas.List.{map-append}
 use Rattle.std.specs.Global.{Global}
 use Rattle.symbols_syntax.specs.declared.ids.ModuleId.{ModuleId}
 use Rattle.symbols_syntax.specs.declared.ids.SymbolId.{SymbolId}
@@ -11,13 +10,13 @@ use Rattle.symbols_paths.specs.declared.paths.definition.DeclRef.{DeclRef}
 use Rattle.symbols_paths.specs.declared.paths.node.DefinitionPathNode.{DefinitionPathNode}
 use Rattle.symbols_paths.specs.declared.paths.node.DefinitionPathNode.TheFolds.{fold-DefinitionPathNodeResolved, fold-roll-DefinitionPathNode, fold-roll-DefinitionPathNodeResolved, fold-roll-DefinitionPathLink}
 use Rattle.symbols_paths.specs.declared.paths.node.DefinitionPathNode.TheOpen as open_node
-use Rattle.symbols_paths.specs.declared.paths.node.DefinitionPathNode.TheViews.{roll-DefinitionPathLink, roll-DefinitionPathNode, roll-DefinitionPathNodeResolved, rolls-Resolved, rolls-Link}
+use Rattle.symbols_paths.specs.declared.paths.node.DefinitionPathNode.TheViews.{roll-DefinitionPathLink, rolls-Resolved, rolls-Link}
 use Rattle.symbols_paths.specs.declared.paths.node.DefinitionPathNode.TheVariants as node
 use Rattle.symbols_paths.specs.declared.paths.node.DefinitionPathNodeResolved.TheVariants as resolved
 use Rattle.symbols_paths.specs.declared.paths.node.DefinitionPathLink.{DefinitionPathLink, DefinitionPathLink-F}
 use Rattle.symbols_paths.specs.declared.paths.node.DefinitionPathNodeResolved.{DefinitionPathNodeResolved}
-use Rattle.symbols_paths.specs.Trees.{Tree, Forest, LinkHead, link, none, more, one, join, link_to}
-use Rattle.symbols_paths.specs.Views.{named_in, decl_told, texts_of, node_step, resolved_step, link_step, tree_told, forest_in, forest_told, forest_of_option, joined, node_modules, resolved_modules, link_modules, modules_of, modules_in, AreStored}
+use Rattle.symbols_paths.specs.Trees.{Tree, LinkHead, link, one, link_to}
+use Rattle.symbols_paths.specs.Views.{named_in, decl_told, texts_of, node_step, resolved_step, link_step, tree_told, forest_told, node_modules, resolved_modules, link_modules, modules_of, modules_in, AreStored}
 
 -- a step as a path
 abbrev pub step_of : ModuleId → SymbolId → DeclRef → Vec (String Global) Global → Vec DefinitionPathNode Global → DefinitionPathNode
@@ -69,29 +68,6 @@ none_at n e = grind (arith, nat_tests)
 
 pub some_at : (n : ℕ) → false ≡ (n == 0) → 0 < n
 some_at n e = grind (arith, nat_tests)
-
-pub is_none : (root : RootView) (paths : Vec DefinitionPathNode Global) → true ≡ (vec_len paths == 0) → forest_told root paths.items ≡ none
-is_none root paths said = by paths.items (sym paths.ok.0 ∙ none_at (vec_len paths) said)
-  where
-    by : (xs : List DefinitionPathNode) → length xs ≡ 0 → forest_told root xs ≡ none
-    by [] e = refl
-    by (x ∷ xs) e = absurd (omega (arith, e))
-
-pub not_none : (root : RootView) (paths : List DefinitionPathNode) → (length paths ≡ 0 → ⊥) → forest_told root paths ≡ none → ⊥
-not_none root [] some e = some refl
-not_none root (path ∷ paths) some e = cc
-
--- one path more
-pub forest_with : (root : RootView) (paths : List DefinitionPathNode) (path : DefinitionPathNode) → forest_told root (paths ++ path ∷ []) ≡ join (forest_told root paths) (one (tree_told root path))
-forest_with root [] path = refl
-forest_with root (x ∷ xs) path = ap (more (tree_told root x)) (forest_with root xs path)
-
-joined_on : (xs ys : List (List ModuleId)) → joined (xs ++ ys) ≡ joined xs ++ joined ys
-joined_on [] ys = refl
-joined_on (x ∷ xs) ys = ap (λ z. x ++ z) (joined_on xs ys) ∙ sym (append_assoc x (joined xs) (joined ys))
-
-pub modules_with : (paths : List DefinitionPathNode) (path : DefinitionPathNode) → modules_in (paths ++ path ∷ []) ≡ modules_in paths ++ modules_of path
-modules_with paths path = ap joined (map-append modules_of paths (path ∷ [])) ∙ (joined_on (map modules_of paths) (modules_of path ∷ []) ∙ ap (λ z. modules_in paths ++ z) (append-nil (modules_of path)))
 
 pub stored_both : (root : RootView) (xs ys : List ModuleId) → AreStored root xs → AreStored root ys → AreStored root (xs ++ ys)
 stored_both root [] ys left right k d within = right k d within

@@ -7,15 +7,16 @@ use Rattle.symbols_syntax.specs.declared.ids.UniqueSymbolId.{UniqueSymbolId}
 use Rattle.symbols_root.specs.Roots.{RootView}
 use Rattle.symbols_exports.specs.Exporting.{specifier_in}
 use Rattle.symbols_exports.specs.StarStatements.{star_texts, text_target, statements_of}
-use Rattle.symbols_paths.specs.declared.paths.node.DefinitionPathNode.{DefinitionPathNode}
 use Rattle.symbols_paths.specs.declared.paths.resolving.AliasDecl.{AliasDecl}
-use Rattle.symbols_paths.specs.Trees.{NamedSymbol, Missing, no_part, Forest, none}
+use Rattle.symbols_paths.specs.declared.paths.trail.Trail.{Trail}
+use Rattle.symbols_paths.specs.Trees.{Missing, no_part, none}
 use Rattle.symbols_paths.specs.Leads.{export_along}
 use Rattle.symbols_paths.specs.PartWays.{links_of}
 use Rattle.symbols_paths.specs.Choice.{Tries, missing_in}
 use Rattle.symbols_paths.specs.Computed.{enough}
 use Rattle.symbols_paths.specs.Growing.{HasGrown}
-use Rattle.symbols_paths.specs.Views.{named, forest_told, modules_in, AreStored}
+use Rattle.symbols_paths.specs.Views.{named, AreStored}
+use Rattle.symbols_paths.specs.Trails.{trails_told, modules_of_trails}
 use Rattle.symbols_paths.specs.Searching.{AreNumbered, met_told, running_told, FindsOne, HasSearched, IsTried, IsOffered, ways_along}
 use Rattle.symbols_paths.proofs.Growing.{grown_not, grown_on, same_specifier, still_stored}
 use Rattle.symbols_paths.proofs.Loops.{IsTrying, trying_first, trying_next, trying_here, trying_last}
@@ -89,7 +90,7 @@ module _ {old : RootView} {running : List AliasDecl} {begun : List UniqueSymbolI
       by (Some s) e h = ap Some (λ i. record { specifier = same_specifier grown s.module_id h i; number = s.symbol_id }) ∙ e
 
   -- there is no path along the statement
-  pub asking_next : {mid after : RootView} {met_after : List UniqueSymbolId} (text : List ℕ) (candidate : Option UniqueSymbolId) (paths : List DefinitionPathNode) → slice_get (star_texts root.graph (specifier_in root id)) position ≡ Some text → HasGrown root mid → option_map (named mid) candidate ≡ export_along root.graph name (text_target root.graph (specifier_in root id) text) → IfSome candidate (λ s. s.module_id.0 < length mid.stored) → HasGrown mid after → IsOffered after now met candidate paths met_after → (onward : List AliasDecl) → onward ≡ now → HasSearched after met met_after (modules_in paths) → ((later : RootView) → forest_told later paths ≡ none) → IsAsking old running begun id name after onward (position + 1) met_after
+  pub asking_next : {mid after : RootView} {met_after : List UniqueSymbolId} (text : List ℕ) (candidate : Option UniqueSymbolId) (paths : List Trail) → slice_get (star_texts root.graph (specifier_in root id)) position ≡ Some text → HasGrown root mid → option_map (named mid) candidate ≡ export_along root.graph name (text_target root.graph (specifier_in root id) text) → IfSome candidate (λ s. s.module_id.0 < length mid.stored) → HasGrown mid after → IsOffered after now met candidate paths met_after → (onward : List AliasDecl) → onward ≡ now → HasSearched after met met_after (modules_of_trails paths) → ((later : RootView) → trails_told later paths ≡ none) → IsAsking old running begun id name after onward (position + 1) met_after
   asking_next {mid = mid} {after = after} {met_after = met_after} text candidate paths at more gives stored kept offered onward on searched empty = record {
     grown = grown_on is.grown (grown_on more kept);
     same = on ∙ is.same;
@@ -107,19 +108,19 @@ module _ {old : RootView} {running : List AliasDecl} {begun : List UniqueSymbolI
           trying_next (links_of later.graph) enough (running_told later running) (is.told later whole) leads_to (statement_later text at later whole) (subst (λ c. FindsOne (links_of later.graph) enough (running_told later running) (met_told later met) c none (met_told later met_after)) (candidate_later text candidate more gives stored later (grown_on kept grown)) one)
 
   -- there are some
-  pub asking_here : {mid after : RootView} (met_after : List UniqueSymbolId) (text : List ℕ) (candidate : Option UniqueSymbolId) (paths : List DefinitionPathNode) → slice_get (star_texts root.graph (specifier_in root id)) position ≡ Some text → HasGrown root mid → option_map (named mid) candidate ≡ export_along root.graph name (text_target root.graph (specifier_in root id) text) → IfSome candidate (λ s. s.module_id.0 < length mid.stored) → HasGrown mid after → IsOffered after now met candidate paths met_after → ((later : RootView) → forest_told later paths ≡ none → ⊥) → IsTried after running begun (ways_along id name) paths met_after
+  pub asking_here : {mid after : RootView} (met_after : List UniqueSymbolId) (text : List ℕ) (candidate : Option UniqueSymbolId) (paths : List Trail) → slice_get (star_texts root.graph (specifier_in root id)) position ≡ Some text → HasGrown root mid → option_map (named mid) candidate ≡ export_along root.graph name (text_target root.graph (specifier_in root id) text) → IfSome candidate (λ s. s.module_id.0 < length mid.stored) → HasGrown mid after → IsOffered after now met candidate paths met_after → ((later : RootView) → trails_told later paths ≡ none → ⊥) → IsTried after running begun (ways_along id name) paths met_after
   asking_here {after = after} met_after text candidate paths at more gives stored kept offered some = λ later grown.
       let whole = grown_on more (grown_on kept grown) in
-      trying_here (links_of later.graph) enough (running_told later running) (is.told later whole) (forest_told later paths) (text_target later.graph (specifier_in later id) text) (statement_later text at later whole) (some later) (subst (λ c. FindsOne (links_of later.graph) enough (running_told later running) (met_told later met) c (forest_told later paths) (met_told later met_after)) (candidate_later text candidate more gives stored later (grown_on kept grown)) (subst (λ r. IsOffered after r met candidate paths met_after) is.same offered later grown))
+      trying_here (links_of later.graph) enough (running_told later running) (is.told later whole) (trails_told later paths) (text_target later.graph (specifier_in later id) text) (statement_later text at later whole) (some later) (subst (λ c. FindsOne (links_of later.graph) enough (running_told later running) (met_told later met) c (trails_told later paths) (met_told later met_after)) (candidate_later text candidate more gives stored later (grown_on kept grown)) (subst (λ r. IsOffered after r met candidate paths met_after) is.same offered later grown))
 
-  pub here_searched : {after : RootView} {mid : List UniqueSymbolId} (paths : List DefinitionPathNode) → HasSearched after met mid (modules_in paths) → HasSearched after begun mid (modules_in paths)
+  pub here_searched : {after : RootView} {mid : List UniqueSymbolId} (paths : List Trail) → HasSearched after met mid (modules_of_trails paths) → HasSearched after begun mid (modules_of_trails paths)
   here_searched paths searched = record { numbered = searched.numbered; longer = omega (arith, is.longer, searched.longer); few = λ h. searched.few (is.few h); stored = searched.stored }
 
   -- there is no statement more
-  pub asking_last : (paths : List DefinitionPathNode) → slice_get (star_texts root.graph (specifier_in root id)) position ≡ None → ((later : RootView) → forest_told later paths ≡ missing_in (no_export later id name)) → IsTried root running begun (ways_along id name) paths met
+  pub asking_last : (paths : List Trail) → slice_get (star_texts root.graph (specifier_in root id)) position ≡ None → ((later : RootView) → trails_told later paths ≡ missing_in (no_export later id name)) → IsTried root running begun (ways_along id name) paths met
   asking_last paths past told = λ later grown.
       let over : slice_get (statements_of later.graph (specifier_in later id)) position ≡ None = leads_past (text_target later.graph (specifier_in later id)) (star_texts later.graph (specifier_in later id)) position (ap (λ texts. slice_get texts position) (texts_later grown id asking_within) ∙ past) in
       subst (λ f. Tries (links_of later.graph) enough (running_told later running) (met_told later begun) (ways_along id name later.graph later).candidates (ways_along id name later.graph later).otherwise f (met_told later met)) (sym (told later)) (trying_last (links_of later.graph) enough (running_told later running) (is.told later grown) over)
 
-  pub last_searched : (paths : List DefinitionPathNode) → AreStored root (modules_in paths) → HasSearched root begun met (modules_in paths)
+  pub last_searched : (paths : List Trail) → AreStored root (modules_of_trails paths) → HasSearched root begun met (modules_of_trails paths)
   last_searched paths stored = record { numbered = is.numbered; longer = is.longer; few = is.few; stored = stored }

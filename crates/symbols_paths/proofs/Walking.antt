@@ -1,33 +1,33 @@
 -- The walk of a symbol under parts, over a root that stores more.
-use Rattle.std.proofs.Common.{◌≡◌, ℕ, zero, suc, ◌+◌, ◌-◌, ◌<◌, ◌≤◌, ◌^◌, Bool, true, false, List, [], ◌∷◌, ◌++◌, length, map, drop, take, get_or, Option, None, Some, option_to_list, inl, inr, refl, sym, ap, subst, ◌∙◌, arith, append-nil}
+use Rattle.std.proofs.Common.{◌≡◌, ℕ, zero, suc, ◌+◌, ◌-◌, ◌<◌, ◌≤◌, ◌^◌, true, false, List, [], ◌∷◌, ◌++◌, length, map, drop, take, get_or, Option, None, Some, option_to_list, inl, inr, refl, sym, ap, subst, ◌∙◌, arith}
 use Rattle.std.specs.Prelude.{Contains, All}
 use Rattle.std.specs.Borrow.{Bor}
 use Rattle.std.specs.List.{IsDistinct, list_any}
 use Rattle.std.specs.Str.{bytes_eq}
-use Rattle.std.proofs.lemmas.List.{length-append, length-map, map-append, take_rest}
+use Rattle.std.proofs.lemmas.List.{length-map, map-append, take_rest}
 use Rattle.std.proofs.lemmas.List.Elements.{Contains-append_left, Contains-append_right, Contains-append_cases}
 use Rattle.symbols_syntax.specs.declared.ids.ModuleId.{ModuleId}
 use Rattle.symbols_syntax.specs.declared.ids.UniqueSymbolId.{UniqueSymbolId}
-use Rattle.symbols_syntax.specs.Graph.{GraphView}
 use Rattle.symbols_table.specs.declared.info.fault.SymbolsFault.{SymbolsFault}
 use Rattle.symbols_root.specs.Roots.{RootView}
 use Rattle.symbols_exports.specs.Exporting.{specifier_in}
 use Rattle.symbols_paths.specs.declared.paths.definition.Definition.{Definition}
-use Rattle.symbols_paths.specs.declared.paths.node.DefinitionPathNode.{DefinitionPathNode}
 use Rattle.symbols_paths.specs.declared.paths.parts.PartWay.{PartWay as ReadWay}
 use Rattle.symbols_paths.specs.declared.paths.parts.PartWay.TheVariants as way
 use Rattle.symbols_paths.specs.declared.paths.resolving.AliasDecl.{AliasDecl}
 use Rattle.symbols_paths.specs.declared.paths.unresolved.DefinitionUnresolved.{DefinitionUnresolved}
-use Rattle.symbols_paths.specs.Trees.{NamedSymbol, NamedDecl, Parts, Defined, Missing, definition, unresolved, Tree, Forest, leaf, link, none, more, one, link_to, leaves_of, leaves_in}
-use Rattle.symbols_paths.specs.PartWays.{PartWay, to, itself, lacks, part_of, links_of}
+use Rattle.symbols_paths.specs.declared.paths.trail.Trail.{Trail}
+use Rattle.symbols_paths.specs.Trees.{Parts, Defined, definition, unresolved, Tree, Forest, leaf, link, none, more, one, link_to, leaves_of, leaves_in}
+use Rattle.symbols_paths.specs.PartWays.{to, lacks, part_of, links_of}
 use Rattle.symbols_paths.specs.Derived.{part_head}
-use Rattle.symbols_paths.specs.Choice.{is_running, Finds, Walks, no_parts, under, ChangesOne, of_definition, of_itself, of_lacking}
+use Rattle.symbols_paths.specs.Choice.{is_running, Walks, no_parts, ChangesOne, of_definition, of_itself, of_lacking}
 use Rattle.symbols_paths.specs.Computed.{enough}
 use Rattle.symbols_paths.specs.Rebuilt.{defined_of, defined_within, rebuilt}
 use Rattle.symbols_paths.specs.Growing.{HasGrown}
-use Rattle.symbols_paths.specs.Views.{named, named_in, decl_told, definition_told, unresolved_told, texts_in, first_text, later_texts, star_of, forest_told, forest_of_option, tree_told, modules_of, modules_in, present, module_of_definition, AreStored}
+use Rattle.symbols_paths.specs.Views.{named, named_in, decl_told, definition_told, unresolved_told, texts_in, first_text, later_texts, star_of, module_of_definition, AreStored}
+use Rattle.symbols_paths.specs.Trails.{trails_told, trails_of_option, trail_told, modules_of_trail, modules_of_trails, present}
 use Rattle.symbols_paths.specs.Needed.{IsNeeded, IsRefused, IsStarDeclared}
-use Rattle.symbols_paths.specs.Searching.{AreNumbered, AreAliasesNumbered, met_told, running_told, alias_told, HasSearched, Resolves, while_running, by_walk, IsFound, IsWalked, IsResolved, IsChanged, way_told, IsWayStored}
+use Rattle.symbols_paths.specs.Searching.{AreNumbered, AreAliasesNumbered, met_told, running_told, alias_told, HasSearched, while_running, by_walk, IsFound, IsWalked, IsResolved, IsChanged, way_told, IsWayStored}
 use Rattle.symbols_paths.proofs.Growing.{grown_not, grown_on, same_specifier, still_stored, all_still_stored}
 use Rattle.symbols_paths.proofs.Told.{head_told, stored_both}
 use Rattle.symbols_paths.proofs.Leaves.{finds_leaf}
@@ -48,9 +48,9 @@ no_part_left (x ∷ xs) e = absurd (omega (arith, e))
 
 -- ---- without parts
 
-pub walked_alone : (root : RootView) (running : List AliasDecl) (before after : List UniqueSymbolId) (s : UniqueSymbolId) (parts : List (Bor (List ℕ))) (paths : List DefinitionPathNode) → length parts ≡ 0 → IsFound root running before s paths after → IsWalked root running before s parts paths after
+pub walked_alone : (root : RootView) (running : List AliasDecl) (before after : List UniqueSymbolId) (s : UniqueSymbolId) (parts : List (Bor (List ℕ))) (paths : List Trail) → length parts ≡ 0 → IsFound root running before s paths after → IsWalked root running before s parts paths after
 walked_alone root running before after s parts paths e found = λ later grown.
-    subst (λ ps. Walks (links_of later.graph) enough (running_told later running) (met_told later before) (named later s) ps (forest_told later paths) (met_told later after)) (sym (no_part_left parts e)) (no_parts (found later grown))
+    subst (λ ps. Walks (links_of later.graph) enough (running_told later running) (met_told later before) (named later s) ps (trails_told later paths) (met_told later after)) (sym (no_part_left parts e)) (no_parts (found later grown))
 
 -- ---- what stands in the place of a definition
 
@@ -70,21 +70,21 @@ module _ {old mid : RootView} (running : List AliasDecl) (before : List UniqueSy
   way_there : (later : RootView) → HasGrown mid later → part_of later.graph (definition_told later x) (first_text parts) (later_texts parts) ≡ way_told later w
   way_there later grown = part_later (grown_on kept grown) x within (first_text parts) (later_texts parts) ∙ (sym leads ∙ sym (way_later grown w stored))
 
-  pub changed_itself : w ≡ way.Itself → (path : DefinitionPathNode) → ((later : RootView) → tree_told later path ≡ leaf (definition (definition_told later x))) → IsChanged mid running before x parts (Some path) before
+  pub changed_itself : w ≡ way.Itself → (path : Trail) → ((later : RootView) → trail_told later path ≡ one (leaf (definition (definition_told later x)))) → IsChanged mid running before x parts (Some path) before
   changed_itself is path told = λ later grown.
-      subst (λ t. ChangesOne (links_of later.graph) enough (running_told later running) (met_told later before) (first_text parts) (later_texts parts) (leaf (definition (definition_told later x))) (one t) (met_told later before)) (sym (told later)) (of_itself (way_there later grown ∙ ap (way_told later) is))
+      subst (λ f. ChangesOne (links_of later.graph) enough (running_told later running) (met_told later before) (first_text parts) (later_texts parts) (leaf (definition (definition_told later x))) f (met_told later before)) (sym (told later)) (of_itself (way_there later grown ∙ ap (way_told later) is))
 
-  pub changed_lacking : (missing : DefinitionUnresolved) → w ≡ way.Lacks missing → 0 < length parts → (path : Option DefinitionPathNode) → ((later : RootView) → forest_of_option later path ≡ link_to (part_head (definition_told later x) (texts_in parts)) (one (leaf (unresolved (unresolved_told later missing))))) → IsChanged mid running before x parts path before
+  pub changed_lacking : (missing : DefinitionUnresolved) → w ≡ way.Lacks missing → 0 < length parts → (path : Option Trail) → ((later : RootView) → trails_of_option later path ≡ link_to (part_head (definition_told later x) (texts_in parts)) (one (leaf (unresolved (unresolved_told later missing))))) → IsChanged mid running before x parts path before
   changed_lacking missing is some path told = λ later grown.
       let it : ChangesOne (links_of later.graph) enough (running_told later running) (met_told later before) (first_text parts) (later_texts parts) (leaf (definition (definition_told later x))) (one (link (part_head (definition_told later x) (first_text parts ∷ later_texts parts)) (one (leaf (unresolved (unresolved_told later missing)))))) (met_told later before) = of_lacking (way_there later grown ∙ ap (way_told later) is) in
-      let same : forest_of_option later path ≡ one (link (part_head (definition_told later x) (first_text parts ∷ later_texts parts)) (one (leaf (unresolved (unresolved_told later missing))))) = told later ∙ ap (λ ps. one (link (part_head (definition_told later x) ps) (one (leaf (unresolved (unresolved_told later missing)))))) (some_parts parts some) in
+      let same : trails_of_option later path ≡ one (link (part_head (definition_told later x) (first_text parts ∷ later_texts parts)) (one (leaf (unresolved (unresolved_told later missing))))) = told later ∙ ap (λ ps. one (link (part_head (definition_told later x) ps) (one (leaf (unresolved (unresolved_told later missing)))))) (some_parts parts some) in
       subst (λ f. ChangesOne (links_of later.graph) enough (running_told later running) (met_told later before) (first_text parts) (later_texts parts) (leaf (definition (definition_told later x))) f (met_told later before)) (sym same) it
 
-  pub changed_on : {after : RootView} (target : UniqueSymbolId) → w ≡ way.To target → 0 < length parts → (rest : List (Bor (List ℕ))) → texts_in rest ≡ later_texts parts → HasGrown mid after → (met_after : List UniqueSymbolId) (next : List DefinitionPathNode) → IsWalked after running before target rest next met_after → (path : Option DefinitionPathNode) → ((later : RootView) → forest_of_option later path ≡ link_to (part_head (definition_told later x) (texts_in parts)) (forest_told later next)) → IsChanged after running before x parts path met_after
+  pub changed_on : {after : RootView} (target : UniqueSymbolId) → w ≡ way.To target → 0 < length parts → (rest : List (Bor (List ℕ))) → texts_in rest ≡ later_texts parts → HasGrown mid after → (met_after : List UniqueSymbolId) (next : List Trail) → IsWalked after running before target rest next met_after → (path : Option Trail) → ((later : RootView) → trails_of_option later path ≡ link_to (part_head (definition_told later x) (texts_in parts)) (trails_told later next)) → IsChanged after running before x parts path met_after
   changed_on target is some rest others onward met_after next walked path told = λ later grown.
       let there = way_there later (grown_on onward grown) ∙ ap (way_told later) is in
-      let walk : Walks (links_of later.graph) enough (running_told later running) (met_told later before) (named later target) (later_texts parts) (forest_told later next) (met_told later met_after) = subst (λ ps. Walks (links_of later.graph) enough (running_told later running) (met_told later before) (named later target) ps (forest_told later next) (met_told later met_after)) others (walked later grown) in
-      let same : forest_of_option later path ≡ link_to (part_head (definition_told later x) (first_text parts ∷ later_texts parts)) (forest_told later next) = told later ∙ ap (λ ps. link_to (part_head (definition_told later x) ps) (forest_told later next)) (some_parts parts some) in
+      let walk : Walks (links_of later.graph) enough (running_told later running) (met_told later before) (named later target) (later_texts parts) (trails_told later next) (met_told later met_after) = subst (λ ps. Walks (links_of later.graph) enough (running_told later running) (met_told later before) (named later target) ps (trails_told later next) (met_told later met_after)) others (walked later grown) in
+      let same : trails_of_option later path ≡ link_to (part_head (definition_told later x) (first_text parts ∷ later_texts parts)) (trails_told later next) = told later ∙ ap (λ ps. link_to (part_head (definition_told later x) ps) (trails_told later next)) (some_parts parts some) in
       subst (λ f. ChangesOne (links_of later.graph) enough (running_told later running) (met_told later before) (first_text parts) (later_texts parts) (leaf (definition (definition_told later x))) f (met_told later met_after)) (sym same) (of_definition there walk)
 
 -- the link in its place
@@ -92,8 +92,8 @@ pub head_in_place : (root : RootView) (symbol : UniqueSymbolId) (x : Definition)
 head_in_place root symbol x ps in_module number = (λ i. record { symbol = named_in root (in_module i) (number i); decl = decl_told root (in_module i) x.symbol_decl; parts = ps })
 
 -- the definition itself
-pub definition_in_place : (root : RootView) (symbol : UniqueSymbolId) (x : Definition) → symbol.module_id ≡ x.«module» → leaf (definition (record { decl = decl_told root symbol.module_id x.symbol_decl; range = x.range; star = star_of x.kind })) ≡ leaf (definition (definition_told root x))
-definition_in_place root symbol x in_module = (λ i. leaf (definition (record { decl = decl_told root (in_module i) x.symbol_decl; range = x.range; star = star_of x.kind })))
+pub definition_in_place : (root : RootView) (symbol : UniqueSymbolId) (x : Definition) → symbol.module_id ≡ x.«module» → one (leaf (definition (record { decl = decl_told root symbol.module_id x.symbol_decl; range = x.range; star = star_of x.kind }))) ≡ one (leaf (definition (definition_told root x)))
+definition_in_place root symbol x in_module = (λ i. one (leaf (definition (record { decl = decl_told root (in_module i) x.symbol_decl; range = x.range; star = star_of x.kind }))))
 
 -- the parts behind the first
 pub parts_behind : (parts : List (Bor (List ℕ))) → texts_in (take (length parts - 1) (drop 1 parts)) ≡ later_texts parts
@@ -112,16 +112,16 @@ one_less parts some = ap (λ (xs : List (Bor (List ℕ))). length xs + 1) (take_
 
 -- ---- the loop over the definitions; these are left
 
-pub record IsWalking (old : RootView) (running : List AliasDecl) (begun found_met : List UniqueSymbolId) (s : UniqueSymbolId) (parts : List (Bor (List ℕ))) (paths : List DefinitionPathNode) (root : RootView) (now : List AliasDecl) (rest : List Definition) (met : List UniqueSymbolId) (changed : List (Option DefinitionPathNode)) : Type 0 where
+pub record IsWalking (old : RootView) (running : List AliasDecl) (begun found_met : List UniqueSymbolId) (s : UniqueSymbolId) (parts : List (Bor (List ℕ))) (paths : List Trail) (root : RootView) (now : List AliasDecl) (rest : List Definition) (met : List UniqueSymbolId) (changed : List (Option Trail)) : Type 0 where
   pub grown : HasGrown old root
   pub same : now ≡ running
   pub numbered : AreNumbered root met
   pub longer : length begun ≤ length met
   pub few : length begun ≤ 2 ^ 64 → length met ≤ 2 ^ 64
-  pub stored : AreStored root (modules_in (present changed))
-  pub told : (later : RootView) → HasGrown root later → IsStepping (links_of later.graph) enough (running_told later running) (met_told later found_met) (first_text parts) (later_texts parts) (defined_within (forest_told later paths)) (map (definition_told later) rest) (met_told later met) (map (forest_of_option later) changed)
+  pub stored : AreStored root (modules_of_trails (present changed))
+  pub told : (later : RootView) → HasGrown root later → IsStepping (links_of later.graph) enough (running_told later running) (met_told later found_met) (first_text parts) (later_texts parts) (defined_within (trails_told later paths)) (map (definition_told later) rest) (met_told later met) (map (trails_of_option later) changed)
 
-pub walking_first : (root new : RootView) (running : List AliasDecl) (begun found_met : List UniqueSymbolId) (s : UniqueSymbolId) (parts : List (Bor (List ℕ))) (paths : List DefinitionPathNode) (rest : List Definition) (now : List AliasDecl) → now ≡ running → HasGrown root new → HasSearched new begun found_met (modules_in paths) → ((later : RootView) → map (definition_told later) rest ≡ defined_within (forest_told later paths)) → IsWalking root running begun found_met s parts paths new now rest found_met []
+pub walking_first : (root new : RootView) (running : List AliasDecl) (begun found_met : List UniqueSymbolId) (s : UniqueSymbolId) (parts : List (Bor (List ℕ))) (paths : List Trail) (rest : List Definition) (now : List AliasDecl) → now ≡ running → HasGrown root new → HasSearched new begun found_met (modules_of_trails paths) → ((later : RootView) → map (definition_told later) rest ≡ defined_within (trails_told later paths)) → IsWalking root running begun found_met s parts paths new now rest found_met []
 walking_first root new running begun found_met s parts paths rest now same grown searched listed = record {
   grown = grown;
   same = same;
@@ -129,20 +129,20 @@ walking_first root new running begun found_met s parts paths rest now same grown
   longer = searched.longer;
   few = searched.few;
   stored = λ k d h. absurd (omega (arith, h));
-  told = λ later more. subst (λ xs. IsStepping (links_of later.graph) enough (running_told later running) (met_told later found_met) (first_text parts) (later_texts parts) (defined_within (forest_told later paths)) xs (met_told later found_met) []) (sym (listed later)) (stepping_first (links_of later.graph) enough (running_told later running) (met_told later found_met) (first_text parts) (later_texts parts) (defined_within (forest_told later paths)));
+  told = λ later more. subst (λ xs. IsStepping (links_of later.graph) enough (running_told later running) (met_told later found_met) (first_text parts) (later_texts parts) (defined_within (trails_told later paths)) xs (met_told later found_met) []) (sym (listed later)) (stepping_first (links_of later.graph) enough (running_told later running) (met_told later found_met) (first_text parts) (later_texts parts) (defined_within (trails_told later paths)));
 }
 
-present_with : (changed : List (Option DefinitionPathNode)) (path : Option DefinitionPathNode) → present (changed ++ path ∷ []) ≡ present changed ++ option_to_list path
+present_with : (changed : List (Option Trail)) (path : Option Trail) → present (changed ++ path ∷ []) ≡ present changed ++ option_to_list path
 present_with [] None = refl
 present_with [] (Some p) = refl
 present_with (None ∷ changed) path = present_with changed path
 present_with (Some q ∷ changed) path = ap (λ ps. q ∷ ps) (present_with changed path)
 
-stored_on : (root : RootView) (xs ys : List DefinitionPathNode) → AreStored root (modules_in xs) → AreStored root (modules_in ys) → AreStored root (modules_in (xs ++ ys))
+stored_on : (root : RootView) (xs ys : List Trail) → AreStored root (modules_of_trails xs) → AreStored root (modules_of_trails ys) → AreStored root (modules_of_trails (xs ++ ys))
 stored_on root [] ys a b = b
 stored_on root (x ∷ xs) ys a b =
-    let split = stored_apart root (modules_of x) (modules_in xs) a in
-    stored_both root (modules_of x) (modules_in (xs ++ ys)) split.0 (stored_on root xs ys split.1 b)
+    let split = stored_apart root (modules_of_trail x) (modules_of_trails xs) a in
+    stored_both root (modules_of_trail x) (modules_of_trails (xs ++ ys)) split.0 (stored_on root xs ys split.1 b)
   where
     stored_apart : (r : RootView) (is js : List ModuleId) → AreStored r (is ++ js) → AreStored r is × AreStored r js
     stored_apart r [] js h = (λ k d w. absurd (omega (arith, w)), h)
@@ -154,26 +154,26 @@ stored_on root (x ∷ xs) ys a b =
         first others zero d w = h 0 d (omega arith)
         first others (suc k) d w = others k d (omega (arith, w))
 
-module _ {old : RootView} {running : List AliasDecl} {begun found_met : List UniqueSymbolId} {s : UniqueSymbolId} {parts : List (Bor (List ℕ))} {paths : List DefinitionPathNode} {root : RootView} {now : List AliasDecl} {rest : List Definition} {met : List UniqueSymbolId} {changed : List (Option DefinitionPathNode)} where
-  pub walking_next : {after : RootView} {mid : List UniqueSymbolId} (x : Definition) → IsWalking old running begun found_met s parts paths root now (x ∷ rest) met changed → HasGrown root after → (path : Option DefinitionPathNode) → IsChanged after now met x parts path mid → (onward : List AliasDecl) → onward ≡ now → HasSearched after met mid (modules_in (option_to_list path)) → IsWalking old running begun found_met s parts paths after onward rest mid (changed ++ path ∷ [])
+module _ {old : RootView} {running : List AliasDecl} {begun found_met : List UniqueSymbolId} {s : UniqueSymbolId} {parts : List (Bor (List ℕ))} {paths : List Trail} {root : RootView} {now : List AliasDecl} {rest : List Definition} {met : List UniqueSymbolId} {changed : List (Option Trail)} where
+  pub walking_next : {after : RootView} {mid : List UniqueSymbolId} (x : Definition) → IsWalking old running begun found_met s parts paths root now (x ∷ rest) met changed → HasGrown root after → (path : Option Trail) → IsChanged after now met x parts path mid → (onward : List AliasDecl) → onward ≡ now → HasSearched after met mid (modules_of_trails (option_to_list path)) → IsWalking old running begun found_met s parts paths after onward rest mid (changed ++ path ∷ [])
   walking_next {after = after} {mid = mid} x is kept path stepped onward on searched = record {
     grown = grown_on is.grown kept;
     same = on ∙ is.same;
     numbered = searched.numbered;
     longer = omega (arith, is.longer, searched.longer);
     few = λ h. searched.few (is.few h);
-    stored = subst (λ ps. AreStored after (modules_in ps)) (sym (present_with changed path)) (stored_on after (present changed) (option_to_list path) (all_still_stored kept (modules_in (present changed)) is.stored) searched.stored);
-    told = λ later grown. subst (λ cs. IsStepping (links_of later.graph) enough (running_told later running) (met_told later found_met) (first_text parts) (later_texts parts) (defined_within (forest_told later paths)) (map (definition_told later) rest) (met_told later mid) cs) (sym (map-append (forest_of_option later) changed (path ∷ [])))
+    stored = subst (λ ps. AreStored after (modules_of_trails ps)) (sym (present_with changed path)) (stored_on after (present changed) (option_to_list path) (all_still_stored kept (modules_of_trails (present changed)) is.stored) searched.stored);
+    told = λ later grown. subst (λ cs. IsStepping (links_of later.graph) enough (running_told later running) (met_told later found_met) (first_text parts) (later_texts parts) (defined_within (trails_told later paths)) (map (definition_told later) rest) (met_told later mid) cs) (sym (map-append (trails_of_option later) changed (path ∷ [])))
         (stepping_next (links_of later.graph) enough (running_told later running) (definition_told later x) (is.told later (grown_on kept grown)) (subst (λ r. IsChanged after r met x parts path mid) is.same stepped later grown));
   }
 
-module _ {old : RootView} {running : List AliasDecl} {begun found_met : List UniqueSymbolId} {s : UniqueSymbolId} {parts : List (Bor (List ℕ))} {paths : List DefinitionPathNode} {root : RootView} {now : List AliasDecl} {met : List UniqueSymbolId} {changed : List (Option DefinitionPathNode)} where
-  pub walking_last : {new : RootView} (found : List DefinitionPathNode) → IsWalking old running begun found_met s parts paths root now [] met changed → 0 < length parts → HasGrown new root → IsFound new running begun s paths found_met → ((later : RootView) → forest_told later found ≡ (rebuilt (texts_in parts) (forest_told later paths) (map (forest_of_option later) changed)).0) → IsWalked root running begun s parts found met
+module _ {old : RootView} {running : List AliasDecl} {begun found_met : List UniqueSymbolId} {s : UniqueSymbolId} {parts : List (Bor (List ℕ))} {paths : List Trail} {root : RootView} {now : List AliasDecl} {met : List UniqueSymbolId} {changed : List (Option Trail)} where
+  pub walking_last : {new : RootView} (found : List Trail) → IsWalking old running begun found_met s parts paths root now [] met changed → 0 < length parts → HasGrown new root → IsFound new running begun s paths found_met → ((later : RootView) → trails_told later found ≡ (rebuilt (texts_in parts) (trails_told later paths) (map (trails_of_option later) changed)).0) → IsWalked root running begun s parts found met
   walking_last found is some since was_found told = λ later grown.
       let it = stepping_last (links_of later.graph) enough (running_told later running) (is.told later grown) (was_found later (grown_on since grown)) in
       let parts_are = some_parts parts some in
-      let same : forest_told later found ≡ (rebuilt (first_text parts ∷ later_texts parts) (forest_told later paths) (map (forest_of_option later) changed)).0 = told later ∙ ap (λ ps. (rebuilt ps (forest_told later paths) (map (forest_of_option later) changed)).0) parts_are in
-      subst (λ ps. Walks (links_of later.graph) enough (running_told later running) (met_told later begun) (named later s) ps (forest_told later found) (met_told later met)) (sym parts_are)
+      let same : trails_told later found ≡ (rebuilt (first_text parts ∷ later_texts parts) (trails_told later paths) (map (trails_of_option later) changed)).0 = told later ∙ ap (λ ps. (rebuilt ps (trails_told later paths) (map (trails_of_option later) changed)).0) parts_are in
+      subst (λ ps. Walks (links_of later.graph) enough (running_told later running) (met_told later begun) (named later s) ps (trails_told later found) (met_told later met)) (sym parts_are)
       (subst (λ f. Walks (links_of later.graph) enough (running_told later running) (met_told later begun) (named later s) (first_text parts ∷ later_texts parts) f (met_told later met)) (sym same) it)
 
 -- ---- an alias
@@ -185,11 +185,11 @@ module _ (root : RootView) (once : IsDistinct bytes_eq root.stored) (running : L
   pub resolved_open : (target : UniqueSymbolId) (parts : List (Bor (List ℕ))) → list_any (is_alias_decl alias) running ≡ true → IsResolved root running alias target parts []
   resolved_open target parts open_now = λ later grown. while_running (sym (later_running later grown) ∙ open_now)
 
-  pub resolved_walk : {after : RootView} (target : UniqueSymbolId) (parts : List (Bor (List ℕ))) (paths : List DefinitionPathNode) (met : List UniqueSymbolId) → list_any (is_alias_decl alias) running ≡ false → length running < 2 ^ 64 → length met ≤ 2 ^ 64 → HasGrown root after → IsWalked after (running ++ alias ∷ []) [] target parts paths met → IsResolved after running alias target parts paths
+  pub resolved_walk : {after : RootView} (target : UniqueSymbolId) (parts : List (Bor (List ℕ))) (paths : List Trail) (met : List UniqueSymbolId) → list_any (is_alias_decl alias) running ≡ false → length running < 2 ^ 64 → length met ≤ 2 ^ 64 → HasGrown root after → IsWalked after (running ++ alias ∷ []) [] target parts paths met → IsResolved after running alias target parts paths
   resolved_walk target parts paths met fresh few fits kept walked = λ later grown.
       let closed = sym (later_running later (grown_on kept grown)) ∙ fresh in
       by_walk closed (omega (arith, few, length-map running (alias_told later))) (omega (arith, fits, length-map met (named later)))
-      (subst (λ r. Walks (links_of later.graph) enough r [] (named later target) (texts_in parts) (forest_told later paths) (met_told later met)) (running_with later running alias) (walked later grown))
+      (subst (λ r. Walks (links_of later.graph) enough r [] (named later target) (texts_in parts) (trails_told later paths) (met_told later met)) (running_with later running alias) (walked later grown))
 
 -- ---- the definitions that are left: each is of a stored module, which is needed, and a star import is declared there
 
@@ -239,11 +239,11 @@ at_mapped f P (x ∷ xs) zero d h all = all 0 (f x) (omega arith)
 at_mapped f P (x ∷ xs) (suc k) d h all = at_mapped f P xs k d (omega (arith, h)) (λ j e g. all (suc j) e (omega (arith, g)))
 
 -- those of what was found
-pub given_first : (root : RootView) (running : List AliasDecl) (before after : List UniqueSymbolId) (s : UniqueSymbolId) (paths : List DefinitionPathNode) (xs : List Definition) → IsFound root running before s paths after → map (definition_told root) xs ≡ defined_within (forest_told root paths) → AreStored root (map module_of_definition xs) → AreGiven s root xs
+pub given_first : (root : RootView) (running : List AliasDecl) (before after : List UniqueSymbolId) (s : UniqueSymbolId) (paths : List Trail) (xs : List Definition) → IsFound root running before s paths after → map (definition_told root) xs ≡ defined_within (trails_told root paths) → AreStored root (map module_of_definition xs) → AreGiven s root xs
 given_first root running before after s paths xs found listed stored k d h =
     let y = get_or xs k d in
-    let among : Contains (defined_within (forest_told root paths)) (definition_told root y) = subst (λ ys. Contains ys (definition_told root y)) listed (at_map (definition_told root) xs k d h) in
-    let is = leaf_given root.graph (named root s) (definition_told root y) ((finds_leaf (links_of root.graph) enough (found root (grown_not root))).each (definition (definition_told root y)) (forest_leaves (forest_told root paths) (definition_told root y) among)) in
+    let among : Contains (defined_within (trails_told root paths)) (definition_told root y) = subst (λ ys. Contains ys (definition_told root y)) listed (at_map (definition_told root) xs k d h) in
+    let is = leaf_given root.graph (named root s) (definition_told root y) ((finds_leaf (links_of root.graph) enough (found root (grown_not root))).each (definition (definition_told root y)) (forest_leaves (trails_told root paths) (definition_told root y) among)) in
     record { within = at_mapped module_of_definition (λ (id : ModuleId). id.0 < length root.stored) xs k d h stored; needed = is.needed; declared = is.declared }
 
 -- ---- what is refused on the way

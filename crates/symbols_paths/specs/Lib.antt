@@ -8,6 +8,7 @@ pub mod Searches
 pub mod Computed
 pub mod Rebuilt
 pub mod Views
+pub mod Trails
 pub mod Growing
 pub mod Needed
 pub mod Searching

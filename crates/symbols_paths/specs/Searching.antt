@@ -13,16 +13,17 @@ use Rattle.symbols_exports.specs.StarStatements.{text_target}
 use Rattle.symbols_paths.specs.declared.paths.definition.Definition.{Definition}
 use Rattle.symbols_paths.specs.declared.paths.leads.Lead.{Lead as ReadLead}
 use Rattle.symbols_paths.specs.declared.paths.leads.Lead.TheVariants as read
-use Rattle.symbols_paths.specs.declared.paths.node.DefinitionPathNode.{DefinitionPathNode}
 use Rattle.symbols_paths.specs.declared.paths.parts.PartWay.{PartWay as ReadWay}
 use Rattle.symbols_paths.specs.declared.paths.parts.PartWay.TheVariants as way
 use Rattle.symbols_paths.specs.declared.paths.resolving.AliasDecl.{AliasDecl}
+use Rattle.symbols_paths.specs.declared.paths.trail.Trail.{Trail}
 use Rattle.symbols_paths.specs.Trees.{NamedSymbol, NamedDecl, Parts, definition, Forest, leaf, none}
 use Rattle.symbols_paths.specs.Leads.{Ways, Lead, defines, leads, alias, nowhere, target_ways, alias_lead, import_ways, ways_into, declarations_of, lead_of}
 use Rattle.symbols_paths.specs.PartWays.{PartWay, to, itself, lacks, Links, links_of}
 use Rattle.symbols_paths.specs.Choice.{is_running, Finds, Follows, Tries, Walks, ChangesOne}
 use Rattle.symbols_paths.specs.Computed.{enough}
-use Rattle.symbols_paths.specs.Views.{named, named_in, decl_told, definition_told, unresolved_told, texts_in, first_text, later_texts, star_of, forest_told, forest_of_option, AreStored}
+use Rattle.symbols_paths.specs.Views.{named, named_in, decl_told, definition_told, unresolved_told, texts_in, first_text, later_texts, star_of, AreStored}
+use Rattle.symbols_paths.specs.Trails.{trails_told, trails_of_option}
 use Rattle.symbols_paths.specs.Growing.{HasGrown}
 
 -- what is found of a symbol, if there is one
@@ -98,15 +99,15 @@ IsWayStored root way.Itself = Unit {0}
 IsWayStored root (way.Lacks missing) = missing.«module».0 < length root.stored
 
 -- what was found, as each later root tells it
-abbrev pub IsFound : RootView → List AliasDecl → List UniqueSymbolId → UniqueSymbolId → List DefinitionPathNode → List UniqueSymbolId → Type 0
-IsFound root running before s paths after = (later : RootView) → HasGrown root later → Finds (links_of later.graph) enough (running_told later running) (met_told later before) (named later s) (forest_told later paths) (met_told later after)
+abbrev pub IsFound : RootView → List AliasDecl → List UniqueSymbolId → UniqueSymbolId → List Trail → List UniqueSymbolId → Type 0
+IsFound root running before s paths after = (later : RootView) → HasGrown root later → Finds (links_of later.graph) enough (running_told later running) (met_told later before) (named later s) (trails_told later paths) (met_told later after)
 
-abbrev pub IsFollowed : RootView → List AliasDecl → List UniqueSymbolId → UniqueSymbolId → ℕ → ReadLead → Option DefinitionPathNode → List UniqueSymbolId → Type 0
-IsFollowed root running before s index lead path after = (later : RootView) → HasGrown root later → Follows (links_of later.graph) enough (running_told later running) (met_told later before) (named later s) index (lead_told later.graph (named later s) lead) (forest_of_option later path) (met_told later after)
+abbrev pub IsFollowed : RootView → List AliasDecl → List UniqueSymbolId → UniqueSymbolId → ℕ → ReadLead → Option Trail → List UniqueSymbolId → Type 0
+IsFollowed root running before s index lead path after = (later : RootView) → HasGrown root later → Follows (links_of later.graph) enough (running_told later running) (met_told later before) (named later s) index (lead_told later.graph (named later s) lead) (trails_of_option later path) (met_told later after)
 
 -- what the ways of an import came to
-abbrev pub IsTried : RootView → List AliasDecl → List UniqueSymbolId → (GraphView → RootView → Ways) → List DefinitionPathNode → List UniqueSymbolId → Type 0
-IsTried root running before ways paths after = (later : RootView) → HasGrown root later → Tries (links_of later.graph) enough (running_told later running) (met_told later before) (ways later.graph later).candidates (ways later.graph later).otherwise (forest_told later paths) (met_told later after)
+abbrev pub IsTried : RootView → List AliasDecl → List UniqueSymbolId → (GraphView → RootView → Ways) → List Trail → List UniqueSymbolId → Type 0
+IsTried root running before ways paths after = (later : RootView) → HasGrown root later → Tries (links_of later.graph) enough (running_told later running) (met_told later before) (ways later.graph later).candidates (ways later.graph later).otherwise (trails_told later paths) (met_told later after)
 
 abbrev pub ways_of_import : UniqueSymbolId → List ℕ → List ℕ → GraphView → RootView → Ways
 ways_of_import s name text graph root = import_ways graph (named root s) name text (text_target graph (named root s).specifier text)
@@ -116,17 +117,17 @@ abbrev pub ways_along : ModuleId → List ℕ → GraphView → RootView → Way
 ways_along module_id name graph root = ways_into graph (named_in root module_id (record { 0 = 0 })) name (specifier_in root module_id) None
 
 -- what a candidate came to; nothing where there is none
-abbrev pub IsOffered : RootView → List AliasDecl → List UniqueSymbolId → Option UniqueSymbolId → List DefinitionPathNode → List UniqueSymbolId → Type 0
-IsOffered root running before candidate paths after = (later : RootView) → HasGrown root later → FindsOne (links_of later.graph) enough (running_told later running) (met_told later before) (option_map (named later) candidate) (forest_told later paths) (met_told later after)
+abbrev pub IsOffered : RootView → List AliasDecl → List UniqueSymbolId → Option UniqueSymbolId → List Trail → List UniqueSymbolId → Type 0
+IsOffered root running before candidate paths after = (later : RootView) → HasGrown root later → FindsOne (links_of later.graph) enough (running_told later running) (met_told later before) (option_map (named later) candidate) (trails_told later paths) (met_told later after)
 
 -- what an alias came to
-abbrev pub IsResolved : RootView → List AliasDecl → AliasDecl → UniqueSymbolId → List (Bor (List ℕ)) → List DefinitionPathNode → Type 0
-IsResolved root running d target parts paths = (later : RootView) → HasGrown root later → Resolves (links_of later.graph) enough (running_told later running) (alias_told later d) (named later target) (texts_in parts) (forest_told later paths)
+abbrev pub IsResolved : RootView → List AliasDecl → AliasDecl → UniqueSymbolId → List (Bor (List ℕ)) → List Trail → Type 0
+IsResolved root running d target parts paths = (later : RootView) → HasGrown root later → Resolves (links_of later.graph) enough (running_told later running) (alias_told later d) (named later target) (texts_in parts) (trails_told later paths)
 
 -- what a symbol came to under parts
-abbrev pub IsWalked : RootView → List AliasDecl → List UniqueSymbolId → UniqueSymbolId → List (Bor (List ℕ)) → List DefinitionPathNode → List UniqueSymbolId → Type 0
-IsWalked root running before s parts paths after = (later : RootView) → HasGrown root later → Walks (links_of later.graph) enough (running_told later running) (met_told later before) (named later s) (texts_in parts) (forest_told later paths) (met_told later after)
+abbrev pub IsWalked : RootView → List AliasDecl → List UniqueSymbolId → UniqueSymbolId → List (Bor (List ℕ)) → List Trail → List UniqueSymbolId → Type 0
+IsWalked root running before s parts paths after = (later : RootView) → HasGrown root later → Walks (links_of later.graph) enough (running_told later running) (met_told later before) (named later s) (texts_in parts) (trails_told later paths) (met_told later after)
 
 -- what stands in the place of a definition
-abbrev pub IsChanged : RootView → List AliasDecl → List UniqueSymbolId → Definition → List (Bor (List ℕ)) → Option DefinitionPathNode → List UniqueSymbolId → Type 0
-IsChanged root running before x parts path after = (later : RootView) → HasGrown root later → ChangesOne (links_of later.graph) enough (running_told later running) (met_told later before) (first_text parts) (later_texts parts) (leaf (definition (definition_told later x))) (forest_of_option later path) (met_told later after)
+abbrev pub IsChanged : RootView → List AliasDecl → List UniqueSymbolId → Definition → List (Bor (List ℕ)) → Option Trail → List UniqueSymbolId → Type 0
+IsChanged root running before x parts path after = (later : RootView) → HasGrown root later → ChangesOne (links_of later.graph) enough (running_told later running) (met_told later before) (first_text parts) (later_texts parts) (leaf (definition (definition_told later x))) (trails_of_option later path) (met_told later after)

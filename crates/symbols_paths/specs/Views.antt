@@ -1,5 +1,5 @@
 -- Paths of the library as trees, where a root tells the modules by their specifiers.
-use Rattle.std.specs.Prelude.{ℕ, ◌<◌, List, [], ◌∷◌, ◌++◌, length, map, All, Option, Some, None, String, string_bytes, Vec}
+use Rattle.std.specs.Prelude.{ℕ, ◌<◌, List, [], ◌∷◌, ◌++◌, length, map, All, Option, Some, None, String, string_bytes}
 use Rattle.std.specs.Global.{Global}
 use Rattle.std.specs.Borrow.{Bor}
 use Rattle.symbols_syntax.specs.declared.ids.ModuleId.{ModuleId}
@@ -26,7 +26,7 @@ use Rattle.symbols_paths.specs.declared.paths.node.DefinitionPathNodeResolved.{D
 use Rattle.symbols_paths.specs.declared.paths.unresolved.DefinitionUnresolved.{DefinitionUnresolved}
 use Rattle.symbols_paths.specs.declared.paths.unresolved.DefinitionUnresolvedKind.{DefinitionUnresolvedKind}
 use Rattle.symbols_paths.specs.declared.paths.unresolved.DefinitionUnresolvedKind.TheVariants as why
-use Rattle.symbols_paths.specs.Trees.{NamedSymbol, NamedDecl, Parts, Defined, Reason, no_symbol, no_module, no_part, Missing, Leaf, definition, unresolved, LinkHead, Tree, Forest, leaf, link, none, more, one}
+use Rattle.symbols_paths.specs.Trees.{NamedSymbol, NamedDecl, Parts, Defined, Reason, no_symbol, no_module, no_part, Missing, Leaf, definition, unresolved, Tree, Forest, leaf, link, none, more, one}
 
 -- a symbol of a module of a root
 abbrev pub named_in : RootView → ModuleId → SymbolId → NamedSymbol
@@ -121,12 +121,6 @@ modules_in paths = joined (map modules_of paths)
 
 abbrev pub module_of_definition : Definition → ModuleId
 module_of_definition x = x.«module»
-
--- the paths among these
-abbrev pub present : List (Option DefinitionPathNode) → List DefinitionPathNode
-present [] = []
-present (None ∷ rest) = present rest
-present (Some path ∷ rest) = path ∷ present rest
 
 -- all these modules are stored
 abbrev pub AreStored : RootView → List ModuleId → Type 0

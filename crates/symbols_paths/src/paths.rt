@@ -12,7 +12,9 @@ mod resolve;
 mod resolving;
 mod search;
 mod targets;
+mod trail;
 mod unresolved;
+mod unroll;
 
 pub use definition::{DeclRef, Definition, DefinitionKind};
 pub use find::{find_definition_paths, go_to_definitions, go_to_definitions_or_unresolveds};

@@ -14,6 +14,7 @@ ghost use Rattle.symbols_paths.specs.Answers.{ArePaths, symbol_in, IsPathsAnswer
 use crate::paths::iter::{DefinitionsIter, DefinitionsOrUnresolvedsIter, definitions_of, ends_of};
 use crate::paths::node::DefinitionPathNode;
 use crate::paths::search::find;
+use crate::paths::unroll::nodes_of;
 use indexmap::IndexSet;
 use symbols_root::root::RootSymbol;
 use symbols_table::info::SymbolsFault;
@@ -51,12 +52,11 @@ pub fn find_definition_paths<'a>(
     }
     let mut resolving = IndexSet::new(root.alloc());
     let mut met = IndexSet::new(root.alloc());
-    find(
-        root,
-        &mut resolving,
-        &mut met,
-        UniqueSymbolId::new(module_id, symbol_id),
-    )
+    let symbol = UniqueSymbolId::new(module_id, symbol_id);
+    match find(root, &mut resolving, &mut met, symbol) {
+        Err(fault) => Err(fault),
+        Ok(trails) => Ok(nodes_of(root.alloc(), trails)?),
+    }
 }
 
 /// The ends of these paths from left to right: definitions, and where they aren't resolved (as

@@ -1,37 +1,57 @@
-//! The parts that paths are made of.
+//! The parts that trails are made of.
 
-ghost use Rattle.std.specs.Prelude.{◌≡◌, ◌<◌, ◌++◌, [], length, IfOk, IfSome, OnOk};
+ghost use Rattle.std.specs.Prelude.{◌≡◌, ◌<◌, ◌++◌, [], length, map, string_bytes, IfOk, IfSome, OnOk};
 ghost use Rattle.std.specs.Option.{option_to_list};
 ghost use Rattle.symbols_syntax.specs.Ids.{id_view};
 ghost use Rattle.symbols_root.specs.Roots.{RootView};
 ghost use Rattle.symbols_exports.specs.Exporting.{specifier_in};
 ghost use Rattle.symbols_paths.specs.Trees.{leaf, link, one, link_to, definition, unresolved, no_symbol};
-ghost use Rattle.symbols_paths.specs.Views.{named, decl_told, star_of, reason_told, texts_of, texts_in, unresolved_told, tree_told, forest_told, forest_of_option, modules_of, modules_in, AreStored};
+ghost use Rattle.symbols_paths.specs.Views.{named, decl_told, star_of, reason_told, texts_of, texts_in, unresolved_told, AreStored};
+ghost use Rattle.symbols_paths.specs.Trails.{step_head, trail_told, trails_told, trails_of_option, modules_of_trail, modules_of_trails};
 
 use crate::paths::definition::{DeclRef, Definition, DefinitionKind};
-use crate::paths::node::{DefinitionPathLink, DefinitionPathNode, DefinitionPathNodeResolved};
+use crate::paths::iter::DefinitionOrUnresolved;
+use crate::paths::trail::{Step, Stretch, Trail, ended, joined, put_before};
 use crate::paths::unresolved::{DefinitionUnresolved, DefinitionUnresolvedKind};
 use std::alloc::{AllocError, Global};
 use symbols_tree::ids::{ModuleId, UniqueSymbolId};
 use symbols_tree::tree::{Id, SourceRange};
 
-/// The path that is a definition alone.
+/// The trail that is a definition alone.
 pub(crate) fn defined<'a>(
+    alloc: Global,
     symbol: UniqueSymbolId,
     symbol_decl: DeclRef,
     kind: DefinitionKind<'a>,
     range: SourceRange,
-) -> DefinitionPathNode<'a>
-    ensures told { (root : RootView) → tree_told root result ≡ leaf (definition (record { decl = decl_told root symbol.module_id symbol_decl; range = range; star = star_of kind.entry })) }
-    ensures stored { (root : RootView) → symbol.module_id.0 < length root.stored → AreStored root (modules_of result) }
+) -> Trail<'a>
+    ensures told { (root : RootView) → trail_told root result ≡ one (leaf (definition (record { decl = decl_told root symbol.module_id symbol_decl; range = range; star = star_of kind.entry }))) }
+    ensures stored { (root : RootView) → symbol.module_id.0 < length root.stored → AreStored root (modules_of_trail result) }
 {
-    DefinitionPathNode::Resolved(DefinitionPathNodeResolved::Definition(Definition {
+    let definition = Definition {
         kind,
         module: symbol.module_id,
         symbol: symbol.symbol_id,
         symbol_decl,
         range,
-    }))
+    };
+    ended(alloc, DefinitionOrUnresolved::Definition(definition))
+}
+
+/// A step in front of trails; none where there are none.
+fn link_by<'a>(
+    alloc: Global,
+    step: Step,
+    next: Vec<Trail<'a>>,
+) -> Result<Option<Trail<'a>>, AllocError>
+    ensures told { IfOk result (λ trail. (root : RootView) → trails_of_option root trail ≡ link_to (step_head root step) (trails_told root next.entry.items)) }
+    ensures stored { IfOk result (λ trail. (root : RootView) → step.symbol.module_id.0 < length root.stored → AreStored root (modules_of_trails next.entry.items) → IfSome trail (λ t. AreStored root (modules_of_trail t))) }
+{
+    let whole = joined(alloc, next)?;
+    match whole {
+        None => Ok(None),
+        Some(trail) => Ok(Some(put_before(trail, Stretch::Step(step))?)),
+    }
 }
 
 /// A step to a symbol by a declaration of its module; none where nothing is next.
@@ -39,21 +59,17 @@ pub(crate) fn link<'a>(
     alloc: Global,
     symbol: UniqueSymbolId,
     symbol_decl: DeclRef,
-    next: Vec<DefinitionPathNode<'a>>,
-) -> Option<DefinitionPathNode<'a>>
-    ensures told { (root : RootView) → forest_of_option root result ≡ link_to (record { symbol = named root symbol; decl = decl_told root symbol.module_id symbol_decl; parts = [] }) (forest_told root next.entry.items) }
-    ensures stored { (root : RootView) → symbol.module_id.0 < length root.stored → AreStored root (modules_in next.entry.items) → IfSome result (λ path. AreStored root (modules_of path)) }
+    next: Vec<Trail<'a>>,
+) -> Result<Option<Trail<'a>>, AllocError>
+    ensures told { IfOk result (λ trail. (root : RootView) → trails_of_option root trail ≡ link_to (record { symbol = named root symbol; decl = decl_told root symbol.module_id symbol_decl; parts = [] }) (trails_told root next.entry.items)) }
+    ensures stored { IfOk result (λ trail. (root : RootView) → symbol.module_id.0 < length root.stored → AreStored root (modules_of_trails next.entry.items) → IfSome trail (λ t. AreStored root (modules_of_trail t))) }
 {
-    if next.is_empty() {
-        return None;
-    }
-    Some(DefinitionPathNode::Resolved(DefinitionPathNodeResolved::Link(DefinitionPathLink {
-        module: symbol.module_id,
-        symbol: symbol.symbol_id,
+    let step = Step {
+        symbol,
         symbol_decl,
         parts: Vec::new(alloc),
-        next,
-    })))
+    };
+    link_by(alloc, step, next)
 }
 
 /// A step to a symbol by a declaration of its module, where parts are looked for; none where nothing
@@ -63,32 +79,31 @@ pub(crate) fn link_under<'a>(
     symbol: UniqueSymbolId,
     symbol_decl: DeclRef,
     parts: &[&str],
-    next: Vec<DefinitionPathNode<'a>>,
-) -> Result<Option<DefinitionPathNode<'a>>, AllocError>
-    ensures told { IfOk result (λ path. (root : RootView) → forest_of_option root path ≡ link_to (record { symbol = named root symbol; decl = decl_told root symbol.module_id symbol_decl; parts = texts_in parts.now }) (forest_told root next.entry.items)) }
-    ensures stored { IfOk result (λ path. (root : RootView) → symbol.module_id.0 < length root.stored → AreStored root (modules_in next.entry.items) → IfSome path (λ p. AreStored root (modules_of p))) }
+    next: Vec<Trail<'a>>,
+) -> Result<Option<Trail<'a>>, AllocError>
+    ensures told { IfOk result (λ trail. (root : RootView) → trails_of_option root trail ≡ link_to (record { symbol = named root symbol; decl = decl_told root symbol.module_id symbol_decl; parts = texts_in parts.now }) (trails_told root next.entry.items)) }
+    ensures stored { IfOk result (λ trail. (root : RootView) → symbol.module_id.0 < length root.stored → AreStored root (modules_of_trails next.entry.items) → IfSome trail (λ t. AreStored root (modules_of_trail t))) }
 {
     if next.is_empty() {
         return Ok(None);
     }
-    Ok(Some(DefinitionPathNode::Resolved(DefinitionPathNodeResolved::Link(DefinitionPathLink {
-        module: symbol.module_id,
-        symbol: symbol.symbol_id,
+    let step = Step {
+        symbol,
         symbol_decl,
         parts: copied_parts(alloc, parts)?,
-        next,
-    }))))
+    };
+    link_by(alloc, step, next)
 }
 
-/// Adds a path, if there is one.
+/// Adds a trail, if there is one.
 pub(crate) fn add<'a>(
-    paths: &mut Vec<DefinitionPathNode<'a>>,
-    path: Option<DefinitionPathNode<'a>>,
+    trails: &mut Vec<Trail<'a>>,
+    trail: Option<Trail<'a>>,
 ) -> Result<(), AllocError>
-    ensures { OnOk result (paths.new.items ≡ paths.old.items ++ option_to_list path.entry) }
+    ensures { OnOk result (trails.new.items ≡ trails.old.items ++ option_to_list trail.entry) }
 {
-    if let Some(path) = path {
-        paths.push(path)?;
+    if let Some(trail) = trail {
+        trails.push(trail)?;
     }
     Ok(())
 }
@@ -97,13 +112,13 @@ pub(crate) fn add<'a>(
 pub(crate) fn one_unresolved<'a>(
     alloc: Global,
     missing: DefinitionUnresolved,
-) -> Result<Vec<DefinitionPathNode<'a>>, AllocError>
-    ensures told { IfOk result (λ paths. (root : RootView) → forest_told root paths.items ≡ one (leaf (unresolved (unresolved_told root missing)))) }
-    ensures stored { IfOk result (λ paths. (root : RootView) → missing.«module».0 < length root.stored → AreStored root (modules_in paths.items)) }
+) -> Result<Vec<Trail<'a>>, AllocError>
+    ensures told { IfOk result (λ trails. (root : RootView) → trails_told root trails.items ≡ one (leaf (unresolved (unresolved_told root missing)))) }
+    ensures stored { IfOk result (λ trails. (root : RootView) → missing.«module».0 < length root.stored → AreStored root (modules_of_trails trails.items)) }
 {
-    let mut paths = Vec::new(alloc);
-    paths.push(DefinitionPathNode::Unresolved(missing))?;
-    Ok(paths)
+    let mut trails = Vec::new(alloc);
+    trails.push(ended(alloc, DefinitionOrUnresolved::Unresolved(missing)))?;
+    Ok(trails)
 }
 
 /// One unresolved entry.
@@ -112,9 +127,9 @@ pub(crate) fn unresolved<'a>(
     module_id: ModuleId,
     kind: DefinitionUnresolvedKind,
     parts: Vec<String>,
-) -> Result<Vec<DefinitionPathNode<'a>>, AllocError>
-    ensures told { IfOk result (λ paths. (root : RootView) → forest_told root paths.items ≡ one (leaf (unresolved (record { specifier = specifier_in root module_id; reason = reason_told kind; parts = texts_of parts.items })))) }
-    ensures stored { IfOk result (λ paths. (root : RootView) → module_id.0 < length root.stored → AreStored root (modules_in paths.items)) }
+) -> Result<Vec<Trail<'a>>, AllocError>
+    ensures told { IfOk result (λ trails. (root : RootView) → trails_told root trails.items ≡ one (leaf (unresolved (record { specifier = specifier_in root module_id; reason = reason_told kind; parts = texts_of parts.items })))) }
+    ensures stored { IfOk result (λ trails. (root : RootView) → module_id.0 < length root.stored → AreStored root (modules_of_trails trails.items)) }
 {
     let missing = DefinitionUnresolved {
         module: module_id,
@@ -143,6 +158,17 @@ pub(crate) fn copied_parts(alloc: Global, parts: &[&str]) -> Result<Vec<String>,
     Ok(copies)
 }
 
+/// Texts, lent.
+pub(crate) fn lent<'p>(alloc: Global, parts: &'p [String]) -> Result<Vec<&'p str>, AllocError>
+    ensures { IfOk result (λ texts. texts_in texts.items ≡ map string_bytes parts.now) }
+{
+    let mut texts = Vec::new(alloc);
+    for part in parts {
+        texts.push(part.as_str())?;
+    }
+    Ok(texts)
+}
+
 /// A step by a declaration that names a name which stands for no symbol, with the parts after it.
 pub(crate) fn unmapped<'a>(
     alloc: Global,
@@ -150,17 +176,11 @@ pub(crate) fn unmapped<'a>(
     symbol_decl: DeclRef,
     id: &Id,
     parts: &[&str],
-) -> Result<DefinitionPathNode<'a>, AllocError>
-    ensures told { IfOk result (λ path. (root : RootView) → tree_told root path ≡ link (record { symbol = named root symbol; decl = decl_told root symbol.module_id symbol_decl; parts = texts_in parts.now }) (one (leaf (unresolved (record { specifier = specifier_in root symbol.module_id; reason = no_symbol (id_view id.now); parts = texts_in parts.now }))))) }
-    ensures stored { IfOk result (λ path. (root : RootView) → symbol.module_id.0 < length root.stored → AreStored root (modules_of path)) }
+) -> Result<Option<Trail<'a>>, AllocError>
+    ensures told { IfOk result (λ trail. (root : RootView) → trails_of_option root trail ≡ one (link (record { symbol = named root symbol; decl = decl_told root symbol.module_id symbol_decl; parts = texts_in parts.now }) (one (leaf (unresolved (record { specifier = specifier_in root symbol.module_id; reason = no_symbol (id_view id.now); parts = texts_in parts.now })))))) }
+    ensures stored { IfOk result (λ trail. (root : RootView) → symbol.module_id.0 < length root.stored → IfSome trail (λ t. AreStored root (modules_of_trail t))) }
 {
     let kind = DefinitionUnresolvedKind::Id(copied_id(alloc, id)?);
     let next = unresolved(alloc, symbol.module_id, kind, copied_parts(alloc, parts)?)?;
-    Ok(DefinitionPathNode::Resolved(DefinitionPathNodeResolved::Link(DefinitionPathLink {
-        module: symbol.module_id,
-        symbol: symbol.symbol_id,
-        symbol_decl,
-        parts: copied_parts(alloc, parts)?,
-        next,
-    })))
+    link_under(alloc, symbol, symbol_decl, parts, next)
 }

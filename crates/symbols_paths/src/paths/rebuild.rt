@@ -1,129 +1,156 @@
-//! Paths with others in the places of their definitions.
+//! Trails with others in the places of their definitions.
 
-ghost use Rattle.std.specs.Prelude.{◌≡◌, ◌++◌, map, IfOk, OnOk};
+ghost use Rattle.std.specs.Prelude.{◌≡◌, ◌++◌, ◌∷◌, [], map, IfOk, OnOk};
 ghost use Rattle.std.specs.Option.{option_to_list};
 ghost use Rattle.symbols_root.specs.Roots.{RootView};
-ghost use Rattle.symbols_paths.specs.declared.paths.node.DefinitionPathNode.TheVariants as node;
-ghost use Rattle.symbols_paths.specs.declared.paths.node.DefinitionPathNodeResolved.TheVariants as resolved;
-ghost use Rattle.symbols_paths.specs.Views.{texts_in, tree_told, forest_told, forest_of_option, definition_told, module_of_definition, modules_of, modules_in, present, AreStored};
+ghost use Rattle.symbols_paths.specs.Views.{texts_in, definition_told, leaf_told, module_of_end, module_of_definition, AreStored};
+ghost use Rattle.symbols_paths.specs.Trees.{Parts, leaf};
 ghost use Rattle.symbols_paths.specs.Rebuilt.{defined_of, defined_within, rebuilt_tree, rebuilt};
+ghost use Rattle.symbols_paths.specs.Trails.{heads_in, heads_under, linked, trail_told, trails_told, trails_of_option, modules_of_stretches, modules_of_trail, modules_of_trails, present};
 
 use crate::paths::definition::Definition;
-use crate::paths::link::{add, link_under};
-use crate::paths::node::{DefinitionPathLink, DefinitionPathNode, DefinitionPathNodeResolved};
+use crate::paths::iter::DefinitionOrUnresolved;
+use crate::paths::link::add;
+use crate::paths::trail::{Stretch, Trail, ended, joined, put_behind};
 use std::alloc::{AllocError, Global};
 use std::collections::VecDeque;
-use symbols_tree::ids::UniqueSymbolId;
 
-/// Adds the definitions at the ends of paths.
+/// Adds the definitions at the ends of trails.
 #[cycle(listing)]
 fn list_definitions<'a>(
-    paths: &[DefinitionPathNode<'a>],
+    trails: &[Trail<'a>],
     found: &mut Vec<Definition<'a>>,
 ) -> Result<(), AllocError>
-    ensures told { OnOk result ((root : RootView) → map (definition_told root) found.new.items ≡ map (definition_told root) found.old.items ++ defined_within (forest_told root paths.now)) }
-    ensures stored { OnOk result ((root : RootView) → AreStored root (map module_of_definition found.old.items) → AreStored root (modules_in paths.now) → AreStored root (map module_of_definition found.new.items)) }
+    ensures told { OnOk result ((root : RootView) → map (definition_told root) found.new.items ≡ map (definition_told root) found.old.items ++ defined_within (trails_told root trails.now)) }
+    ensures stored { OnOk result ((root : RootView) → AreStored root (map module_of_definition found.old.items) → AreStored root (modules_of_trails trails.now) → AreStored root (map module_of_definition found.new.items)) }
 {
-    for path in paths {
-        list_definition(path, found)?;
+    for trail in trails {
+        list_definition(trail, found)?;
     }
     Ok(())
 }
 
-/// Adds those of a path.
+/// Adds those of a trail.
 #[cycle(listing)]
-fn list_definition<'a>(
-    path: &DefinitionPathNode<'a>,
-    found: &mut Vec<Definition<'a>>,
-) -> Result<(), AllocError>
-    ensures told { OnOk result ((root : RootView) → map (definition_told root) found.new.items ≡ map (definition_told root) found.old.items ++ defined_of (tree_told root path.now)) }
-    ensures stored { OnOk result ((root : RootView) → AreStored root (map module_of_definition found.old.items) → AreStored root (modules_of path.now) → AreStored root (map module_of_definition found.new.items)) }
+fn list_definition<'a>(trail: &Trail<'a>, found: &mut Vec<Definition<'a>>) -> Result<(), AllocError>
+    ensures told { OnOk result ((root : RootView) → map (definition_told root) found.new.items ≡ map (definition_told root) found.old.items ++ defined_within (trail_told root trail.now)) }
+    ensures stored { OnOk result ((root : RootView) → AreStored root (map module_of_definition found.old.items) → AreStored root (modules_of_trail trail.now) → AreStored root (map module_of_definition found.new.items)) }
 {
-    match path {
-        DefinitionPathNode::Unresolved(_) => Ok(()),
-        DefinitionPathNode::Resolved(DefinitionPathNodeResolved::Definition(definition)) => {
-            found.push(*definition)?;
-            Ok(())
-        }
-        DefinitionPathNode::Resolved(DefinitionPathNodeResolved::Link(link)) => {
-            list_definitions(&link.next, found)
+    match trail {
+        Trail::To(_, end) => list_end(end, found),
+        Trail::Fork(_, others, last) => {
+            list_definitions(others, found)?;
+            list_definition(last, found)
         }
     }
 }
 
-/// The definitions at the ends of paths, from left to right.
+/// Adds an end that is a definition.
+fn list_end<'a>(
+    end: &DefinitionOrUnresolved<'a>,
+    found: &mut Vec<Definition<'a>>,
+) -> Result<(), AllocError>
+    ensures told { OnOk result ((root : RootView) → map (definition_told root) found.new.items ≡ map (definition_told root) found.old.items ++ defined_of (leaf (leaf_told root end.now))) }
+    ensures stored { OnOk result ((root : RootView) → AreStored root (map module_of_definition found.old.items) → AreStored root (module_of_end end.now ∷ []) → AreStored root (map module_of_definition found.new.items)) }
+{
+    if let DefinitionOrUnresolved::Definition(definition) = end {
+        found.push(*definition)?;
+    }
+    Ok(())
+}
+
+/// The definitions at the ends of trails, from left to right.
 pub(crate) fn definitions_in<'a>(
     alloc: Global,
-    paths: &[DefinitionPathNode<'a>],
+    trails: &[Trail<'a>],
 ) -> Result<Vec<Definition<'a>>, AllocError>
-    ensures told { IfOk result (λ found. (root : RootView) → map (definition_told root) found.items ≡ defined_within (forest_told root paths.now)) }
-    ensures stored { IfOk result (λ found. (root : RootView) → AreStored root (modules_in paths.now) → AreStored root (map module_of_definition found.items)) }
+    ensures told { IfOk result (λ found. (root : RootView) → map (definition_told root) found.items ≡ defined_within (trails_told root trails.now)) }
+    ensures stored { IfOk result (λ found. (root : RootView) → AreStored root (modules_of_trails trails.now) → AreStored root (map module_of_definition found.items)) }
 {
     let mut found = Vec::new(alloc);
-    list_definitions(paths, &mut found)?;
+    list_definitions(trails, &mut found)?;
     Ok(found)
 }
 
-/// The paths under parts, with these, if there is one, in the places of their definitions, from left
+/// The trails under parts, with these, if there is one, in the places of their definitions, from left
 /// to right.
 #[cycle(rebuilding)]
 pub(crate) fn rebuild<'a>(
     alloc: Global,
-    paths: Vec<DefinitionPathNode<'a>>,
+    trails: Vec<Trail<'a>>,
     parts: &[&str],
-    changed: &mut VecDeque<Option<DefinitionPathNode<'a>>>,
-) -> Result<Vec<DefinitionPathNode<'a>>, AllocError>
-    ensures found { IfOk result (λ found. (root : RootView) → forest_told root found.items ≡ (rebuilt (texts_in parts.now) (forest_told root paths.entry.items) (map (forest_of_option root) changed.old.items)).0) }
-    ensures left { OnOk result ((root : RootView) → map (forest_of_option root) changed.new.items ≡ (rebuilt (texts_in parts.now) (forest_told root paths.entry.items) (map (forest_of_option root) changed.old.items)).1) }
-    ensures stored { IfOk result (λ found. (root : RootView) → AreStored root (modules_in paths.entry.items) → AreStored root (modules_in (present changed.old.items)) → AreStored root (modules_in found.items) × AreStored root (modules_in (present changed.new.items))) }
+    changed: &mut VecDeque<Option<Trail<'a>>>,
+) -> Result<Vec<Trail<'a>>, AllocError>
+    ensures found { IfOk result (λ found. (root : RootView) → trails_told root found.items ≡ (rebuilt (texts_in parts.now) (trails_told root trails.entry.items) (map (trails_of_option root) changed.old.items)).0) }
+    ensures left { OnOk result ((root : RootView) → map (trails_of_option root) changed.new.items ≡ (rebuilt (texts_in parts.now) (trails_told root trails.entry.items) (map (trails_of_option root) changed.old.items)).1) }
+    ensures stored { IfOk result (λ found. (root : RootView) → AreStored root (modules_of_trails trails.entry.items) → AreStored root (modules_of_trails (present changed.old.items)) → AreStored root (modules_of_trails found.items) × AreStored root (modules_of_trails (present changed.new.items))) }
 {
     let mut found = Vec::new(alloc);
-    for path in paths {
-        let path = rebuild_one(alloc, path, parts, changed)?;
-        add(&mut found, path)?;
+    for trail in trails {
+        let trail = rebuild_one(alloc, trail, parts, changed)?;
+        add(&mut found, trail)?;
     }
     Ok(found)
 }
 
-/// The same of one path.
+/// The same of one trail.
 #[cycle(rebuilding)]
 fn rebuild_one<'a>(
     alloc: Global,
-    path: DefinitionPathNode<'a>,
+    trail: Trail<'a>,
     parts: &[&str],
-    changed: &mut VecDeque<Option<DefinitionPathNode<'a>>>,
-) -> Result<Option<DefinitionPathNode<'a>>, AllocError>
-    ensures found { IfOk result (λ found. (root : RootView) → forest_of_option root found ≡ (rebuilt_tree (texts_in parts.now) (tree_told root path.entry) (map (forest_of_option root) changed.old.items)).0) }
-    ensures left { OnOk result ((root : RootView) → map (forest_of_option root) changed.new.items ≡ (rebuilt_tree (texts_in parts.now) (tree_told root path.entry) (map (forest_of_option root) changed.old.items)).1) }
-    ensures stored { IfOk result (λ found. (root : RootView) → AreStored root (modules_of path.entry) → AreStored root (modules_in (present changed.old.items)) → AreStored root (modules_in (option_to_list found)) × AreStored root (modules_in (present changed.new.items))) }
+    changed: &mut VecDeque<Option<Trail<'a>>>,
+) -> Result<Option<Trail<'a>>, AllocError>
+    ensures found { IfOk result (λ found. (root : RootView) → trails_of_option root found ≡ (rebuilt (texts_in parts.now) (trail_told root trail.entry) (map (trails_of_option root) changed.old.items)).0) }
+    ensures left { OnOk result ((root : RootView) → map (trails_of_option root) changed.new.items ≡ (rebuilt (texts_in parts.now) (trail_told root trail.entry) (map (trails_of_option root) changed.old.items)).1) }
+    ensures stored { IfOk result (λ found. (root : RootView) → AreStored root (modules_of_trail trail.entry) → AreStored root (modules_of_trails (present changed.old.items)) → AreStored root (modules_of_trails (option_to_list found)) × AreStored root (modules_of_trails (present changed.new.items))) }
 {
-    match path {
-        DefinitionPathNode::Unresolved(unresolved) => {
-            Ok(Some(DefinitionPathNode::Unresolved(unresolved)))
+    match trail {
+        Trail::To(stretches, end) => {
+            let trail = rebuild_end(alloc, end, changed);
+            under(alloc, stretches, parts, trail)
         }
-        DefinitionPathNode::Resolved(DefinitionPathNodeResolved::Definition(_)) => {
-            Ok(changed.pop_front().flatten())
-        }
-        DefinitionPathNode::Resolved(DefinitionPathNodeResolved::Link(link)) => {
-            rebuild_link(alloc, link, parts, changed)
+        Trail::Fork(stretches, others, last) => {
+            let mut next = rebuild(alloc, others, parts, changed)?;
+            let last = rebuild_one(alloc, Box::into_inner(last), parts, changed)?;
+            add(&mut next, last)?;
+            let whole = joined(alloc, next)?;
+            under(alloc, stretches, parts, whole)
         }
     }
 }
 
-/// The same of a step.
-#[cycle(rebuilding)]
-fn rebuild_link<'a>(
+/// What stands in the place of an end: of a definition the first of these, if there is one.
+fn rebuild_end<'a>(
     alloc: Global,
-    link: DefinitionPathLink<'a>,
-    parts: &[&str],
-    changed: &mut VecDeque<Option<DefinitionPathNode<'a>>>,
-) -> Result<Option<DefinitionPathNode<'a>>, AllocError>
-    ensures found { IfOk result (λ found. (root : RootView) → forest_of_option root found ≡ (rebuilt_tree (texts_in parts.now) (tree_told root (node.Resolved (resolved.Link link.entry))) (map (forest_of_option root) changed.old.items)).0) }
-    ensures left { OnOk result ((root : RootView) → map (forest_of_option root) changed.new.items ≡ (rebuilt_tree (texts_in parts.now) (tree_told root (node.Resolved (resolved.Link link.entry))) (map (forest_of_option root) changed.old.items)).1) }
-    ensures stored { IfOk result (λ found. (root : RootView) → AreStored root (modules_of (node.Resolved (resolved.Link link.entry))) → AreStored root (modules_in (present changed.old.items)) → AreStored root (modules_in (option_to_list found)) × AreStored root (modules_in (present changed.new.items))) }
+    end: DefinitionOrUnresolved<'a>,
+    changed: &mut VecDeque<Option<Trail<'a>>>,
+) -> Option<Trail<'a>>
+    ensures found { (root : RootView) (parts : Parts) → trails_of_option root result ≡ (rebuilt_tree parts (leaf (leaf_told root end.entry)) (map (trails_of_option root) changed.old.items)).0 }
+    ensures left { (root : RootView) (parts : Parts) → map (trails_of_option root) changed.new.items ≡ (rebuilt_tree parts (leaf (leaf_told root end.entry)) (map (trails_of_option root) changed.old.items)).1 }
+    ensures stored { (root : RootView) → AreStored root (module_of_end end.entry ∷ []) → AreStored root (modules_of_trails (present changed.old.items)) → AreStored root (modules_of_trails (option_to_list result)) × AreStored root (modules_of_trails (present changed.new.items)) }
 {
-    let symbol = UniqueSymbolId::new(link.module, link.symbol);
-    let symbol_decl = link.symbol_decl;
-    let next = rebuild(alloc, link.next, parts, changed)?;
-    link_under(alloc, symbol, symbol_decl, parts, next)
+    match end {
+        DefinitionOrUnresolved::Definition(_) => changed.pop_front().flatten(),
+        DefinitionOrUnresolved::Unresolved(unresolved) => {
+            let end = DefinitionOrUnresolved::Unresolved(unresolved);
+            Some(ended(alloc, end))
+        }
+    }
+}
+
+/// A trail, if there is one, behind the stretches in front of the place where it stands.
+fn under<'a>(
+    alloc: Global,
+    stretches: Vec<Stretch>,
+    parts: &[&str],
+    trail: Option<Trail<'a>>,
+) -> Result<Option<Trail<'a>>, AllocError>
+    ensures told { IfOk result (λ found. (root : RootView) → trails_of_option root found ≡ linked (heads_under (texts_in parts.now) (heads_in root stretches.items)) (trails_of_option root trail.entry)) }
+    ensures stored { IfOk result (λ found. (root : RootView) → AreStored root (modules_of_stretches stretches.items) → AreStored root (modules_of_trails (option_to_list trail.entry)) → AreStored root (modules_of_trails (option_to_list found))) }
+{
+    match trail {
+        None => Ok(None),
+        Some(trail) => Ok(Some(put_behind(alloc, stretches, parts, trail)?)),
+    }
 }

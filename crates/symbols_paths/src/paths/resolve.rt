@@ -12,18 +12,21 @@ ghost use Rattle.symbols_exports.specs.StarStatements.{text_target};
 ghost use Rattle.symbols_paths.specs.PartWays.{text_part};
 ghost use Rattle.symbols_paths.specs.Computed.{paths_under};
 ghost use Rattle.symbols_paths.specs.Views.{named, texts_in, first_text, later_texts, forest_told};
+ghost use Rattle.symbols_paths.specs.Trails.{trails_told};
 ghost use Rattle.symbols_paths.specs.Growing.{HasGrown};
 ghost use Rattle.symbols_paths.specs.Needed.{IsNeeded, IsRefused};
 ghost use Rattle.symbols_paths.specs.Answers.{ArePathsUnder};
 ghost use Rattle.symbols_paths.specs.DepAnswers.{entry_told, entries_in, asked_by_id, asked_by_way, missing_id, missing_way, other_entries, entries_of, ArePathsOf, IsDepAnswer, IsDepFault};
 
 use crate::paths::leads::symbol_of_id;
-use crate::paths::link::{copied_id, copied_parts, one_unresolved, unresolved};
+use crate::paths::link::{copied_id, copied_parts, lent, one_unresolved, unresolved};
 use crate::paths::node::DefinitionPathNode;
 use crate::paths::parts::{PartWay, text_part};
 use crate::paths::search::walk;
 use crate::paths::targets::text_target;
+use crate::paths::trail::Trail;
 use crate::paths::unresolved::DefinitionUnresolvedKind;
+use crate::paths::unroll::nodes_of;
 use indexmap::IndexSet;
 use std::alloc::{AllocError, Global};
 use symbols_nodes::deps::SymbolNodeDep;
@@ -45,29 +48,18 @@ fn paths_under<'a>(
     root: &mut RootSymbol<'a>,
     symbol: UniqueSymbolId,
     parts: &[&str],
-) -> Result<Vec<DefinitionPathNode<'a>>, SymbolsFault>
+) -> Result<Vec<Trail<'a>>, SymbolsFault>
     requires known { symbol.module_id.0 < length root.old.stored }
     requires once { IsDistinct bytes_eq root.old.stored }
     ensures kept { HasGrown root.old root.new }
-    ensures found { IfOk result (λ paths. ArePathsUnder root.old.graph (named root.old symbol) (texts_in parts.now) (forest_told root.new paths.items)) }
-    ensures listed { IfOk result (λ paths. forest_told root.new paths.items ≡ paths_under root.old.graph (named root.old symbol) (texts_in parts.now)) }
+    ensures found { IfOk result (λ paths. ArePathsUnder root.old.graph (named root.old symbol) (texts_in parts.now) (trails_told root.new paths.items)) }
+    ensures listed { IfOk result (λ paths. trails_told root.new paths.items ≡ paths_under root.old.graph (named root.old symbol) (texts_in parts.now)) }
     ensures refused { IfErr result (IsRefused root.new (specifier_in root.old symbol.module_id)) }
     ensures enough { root.old.limits ≡ widest → IfErr result (λ fault. fault ≡ OutOfMemory) }
 {
     let mut resolving = IndexSet::new(root.alloc());
     let mut met = IndexSet::new(root.alloc());
     walk(root, &mut resolving, &mut met, symbol, parts)
-}
-
-/// Texts, lent.
-fn lent<'p>(alloc: Global, parts: &'p [String]) -> Result<Vec<&'p str>, AllocError>
-    ensures { IfOk result (λ texts. texts_in texts.items ≡ map string_bytes parts.now) }
-{
-    let mut texts = Vec::new(alloc);
-    for part in parts {
-        texts.push(part.as_str())?;
-    }
-    Ok(texts)
 }
 
 /// The paths of what a name of a stored module stands for, under parts; one unresolved entry where it
@@ -77,11 +69,11 @@ fn paths_of_id<'a>(
     module_id: ModuleId,
     id: &Id,
     parts: &[&str],
-) -> Result<Vec<DefinitionPathNode<'a>>, SymbolsFault>
+) -> Result<Vec<Trail<'a>>, SymbolsFault>
     requires known { module_id.0 < length root.old.stored }
     requires once { IsDistinct bytes_eq root.old.stored }
     ensures kept { HasGrown root.old root.new }
-    ensures found { IfOk result (λ paths. ArePathsOf root.old.graph (asked_by_id root.old.graph (specifier_in root.old module_id) (id_view id.now) (texts_in parts.now)) (missing_id (specifier_in root.old module_id) (id_view id.now) (texts_in parts.now)) (forest_told root.new paths.items)) }
+    ensures found { IfOk result (λ paths. ArePathsOf root.old.graph (asked_by_id root.old.graph (specifier_in root.old module_id) (id_view id.now) (texts_in parts.now)) (missing_id (specifier_in root.old module_id) (id_view id.now) (texts_in parts.now)) (trails_told root.new paths.items)) }
     ensures refused { IfErr result (IsRefused root.new (specifier_in root.old module_id)) }
     ensures enough { root.old.limits ≡ widest → IfErr result (λ fault. fault ≡ OutOfMemory) }
 {
@@ -101,12 +93,12 @@ fn paths_of_import<'a>(
     module_id: ModuleId,
     text: &str,
     parts: &[&str],
-) -> Result<Vec<DefinitionPathNode<'a>>, SymbolsFault>
+) -> Result<Vec<Trail<'a>>, SymbolsFault>
     requires known { module_id.0 < length root.old.stored }
     requires some { 0 < length parts.now }
     requires once { IsDistinct bytes_eq root.old.stored }
     ensures kept { HasGrown root.old root.new }
-    ensures found { IfOk result (λ paths. ArePathsOf root.old.graph (asked_by_way (later_texts parts.now) (text_part root.old.graph (specifier_in root.old module_id) text.now (first_text parts.now) (later_texts parts.now) (text_target root.old.graph (specifier_in root.old module_id) text.now))) (missing_way (text_part root.old.graph (specifier_in root.old module_id) text.now (first_text parts.now) (later_texts parts.now) (text_target root.old.graph (specifier_in root.old module_id) text.now))) (forest_told root.new paths.items)) }
+    ensures found { IfOk result (λ paths. ArePathsOf root.old.graph (asked_by_way (later_texts parts.now) (text_part root.old.graph (specifier_in root.old module_id) text.now (first_text parts.now) (later_texts parts.now) (text_target root.old.graph (specifier_in root.old module_id) text.now))) (missing_way (text_part root.old.graph (specifier_in root.old module_id) text.now (first_text parts.now) (later_texts parts.now) (text_target root.old.graph (specifier_in root.old module_id) text.now))) (trails_told root.new paths.items)) }
     ensures refused { IfErr result (λ fault. (start : List ℕ) → ((k : List ℕ) → text_target root.old.graph (specifier_in root.old module_id) text.now ≡ Some k → IsNeeded root.old.graph start k) → IsRefused root.new start fault) }
     ensures enough { root.old.limits ≡ widest → IfErr result (λ fault. fault ≡ OutOfMemory) }
 {
@@ -148,7 +140,7 @@ fn module_of_import<'a>(
 }
 
 /// Each path as an entry.
-fn entries_of<'a>(
+fn entries_along<'a>(
     alloc: Global,
     paths: Vec<DefinitionPathNode<'a>>,
 ) -> Result<Vec<ResolvedSymbolDepEntry<'a>>, AllocError>
@@ -159,6 +151,17 @@ fn entries_of<'a>(
         entries.push(ResolvedSymbolDepEntry::Path(path))?;
     }
     Ok(entries)
+}
+
+/// Each path of trails as an entry.
+fn entries_of<'a>(
+    alloc: Global,
+    trails: Vec<Trail<'a>>,
+) -> Result<Vec<ResolvedSymbolDepEntry<'a>>, AllocError>
+    ensures { IfOk result (λ entries. (root : RootView) → map (entry_told root) entries.items ≡ entries_in (trails_told root trails.entry.items)) }
+{
+    let paths = nodes_of(alloc, trails)?;
+    entries_along(alloc, paths)
 }
 
 /// What a name of a stored module stands for, with the parts behind it.

@@ -10,7 +10,8 @@ ghost use Rattle.symbols_table.specs.DeclViews.{Declaration};
 ghost use Rattle.symbols_root.specs.Roots.{widest};
 ghost use Rattle.symbols_exports.specs.Exporting.{specifier_in};
 ghost use Rattle.symbols_paths.specs.Leads.{declarations_of};
-ghost use Rattle.symbols_paths.specs.Views.{named, definition_told, modules_in, AreStored};
+ghost use Rattle.symbols_paths.specs.Views.{named, definition_told, AreStored};
+ghost use Rattle.symbols_paths.specs.Trails.{modules_of_trails};
 ghost use Rattle.symbols_paths.specs.Growing.{HasGrown};
 ghost use Rattle.symbols_paths.specs.Needed.{IsRefused, IsStarDeclared};
 ghost use Rattle.symbols_paths.specs.Searching.{AreNumbered, AreAliasesNumbered, HasSearched, IsFound, IsFollowed, IsTried, IsOffered, IsResolved, IsWalked, IsChanged, IsImported, IsImportOf, ways_of_import, ways_along};
@@ -18,11 +19,11 @@ ghost use Rattle.symbols_paths.specs.Searching.{AreNumbered, AreAliasesNumbered,
 use crate::paths::definition::{DeclRef, Definition};
 use crate::paths::leads::{Lead, NamedImport, lead_at, own_export, star_text};
 use crate::paths::link::{add, defined, link, link_under, one_unresolved, unmapped, unresolved};
-use crate::paths::node::DefinitionPathNode;
 use crate::paths::parts::{PartWay, part_of};
 use crate::paths::rebuild::{definitions_in, rebuild};
 use crate::paths::resolving::AliasDecl;
 use crate::paths::targets::{export_along, text_target};
+use crate::paths::trail::Trail;
 use crate::paths::unresolved::DefinitionUnresolvedKind;
 use indexmap::IndexSet;
 use std::collections::VecDeque;
@@ -37,14 +38,14 @@ pub(crate) fn find<'a>(
     resolving: &mut IndexSet<AliasDecl>,
     met: &mut IndexSet<UniqueSymbolId>,
     symbol: UniqueSymbolId,
-) -> Result<Vec<DefinitionPathNode<'a>>, SymbolsFault>
+) -> Result<Vec<Trail<'a>>, SymbolsFault>
     requires known { symbol.module_id.0 < length root.old.stored }
     requires met { AreNumbered root.old met.old.keys }
     requires resolving { AreAliasesNumbered root.old resolving.old.keys }
     requires once { IsDistinct bytes_eq root.old.stored }
     ensures kept { HasGrown root.old root.new }
     ensures found { IfOk result (λ paths. IsFound root.new resolving.old.keys met.old.keys symbol paths.items met.new.keys) }
-    ensures searched { IfOk result (λ paths. HasSearched root.new met.old.keys met.new.keys (modules_in paths.items)) }
+    ensures searched { IfOk result (λ paths. HasSearched root.new met.old.keys met.new.keys (modules_of_trails paths.items)) }
     ensures same { OnOk result (resolving.new.keys ≡ resolving.old.keys) }
     ensures refused { IfErr result (IsRefused root.new (specifier_in root.old symbol.module_id)) }
     ensures enough { root.old.limits ≡ widest → IfErr result (λ fault. fault ≡ OutOfMemory) }
@@ -74,7 +75,7 @@ fn follow<'a>(
     symbol: UniqueSymbolId,
     index: u32,
     lead: &Lead<'a>,
-) -> Result<Option<DefinitionPathNode<'a>>, SymbolsFault>
+) -> Result<Option<Trail<'a>>, SymbolsFault>
     requires known { symbol.module_id.0 < length root.old.stored }
     requires met { AreNumbered root.old met.old.keys }
     requires resolving { AreAliasesNumbered root.old resolving.old.keys }
@@ -82,7 +83,7 @@ fn follow<'a>(
     requires declared { (decl : Declaration) × Contains (declarations_of root.old.graph (named root.old symbol)) decl × IsImportOf lead.now decl }
     ensures kept { HasGrown root.old root.new }
     ensures followed { IfOk result (λ path. IsFollowed root.new resolving.old.keys met.old.keys symbol index lead.now path met.new.keys) }
-    ensures searched { IfOk result (λ path. HasSearched root.new met.old.keys met.new.keys (modules_in (option_to_list path))) }
+    ensures searched { IfOk result (λ path. HasSearched root.new met.old.keys met.new.keys (modules_of_trails (option_to_list path))) }
     ensures same { OnOk result (resolving.new.keys ≡ resolving.old.keys) }
     ensures refused { IfErr result (IsRefused root.new (specifier_in root.old symbol.module_id)) }
     ensures enough { root.old.limits ≡ widest → IfErr result (λ fault. fault ≡ OutOfMemory) }
@@ -92,13 +93,13 @@ fn follow<'a>(
         index,
     };
     match lead {
-        Lead::Defines(kind, range) => Ok(Some(defined(symbol, decl, *kind, *range))),
+        Lead::Defines(kind, range) => Ok(Some(defined(root.alloc(), symbol, decl, *kind, *range))),
         Lead::Nowhere => Ok(None),
         Lead::Target(symbol_id) => {
             let target = UniqueSymbolId::new(symbol.module_id, *symbol_id);
             match find(root, resolving, met, target) {
                 Err(fault) => Err(fault),
-                Ok(next) => Ok(link(root.alloc(), target, decl, next)),
+                Ok(next) => Ok(link(root.alloc(), target, decl, next)?),
             }
         }
         Lead::Alias(symbol_id, parts) => {
@@ -112,10 +113,10 @@ fn follow<'a>(
                 Ok(next) => Ok(link_under(root.alloc(), symbol, decl, parts, next)?),
             }
         }
-        Lead::Unmapped(id, parts) => Ok(Some(unmapped(root.alloc(), symbol, decl, id, parts)?)),
+        Lead::Unmapped(id, parts) => Ok(unmapped(root.alloc(), symbol, decl, id, parts)?),
         Lead::Import(taken) => match import(root, resolving, met, symbol, taken) {
             Err(fault) => Err(fault),
-            Ok(next) => Ok(link(root.alloc(), symbol, decl, next)),
+            Ok(next) => Ok(link(root.alloc(), symbol, decl, next)?),
         },
     }
 }
@@ -128,7 +129,7 @@ fn import<'a>(
     met: &mut IndexSet<UniqueSymbolId>,
     symbol: UniqueSymbolId,
     taken: &NamedImport<'a>,
-) -> Result<Vec<DefinitionPathNode<'a>>, SymbolsFault>
+) -> Result<Vec<Trail<'a>>, SymbolsFault>
     requires known { symbol.module_id.0 < length root.old.stored }
     requires met { AreNumbered root.old met.old.keys }
     requires resolving { AreAliasesNumbered root.old resolving.old.keys }
@@ -136,7 +137,7 @@ fn import<'a>(
     requires declared { IsImported root.old.graph (named root.old symbol) taken.now.name.now taken.now.text.now }
     ensures kept { HasGrown root.old root.new }
     ensures tried { IfOk result (λ paths. IsTried root.new resolving.old.keys met.old.keys (ways_of_import symbol taken.now.name.now taken.now.text.now) paths.items met.new.keys) }
-    ensures searched { IfOk result (λ paths. HasSearched root.new met.old.keys met.new.keys (modules_in paths.items)) }
+    ensures searched { IfOk result (λ paths. HasSearched root.new met.old.keys met.new.keys (modules_of_trails paths.items)) }
     ensures same { OnOk result (resolving.new.keys ≡ resolving.old.keys) }
     ensures refused { IfErr result (IsRefused root.new (specifier_in root.old symbol.module_id)) }
     ensures enough { root.old.limits ≡ widest → IfErr result (λ fault. fault ≡ OutOfMemory) }
@@ -166,14 +167,14 @@ fn import_along<'a>(
     met: &mut IndexSet<UniqueSymbolId>,
     module_id: ModuleId,
     taken: &NamedImport<'a>,
-) -> Result<Vec<DefinitionPathNode<'a>>, SymbolsFault>
+) -> Result<Vec<Trail<'a>>, SymbolsFault>
     requires known { module_id.0 < length root.old.stored }
     requires met { AreNumbered root.old met.old.keys }
     requires resolving { AreAliasesNumbered root.old resolving.old.keys }
     requires once { IsDistinct bytes_eq root.old.stored }
     ensures kept { HasGrown root.old root.new }
     ensures tried { IfOk result (λ paths. IsTried root.new resolving.old.keys met.old.keys (ways_along module_id taken.now.name.now) paths.items met.new.keys) }
-    ensures searched { IfOk result (λ paths. HasSearched root.new met.old.keys met.new.keys (modules_in paths.items)) }
+    ensures searched { IfOk result (λ paths. HasSearched root.new met.old.keys met.new.keys (modules_of_trails paths.items)) }
     ensures same { OnOk result (resolving.new.keys ≡ resolving.old.keys) }
     ensures refused { IfErr result (IsRefused root.new (specifier_in root.old module_id)) }
     ensures enough { root.old.limits ≡ widest → IfErr result (λ fault. fault ≡ OutOfMemory) }
@@ -206,14 +207,14 @@ fn offered<'a>(
     resolving: &mut IndexSet<AliasDecl>,
     met: &mut IndexSet<UniqueSymbolId>,
     candidate: Option<UniqueSymbolId>,
-) -> Result<Vec<DefinitionPathNode<'a>>, SymbolsFault>
+) -> Result<Vec<Trail<'a>>, SymbolsFault>
     requires known { IfSome candidate (λ symbol. symbol.module_id.0 < length root.old.stored) }
     requires met { AreNumbered root.old met.old.keys }
     requires resolving { AreAliasesNumbered root.old resolving.old.keys }
     requires once { IsDistinct bytes_eq root.old.stored }
     ensures kept { HasGrown root.old root.new }
     ensures offered { IfOk result (λ paths. IsOffered root.new resolving.old.keys met.old.keys candidate paths.items met.new.keys) }
-    ensures searched { IfOk result (λ paths. HasSearched root.new met.old.keys met.new.keys (modules_in paths.items)) }
+    ensures searched { IfOk result (λ paths. HasSearched root.new met.old.keys met.new.keys (modules_of_trails paths.items)) }
     ensures same { OnOk result (resolving.new.keys ≡ resolving.old.keys) }
     ensures refused { IfErr result (λ fault. (symbol : UniqueSymbolId) × (candidate ≡ Some symbol) × IsRefused root.new (specifier_in root.old symbol.module_id) fault) }
     ensures enough { root.old.limits ≡ widest → IfErr result (λ fault. fault ≡ OutOfMemory) }
@@ -233,14 +234,14 @@ fn resolve<'a>(
     alias: AliasDecl,
     target: UniqueSymbolId,
     parts: &[&str],
-) -> Result<Vec<DefinitionPathNode<'a>>, SymbolsFault>
+) -> Result<Vec<Trail<'a>>, SymbolsFault>
     requires known { target.module_id.0 < length root.old.stored }
     requires alias { alias.«module».0 < length root.old.stored }
     requires resolving { AreAliasesNumbered root.old resolving.old.keys }
     requires once { IsDistinct bytes_eq root.old.stored }
     ensures kept { HasGrown root.old root.new }
     ensures resolved { IfOk result (λ paths. IsResolved root.new resolving.old.keys alias target parts.now paths.items) }
-    ensures stored { IfOk result (λ paths. AreStored root.new (modules_in paths.items)) }
+    ensures stored { IfOk result (λ paths. AreStored root.new (modules_of_trails paths.items)) }
     ensures same { OnOk result (resolving.new.keys ≡ resolving.old.keys) }
     ensures refused { IfErr result (IsRefused root.new (specifier_in root.old target.module_id)) }
     ensures enough { root.old.limits ≡ widest → IfErr result (λ fault. fault ≡ OutOfMemory) }
@@ -267,14 +268,14 @@ pub(crate) fn walk<'a>(
     met: &mut IndexSet<UniqueSymbolId>,
     symbol: UniqueSymbolId,
     parts: &[&str],
-) -> Result<Vec<DefinitionPathNode<'a>>, SymbolsFault>
+) -> Result<Vec<Trail<'a>>, SymbolsFault>
     requires known { symbol.module_id.0 < length root.old.stored }
     requires met { AreNumbered root.old met.old.keys }
     requires resolving { AreAliasesNumbered root.old resolving.old.keys }
     requires once { IsDistinct bytes_eq root.old.stored }
     ensures kept { HasGrown root.old root.new }
     ensures walked { IfOk result (λ paths. IsWalked root.new resolving.old.keys met.old.keys symbol parts.now paths.items met.new.keys) }
-    ensures searched { IfOk result (λ paths. HasSearched root.new met.old.keys met.new.keys (modules_in paths.items)) }
+    ensures searched { IfOk result (λ paths. HasSearched root.new met.old.keys met.new.keys (modules_of_trails paths.items)) }
     ensures same { OnOk result (resolving.new.keys ≡ resolving.old.keys) }
     ensures refused { IfErr result (IsRefused root.new (specifier_in root.old symbol.module_id)) }
     ensures enough { root.old.limits ≡ widest → IfErr result (λ fault. fault ≡ OutOfMemory) }
@@ -305,7 +306,7 @@ fn step<'a>(
     met: &mut IndexSet<UniqueSymbolId>,
     definition: &Definition<'a>,
     parts: &[&str],
-) -> Result<Option<DefinitionPathNode<'a>>, SymbolsFault>
+) -> Result<Option<Trail<'a>>, SymbolsFault>
     requires known { definition.now.«module».0 < length root.old.stored }
     requires some { 0 < length parts.now }
     requires declared { IsStarDeclared root.old.graph (definition_told root.old definition.now) }
@@ -314,7 +315,7 @@ fn step<'a>(
     requires once { IsDistinct bytes_eq root.old.stored }
     ensures kept { HasGrown root.old root.new }
     ensures changed { IfOk result (λ path. IsChanged root.new resolving.old.keys met.old.keys definition.now parts.now path met.new.keys) }
-    ensures searched { IfOk result (λ path. HasSearched root.new met.old.keys met.new.keys (modules_in (option_to_list path))) }
+    ensures searched { IfOk result (λ path. HasSearched root.new met.old.keys met.new.keys (modules_of_trails (option_to_list path))) }
     ensures same { OnOk result (resolving.new.keys ≡ resolving.old.keys) }
     ensures refused { IfErr result (IsRefused root.new (specifier_in root.old definition.now.«module»)) }
     ensures enough { root.old.limits ≡ widest → IfErr result (λ fault. fault ≡ OutOfMemory) }
@@ -323,7 +324,16 @@ fn step<'a>(
     let decl = definition.symbol_decl;
     match part_of(root, definition, parts) {
         Err(fault) => Err(fault),
-        Ok(PartWay::Itself) => Ok(Some(defined(symbol, decl, definition.kind, definition.range))),
+        Ok(PartWay::Itself) => {
+            let itself = defined(
+                root.alloc(),
+                symbol,
+                decl,
+                definition.kind,
+                definition.range,
+            );
+            Ok(Some(itself))
+        }
         Ok(PartWay::Lacks(missing)) => {
             let next = one_unresolved(root.alloc(), missing)?;
             Ok(link_under(root.alloc(), symbol, decl, parts, next)?)

@@ -1,23 +1,22 @@
-use Rattle.std.proofs.Common.{◌≡◌, ℕ, [], refl, sym, subst, inl, inr, Result, Ok, Err, IfOk, IfErr}
+use Rattle.std.proofs.Common.{◌≡◌, [], None, refl, sym, subst, inl, inr, ◌∙◌, Result, Ok, Err, IfErr}
+use Rattle.std.specs.Prelude.{IsErrAnd}
 use Rattle.symbols_syntax.specs.declared.ids.ModuleId.{ModuleId}
 use Rattle.symbols_table.specs.declared.info.fault.SymbolsFault.{SymbolsFault}
+use Rattle.symbols_table.specs.declared.info.fault.SymbolsFault.TheVariants.{OutOfMemory}
 use Rattle.symbols_table.specs.Modules.{lent_table}
 use Rattle.symbols_exports.specs.Exporting.{specifier_in}
 use Rattle.symbols_paths.specs.PartWays.{links_of}
 use Rattle.symbols_paths.specs.Needed.{IsRefused}
-use Rattle.symbols_paths.specs.Searching.{HasSearched, IsFound}
+use Rattle.symbols_paths.specs.Answers.{IsPathsFault}
 use Rattle.symbols_paths.specs.Views.{named_in}
 use Rattle.symbols_paths.proofs.Answering.{paths_answer, paths_listed, no_symbol_there, symbol_there}
 use Rattle.symbols_paths.proofs.Once.{chosen_once}
 use Rattle.symbols_paths.proofs.paths.find.find_definition_paths.Goals as goal
 
-on_both : {A : Type 0} {P Q R : A → Type 0} (r : Result A SymbolsFault) → ((x : A) → P x → Q x → R x) → IfOk r P → IfOk r Q → IfOk r R
-on_both (Ok x) f g h = f x g h
-on_both (Err e) f g h = tt
-
-on_fault : {A : Type 0} {P Q : SymbolsFault → Type 0} (r : Result A SymbolsFault) → ((e : SymbolsFault) → P e → Q e) → IfErr r P → IfErr r Q
-on_fault (Ok x) f h = tt
-on_fault (Err e) f h = f e h
+-- a fault that can only be that memory was refused
+on_memory : {A : Type 0} (P : SymbolsFault → Type 0) (r : Result A SymbolsFault) → IsErrAnd r (λ fault. fault ≡ OutOfMemory) → P OutOfMemory → IfErr r P
+on_memory P (Ok x) is held = tt
+on_memory P (Err fault) is held = subst P (sym is) held
 
 pub returns-in-None-clause-only : goal.returns-in-None-clause-only
 returns-in-None-clause-only c = chosen_once (links_of c.args.root.now.graph) (named_in c.args.root.now c.args.module_id c.args.symbol_id) []
@@ -36,23 +35,39 @@ returns-then-is_none-clause-faults c = inr (inl (record {
   unchanged = refl;
 }))
 
+pub returns-in-Err-clause-only : goal.returns-in-Err-clause-only
+returns-in-Err-clause-only c = chosen_once (links_of c.args.root.now.graph) (named_in c.args.root.now c.args.module_id c.args.symbol_id) []
+
+pub returns-in_err-nodes_of-in-Ok-clause-only : goal.returns-in_err-nodes_of-in-Ok-clause-only
+returns-in_err-nodes_of-in-Ok-clause-only c = chosen_once (links_of c.args.root.now.graph) (named_in c.args.root.now c.args.module_id c.args.symbol_id) []
+
 pub returns-clause-only : goal.returns-clause-only
 returns-clause-only c = chosen_once (links_of c.args.root.now.graph) (named_in c.args.root.now c.args.module_id c.args.symbol_id) []
 
 pub returns-clause-answers : goal.returns-clause-answers
 returns-clause-answers c =
+    let root = c.find.new.root in
     let has = symbol_there c.args.root.now c.args.module_id (lent_table c.in-Some.info) c.in-Some.ensures.table c.args.symbol_id c.symbol.result c.symbol.ensures c.if-is_none.ensures in
-    let found = rw (c.new-met.ensures.empty, c.new-resolving.ensures.empty) at c.find.ensures.found in
-    let searched = rw c.new-met.ensures.empty at c.find.ensures.searched in
-    on_both c.find.result (λ paths is so. paths_answer paths.items (c.in-Some.ensures.found.0 refl) c.new.ensures.module c.new.ensures.symbol c.find.ensures.kept is so has) found searched
+    let found = rw (c.new-met.ensures.empty, c.new-resolving.ensures.empty) at c.in-Ok.ensures.found in
+    let searched = rw c.new-met.ensures.empty at c.in-Ok.ensures.searched in
+    paths_answer c.in-Ok.trails.items (c.in-Some.ensures.found.0 refl) c.new-symbol.ensures.module c.new-symbol.ensures.symbol c.in-Ok.ensures.kept found searched has c.in_ok-nodes_of-in-Ok.field-0.items (c.in_ok-nodes_of-in-Ok.ensures.told root) (c.in_ok-nodes_of-in-Ok.ensures.stored root)
 
 pub returns-clause-listed : goal.returns-clause-listed
 returns-clause-listed c =
-    let found = rw (c.new-met.ensures.empty, c.new-resolving.ensures.empty) at c.find.ensures.found in
-    let searched = rw c.new-met.ensures.empty at c.find.ensures.searched in
-    on_both c.find.result (λ paths is so. paths_listed paths.items (c.in-Some.ensures.found.0 refl) c.new.ensures.module c.new.ensures.symbol c.find.ensures.kept is so) found searched
+    let found = rw (c.new-met.ensures.empty, c.new-resolving.ensures.empty) at c.in-Ok.ensures.found in
+    let searched = rw c.new-met.ensures.empty at c.in-Ok.ensures.searched in
+    c.in_ok-nodes_of-in-Ok.ensures.told c.find.new.root ∙ paths_listed c.in-Ok.trails.items (c.in-Some.ensures.found.0 refl) c.new-symbol.ensures.module c.new-symbol.ensures.symbol c.in-Ok.ensures.kept found searched
 
-pub returns-clause-faults : goal.returns-clause-faults
-returns-clause-faults c =
+pub returns-in-Err-clause-faults : goal.returns-in-Err-clause-faults
+returns-in-Err-clause-faults c =
     let has = symbol_there c.args.root.now c.args.module_id (lent_table c.in-Some.info) c.in-Some.ensures.table c.args.symbol_id c.symbol.result c.symbol.ensures c.if-is_none.ensures in
-    on_fault c.find.result (λ fault refused. inr (inr (record { known = c.in-Some.ensures.found.0 refl; has_symbol = has; refused = subst (λ (id : ModuleId). IsRefused c.find.new.root (specifier_in c.args.root.now id) fault) c.new.ensures.module refused }))) c.find.ensures.refused
+    inr (inr (record { known = c.in-Some.ensures.found.0 refl; has_symbol = has; refused = subst (λ (id : ModuleId). IsRefused c.find.new.root (specifier_in c.args.root.now id) c.in-Err.fault) c.new-symbol.ensures.module c.in-Err.ensures.refused }))
+
+pub returns-in_err-nodes_of-in-Ok-clause-faults : goal.returns-in_err-nodes_of-in-Ok-clause-faults
+returns-in_err-nodes_of-in-Ok-clause-faults c =
+    let has = symbol_there c.args.root.now c.args.module_id (lent_table c.in-Some.info) c.in-Some.ensures.table c.args.symbol_id c.symbol.result c.symbol.ensures c.if-is_none.ensures in
+    on_memory (IsPathsFault c.args.root.now c.find.new.root c.args.module_id c.args.symbol_id) c.from_residual.result c.from_residual.ensures.1 (inr (inr (record {
+      known = c.in-Some.ensures.found.0 refl;
+      has_symbol = has;
+      refused = record { needed = None; is_needed = λ specifier e. absurd cc; refused = tt };
+    })))

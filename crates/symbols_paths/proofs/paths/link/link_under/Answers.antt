@@ -1,16 +1,22 @@
-use Rattle.std.proofs.Common.{sym, ap, ◌∙◌}
-use Rattle.symbols_paths.specs.Trees.{one}
-use Rattle.symbols_paths.specs.Views.{texts_in}
-use Rattle.symbols_paths.proofs.Told.{head_told, tree_of_step, modules_of_step, link_of_some, stored_more, is_some}
+use Rattle.std.proofs.Common.{Result, Ok, Err, IfOk, ap, sym, ◌∙◌}
+use Rattle.symbols_paths.specs.Trees.{link_to}
+use Rattle.symbols_paths.specs.Views.{named, decl_told, texts_in}
+use Rattle.symbols_paths.specs.Trails.{trails_told}
+use Rattle.symbols_paths.proofs.Told.{head_told}
+use Rattle.symbols_paths.proofs.Trailing.{is_none}
 use Rattle.symbols_paths.proofs.paths.link.link_under.Goals as goal
 
-pub returns-clause-told : goal.returns-clause-told
-returns-clause-told c = λ root.
-    let s = c.args.symbol in
-    ap one (tree_of_step root s.module_id s.symbol_id c.args.symbol_decl c.in_ok-copied_parts.field-0 c.args.next (texts_in c.args.parts.now) c.in_ok-copied_parts.ensures)
-    ∙ sym (link_of_some (head_told root s.module_id s.symbol_id c.args.symbol_decl (texts_in c.args.parts.now)) root c.args.next.items (is_some c.args.next (sym c.if-is_empty.false ∙ c.is_empty.ensures)))
+on_answer : {A E : Type 0} {P Q : A → Type 0} (r : Result A E) → IfOk r P → ((x : A) → P x → Q x) → IfOk r Q
+on_answer (Ok x) h f = f x h
+on_answer (Err e) h f = tt
 
-pub returns-clause-stored : goal.returns-clause-stored
-returns-clause-stored c = λ root stored rest.
+pub returns-then-is_empty-clause-told : goal.returns-then-is_empty-clause-told
+returns-then-is_empty-clause-told c = λ root.
     let s = c.args.symbol in
-    rw (modules_of_step s.module_id s.symbol_id c.args.symbol_decl c.in_ok-copied_parts.field-0 c.args.next) (stored_more root s.module_id _ stored rest)
+    ap (link_to (head_told root s.module_id s.symbol_id c.args.symbol_decl (texts_in c.args.parts.now))) (sym (is_none root c.args.next (sym c.if-is_empty.true ∙ c.is_empty.ensures)))
+
+pub returns-clause-told : goal.returns-clause-told
+returns-clause-told c =
+    let s = c.args.symbol in
+    on_answer c.link_by.result c.link_by.ensures.told (λ trail told root.
+    told root ∙ (λ i. link_to (record { symbol = named root s; decl = decl_told root s.module_id c.args.symbol_decl; parts = c.in_ok-copied_parts.ensures i }) (trails_told root c.args.next.items)))

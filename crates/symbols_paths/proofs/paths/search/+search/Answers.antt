@@ -1,28 +1,24 @@
-use Rattle.std.proofs.Common.{◌≡◌, ◌<◌, ◌^◌, ℕ, List, [], ◌∷◌, refl, length, map, drop, take, ◌-◌, Some, None, Option, Result, Ok, Err, IfOk, IfErr, ◌+◌, option_map, sym, ap, subst, ◌∙◌, arith}
-use Rattle.std.specs.Prelude.{IfSome, string_bytes}
-use Rattle.std.specs.Option.{option_to_list}
+use Rattle.std.proofs.Common.{◌≡◌, ◌<◌, ◌^◌, List, [], ◌∷◌, refl, length, drop, take, ◌-◌, Some, Result, Ok, Err, IfOk, IfErr, ◌+◌, option_map, sym, ap, subst, ◌∙◌, arith}
 use Rattle.std.proofs.lemmas.List.{length-append, nil_from_length}
 use Rattle.symbols_syntax.specs.declared.ids.ModuleId.{ModuleId}
-use Rattle.symbols_syntax.specs.declared.ids.UniqueSymbolId.{UniqueSymbolId}
 use Rattle.symbols_table.specs.declared.info.fault.SymbolsFault.{SymbolsFault}
 use Rattle.symbols_root.specs.Roots.{RootView}
 use Rattle.symbols_exports.specs.Exporting.{specifier_in}
-use Rattle.symbols_exports.specs.StarStatements.{star_texts, text_target}
+use Rattle.symbols_exports.specs.StarStatements.{text_target}
 use Rattle.symbols_paths.specs.declared.paths.definition.Definition.{Definition}
-use Rattle.symbols_paths.specs.declared.paths.node.DefinitionPathNode.{DefinitionPathNode}
 use Rattle.symbols_paths.specs.declared.paths.resolving.AliasDecl.{AliasDecl}
 use Rattle.symbols_paths.specs.Trees.{no_module, no_part, unresolved, leaf, one, link_to}
-use Rattle.symbols_paths.specs.Leads.{declarations_of}
-use Rattle.symbols_paths.specs.Views.{named, forest_told, modules_of, modules_in, texts_of, texts_in, AreStored}
-use Rattle.symbols_paths.specs.Growing.{HasGrown}
+use Rattle.symbols_paths.specs.Views.{named, texts_of, texts_in}
+use Rattle.symbols_paths.specs.Trails.{trails_told, modules_of_trails}
 use Rattle.symbols_paths.specs.Needed.{IsNeeded, IsRefused}
-use Rattle.symbols_paths.specs.Searching.{AreNumbered, AreAliasesNumbered, HasSearched, IsFound, IsTried, IsRead, ways_of_import}
+use Rattle.symbols_paths.specs.Searching.{AreNumbered, AreAliasesNumbered, IsRead}
 use Rattle.symbols_paths.proofs.Growing.{grown_not, grown_on, same_specifier, still_stored, still_numbered, all_still_stored}
-use Rattle.symbols_paths.proofs.Told.{is_some, is_none, none_at, some_at, not_none}
+use Rattle.symbols_paths.proofs.Told.{none_at, some_at}
+use Rattle.symbols_paths.proofs.Trailing.{is_some, is_none, not_none}
 use Rattle.symbols_paths.proofs.Targets.{target_is, no_target}
-use Rattle.symbols_paths.proofs.Finding.{IsFinding, new_symbol, old_symbol, new_few, found_old, finding_first, finding_next, finding_last, finding_searched, now_within, index_within, index_before, stands_among, left, fewer_steps, one_met_more, for_alias, one_alias_more, without_parts, one_part_less}
+use Rattle.symbols_paths.proofs.Finding.{new_symbol, old_symbol, new_few, found_old, finding_first, finding_next, finding_last, finding_searched, now_within, index_within, index_before, stands_among, left, fewer_steps, one_met_more, for_alias, one_alias_more, without_parts, one_part_less}
 use Rattle.symbols_paths.proofs.Following.{followed_itself, followed_alias, followed_nowhere, followed_unmapped, followed_target, followed_import, option_stored, target_later, tried_nowhere, tried_owned, tried_along}
-use Rattle.symbols_paths.proofs.Trying.{IsAsking, asking_first, asking_within, position_within, position_before, asking_next, asking_here, here_searched, asking_last, last_searched}
+use Rattle.symbols_paths.proofs.Trying.{asking_first, asking_within, position_within, position_before, asking_next, asking_here, here_searched, asking_last, last_searched}
 use Rattle.symbols_paths.proofs.SearchSteps.{still_aliases, aliases_with}
 use Rattle.symbols_paths.proofs.Aliases.{new_alias, old_alias, alias_few, popped}
 use Rattle.symbols_paths.proofs.Walking.{IsWalking, AreGiven, head_in_place, definition_in_place, parts_behind, one_less, walked_alone, changed_itself, changed_lacking, changed_on, walking_first, walking_next, walking_last, resolved_open, resolved_walk, first_given, others_given, given_first, refused_given, refused_on}
@@ -134,26 +130,26 @@ follow-returns-in-Defines-clause-followed t c = rw c.in-Defines.is (followed_its
 pub follow-returns-in-Nowhere-clause-followed : goal.follow-returns-in-Nowhere-clause-followed
 follow-returns-in-Nowhere-clause-followed t c = rw c.in-Nowhere.is (followed_nowhere c.args.root.now c.args.resolving.now.keys c.args.met.now.keys c.args.symbol c.args.index)
 
-pub follow-returns-in-Ok-clause-followed : goal.follow-returns-in-Ok-clause-followed
-follow-returns-in-Ok-clause-followed t c = rw c.in-Target.is (followed_target c.find.new.root c.args.resolving.now.keys c.args.met.now.keys c.find.new.met.keys c.args.symbol c.new-target.result c.in-Target.symbol_id c.args.index c.in-Ok.next.items c.link.result c.new-target.ensures.module c.new-target.ensures.symbol c.in-Ok.ensures.found c.link.ensures.told)
+pub follow-returns-in_ok-link-in-Ok-clause-followed : goal.follow-returns-in_ok-link-in-Ok-clause-followed
+follow-returns-in_ok-link-in-Ok-clause-followed t c = rw c.in-Target.is (followed_target c.find.new.root c.args.resolving.now.keys c.args.met.now.keys c.find.new.met.keys c.args.symbol c.new-target.result c.in-Target.symbol_id c.args.index c.in-Ok.next.items c.in_ok-link-in-Ok.field-0 c.new-target.ensures.module c.new-target.ensures.symbol c.in-Ok.ensures.found c.in_ok-link-in-Ok.ensures.told)
 
-pub follow-returns-in-Ok-clause-searched : goal.follow-returns-in-Ok-clause-searched
-follow-returns-in-Ok-clause-searched t c =
+pub follow-returns-in_ok-link-in-Ok-clause-searched : goal.follow-returns-in_ok-link-in-Ok-clause-searched
+follow-returns-in_ok-link-in-Ok-clause-searched t c =
     let is = c.in-Ok.ensures.searched in
     let within = still_stored c.in-Ok.ensures.kept c.new-target.result.module_id.0 (subst (λ (id : ModuleId). id.0 < length c.args.root.now.stored) (sym c.new-target.ensures.module) c.requires.known) in
-    record { numbered = is.numbered; longer = is.longer; few = is.few; stored = option_stored c.find.new.root c.link.result (c.link.ensures.stored c.find.new.root within is.stored) }
+    record { numbered = is.numbered; longer = is.longer; few = is.few; stored = option_stored c.find.new.root c.in_ok-link-in-Ok.field-0 (c.in_ok-link-in-Ok.ensures.stored c.find.new.root within is.stored) }
 
 pub follow-returns-in_ok-unmapped-in-Unmapped-clause-followed : goal.follow-returns-in_ok-unmapped-in-Unmapped-clause-followed
 follow-returns-in_ok-unmapped-in-Unmapped-clause-followed t c =
-    rw c.in-Unmapped.is (followed_unmapped c.args.root.now c.args.resolving.now.keys c.args.met.now.keys c.args.symbol c.args.index c.in-Unmapped.id c.in-Unmapped.parts c.in_ok-unmapped-in-Unmapped.field-0 (λ later. ap one (rw c.deref-in-Unmapped.ensures.value at c.in_ok-unmapped-in-Unmapped.ensures.told later)))
+    rw c.in-Unmapped.is (followed_unmapped c.args.root.now c.args.resolving.now.keys c.args.met.now.keys c.args.symbol c.args.index c.in-Unmapped.id c.in-Unmapped.parts c.in_ok-unmapped-in-Unmapped.field-0 (λ later. rw c.deref-in-Unmapped.ensures.value at c.in_ok-unmapped-in-Unmapped.ensures.told later))
 
-pub follow-returns-in-Ok-import-clause-followed : goal.follow-returns-in-Ok-import-clause-followed
-follow-returns-in-Ok-import-clause-followed t c = rw c.in-Import.is (followed_import c.import.new.root c.args.resolving.now.keys c.args.met.now.keys c.import.new.met.keys c.args.symbol c.in-Import.taken c.args.index c.in-Ok-import.next.items c.link-in-Ok-import.result c.in-Ok-import.ensures.tried c.link-in-Ok-import.ensures.told)
+pub follow-returns-in_ok-link-in-Ok-import-clause-followed : goal.follow-returns-in_ok-link-in-Ok-import-clause-followed
+follow-returns-in_ok-link-in-Ok-import-clause-followed t c = rw c.in-Import.is (followed_import c.import.new.root c.args.resolving.now.keys c.args.met.now.keys c.import.new.met.keys c.args.symbol c.in-Import.taken c.args.index c.in-Ok-import.next.items c.in_ok-link-in-Ok-import.field-0 c.in-Ok-import.ensures.tried c.in_ok-link-in-Ok-import.ensures.told)
 
-pub follow-returns-in-Ok-import-clause-searched : goal.follow-returns-in-Ok-import-clause-searched
-follow-returns-in-Ok-import-clause-searched t c =
+pub follow-returns-in_ok-link-in-Ok-import-clause-searched : goal.follow-returns-in_ok-link-in-Ok-import-clause-searched
+follow-returns-in_ok-link-in-Ok-import-clause-searched t c =
     let is = c.in-Ok-import.ensures.searched in
-    record { numbered = is.numbered; longer = is.longer; few = is.few; stored = option_stored c.import.new.root c.link-in-Ok-import.result (c.link-in-Ok-import.ensures.stored c.import.new.root (still_stored c.in-Ok-import.ensures.kept c.args.symbol.module_id.0 c.requires.known) is.stored) }
+    record { numbered = is.numbered; longer = is.longer; few = is.few; stored = option_stored c.import.new.root c.in_ok-link-in-Ok-import.field-0 (c.in_ok-link-in-Ok-import.ensures.stored c.import.new.root (still_stored c.in-Ok-import.ensures.kept c.args.symbol.module_id.0 c.requires.known) is.stored) }
 
 pub follow-import-requires : goal.follow-import-requires
 follow-import-requires t c =
@@ -458,7 +454,7 @@ pub walk-returns-clause-searched : goal.walk-returns-clause-searched
 walk-returns-clause-searched t c =
     let is = c.loop-definition.invariant.0 in
     let root = c.loop-definition.root in
-    let stored = c.in_ok-rebuild.ensures.stored root (all_still_stored is.grown (modules_in c.in-Ok.paths.items) c.in-Ok.ensures.searched.stored) is.stored in
+    let stored = c.in_ok-rebuild.ensures.stored root (all_still_stored is.grown (modules_of_trails c.in-Ok.paths.items) c.in-Ok.ensures.searched.stored) is.stored in
     record { numbered = is.numbered; longer = is.longer; few = is.few; stored = stored.0 }
 
 -- ---- in a definition's place
@@ -466,14 +462,14 @@ walk-returns-clause-searched t c =
 pub step-returns-in-Ok-Itself-clause-changed : goal.step-returns-in-Ok-Itself-clause-changed
 step-returns-in-Ok-Itself-clause-changed t c =
     let x = c.args.definition.now in
-    changed_itself c.args.resolving.now.keys c.args.met.now.keys x c.args.parts.now c.requires.known c.in-Ok-Itself.field-0 c.in-Ok-Itself.ensures.kept c.in-Ok-Itself.ensures.stored c.in-Ok-Itself.ensures.told c.in-Ok-Itself.field-0-is c.defined.result (λ later. c.defined.ensures.told later ∙ definition_in_place later c.new-symbol.result x c.new-symbol.ensures.module)
+    changed_itself c.args.resolving.now.keys c.args.met.now.keys x c.args.parts.now c.requires.known c.in-Ok-Itself.field-0 c.in-Ok-Itself.ensures.kept c.in-Ok-Itself.ensures.stored c.in-Ok-Itself.ensures.told c.in-Ok-Itself.field-0-is c.defined-itself.result (λ later. c.defined-itself.ensures.told later ∙ definition_in_place later c.new-symbol.result x c.new-symbol.ensures.module)
 
 pub step-returns-in-Ok-Itself-clause-searched : goal.step-returns-in-Ok-Itself-clause-searched
 step-returns-in-Ok-Itself-clause-searched t c =
     let kept = c.in-Ok-Itself.ensures.kept in
     let root = c.part_of.new.root in
     let within : c.new-symbol.result.module_id.0 < length root.stored = subst (λ (id : ModuleId). id.0 < length root.stored) (sym c.new-symbol.ensures.module) (still_stored kept c.args.definition.now.«module».0 c.requires.known) in
-    record { numbered = still_numbered kept c.args.met.now.keys c.requires.met; longer = omega arith; few = λ h. h; stored = option_stored root (Some c.defined.result) (c.defined.ensures.stored root within) }
+    record { numbered = still_numbered kept c.args.met.now.keys c.requires.met; longer = omega arith; few = λ h. h; stored = option_stored root (Some c.defined-itself.result) (c.defined-itself.ensures.stored root within) }
 
 pub step-returns-in_ok-link_under-in-Ok-Lacks-clause-changed : goal.step-returns-in_ok-link_under-in-Ok-Lacks-clause-changed
 step-returns-in_ok-link_under-in-Ok-Lacks-clause-changed t c =
@@ -511,7 +507,7 @@ step-returns-in_ok-link_under-in-Ok-clause-changed t c =
     let x = c.args.definition.now in
     let parts = c.args.parts.now in
     let rest = take (length parts - 1) (drop 1 parts) in
-    let told = λ (later : RootView). c.in_ok-link_under-in-Ok.ensures.told later ∙ ap (λ head. link_to head (forest_told later c.in-Ok.next.items)) (head_in_place later c.new-symbol.result x (texts_in parts) c.new-symbol.ensures.module c.new-symbol.ensures.symbol) in
+    let told = λ (later : RootView). c.in_ok-link_under-in-Ok.ensures.told later ∙ ap (λ head. link_to head (trails_told later c.in-Ok.next.items)) (head_in_place later c.new-symbol.result x (texts_in parts) c.new-symbol.ensures.module c.new-symbol.ensures.symbol) in
     changed_on c.args.resolving.now.keys c.args.met.now.keys x parts c.requires.known c.in-Ok-To.field-0 c.in-Ok-To.ensures.kept c.in-Ok-To.ensures.stored c.in-Ok-To.ensures.told c.in-Ok-To.target c.in-Ok-To.field-0-is c.requires.some rest (parts_behind parts) c.in-Ok.ensures.kept c.walk.new.met.keys c.in-Ok.next.items c.in-Ok.ensures.walked c.in_ok-link_under-in-Ok.field-0 told
 
 pub step-returns-in_ok-link_under-in-Ok-clause-searched : goal.step-returns-in_ok-link_under-in-Ok-clause-searched

@@ -1,0 +1,33 @@
+use Rattle.std.proofs.Common.{Result, Ok, Err, IfOk, map, ap, sym, subst, ◌∙◌, arith}
+use Rattle.std.specs.Prelude.{string_bytes}
+use Rattle.symbols_paths.specs.Views.{texts_in, forest_told, AreStored}
+use Rattle.symbols_paths.specs.Trails.{heads_of, heads_under, heads_in, linked, modules_of_stretch}
+use Rattle.symbols_paths.proofs.Trailing.{heads_of_step, heads_of_under, modules_of_one_step, modules_of_under}
+use Rattle.symbols_paths.proofs.paths.unroll.lay_one.Goals as goal
+
+on_answer : {A E : Type 0} {P Q : A → Type 0} (r : Result A E) → IfOk r P → ((x : A) → P x → Q x) → IfOk r Q
+on_answer (Ok x) h f = f x h
+on_answer (Err e) h f = tt
+
+pub returns-in-Step-clause-told : goal.returns-in-Step-clause-told
+returns-in-Step-clause-told c =
+    on_answer c.link_before.result c.link_before.ensures.told (λ paths told root.
+    told root ∙ ap (λ heads. linked heads (forest_told root c.args.next.items)) (sym (ap (heads_of root) c.in-Step.is ∙ heads_of_step root c.in-Step.step)))
+
+pub returns-in-Step-clause-stored : goal.returns-in-Step-clause-stored
+returns-in-Step-clause-stored c =
+    on_answer c.link_before.result c.link_before.ensures.stored (λ paths stored root a b.
+    stored root (subst (AreStored root) (ap modules_of_stretch c.in-Step.is ∙ modules_of_one_step c.in-Step.step) a 0 c.in-Step.step.symbol.module_id (omega arith)) b)
+
+pub returns-in_ok-parts-in-Under-clause-told : goal.returns-in_ok-parts-in-Under-clause-told
+returns-in_ok-parts-in-Under-clause-told c =
+    let x = c.in-Under in
+    let parts = ap texts_in c.deref-in-Under.ensures.value ∙ (c.in_ok-parts-in-Under.ensures ∙ ap (map string_bytes) c.deref.ensures.value) in
+    on_answer c.lay_under.result c.lay_under.ensures.told (λ paths told root.
+    told root
+    ∙ ap (λ heads. linked heads (forest_told root c.args.next.items)) (ap (λ ps. heads_under ps (heads_in root x.inner.items)) parts ∙ sym (ap (heads_of root) x.is ∙ heads_of_under root x.parts x.inner)))
+
+pub returns-in_ok-parts-in-Under-clause-stored : goal.returns-in_ok-parts-in-Under-clause-stored
+returns-in_ok-parts-in-Under-clause-stored c =
+    let x = c.in-Under in
+    on_answer c.lay_under.result c.lay_under.ensures.stored (λ paths stored root a b. stored root (subst (AreStored root) (ap modules_of_stretch x.is ∙ modules_of_under x.parts x.inner) a) b)
