@@ -41,6 +41,7 @@ VARIANT = re.compile(r'    (\w+)(?: \{(.*)\})?[,({ ]*')
 ASKED = re.compile(r'    (?:const |unsafe )*(?:fn|type|const) (\w+)')
 UNREAD = re.compile(r'pub (?!ghost )|impl\b')
 METHOD = re.compile(r'    pub (?:(?:const |unsafe )*fn|const) (\w+)')
+LIFETIME = re.compile(r"(?<=&)'\w+ ")
 
 
 @dataclass(eq=False)
@@ -136,7 +137,7 @@ def read_parts(item, kind, lines):
 def read_impl(module, lines):
     """Notes what an `impl` gives its type: methods, or a trait."""
     head = IMPL.match(lines[0])
-    trait = re.sub(r'^(\w+::)+', '', head['trait'] or '')
+    trait = LIFETIME.sub('', re.sub(r'^(\w+::)+', '', head['trait'] or ''))
     methods = [] if trait else ['::' + found[1] for found in map(METHOD.match, lines) if found]
     module.impls.append((head['type'], trait, methods))
     if not trait:

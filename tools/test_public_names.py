@@ -63,6 +63,12 @@ impl<T: Drop> From<Vec<T>> for Made<'_> {
     }
 }
 
+impl<'a> From<&'a str> for Made<'a> {
+    fn from(_: &'a str) -> Self {
+        make()
+    }
+}
+
 impl Model for Made<'_> {}
 
 pub fn make() -> Made<'static> {
@@ -112,6 +118,7 @@ pub type Numbers = [Number; 5];
 | `Made { first }` | `low` |
 | `Made::kind` | `low` |
 | `Made: From<Vec<T>>` | `low` |
+| `Made: From<&str>` | `low` |
 | `Made: Copy` | `low` |
 | `Made::later` | not there yet |
 | `Made::gone` | [left out](DIFFERENCES.md) |
@@ -220,7 +227,7 @@ def moved(change):
 
 def tests():
     """Each test's name with what was found and what is wanted."""
-    yield 'nothing is wrong without a change', lines_of(), (30, [])
+    yield 'nothing is wrong without a change', lines_of(), (32, [])
     for name, file, change, want in CHANGES:
         yield name, sorted(lines_of(file, change)[1]), sorted(want)
     yield 'a row is moved', moved(('    fn own', '    pub fn later')), (['| `Made::later` | `low` |'], [])

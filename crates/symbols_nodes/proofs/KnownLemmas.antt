@@ -6,12 +6,14 @@ use Rattle.symbols_syntax.specs.declared.tree.kinds.Kind.{Kind}
 use Rattle.symbols_syntax.specs.declared.tree.kinds.Ty.{Ty}
 use Rattle.symbols_syntax.specs.declared.tree.kinds.Expr.{Expr}
 use Rattle.symbols_syntax.specs.declared.tree.kinds.Pat.{Pat}
+use Rattle.symbols_syntax.specs.declared.tree.arena.Id.{Id}
+use Rattle.symbols_syntax.specs.Ids.{id_view}
 use Rattle.symbols_syntax.specs.NodeRefs.{TreeNode, kind_of}
 use Rattle.symbols_nodes.specs.Annotations.{annotation_reading, annotation_of, has_annotation}
 use Rattle.symbols_nodes.specs.DottedNames.{DottedName, then_part, member_part, member_reading, member_name}
 use Rattle.symbols_nodes.specs.Readings.{node_below, read_below}
 use Rattle.symbols_nodes.specs.KnownFacts.{may_refer}
-use Rattle.symbols_nodes.specs.References.{by_name, reference_in, reference_at}
+use Rattle.symbols_nodes.specs.References.{id, by_name, reference_in, reference_at}
 use Rattle.symbols_nodes.proofs.ReadingLemmas.{read_by_kind_of}
 
 none_mapped : {A B : Type 0} (f : A → B) (o : Option A) → is_some (option_map f o) ≡ false → o ≡ None
@@ -66,3 +68,8 @@ nothing_in node (Kind.Ty ty) is = refl
 pub refers_to_nothing : (node : TreeNode) (kind : Kind) → kind_of node ≡ Some kind → may_refer kind ≡ false → reference_at node ≡ None
 unfolding reference_at
 refers_to_nothing node kind is not_so = rw is (nothing_in node kind not_so)
+
+-- a name is a reference
+pub refers_by_name : (node : TreeNode) (sym : Id) → kind_of node ≡ Some (Kind.Expr (Expr.Ident sym)) → reference_at node ≡ Some (id (id_view sym))
+unfolding reference_at
+refers_by_name node sym is = rw is refl

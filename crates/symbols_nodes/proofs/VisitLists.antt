@@ -6,21 +6,33 @@ use Rattle.std.specs.List.{filter_map, flat_map, cons_option}
 use Rattle.std.proofs.lemmas.List.{map-append}
 use Rattle.std.proofs.lemmas.List.Concat.{flat_map-append}
 use Rattle.std.proofs.lemmas.List.Elements.{filter_map-append}
+use Rattle.std.specs.declared.alloc.Global.{Global}
+use Rattle.std.specs.declared.vec.Vec.{Vec}
+use Rattle.symbols_syntax.specs.declared.tree.arena.Id.{Id}
 use Rattle.symbols_syntax.specs.declared.tree.kinds.Kind.{Kind}
+use Rattle.symbols_syntax.specs.declared.tree.kinds.Expr.{Expr}
+use Rattle.symbols_syntax.specs.declared.tree.kinds.Ty.{Ty}
+use Rattle.symbols_syntax.specs.declared.tree.kinds.Pat.{Pat}
+use Rattle.symbols_syntax.specs.Ids.{id_view}
 use Rattle.symbols_syntax.specs.NodeRefs.{TreeNode, kind_of}
 use Rattle.symbols_nodes.specs.declared.deps.dep.ReferenceNamespace.{ReferenceNamespace}
 use Rattle.symbols_nodes.specs.declared.deps.dep.ReferenceNamespace.TheVariants as In
 use Rattle.symbols_nodes.specs.declared.deps.dep.ResolveDepsMode.{ResolveDepsMode}
 use Rattle.symbols_nodes.specs.declared.deps.rules.Form.{Form}
+use Rattle.symbols_nodes.specs.declared.deps.rules.FormRule.{FormRule}
+use Rattle.symbols_nodes.specs.declared.deps.rules.MarkRule.{MarkRule}
 use Rattle.symbols_nodes.specs.declared.deps.rules.Rules.{Rules}
 use Rattle.symbols_nodes.specs.Annotations.{has_annotation}
 use Rattle.symbols_nodes.specs.DepPaths.{Place, Step, is_open, Occurrence, own_occurrences, after_step, occurrences_behind, occurrences_within, levels_of}
 use Rattle.symbols_nodes.specs.Dependencies.{reference_graph, without_path, step_by_kind, step_to_child, steps_of_edge, steps_along, steps_from, first_steps, place_of, form_of, mark_of, is_guarded, dependencies_by}
-use Rattle.symbols_nodes.specs.EdgeRules.{EdgeView, to_child, to_each}
-use Rattle.symbols_nodes.specs.EdgeTable.{edges, first_edges}
+use Rattle.symbols_nodes.specs.EdgeRules.{EdgeView, open_rules, in_form, with_mark, marking, to_child, to_each, to_optional}
+use Rattle.symbols_nodes.specs.EdgeTable.{edges, form_edges, first_edges}
+use Rattle.symbols_nodes.specs.KnownFacts.{may_refer}
 use Rattle.symbols_nodes.specs.Readings.{node_below}
-use Rattle.symbols_nodes.specs.References.{Dependency, in_namespace, reference_at, visits_expressions}
+use Rattle.symbols_nodes.specs.References.{Reference, id, Dependency, in_namespace, reference_at, visits_expressions}
+use Rattle.symbols_nodes.specs.TableParts.{plain_rules}
 use Rattle.symbols_nodes.specs.Visits.{dependencies_along, dependencies_at, dependencies_of_edge}
+use Rattle.symbols_nodes.proofs.KnownLemmas.{refers_by_name, refers_to_nothing}
 use Rattle.symbols_nodes.proofs.PathOrders.{same_lists}
 use Rattle.symbols_nodes.proofs.StepLemmas.{leads_below, levels_below, own_listed_alone, without_path_after_step, steps_from_kind, first_steps_of_kind, take_one_more}
 use Rattle.symbols_nodes.proofs.WholeLists.{computed_are}
@@ -173,23 +185,88 @@ module _ (mode : ResolveDepsMode) (namespace : ReferenceNamespace) (node : TreeN
       let all = sym (each_more (take i xs) n) ∙ ap (λ (ys : List ℕ). dependencies_of_edge mode namespace node (to_each rules ys)) (sym (take_one_more xs i n low is)) in
       here ∙ (ap (λ (ds : List Dependency). ds ++ at_it) before ∙ (append_assoc old before_it at_it ∙ ap (λ (ds : List Dependency). old ++ ds) all))
 
--- what stands at an open child and below it
-pub below_open_child : (mode : ResolveDepsMode) (namespace : ReferenceNamespace) (node child : TreeNode) (rules : Rules) (n : ℕ) (kind : Kind) (marked : ReferenceNamespace) (form : Form) (refers : Bool)
-    → Some child ≡ node_below node n → kind_of child ≡ Some kind → (visits_expressions mode || not (is_guarded rules.guard kind)) ≡ true
-    → marked ≡ unwrap_or (mark_of rules.mark kind) namespace → form ≡ form_of rules.form kind → refers ≡ is_some (reference_at child)
-    → (old here new : List Dependency) → here ≡ old ++ option_to_list (option_map (in_namespace marked) (reference_at child))
-    → new ≡ here ++ flat_map (dependencies_of_edge mode marked child) (edges child form refers (has_annotation child) kind)
-    → new ≡ old ++ dependencies_of_edge mode namespace node (to_child rules n)
-below_open_child mode namespace node child rules n kind marked form refers there is opens marked_is form_is refers_is old here new at_it below =
-    let own = option_to_list (option_map (in_namespace marked) (reference_at child)) in
-    let inner = flat_map (dependencies_of_edge mode marked child) (edges child form refers (has_annotation child) kind) in
-    let along = along_place mode marked child form refers kind is refers_is in
-    let all : dependencies_of_edge mode namespace node (to_child rules n) ≡ dependencies_at mode marked (place_of child form) =
-    open_child mode namespace node rules n child kind there is opens
-    ∙ sym (ap (λ (m : ReferenceNamespace). dependencies_at mode m (place_of child form)) marked_is ∙ ap (λ (f : Form). dependencies_at mode (unwrap_or (mark_of rules.mark kind) namespace) (place_of child f)) form_is) in
-    below ∙ (ap (λ (ds : List Dependency). ds ++ inner) at_it
-    ∙ (append_assoc old own inner
-    ∙ ap (λ (ds : List Dependency). old ++ ds) (ap (λ (ds : List Dependency). own ++ ds) along ∙ sym all)))
+-- ---- at one node
+
+-- what stands at a node: its own, and what stands along its edges
+at_its_edges : (mode : ResolveDepsMode) (namespace : ReferenceNamespace) (node : TreeNode) (form : Form) (refers : Bool) (kind : Kind) → kind_of node ≡ Some kind → refers ≡ is_some (reference_at node)
+    → dependencies_at mode namespace (place_of node form) ≡ option_to_list (option_map (in_namespace namespace) (reference_at node)) ++ flat_map (dependencies_of_edge mode namespace node) (edges node form refers (has_annotation node) kind)
+at_its_edges mode namespace node form refers kind is refers_is =
+    ap (λ (ds : List Dependency). option_to_list (option_map (in_namespace namespace) (reference_at node)) ++ ds) (sym (along_place mode namespace node form refers kind is refers_is))
+
+-- a name stands for itself
+pub at_name : (mode : ResolveDepsMode) (namespace : ReferenceNamespace) (node : TreeNode) (form : Form) (sym : Id) → kind_of node ≡ Some (Kind.Expr (Expr.Ident sym))
+    → dependencies_at mode namespace (place_of node form) ≡ in_namespace namespace (id (id_view sym)) ∷ []
+at_name mode namespace node form sym is =
+    let refers = refers_by_name node sym is in
+    at_its_edges mode namespace node form true (Kind.Expr (Expr.Ident sym)) is (rw refers refl)
+    ∙ ap (λ (reference : Option Reference). option_to_list (option_map (in_namespace namespace) reference) ++ []) refers
+
+-- an annotation leads on to its type
+pub at_annotation : (mode : ResolveDepsMode) (namespace : ReferenceNamespace) (node : TreeNode) (form : Form) (ty : ℕ) → kind_of node ≡ Some (Kind.Ty (Ty.TsTypeAnn ty))
+    → dependencies_at mode namespace (place_of node form) ≡ dependencies_of_edge mode namespace node (to_child (marking In.Type) ty)
+at_annotation mode namespace node form ty is =
+    let nothing = refers_to_nothing node (Kind.Ty (Ty.TsTypeAnn ty)) is refl in
+    let inner = dependencies_of_edge mode namespace node (to_child (marking In.Type) ty) in
+    at_its_edges mode namespace node form false (Kind.Ty (Ty.TsTypeAnn ty)) is (rw nothing refl)
+    ∙ (ap (λ (reference : Option Reference). option_to_list (option_map (in_namespace namespace) reference) ++ (inner ++ [])) nothing ∙ append-nil inner)
+
+-- nothing stands at a type without children
+at_bare_edges : (mode : ResolveDepsMode) (namespace : ReferenceNamespace) (node : TreeNode) (form : Form) (annotated : Bool) (children : Vec ℕ Global) → children.items ≡ []
+    → flat_map (dependencies_of_edge mode namespace node) (form_edges node form annotated (Pat.Plain children)) ≡ []
+at_bare_edges mode namespace node Form.Usual annotated children none = rw (none, no_children mode namespace node (in_form FormRule.SignatureKinds (with_mark MarkRule.ByKind open_rules))) refl
+at_bare_edges mode namespace node Form.Signature annotated children none = rw (none, no_children mode namespace node (in_form FormRule.SignatureKinds (with_mark MarkRule.ByKind open_rules))) refl
+at_bare_edges mode namespace node Form.Property annotated children none = refl
+
+pub at_bare : (mode : ResolveDepsMode) (namespace : ReferenceNamespace) (node : TreeNode) (form : Form) (children : Vec ℕ Global) → kind_of node ≡ Some (Kind.Pat (Pat.Plain children)) → children.items ≡ []
+    → dependencies_at mode namespace (place_of node form) ≡ []
+at_bare mode namespace node form children is none =
+    let nothing = refers_to_nothing node (Kind.Pat (Pat.Plain children)) is refl in
+    let inner = flat_map (dependencies_of_edge mode namespace node) (form_edges node form (has_annotation node) (Pat.Plain children)) in
+    at_its_edges mode namespace node form false (Kind.Pat (Pat.Plain children)) is (rw nothing refl)
+    ∙ (ap (λ (reference : Option Reference). option_to_list (option_map (in_namespace namespace) reference) ++ inner) nothing ∙ at_bare_edges mode namespace node form (has_annotation node) children none)
+
+-- what stands at a node of a known kind and below it
+pub node_and_below : (mode : ResolveDepsMode) (namespace : ReferenceNamespace) (node : TreeNode) (form : Form) (refers : Bool) (kind : Kind) → kind_of node ≡ Some kind → refers ≡ is_some (reference_at node)
+    → (old here new : List Dependency) → here ≡ old ++ option_to_list (option_map (in_namespace namespace) (reference_at node))
+    → new ≡ here ++ flat_map (dependencies_of_edge mode namespace node) (edges node form refers (has_annotation node) kind)
+    → new ≡ old ++ dependencies_at mode namespace (place_of node form)
+node_and_below mode namespace node form refers kind is refers_is old here new at_it below =
+    let own = option_to_list (option_map (in_namespace namespace) (reference_at node)) in
+    let inner = flat_map (dependencies_of_edge mode namespace node) (edges node form refers (has_annotation node) kind) in
+    let along = along_place mode namespace node form refers kind is refers_is in
+    below ∙ (ap (λ (ds : List Dependency). ds ++ inner) at_it ∙ (append_assoc old own inner ∙ ap (λ (ds : List Dependency). old ++ ds) (ap (λ (ds : List Dependency). own ++ ds) along)))
+
+-- the same of a node that is no reference
+pub alone_and_below : (mode : ResolveDepsMode) (namespace : ReferenceNamespace) (node : TreeNode) (form : Form) (kind : Kind) → kind_of node ≡ Some kind → may_refer kind ≡ false
+    → (old new : List Dependency) → new ≡ old ++ flat_map (dependencies_of_edge mode namespace node) (edges node form false (has_annotation node) kind)
+    → new ≡ old ++ dependencies_at mode namespace (place_of node form)
+alone_and_below mode namespace node form kind is not_so old new below =
+    let nothing = refers_to_nothing node kind is not_so in
+    node_and_below mode namespace node form false kind is (rw nothing refl) old old new (rw nothing (sym (append-nil old))) below
+
+-- a name of a pattern leads on to its annotation, in each form
+binding_edges : (node : TreeNode) (form : Form) (annotated : Bool) (name : Id) (type_ann : Option ℕ) → form_edges node form annotated (Pat.BindingIdent name type_ann) ≡ to_optional open_rules type_ann ∷ []
+binding_edges node Form.Usual annotated name type_ann = refl
+binding_edges node Form.Signature annotated name type_ann = refl
+binding_edges node Form.Property annotated name type_ann = refl
+
+pub at_binding : (mode : ResolveDepsMode) (namespace : ReferenceNamespace) (node : TreeNode) (form : Form) (name : Id) (type_ann : Option ℕ) → kind_of node ≡ Some (Kind.Pat (Pat.BindingIdent name type_ann))
+    → dependencies_at mode namespace (place_of node form) ≡ dependencies_of_edge mode namespace node (to_optional open_rules type_ann)
+at_binding mode namespace node form name type_ann is =
+    let nothing = refers_to_nothing node (Kind.Pat (Pat.BindingIdent name type_ann)) is refl in
+    let along = flat_map (dependencies_of_edge mode namespace node) in
+    at_its_edges mode namespace node form false (Kind.Pat (Pat.BindingIdent name type_ann)) is (rw nothing refl)
+    ∙ (ap (λ (reference : Option Reference). option_to_list (option_map (in_namespace namespace) reference) ++ along (form_edges node form (has_annotation node) (Pat.BindingIdent name type_ann))) nothing
+    ∙ (ap along (binding_edges node form (has_annotation node) name type_ann) ∙ append-nil (dependencies_of_edge mode namespace node (to_optional open_rules type_ann))))
+
+-- a type leads on to its parts, but in the form of a property
+pub parts_and_below : (mode : ResolveDepsMode) (namespace : ReferenceNamespace) (node : TreeNode) (form : Form) (children : Vec ℕ Global) → kind_of node ≡ Some (Kind.Pat (Pat.Plain children))
+    → form_edges node form (has_annotation node) (Pat.Plain children) ≡ to_each plain_rules children.items ∷ []
+    → (old new : List Dependency) → new ≡ old ++ dependencies_of_edge mode namespace node (to_each plain_rules children.items) → new ≡ old ++ dependencies_at mode namespace (place_of node form)
+parts_and_below mode namespace node form children is rows old new below =
+    let inner = dependencies_of_edge mode namespace node (to_each plain_rules children.items) in
+    alone_and_below mode namespace node form (Kind.Pat (Pat.Plain children)) is refl old new
+    (below ∙ ap (λ (ds : List Dependency). old ++ ds) (sym (ap (flat_map (dependencies_of_edge mode namespace node)) rows ∙ append-nil inner)))
 
 -- ---- where the walk begins
 
@@ -215,3 +292,11 @@ pub begins_at_first : (mode : ResolveDepsMode) (node : TreeNode) (kind : Kind) �
 begins_at_first mode node kind is =
     sym (along_edges_of mode In.Value node (first_edges kind))
     ∙ (ap (λ (steps : List Step). dependencies_along mode In.Value steps) (sym (first_steps_of_kind node kind is)) ∙ sym (by_along mode (first_steps node)))
+
+-- what stands at a node that is no reference is what stands along its edges
+pub begins_alone : (mode : ResolveDepsMode) (node : TreeNode) (kind : Kind) → kind_of node ≡ Some kind → may_refer kind ≡ false
+    → dependencies_at mode In.Value (place_of node Form.Usual) ≡ dependencies_by mode (steps_from (place_of node Form.Usual))
+begins_alone mode node kind is not_so =
+    let steps = steps_from (place_of node Form.Usual) in
+    ap (λ (reference : Option Reference). option_to_list (option_map (in_namespace In.Value) reference) ++ dependencies_along mode In.Value steps) (refers_to_nothing node kind is not_so)
+    ∙ sym (by_along mode steps)

@@ -1,5 +1,6 @@
 -- For inner functions and proofs alone: what contracts see of the names that the walk holds.
-use Rattle.std.specs.Prelude.{ℕ, List, ◌∷◌, map, string_bytes}
+use Rattle.std.specs.Prelude.{ℕ, List, ◌∷◌, map}
+use Rattle.std.specs.Cow.{cow_str_bytes}
 use Rattle.symbols_syntax.specs.Ids.{id_view}
 use Rattle.symbols_nodes.specs.declared.deps.dotted_names.MemberName.{MemberName}
 use Rattle.symbols_nodes.specs.declared.deps.dotted_names.Part.{Part}
@@ -11,4 +12,4 @@ part_view (Part.Text text) = text.now
 part_view (Part.Private name) = 35 ∷ name.now
 
 abbrev pub member_name_view : MemberName → DottedName
-member_name_view name = record { leftmost = id_view name.leftmost.now; parts = map string_bytes name.parts.items }
+member_name_view name = record { leftmost = id_view name.leftmost.now; parts = map cow_str_bytes name.parts.items }

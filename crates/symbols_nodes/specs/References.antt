@@ -1,5 +1,6 @@
 -- References to symbols, and the nodes that are references.
 use Rattle.std.specs.Prelude.{ℕ, Bool, true, false, List, [], ◌∷◌, map, Option, None, Some, string_bytes}
+use Rattle.std.specs.Cow.{cow_str_bytes}
 use Rattle.std.specs.Option.{option_map, option_and_then}
 use Rattle.symbols_syntax.specs.declared.tree.kinds.Kind.{Kind}
 use Rattle.symbols_syntax.specs.declared.tree.kinds.Ty.TheVariants as Ty
@@ -34,9 +35,9 @@ in_namespace namespace reference = record { reference = reference; namespace = n
 
 -- what contracts see of a `SymbolNodeDep`
 abbrev pub reference_view : SymbolNodeDep → Reference
-reference_view (Dep.Id name) = id (id_view name)
-reference_view (Dep.QualifiedId name parts) = qualified_id (id_view name) (map string_bytes parts.items)
-reference_view (Dep.ImportType text parts) = import_type (string_bytes text) (map string_bytes parts.items)
+reference_view (Dep.Id name) = id (id_view name.now)
+reference_view (Dep.QualifiedId name parts) = qualified_id (id_view name.now) (map cow_str_bytes parts.items)
+reference_view (Dep.ImportType text parts) = import_type text.now (map cow_str_bytes parts.items)
 
 abbrev pub dependency_view : SymbolNodeDep × ReferenceNamespace → Dependency
 dependency_view found = record { reference = reference_view found.0; namespace = found.1 }

@@ -3,9 +3,11 @@ use Rattle.std.specs.Prelude.{Bool, true, false, List, [], if◌then◌else◌}
 use Rattle.symbols_syntax.specs.declared.tree.kinds.Decl.{Decl}
 use Rattle.symbols_syntax.specs.declared.tree.kinds.Member.{Member}
 use Rattle.symbols_syntax.specs.NodeRefs.{TreeNode}
+use Rattle.symbols_nodes.specs.declared.deps.rules.FormRule.{FormRule}
+use Rattle.symbols_nodes.specs.declared.deps.rules.MarkRule.{MarkRule}
 use Rattle.symbols_nodes.specs.declared.deps.rules.Guard.{Guard}
 use Rattle.symbols_nodes.specs.declared.deps.rules.Rules.{Rules}
-use Rattle.symbols_nodes.specs.EdgeRules.{EdgeView, open_rules, with_guard}
+use Rattle.symbols_nodes.specs.EdgeRules.{EdgeView, open_rules, in_form, with_mark, with_guard}
 use Rattle.symbols_nodes.specs.EdgeTable.{decl_edges, member_edges}
 
 abbrev pub is_class_part : Decl → Bool
@@ -41,3 +43,7 @@ keyed_edges member = if is_keyed member then member_edges member else []
 -- to what a variable, a property or a pattern starts with
 abbrev pub initializer_rules : Rules
 initializer_rules = with_guard Guard.Initializer open_rules
+
+-- to the parts of a type
+abbrev pub plain_rules : Rules
+plain_rules = in_form FormRule.SignatureKinds (with_mark MarkRule.ByKind open_rules)

@@ -5,9 +5,10 @@ use Rattle.std.specs.Option.{option_map, option_to_list}
 use Rattle.symbols_syntax.specs.NodeRefs.{TreeNode, node_view}
 use Rattle.symbols_nodes.specs.declared.deps.dep.ReferenceNamespace.{ReferenceNamespace}
 use Rattle.symbols_nodes.specs.declared.deps.dep.ResolveDepsMode.{ResolveDepsMode}
+use Rattle.symbols_nodes.specs.declared.deps.visit.Child.{Child}
 use Rattle.symbols_nodes.specs.declared.deps.visit.Visit.{Visit}
 use Rattle.symbols_nodes.specs.DepPaths.{Place, Step, occurrences_within, levels_of}
-use Rattle.symbols_nodes.specs.Dependencies.{reference_graph, without_path, steps_from, steps_of_edge}
+use Rattle.symbols_nodes.specs.Dependencies.{reference_graph, without_path, steps_from, steps_of_edge, place_of}
 use Rattle.symbols_nodes.specs.EdgeRules.{EdgeView}
 use Rattle.symbols_nodes.specs.References.{Dependency, in_namespace, reference_at}
 
@@ -18,6 +19,10 @@ dependencies_along mode namespace steps = map without_path (occurrences_within r
 -- those of a place: its own, and those along its steps
 abbrev pub dependencies_at : ResolveDepsMode → ReferenceNamespace → Place → List Dependency
 dependencies_at mode namespace place = option_to_list (option_map (in_namespace namespace) (reference_at place.node)) ++ dependencies_along mode namespace (steps_from place)
+
+-- those of a child that is come to
+abbrev pub at_child : ResolveDepsMode → Child → List Dependency
+at_child mode child = dependencies_at mode child.namespace (place_of (node_view child.node) child.form)
 
 -- those along one edge of a node
 unfoldable pub dependencies_of_edge : ResolveDepsMode → ReferenceNamespace → TreeNode → EdgeView → List Dependency

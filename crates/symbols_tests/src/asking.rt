@@ -10,6 +10,7 @@ use deno_symbols::info::SymbolsFault;
 use deno_symbols::queries::{Answer, NamedEnd, NamedEntry, NamedPath, Query, answer, run};
 use deno_symbols::root::{Limits, RootSymbol};
 use std::alloc::{AllocError, Global};
+use std::borrow::CowStr;
 use std::process::Abort;
 use std::test::Fail;
 
@@ -27,7 +28,7 @@ fn first() -> SymbolId {
 }
 
 /// A query of each form, the last on a specifier that stands for no module.
-fn queries(alloc: Global) -> Result<Vec<Query>, AllocError> {
+fn queries(alloc: Global) -> Result<Vec<Query<'static>>, AllocError> {
     let mut queries = Vec::new(alloc);
     queries.push(Query::Module(text(alloc, "b")?))?;
     queries.push(Query::Exports(text(alloc, "a")?))?;
@@ -41,10 +42,9 @@ fn queries(alloc: Global) -> Result<Vec<Query>, AllocError> {
     queries.push(Query::Paths(text(alloc, "b")?, first()))?;
     queries.push(Query::Definitions(text(alloc, "b")?, first()))?;
     queries.push(Query::Leaves(text(alloc, "b")?, first()))?;
-    let part = text(alloc, "n")?;
     let mut parts = Vec::new(alloc);
-    parts.push(part)?;
-    let reference = SymbolNodeDep::ImportType(text(alloc, "b")?, parts);
+    parts.push(CowStr::Borrowed("n"))?;
+    let reference = SymbolNodeDep::ImportType("b", parts);
     queries.push(Query::Resolve(text(alloc, "a")?, reference))?;
     queries.push(Query::Module(text(alloc, "absent")?))?;
     Ok(queries)

@@ -108,7 +108,10 @@ fn graph(alloc: Global, nodes: &[&str]) -> Result<ModuleGraph, Fail> {
 }
 
 /// Whether a list has the first parts of another.
-fn are_first_parts(list: &[SymbolNodeDep], all: &[(SymbolNodeDep, ReferenceNamespace)]) -> bool {
+fn are_first_parts(
+    list: &[SymbolNodeDep<'_>],
+    all: &[(SymbolNodeDep<'_>, ReferenceNamespace)],
+) -> bool {
     let mut firsts = all.iter();
     for dep in list {
         match firsts.next() {
@@ -196,7 +199,7 @@ fn gives_what_arrows_types_and_imports_refer_to(rt: HostRuntime) -> Result<(), F
 #[test]
 fn makes_a_reference_of_a_name(rt: HostRuntime) -> Result<(), Fail> {
     let id = crate::trees::id(rt.alloc(), "a", 1)?;
-    let dep = SymbolNodeDep::from(id);
+    let dep = SymbolNodeDep::from(&id);
     assert!(rt; matches!(&dep, SymbolNodeDep::Id(id) if id.name.as_str() == "a"));
     assert!(rt; ResolveDepsMode::TypesAndExpressions.visit_exprs());
     assert!(rt; !ResolveDepsMode::TypesOnly.visit_exprs());

@@ -3,6 +3,7 @@
 ghost use Rattle.std.specs.Prelude.{◌≡◌};
 ghost use Rattle.symbols_nodes.specs.References.{visits_expressions};
 
+use std::borrow::CowStr;
 use symbols_syntax::tree::Id;
 
 /// Of which parts of a declaration the dependencies are wanted (as deno_graph).
@@ -34,23 +35,24 @@ pub enum ReferenceNamespace {
     Both,
 }
 
-/// A reference to a symbol (as deno_graph).
+/// A reference to a symbol (as deno_graph). Its names are lent by the tree that it stands in, but for
+/// a private name, which is told with its `#` and so is a text of its own.
 #[derive(Clone, Debug, Drop, PartialEq, Eq, Hash)]
-pub enum SymbolNodeDep {
+pub enum SymbolNodeDep<'a> {
     /// A name.
-    Id(Id),
+    Id(&'a Id),
     /// A name with the parts after it, as `a.b.c`.
-    QualifiedId(Id, Vec<String>),
+    QualifiedId(&'a Id, Vec<CowStr<'a>>),
     /// The text of an import type, and the parts after it.
-    ImportType(String, Vec<String>),
+    ImportType(&'a str, Vec<CowStr<'a>>),
 }
 
-impl From<Id> for SymbolNodeDep {
+impl<'a> From<&'a Id> for SymbolNodeDep<'a> {
     ghost use Rattle.symbols_nodes.specs.declared.deps.dep.SymbolNodeDep.TheVariants as Dep;
 
     ghost from_gives = { λ name dep. dep ≡ Dep.Id name };
 
-    fn from(name: Id) -> SymbolNodeDep {
+    fn from(name: &'a Id) -> SymbolNodeDep<'a> {
         SymbolNodeDep::Id(name)
     }
 }

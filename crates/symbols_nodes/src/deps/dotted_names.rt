@@ -1,6 +1,7 @@
 //! Dotted names, of types and of expressions.
 
-ghost use Rattle.std.specs.Prelude.{◌≡◌, ◌∷◌, ◌<◌, Contains, IfOk, IfSome, Some, string_bytes};
+ghost use Rattle.std.specs.Prelude.{◌≡◌, ◌∷◌, ◌<◌, Contains, IfOk, IfSome, Some};
+ghost use Rattle.std.specs.Cow.{cow_str_bytes};
 ghost use Rattle.std.specs.Option.{option_map, option_copied, option_and_then};
 ghost use Rattle.symbols_syntax.specs.NodeRefs.{node_view, node_in, kind_of};
 ghost use Rattle.symbols_syntax.specs.Nodes.{children};
@@ -11,6 +12,7 @@ ghost use Rattle.symbols_nodes.specs.Expando.{string_text};
 ghost use Rattle.symbols_nodes.specs.Readings.{node_below, read_below};
 
 use std::alloc::{AllocError, Global};
+use std::borrow::CowStr;
 use symbols_syntax::tree::{Expr, Id, Kind, NodeId, NodeRef, Ty};
 
 /// The node of a greater number than this node's, as each child's is in a checked tree: so the
@@ -75,17 +77,18 @@ pub(crate) enum Part<'a> {
     Private(&'a str),
 }
 
-impl Part<'_> {
-    fn to_string(self, alloc: Global) -> Result<String, AllocError>
-        ensures { IfOk result (λ text. string_bytes text ≡ part_view self.entry) }
+impl<'a> Part<'a> {
+    /// The part as text, which is lent but for that of a private name.
+    fn to_text(self, alloc: Global) -> Result<CowStr<'a>, AllocError>
+        ensures { IfOk result (λ text. cow_str_bytes text ≡ part_view self.entry) }
     {
         match self {
-            Part::Text(text) => String::from_str(alloc, text),
+            Part::Text(text) => Ok(CowStr::Borrowed(text)),
             Part::Private(name) => {
                 let mut copy = String::with_capacity(alloc, name.len().saturating_add(1))?;
                 copy.push('#')?;
                 copy.push_str(name)?;
-                Ok(copy)
+                Ok(CowStr::Owned(copy))
             }
         }
     }
@@ -128,11 +131,11 @@ pub(crate) fn part_below<'a>(node: NodeRef<'a>, prop: NodeId) -> Option<Part<'a>
 #[derive(Drop)]
 pub(crate) struct MemberName<'a> {
     pub(crate) leftmost: &'a Id,
-    pub(crate) parts: Vec<String>,
+    pub(crate) parts: Vec<CowStr<'a>>,
 }
 
-/// The dotted name that an `Ident` or a `Member` is, if it is one. A part is copied only where
-/// the whole is such a name.
+/// The dotted name that an `Ident` or a `Member` is, if it is one. A text is made only where the
+/// whole is such a name.
 pub(crate) fn member_name<'a>(
     alloc: Global,
     node: NodeRef<'a>,
@@ -154,7 +157,7 @@ pub(crate) fn member_name<'a>(
             let Some(mut name) = member_name(alloc, obj)? else {
                 return Ok(None);
             };
-            name.parts.push(part.to_string(alloc)?)?;
+            name.parts.push(part.to_text(alloc)?)?;
             Ok(Some(name))
         }
         _ => Ok(None),

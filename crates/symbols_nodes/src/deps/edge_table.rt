@@ -6,7 +6,7 @@ ghost use Rattle.symbols_nodes.specs.Annotations.{has_annotation};
 ghost use Rattle.symbols_nodes.specs.EdgeTable.{signature_rules, key_rules, decl_edges, member_edges, ty_edges, expr_edges, pat_edges, signature_edges, asserts, property_edges, edges, first_edges};
 ghost use Rattle.symbols_nodes.specs.KnownFacts.{is_known, IsExpr, IsPat};
 ghost use Rattle.symbols_nodes.specs.References.{dependency_view, reference_at};
-ghost use Rattle.symbols_nodes.specs.TableParts.{statement_edges, function_edges, keyed_edges, initializer_rules};
+ghost use Rattle.symbols_nodes.specs.TableParts.{statement_edges, function_edges, keyed_edges, initializer_rules, plain_rules};
 
 use crate::deps::annotations::{has_annotation, is_annotated};
 use crate::deps::dep::ReferenceNamespace;
@@ -39,6 +39,15 @@ fn initializer_rules() -> Rules
     Rules::open().with_guard(Guard::Initializer)
 }
 
+/// Of the parts of a type.
+pub(crate) fn plain_rules() -> Rules
+    ensures { result ≡ plain_rules }
+{
+    Rules::open()
+        .with_mark(MarkRule::ByKind)
+        .in_form(FormRule::SignatureKinds)
+}
+
 fn asserts(node: NodeRef<'_>, expr: NodeId) -> bool
     ensures { result ≡ asserts (node_view node.entry) expr }
 {
@@ -48,13 +57,13 @@ fn asserts(node: NodeRef<'_>, expr: NodeId) -> bool
     }
 }
 
-impl Visit<'_> {
+impl<'a> Visit<'a> {
     ghost use Rattle.symbols_nodes.specs.Visits.{along_edges};
 
     /// Declarations that are statements, and their parts.
     #[cycle(walk)]
-    fn visit_statement(&self, decl: &Decl, found: &mut Found) -> Result<(), AllocError>
-        ensures { OnOk result (map dependency_view found.new.items ≡ map dependency_view found.old.items ++ along_edges self.now (statement_edges (node_view self.now.node) decl.now)) }
+    fn visit_statement(self, decl: &Decl, found: &mut Found<'a>) -> Result<(), AllocError>
+        ensures { OnOk result (map dependency_view found.new.items ≡ map dependency_view found.old.items ++ along_edges self.entry (statement_edges (node_view self.entry.node) decl.now)) }
     {
         let open = Rules::open();
         match decl {
@@ -90,8 +99,8 @@ impl Visit<'_> {
 
     /// Functions, and what stands above.
     #[cycle(walk)]
-    fn visit_function(&self, decl: &Decl, found: &mut Found) -> Result<(), AllocError>
-        ensures { OnOk result (map dependency_view found.new.items ≡ map dependency_view found.old.items ++ along_edges self.now (function_edges (node_view self.now.node) decl.now)) }
+    fn visit_function(self, decl: &Decl, found: &mut Found<'a>) -> Result<(), AllocError>
+        ensures { OnOk result (map dependency_view found.new.items ≡ map dependency_view found.old.items ++ along_edges self.entry (function_edges (node_view self.entry.node) decl.now)) }
     {
         let open = Rules::open();
         match decl {
@@ -111,7 +120,7 @@ impl Visit<'_> {
             } => {
                 self.visit_optional(open, *type_params, found)?;
                 self.visit_each(open, params, found)?;
-                self.visit_optional(open, *return_type, found)
+                self.visit_annotation(*return_type, found)
             }
             _ => self.visit_statement(decl, found),
         }
@@ -119,8 +128,9 @@ impl Visit<'_> {
 
     /// Classes, and what stands above: all declarations.
     #[cycle(walk)]
-    fn visit_decl(&self, decl: &Decl, found: &mut Found) -> Result<(), AllocError>
-        ensures { OnOk result (map dependency_view found.new.items ≡ map dependency_view found.old.items ++ along_edges self.now (decl_edges (node_view self.now.node) decl.now)) }
+    #[inline(never)]
+    fn visit_decl(self, decl: &Decl, found: &mut Found<'a>) -> Result<(), AllocError>
+        ensures { OnOk result (map dependency_view found.new.items ≡ map dependency_view found.old.items ++ along_edges self.entry (decl_edges (node_view self.entry.node) decl.now)) }
     {
         let open = Rules::open();
         match decl {
@@ -150,8 +160,9 @@ impl Visit<'_> {
 
     /// The elements of an interface that have a key.
     #[cycle(walk)]
-    fn visit_keyed(&self, member: &Member, found: &mut Found) -> Result<(), AllocError>
-        ensures { OnOk result (map dependency_view found.new.items ≡ map dependency_view found.old.items ++ along_edges self.now (keyed_edges member.now)) }
+    #[inline(always)]
+    fn visit_keyed(self, member: &Member, found: &mut Found<'a>) -> Result<(), AllocError>
+        ensures { OnOk result (map dependency_view found.new.items ≡ map dependency_view found.old.items ++ along_edges self.entry (keyed_edges member.now)) }
     {
         let open = Rules::open();
         let value = Rules::marking(ReferenceNamespace::Value);
@@ -167,7 +178,7 @@ impl Visit<'_> {
                 type_ann,
             } => {
                 self.visit_optional(value, only_if(*computed, *key), found)?;
-                self.visit_optional(open, *type_ann, found)
+                self.visit_annotation(*type_ann, found)
             }
             Member::TsSetterSignature {
                 key,
@@ -187,7 +198,7 @@ impl Visit<'_> {
                 self.visit_optional(value, only_if(*computed, *key), found)?;
                 self.visit_optional(open, *type_params, found)?;
                 self.visit_each(signature_rules(), params, found)?;
-                self.visit_optional(open, *type_ann, found)
+                self.visit_annotation(*type_ann, found)
             }
             _ => Ok(()),
         }
@@ -195,8 +206,13 @@ impl Visit<'_> {
 
     /// Members of classes and interfaces.
     #[cycle(walk)]
-    fn visit_member(&self, member: &Member, found: &mut Found) -> Result<(), AllocError>
-        ensures { OnOk result (map dependency_view found.new.items ≡ map dependency_view found.old.items ++ along_edges self.now (member_edges member.now)) }
+    #[inline(always)]
+    pub(crate) fn visit_member(
+        self,
+        member: &Member,
+        found: &mut Found<'a>,
+    ) -> Result<(), AllocError>
+        ensures { OnOk result (map dependency_view found.new.items ≡ map dependency_view found.old.items ++ along_edges self.entry (member_edges member.now)) }
     {
         let open = Rules::open();
         match member {
@@ -209,7 +225,7 @@ impl Visit<'_> {
                 ..
             } => {
                 self.visit_each(signature_rules(), params, found)?;
-                self.visit_optional(open, *type_ann, found)
+                self.visit_annotation(*type_ann, found)
             }
             Member::TsCallSignatureDecl {
                 type_params,
@@ -223,7 +239,7 @@ impl Visit<'_> {
             } => {
                 self.visit_optional(open, *type_params, found)?;
                 self.visit_each(signature_rules(), params, found)?;
-                self.visit_optional(open, *type_ann, found)
+                self.visit_annotation(*type_ann, found)
             }
             _ => self.visit_keyed(member, found),
         }
@@ -231,8 +247,9 @@ impl Visit<'_> {
 
     /// Types and what holds them.
     #[cycle(walk)]
-    fn visit_ty(&self, ty: &Ty, found: &mut Found) -> Result<(), AllocError>
-        ensures { OnOk result (map dependency_view found.new.items ≡ map dependency_view found.old.items ++ along_edges self.now (ty_edges ty.now)) }
+    #[inline(always)]
+    pub(crate) fn visit_ty(self, ty: &Ty, found: &mut Found<'a>) -> Result<(), AllocError>
+        ensures { OnOk result (map dependency_view found.new.items ≡ map dependency_view found.old.items ++ along_edges self.entry (ty_edges ty.now)) }
     {
         let open = Rules::open();
         let of_types = Rules::marking(ReferenceNamespace::Type);
@@ -268,10 +285,11 @@ impl Visit<'_> {
 
     /// Expressions and names. `refers`: the node is a reference itself.
     #[cycle(walk)]
-    fn visit_expr(&self, refers: bool, expr: &Expr, found: &mut Found) -> Result<(), AllocError>
-        requires kind { IsExpr (node_view self.now.node) expr.now }
-        requires refers { refers ≡ is_some (reference_at (node_view self.now.node)) }
-        ensures { OnOk result (map dependency_view found.new.items ≡ map dependency_view found.old.items ++ along_edges self.now (expr_edges refers expr.now)) }
+    #[inline(never)]
+    fn visit_expr(self, refers: bool, expr: &Expr, found: &mut Found<'a>) -> Result<(), AllocError>
+        requires kind { IsExpr (node_view self.node) expr.now }
+        requires refers { refers ≡ is_some (reference_at (node_view self.node)) }
+        ensures { OnOk result (map dependency_view found.new.items ≡ map dependency_view found.old.items ++ along_edges self.entry (expr_edges refers expr.now)) }
     {
         let open = Rules::open();
         match expr {
@@ -295,7 +313,7 @@ impl Visit<'_> {
             } => {
                 self.visit_optional(open, *type_params, found)?;
                 self.visit_each(open, params, found)?;
-                self.visit_optional(open, *return_type, found)?;
+                self.visit_annotation(*return_type, found)?;
                 let alone = !(*is_block || return_type.is_some());
                 self.visit_optional(open, only_if(alone, *body), found)
             }
@@ -305,10 +323,11 @@ impl Visit<'_> {
 
     /// Patterns, other types, and all else.
     #[cycle(walk)]
-    fn visit_pat(&self, known: Known, pat: &Pat, found: &mut Found) -> Result<(), AllocError>
-        requires kind { IsPat (node_view self.now.node) pat.now }
-        requires known { is_known known (node_view self.now.node) }
-        ensures { OnOk result (map dependency_view found.new.items ≡ map dependency_view found.old.items ++ along_edges self.now (pat_edges (has_annotation (node_view self.now.node)) pat.now)) }
+    #[inline(always)]
+    fn visit_pat(self, known: Known, pat: &Pat, found: &mut Found<'a>) -> Result<(), AllocError>
+        requires kind { IsPat (node_view self.node) pat.now }
+        requires known { is_known known (node_view self.node) }
+        ensures { OnOk result (map dependency_view found.new.items ≡ map dependency_view found.old.items ++ along_edges self.entry (pat_edges (has_annotation (node_view self.entry.node)) pat.now)) }
     {
         let open = Rules::open();
         let by_kind = open.with_mark(MarkRule::ByKind);
@@ -316,7 +335,7 @@ impl Visit<'_> {
             Pat::BindingIdent { type_ann, .. }
             | Pat::ArrayPat { type_ann, .. }
             | Pat::ObjectPat { type_ann, .. }
-            | Pat::RestPat { type_ann, .. } => self.visit_optional(open, *type_ann, found),
+            | Pat::RestPat { type_ann, .. } => self.visit_annotation(*type_ann, found),
             Pat::KeyValuePatProp { key, value } => {
                 self.visit_child(key_rules(), *key, found)?;
                 self.visit_child(open, *value, found)
@@ -333,33 +352,37 @@ impl Visit<'_> {
             Pat::ExprPat { expr } => {
                 self.visit_child(open.with_guard(Guard::Expressions), *expr, found)
             }
-            Pat::Plain { children } => {
-                self.visit_each(by_kind.in_form(FormRule::SignatureKinds), children, found)
-            }
+            Pat::Plain { children } => { self.visit_each(plain_rules(), children, found) }
             Pat::Other { children } => self.visit_each(by_kind, children, found),
         }
     }
 
     /// A pattern that is a parameter of a signature.
     #[cycle(walk)]
-    fn visit_signature(&self, known: Known, pat: &Pat, found: &mut Found) -> Result<(), AllocError>
-        requires kind { IsPat (node_view self.now.node) pat.now }
-        requires known { is_known known (node_view self.now.node) }
-        ensures { OnOk result (map dependency_view found.new.items ≡ map dependency_view found.old.items ++ along_edges self.now (signature_edges (has_annotation (node_view self.now.node)) pat.now)) }
+    #[inline(never)]
+    fn visit_signature(
+        self,
+        known: Known,
+        pat: &Pat,
+        found: &mut Found<'a>,
+    ) -> Result<(), AllocError>
+        requires kind { IsPat (node_view self.node) pat.now }
+        requires known { is_known known (node_view self.node) }
+        ensures { OnOk result (map dependency_view found.new.items ≡ map dependency_view found.old.items ++ along_edges self.entry (signature_edges (has_annotation (node_view self.entry.node)) pat.now)) }
     {
         let open = Rules::open();
         match pat {
             Pat::ArrayPat { elems, type_ann } => {
                 self.visit_each(open, elems, found)?;
-                self.visit_optional(open, *type_ann, found)
+                self.visit_annotation(*type_ann, found)
             }
             Pat::ObjectPat { props, type_ann } => {
                 self.visit_each(open.in_form(FormRule::SignatureRest), props, found)?;
-                self.visit_optional(open, *type_ann, found)
+                self.visit_annotation(*type_ann, found)
             }
             Pat::RestPat { arg, type_ann } => {
                 self.visit_child(open, *arg, found)?;
-                self.visit_optional(open, *type_ann, found)
+                self.visit_annotation(*type_ann, found)
             }
             _ => self.visit_pat(known, pat, found),
         }
@@ -368,14 +391,20 @@ impl Visit<'_> {
     /// A parameter that is a property: its default value only where that asserts a type and the
     /// parameter has no annotation.
     #[cycle(walk)]
-    fn visit_property(&self, known: Known, pat: &Pat, found: &mut Found) -> Result<(), AllocError>
-        requires kind { IsPat (node_view self.now.node) pat.now }
-        requires known { is_known known (node_view self.now.node) }
-        ensures { OnOk result (map dependency_view found.new.items ≡ map dependency_view found.old.items ++ along_edges self.now (property_edges (node_view self.now.node) (has_annotation (node_view self.now.node)) pat.now)) }
+    #[inline(never)]
+    fn visit_property(
+        self,
+        known: Known,
+        pat: &Pat,
+        found: &mut Found<'a>,
+    ) -> Result<(), AllocError>
+        requires kind { IsPat (node_view self.node) pat.now }
+        requires known { is_known known (node_view self.node) }
+        ensures { OnOk result (map dependency_view found.new.items ≡ map dependency_view found.old.items ++ along_edges self.entry (property_edges (node_view self.entry.node) (has_annotation (node_view self.entry.node)) pat.now)) }
     {
         let open = Rules::open();
         match pat {
-            Pat::BindingIdent { type_ann, .. } => self.visit_optional(open, *type_ann, found),
+            Pat::BindingIdent { type_ann, .. } => self.visit_annotation(*type_ann, found),
             Pat::AssignPat { left, right } => {
                 let annotated = has_annotation(self.node, known);
                 self.visit_known(open, *left, Known::Annotated(annotated), found)?;
@@ -389,18 +418,19 @@ impl Visit<'_> {
     /// Adds what stands along the edges of the node, which is come to in a form. `refers`: it is
     /// a reference itself.
     #[cycle(walk)]
+    #[inline(always)]
     pub(crate) fn visit_edges(
-        &self,
+        self,
         kind: &Kind,
         form: Form,
         refers: bool,
         known: Known,
-        found: &mut Found,
+        found: &mut Found<'a>,
     ) -> Result<(), AllocError>
-        requires kind { kind_of (node_view self.now.node) ≡ Some kind.now }
-        requires refers { refers ≡ is_some (reference_at (node_view self.now.node)) }
-        requires known { is_known known (node_view self.now.node) }
-        ensures { OnOk result (map dependency_view found.new.items ≡ map dependency_view found.old.items ++ along_edges self.now (edges (node_view self.now.node) form refers (has_annotation (node_view self.now.node)) kind.now)) }
+        requires kind { kind_of (node_view self.node) ≡ Some kind.now }
+        requires refers { refers ≡ is_some (reference_at (node_view self.node)) }
+        requires known { is_known known (node_view self.node) }
+        ensures { OnOk result (map dependency_view found.new.items ≡ map dependency_view found.old.items ++ along_edges self.entry (edges (node_view self.entry.node) form refers (has_annotation (node_view self.entry.node)) kind.now)) }
     {
         match kind {
             Kind::Item(item) => match item {
@@ -411,6 +441,9 @@ impl Visit<'_> {
             Kind::Member(member) => self.visit_member(member, found),
             Kind::Ty(ty) => self.visit_ty(ty, found),
             Kind::Expr(expr) => self.visit_expr(refers, expr, found),
+            Kind::Pat(Pat::BindingIdent { type_ann, .. }) => {
+                self.visit_annotation(*type_ann, found)
+            }
             Kind::Pat(pat) => match form {
                 Form::Usual => self.visit_pat(known, pat, found),
                 Form::Signature => self.visit_signature(known, pat, found),
@@ -421,8 +454,12 @@ impl Visit<'_> {
 
     /// Adds what stands along the edges with which the walk begins at the node of a declaration,
     /// if not at its own.
-    pub(crate) fn visit_first_edges(&self, kind: &Kind, found: &mut Found) -> Result<(), AllocError>
-        ensures { OnOk result (map dependency_view found.new.items ≡ map dependency_view found.old.items ++ along_edges self.now (first_edges kind.now)) }
+    pub(crate) fn visit_first_edges(
+        self,
+        kind: &Kind,
+        found: &mut Found<'a>,
+    ) -> Result<(), AllocError>
+        ensures { OnOk result (map dependency_view found.new.items ≡ map dependency_view found.old.items ++ along_edges self.entry (first_edges kind.now)) }
     {
         let open = Rules::open();
         let in_expressions = key_rules().with_guard(Guard::Expressions);
@@ -443,12 +480,12 @@ impl Visit<'_> {
                 },
             ) => {
                 self.visit_child(in_expressions, *key, found)?;
-                self.visit_optional(open, *type_ann, found)?;
+                self.visit_annotation(*type_ann, found)?;
                 let value = unless(type_ann.is_some(), *value);
                 self.visit_optional(initializer_rules(), value, found)
             }
             Kind::Member(Member::AutoAccessor { type_ann, .. }) => {
-                self.visit_optional(open, *type_ann, found)
+                self.visit_annotation(*type_ann, found)
             }
             Kind::Expr(Expr::Assign { right, .. }) => {
                 self.visit_child(open.with_guard(Guard::Expressions), *right, found)

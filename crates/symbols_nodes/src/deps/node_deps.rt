@@ -12,17 +12,24 @@ use crate::deps::starts::{push_dependencies, push_exported};
 use crate::nodes::{ExportDeclRef, SymbolNodeRef};
 use std::alloc::{AllocError, Global};
 
-/// The same without namespaces.
-fn first_parts(
-    alloc: Global,
-    all: Vec<(SymbolNodeDep, ReferenceNamespace)>,
-) -> Result<Vec<SymbolNodeDep>, AllocError>
-    ensures { IfOk result (λ list. list.items ≡ map (λ d. d.0) all.items) }
+/// The reference alone.
+fn first_part<'a>(found: (SymbolNodeDep<'a>, ReferenceNamespace)) -> SymbolNodeDep<'a>
+    ensures { result ≡ found.entry.0 }
 {
-    all.into_iter().map(|found| found.0).collect(alloc)
+    found.0
 }
 
-impl ExportDeclRef<'_> {
+/// The same without namespaces.
+fn first_parts<'a>(
+    alloc: Global,
+    all: Vec<(SymbolNodeDep<'a>, ReferenceNamespace)>,
+) -> Result<Vec<SymbolNodeDep<'a>>, AllocError>
+    ensures { IfOk result (λ list. list.items ≡ map (λ d. d.0) all.entry.items) }
+{
+    all.into_iter().map(first_part).collect(alloc)
+}
+
+impl<'a> ExportDeclRef<'a> {
     /// What the declaration refers to (as deno_graph), each reference with its namespace, in the
     /// order of the tree.
     ///
@@ -34,7 +41,7 @@ impl ExportDeclRef<'_> {
         self,
         alloc: Global,
         mode: ResolveDepsMode,
-    ) -> Result<Vec<(SymbolNodeDep, ReferenceNamespace)>, AllocError>
+    ) -> Result<Vec<(SymbolNodeDep<'a>, ReferenceNamespace)>, AllocError>
         ensures list { IfOk result (λ list. IsListOf mode (exported_steps (export_decl_view self.entry)) (map dependency_view list.items)) }
         ensures value { IfOk result (λ list. map dependency_view list.items ≡ exported_dependencies mode (export_decl_view self.entry)) }
         ensures subsequence { IsSubsequence (exported_dependencies mode (export_decl_view self.entry)) (exported_dependencies TypesAndExpressions (export_decl_view self.entry)) }
@@ -53,7 +60,7 @@ impl ExportDeclRef<'_> {
         self,
         alloc: Global,
         mode: ResolveDepsMode,
-    ) -> Result<Vec<SymbolNodeDep>, AllocError>
+    ) -> Result<Vec<SymbolNodeDep<'a>>, AllocError>
         ensures { IfOk result (λ list. map reference_view list.items ≡ map (λ (d : Dependency). d.reference) (exported_dependencies mode (export_decl_view self.entry))) }
     {
         let all = self.deps_with_namespace(alloc, mode)?;
@@ -62,7 +69,7 @@ impl ExportDeclRef<'_> {
     }
 }
 
-impl SymbolNodeRef<'_> {
+impl<'a> SymbolNodeRef<'a> {
     /// What the declaration refers to (as deno_graph), each reference with its namespace, in the
     /// order of the tree: a reference is a value where nothing on the way to it says that it is a
     /// type, or both. A module and a namespace refer to nothing themselves. It ends on every
@@ -76,7 +83,7 @@ impl SymbolNodeRef<'_> {
         self,
         alloc: Global,
         mode: ResolveDepsMode,
-    ) -> Result<Vec<(SymbolNodeDep, ReferenceNamespace)>, AllocError>
+    ) -> Result<Vec<(SymbolNodeDep<'a>, ReferenceNamespace)>, AllocError>
         ensures list { IfOk result (λ list. IsListOf mode (starts (symbol_node_view self.entry)) (map dependency_view list.items)) }
         ensures value { IfOk result (λ list. map dependency_view list.items ≡ dependencies mode (symbol_node_view self.entry)) }
         ensures subsequence { IsSubsequence (dependencies mode (symbol_node_view self.entry)) (dependencies TypesAndExpressions (symbol_node_view self.entry)) }
@@ -95,7 +102,7 @@ impl SymbolNodeRef<'_> {
         self,
         alloc: Global,
         mode: ResolveDepsMode,
-    ) -> Result<Vec<SymbolNodeDep>, AllocError>
+    ) -> Result<Vec<SymbolNodeDep<'a>>, AllocError>
         ensures { IfOk result (λ list. map reference_view list.items ≡ map (λ (d : Dependency). d.reference) (dependencies mode (symbol_node_view self.entry))) }
     {
         let all = self.deps_with_namespace(alloc, mode)?;

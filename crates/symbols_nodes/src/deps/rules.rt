@@ -1,14 +1,16 @@
 //! What holds of the edges of a field: how they lead on, what they mark, and when they are open.
 
 ghost use Rattle.std.specs.Prelude.{◌≡◌, ◌||◌, not};
-ghost use Rattle.symbols_syntax.specs.NodeRefs.{node_view};
+ghost use Rattle.symbols_syntax.specs.declared.tree.categories.Category.TheVariants as Category;
+ghost use Rattle.symbols_syntax.specs.Categories.{allows};
+ghost use Rattle.symbols_syntax.specs.Names.{kind_name};
 ghost use Rattle.symbols_nodes.specs.Dependencies.{is_computed, is_rest, signature_if, form_of, value_if, mark_of, is_guarded};
 ghost use Rattle.symbols_nodes.specs.EdgeRules.{open_rules, in_form, with_mark, with_guard, marking};
 ghost use Rattle.symbols_nodes.specs.EdgeTable.{is_assertion};
 ghost use Rattle.symbols_nodes.specs.References.{visits_expressions};
 
 use crate::deps::dep::{ReferenceNamespace, ResolveDepsMode};
-use symbols_syntax::tree::{Category, Expr, Kind, Pat, Ty};
+use symbols_syntax::tree::{Expr, Kind, Pat, Ty};
 
 /// How a node is come to.
 #[derive(Clone, Copy)]
@@ -98,6 +100,7 @@ impl Rules {
     }
 
     /// Whether the edge to a child of a kind is taken in the mode.
+    #[inline(always)]
     pub(crate) fn is_open(self, mode: ResolveDepsMode, kind: &Kind) -> bool
         ensures { result ≡ (visits_expressions mode || not (is_guarded self.guard kind.now)) }
     {
@@ -115,6 +118,31 @@ fn is_rest(kind: &Kind) -> bool
     ensures { result ≡ is_rest kind.now }
 {
     matches!(kind, Kind::Pat(Pat::RestPat { .. }))
+}
+
+/// Whether it is one of the types.
+fn is_type(kind: &Kind) -> bool
+    ensures { result ≡ allows Category.Type (kind_name kind.now) }
+{
+    matches!(
+        kind,
+        Kind::Pat(Pat::Plain { .. }) | Kind::Ty(Ty::TsTypeQuery { .. } | Ty::TsImportType { .. })
+    )
+}
+
+/// Whether it is one of the patterns of a signature.
+fn is_signature(kind: &Kind) -> bool
+    ensures { result ≡ allows Category.Signature (kind_name kind.now) }
+{
+    matches!(
+        kind,
+        Kind::Pat(
+            Pat::BindingIdent { .. }
+                | Pat::ArrayPat { .. }
+                | Pat::ObjectPat { .. }
+                | Pat::RestPat { .. }
+        )
+    )
 }
 
 /// Whether an expression asserts a type.
@@ -149,13 +177,14 @@ fn value_if(condition: bool) -> Option<ReferenceNamespace>
 
 impl FormRule {
     /// The form in which a child of a kind is come to.
+    #[inline(always)]
     pub(crate) fn form_of(self, kind: &Kind) -> Form
         ensures { result ≡ form_of self kind.now }
     {
         match self {
             FormRule::Usual => Form::Usual,
             FormRule::Signature => Form::Signature,
-            FormRule::SignatureKinds => signature_if(Category::Signature.allows(kind.name())),
+            FormRule::SignatureKinds => signature_if(is_signature(kind)),
             FormRule::SignatureRest => signature_if(is_rest(kind)),
             FormRule::Property => Form::Property,
         }
@@ -164,6 +193,7 @@ impl FormRule {
 
 impl MarkRule {
     /// What is marked at a child of a kind.
+    #[inline(always)]
     pub(crate) fn mark_of(self, kind: &Kind) -> Option<ReferenceNamespace>
         ensures { result ≡ mark_of self kind.now }
     {
@@ -172,7 +202,7 @@ impl MarkRule {
             MarkRule::Marked(namespace) => Some(namespace),
             MarkRule::ValueIfComputed => value_if(is_computed(kind)),
             MarkRule::ByKind => {
-                if Category::Type.allows(kind.name()) {
+                if is_type(kind) {
                     Some(ReferenceNamespace::Type)
                 } else {
                     value_if(is_computed(kind))
@@ -184,6 +214,7 @@ impl MarkRule {
 
 impl Guard {
     /// Whether the edge to a child of a kind is open only with expressions.
+    #[inline(always)]
     pub(crate) fn needs_expressions(self, kind: &Kind) -> bool
         ensures { result ≡ is_guarded self kind.now }
     {

@@ -10,7 +10,7 @@ ghost use Rattle.symbols_nodes.specs.References.{dependency_view};
 
 use crate::deps::dep::{ReferenceNamespace, ResolveDepsMode};
 use crate::deps::known::Known;
-use crate::deps::references::{Found, reference_at};
+use crate::deps::references::{Found, may_refer, reference_at};
 use crate::deps::rules::Form;
 use crate::deps::visit::Visit;
 use crate::nodes::{ExportDeclRef, SymbolNodeRef};
@@ -18,11 +18,11 @@ use std::alloc::{AllocError, Global};
 use symbols_syntax::tree::{Decl, Kind, NodeRef};
 
 /// Adds what stands along the edges with which the walk begins at a node, if not at its own.
-fn push_first(
+fn push_first<'a>(
     alloc: Global,
     mode: ResolveDepsMode,
-    node: NodeRef<'_>,
-    found: &mut Found,
+    node: NodeRef<'a>,
+    found: &mut Found<'a>,
 ) -> Result<(), AllocError>
     ensures { OnOk result (map dependency_view found.new.items ≡ map dependency_view found.old.items ++ dependencies_by mode (first_steps (node_view node.entry))) }
 {
@@ -37,15 +37,17 @@ fn push_first(
     Ok(())
 }
 
-/// Adds what stands along a node's own edges.
-fn push_node(
+/// Adds what stands along a node's own edges, be the node a reference or not.
+#[inline(never)]
+fn push_edges<'a>(
     alloc: Global,
     mode: ResolveDepsMode,
-    node: NodeRef<'_>,
-    found: &mut Found,
+    node: NodeRef<'a>,
+    found: &mut Found<'a>,
 ) -> Result<(), AllocError>
     ensures { OnOk result (map dependency_view found.new.items ≡ map dependency_view found.old.items ++ dependencies_by mode (node_steps (node_view node.entry))) }
 {
+    let kind = node.kind();
     let refers = reference_at(alloc, node, Known::Nothing)?.is_some();
     let namespace = ReferenceNamespace::Value;
     let visit = Visit {
@@ -54,17 +56,33 @@ fn push_node(
         node,
         namespace,
     };
-    visit.visit_edges(node.kind(), Form::Usual, refers, Known::Nothing, found)?;
+    visit.visit_edges(kind, Form::Usual, refers, Known::Nothing, found)?;
     Ok(())
+}
+
+/// The same. What stands at a node that is no reference is what stands along its edges.
+fn push_node<'a>(
+    alloc: Global,
+    mode: ResolveDepsMode,
+    node: NodeRef<'a>,
+    found: &mut Found<'a>,
+) -> Result<(), AllocError>
+    ensures { OnOk result (map dependency_view found.new.items ≡ map dependency_view found.old.items ++ dependencies_by mode (node_steps (node_view node.entry))) }
+{
+    if may_refer(node.kind()) {
+        return push_edges(alloc, mode, node, found);
+    }
+    let namespace = ReferenceNamespace::Value;
+    Visit::visit_node(alloc, mode, node, namespace, Form::Usual, found)
 }
 
 /// Adds what stands along a child's own edges, if the child is there.
 #[tactic(auto, using(crate::proofs::VisitLists::adds_nothing))]
-fn push_child(
+fn push_child<'a>(
     alloc: Global,
     mode: ResolveDepsMode,
-    child: Option<NodeRef<'_>>,
-    found: &mut Found,
+    child: Option<NodeRef<'a>>,
+    found: &mut Found<'a>,
 ) -> Result<(), AllocError>
     ensures { OnOk result (map dependency_view found.new.items ≡ map dependency_view found.old.items ++ dependencies_by mode (option_map_or node_steps (option_map node_view child.entry) [])) }
 {
@@ -76,11 +94,11 @@ fn push_child(
 
 /// Adds what a declaration after `export` depends on.
 #[tactic(auto, using(crate::proofs::VisitLists::adds_nothing))]
-pub(crate) fn push_exported(
+pub(crate) fn push_exported<'a>(
     alloc: Global,
     mode: ResolveDepsMode,
-    decl: ExportDeclRef<'_>,
-    found: &mut Found,
+    decl: ExportDeclRef<'a>,
+    found: &mut Found<'a>,
 ) -> Result<(), AllocError>
     ensures { OnOk result (map dependency_view found.new.items ≡ map dependency_view found.old.items ++ dependencies_by mode (exported_steps (export_decl_view decl.entry))) }
 {
@@ -97,11 +115,11 @@ pub(crate) fn push_exported(
 
 /// Adds what a declaration after `export default` depends on.
 #[tactic(auto, using(crate::proofs::VisitLists::adds_nothing))]
-fn push_default(
+fn push_default<'a>(
     alloc: Global,
     mode: ResolveDepsMode,
-    decl: NodeRef<'_>,
-    found: &mut Found,
+    decl: NodeRef<'a>,
+    found: &mut Found<'a>,
 ) -> Result<(), AllocError>
     ensures { OnOk result (map dependency_view found.new.items ≡ map dependency_view found.old.items ++ dependencies_by mode (default_steps (node_view decl.entry) (kind_of (node_view decl.entry)))) }
 {
@@ -115,11 +133,11 @@ fn push_default(
 
 /// The same from the node of `export default`.
 #[tactic(auto, using(crate::proofs::VisitLists::adds_nothing))]
-fn push_default_of(
+fn push_default_of<'a>(
     alloc: Global,
     mode: ResolveDepsMode,
-    node: NodeRef<'_>,
-    found: &mut Found,
+    node: NodeRef<'a>,
+    found: &mut Found<'a>,
 ) -> Result<(), AllocError>
     ensures { OnOk result (map dependency_view found.new.items ≡ map dependency_view found.old.items ++ dependencies_by mode (option_map_or (λ (decl : TreeNode). default_steps decl (kind_of decl)) (child_of (node_view node.entry) decl_of) [])) }
 {
@@ -131,11 +149,11 @@ fn push_default_of(
 
 /// Adds what a method of a class depends on: what its key does, and its function.
 #[tactic(auto, using(crate::proofs::VisitLists::adds_in_turn))]
-fn push_method(
+fn push_method<'a>(
     alloc: Global,
     mode: ResolveDepsMode,
-    node: NodeRef<'_>,
-    found: &mut Found,
+    node: NodeRef<'a>,
+    found: &mut Found<'a>,
 ) -> Result<(), AllocError>
     ensures { OnOk result (map dependency_view found.new.items ≡ map dependency_view found.old.items ++ dependencies_by mode (first_steps (node_view node.entry) ++ function_steps (node_view node.entry))) }
 {
@@ -145,11 +163,11 @@ fn push_method(
 
 /// Adds what a declaration depends on.
 #[tactic(auto, using(crate::proofs::VisitLists::adds_nothing))]
-pub(crate) fn push_dependencies(
+pub(crate) fn push_dependencies<'a>(
     alloc: Global,
     mode: ResolveDepsMode,
-    node: SymbolNodeRef<'_>,
-    found: &mut Found,
+    node: SymbolNodeRef<'a>,
+    found: &mut Found<'a>,
 ) -> Result<(), AllocError>
     ensures { OnOk result (map dependency_view found.new.items ≡ map dependency_view found.old.items ++ dependencies_by mode (starts (symbol_node_view node.entry))) }
 {

@@ -1,6 +1,7 @@
 //! What a reference to a symbol stands for.
 
-ghost use Rattle.std.specs.Prelude.{◌≡◌, ◌<◌, ℕ, List, [], ◌∷◌, length, map, Some, string_bytes, IfOk, IfErr};
+ghost use Rattle.std.specs.Prelude.{◌≡◌, ◌<◌, ℕ, List, [], ◌∷◌, length, map, Some, IfOk, IfErr};
+ghost use Rattle.std.specs.Cow.{cow_str_bytes};
 ghost use Rattle.std.specs.List.{IsDistinct};
 ghost use Rattle.std.specs.Str.{bytes_eq};
 ghost use Rattle.symbols_syntax.specs.Ids.{id_view};
@@ -19,7 +20,7 @@ ghost use Rattle.symbols_paths.specs.Answers.{ArePathsUnder};
 ghost use Rattle.symbols_paths.specs.DepAnswers.{entry_told, entries_in, asked_by_id, asked_by_way, missing_id, missing_way, other_entries, entries_of, ArePathsOf, IsDepAnswer, IsDepFault};
 
 use crate::paths::leads::symbol_of_id;
-use crate::paths::link::{copied_id, copied_parts, lent, one_unresolved, unresolved};
+use crate::paths::link::{copied_id, copied_parts, one_unresolved, unresolved};
 use crate::paths::node::DefinitionPathNode;
 use crate::paths::parts::{PartWay, text_part};
 use crate::paths::search::walk;
@@ -29,6 +30,7 @@ use crate::paths::unresolved::DefinitionUnresolvedKind;
 use crate::paths::unroll::nodes_of;
 use indexmap::IndexSet;
 use std::alloc::{AllocError, Global};
+use std::borrow::CowStr;
 use symbols_nodes::deps::SymbolNodeDep;
 use symbols_root::root::RootSymbol;
 use symbols_table::info::SymbolsFault;
@@ -60,6 +62,17 @@ fn paths_under<'a>(
     let mut resolving = IndexSet::new(root.alloc());
     let mut met = IndexSet::new(root.alloc());
     walk(root, &mut resolving, &mut met, symbol, parts)
+}
+
+/// The parts of a reference, lent.
+fn lent_names<'p>(alloc: Global, parts: &'p [CowStr<'_>]) -> Result<Vec<&'p str>, AllocError>
+    ensures { IfOk result (λ texts. texts_in texts.items ≡ map cow_str_bytes parts.now) }
+{
+    let mut texts = Vec::new(alloc);
+    for part in parts {
+        texts.push(part.as_str())?;
+    }
+    Ok(texts)
 }
 
 /// The paths of what a name of a stored module stands for, under parts; one unresolved entry where it
@@ -221,7 +234,7 @@ fn entries_of_import<'a>(
 pub fn resolve_symbol_dep<'a>(
     root: &mut RootSymbol<'a>,
     module_id: ModuleId,
-    dep: &SymbolNodeDep,
+    dep: &SymbolNodeDep<'_>,
 ) -> Result<Vec<ResolvedSymbolDepEntry<'a>>, SymbolsFault>
     ensures answers { IfOk result (λ entries. (module_id.0 < length root.old.stored) × IsDepAnswer root.old.graph (specifier_in root.old module_id) (reference_view dep.now) (map (entry_told root.new) entries.items)) }
     ensures listed { IfOk result (λ entries. map (entry_told root.new) entries.items ≡ entries_of root.old.graph (specifier_in root.old module_id) (reference_view dep.now)) }
@@ -235,12 +248,12 @@ pub fn resolve_symbol_dep<'a>(
     match dep {
         SymbolNodeDep::Id(id) => entries_of_id(root, module_id, id, &[]),
         SymbolNodeDep::QualifiedId(id, parts) => {
-            let parts = lent(root.alloc(), parts)?;
+            let parts = lent_names(root.alloc(), parts)?;
             entries_of_id(root, module_id, id, &parts)
         }
         SymbolNodeDep::ImportType(text, parts) => {
-            let parts = lent(root.alloc(), parts)?;
-            entries_of_import(root, module_id, text.as_str(), &parts)
+            let parts = lent_names(root.alloc(), parts)?;
+            entries_of_import(root, module_id, text, &parts)
         }
     }
 }

@@ -20,7 +20,7 @@ pub enum Answer<'a> {
     /// What the symbol is called in full, if it has a name.
     Name(Option<String>),
     /// What each declaration of the symbol depends on, in order.
-    Deps(Vec<DeclDeps>),
+    Deps(Vec<DeclDeps<'a>>),
     /// The paths to what the symbol is defined by.
     Paths(Vec<NamedPath<'a>>),
     /// The definitions at the ends of these paths, from left to right.

@@ -159,7 +159,7 @@ fn leaves_answer<'a>(
 fn entries_answer<'a>(
     root: &mut RootSymbol<'a>,
     module_id: ModuleId,
-    dep: &SymbolNodeDep,
+    dep: &SymbolNodeDep<'_>,
 ) -> Result<Answer<'a>, SymbolsFault>
     requires { module_id.0 < length root.old.stored }
     ensures kept { HasGrown root.old root.new }
@@ -177,7 +177,7 @@ fn entries_answer<'a>(
 fn answer_on<'a>(
     root: &mut RootSymbol<'a>,
     module_id: ModuleId,
-    query: &Query,
+    query: &Query<'_>,
 ) -> Result<Answer<'a>, SymbolsFault>
     requires { module_id.0 < length root.old.stored }
     ensures kept { HasGrown root.old root.new }
@@ -204,7 +204,7 @@ fn answer_on<'a>(
 ///
 /// `UnknownSymbol` where the module has no such symbol; else what storing a module refuses that the
 /// answer needs. What was stored stays.
-pub fn answer<'a>(root: &mut RootSymbol<'a>, query: &Query) -> Result<Answer<'a>, SymbolsFault>
+pub fn answer<'a>(root: &mut RootSymbol<'a>, query: &Query<'_>) -> Result<Answer<'a>, SymbolsFault>
     ensures kept { HasGrown root.old root.new }
     ensures answers { IfOk result (λ answer. query_answer root.old.graph (query_view query.now) ≡ Some (answer_view answer)) }
     ensures faults { IfErr result (IsQueryFault root.new (query_view query.now)) }
@@ -225,7 +225,7 @@ pub fn answer<'a>(root: &mut RootSymbol<'a>, query: &Query) -> Result<Answer<'a>
 /// are dropped. What was stored stays.
 pub fn run<'a>(
     root: &mut RootSymbol<'a>,
-    queries: &[Query],
+    queries: &[Query<'_>],
 ) -> Result<Vec<Answer<'a>>, SymbolsFault>
     ensures kept { HasGrown root.old root.new }
     ensures answers { IfOk result (λ answers. map (λ answer. Some (answer_view answer)) answers.items ≡ map (λ query. query_answer root.old.graph (query_view query)) queries.now) }

@@ -11,14 +11,14 @@ use symbols_nodes::deps::{ReferenceNamespace, ResolveDepsMode, SymbolNodeDep};
 use symbols_table::decl::{Symbol, SymbolDecl};
 
 /// What one declaration depends on: references with their namespaces.
-pub type DeclDeps = Vec<(SymbolNodeDep, ReferenceNamespace)>;
+pub type DeclDeps<'a> = Vec<(SymbolNodeDep<'a>, ReferenceNamespace)>;
 
 /// What a declaration depends on; nothing where it has no node.
-fn decl_deps(
+fn decl_deps<'a>(
     alloc: Global,
-    decl: &SymbolDecl<'_>,
+    decl: &SymbolDecl<'a>,
     mode: ResolveDepsMode,
-) -> Result<DeclDeps, AllocError>
+) -> Result<DeclDeps<'a>, AllocError>
     ensures { IfOk result (λ deps. map dependency_view deps.items ≡ decl_dependencies mode (decl_view decl.now)) }
 {
     match decl.maybe_node() {
@@ -28,11 +28,11 @@ fn decl_deps(
 }
 
 /// What each declaration of a symbol depends on.
-pub(crate) fn symbol_deps(
+pub(crate) fn symbol_deps<'a>(
     alloc: Global,
-    symbol: &Symbol<'_>,
+    symbol: &Symbol<'a>,
     mode: ResolveDepsMode,
-) -> Result<Vec<DeclDeps>, AllocError>
+) -> Result<Vec<DeclDeps<'a>>, AllocError>
     ensures { IfOk result (λ deps. map deps_view deps.items ≡ map (decl_dependencies mode) (decls_in symbol.now)) }
 {
     let mut deps = Vec::new(alloc);

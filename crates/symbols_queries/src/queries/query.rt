@@ -9,7 +9,7 @@ use symbols_tree::tree::Id;
 
 /// What is asked of the module that a specifier stands for, which comes first (own rule).
 #[derive(Drop)]
-pub enum Query {
+pub enum Query<'r> {
     /// Which module it is.
     Module(String),
     /// What it exports, and which of its `export *` lead to no module.
@@ -26,11 +26,11 @@ pub enum Query {
     Definitions(String, SymbolId),
     /// All ends of these paths.
     Leaves(String, SymbolId),
-    /// What a reference in it stands for.
-    Resolve(String, SymbolNodeDep),
+    /// What a reference in it stands for, whose names are lent.
+    Resolve(String, SymbolNodeDep<'r>),
 }
 
-impl Query {
+impl Query<'_> {
     /// The specifier of the module that is asked for.
     pub fn specifier(&self) -> &str
         ensures { result.now ≡ (query_view self.now).specifier }

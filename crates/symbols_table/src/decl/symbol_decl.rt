@@ -174,7 +174,7 @@ impl<'a> SymbolDecl<'a> {
         &self,
         alloc: Global,
         mode: ResolveDepsMode,
-    ) -> Result<Vec<SymbolNodeDep>, AllocError>
+    ) -> Result<Vec<SymbolNodeDep<'a>>, AllocError>
         ensures { IfOk result (λ deps. map reference_view deps.items ≡ map (λ (d : Dependency). d.reference) (decl_dependencies mode (decl_view self.now))) }
     {
         match self.maybe_node() {

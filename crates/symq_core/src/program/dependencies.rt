@@ -1,6 +1,7 @@
 //! What the declarations of a symbol depend on, as text.
 
-ghost use Rattle.std.specs.Prelude.{◌≡◌, map, string_bytes};
+ghost use Rattle.std.specs.Prelude.{◌≡◌, map};
+ghost use Rattle.std.specs.Cow.{cow_str_bytes};
 ghost use Rattle.std.specs.Option.{option_map};
 ghost use Rattle.symbols_syntax.specs.Ids.{id_view};
 ghost use Rattle.symbols_nodes.specs.References.{id as by_id, qualified_id, import_type, reference_view, dependency_view};
@@ -9,10 +10,12 @@ ghost use Rattle.symbols_table.specs.Modules.{lent_table, symbol_in};
 ghost use Rattle.symbols_answers.specs.QueryAnswers.{dependencies_told};
 ghost use Rattle.symq_core.specs.AnswerData.{reference_data, namespace_words, dependency_data, dependencies_data, found_data};
 ghost use Rattle.symq_core.specs.Telling.{Tells, Adds, rest_tokens};
+ghost use Rattle.symq_core.specs.TextsData.{texts_data};
 
-use crate::program::telling::{tell_text, tell_texts};
+use crate::program::telling::tell_text;
 use json::Writer;
 use std::alloc::{AllocError, Global};
+use std::borrow::CowStr;
 use symbols_nodes::deps::{ReferenceNamespace, ResolveDepsMode, SymbolNodeDep};
 use symbols_table::decl::SymbolDecl;
 use symbols_table::info::ModuleInfoRef;
@@ -30,39 +33,48 @@ fn tell_id(out: &mut Writer, id: &Id) -> Result<(), AllocError>
     out.end_array()
 }
 
+/// The parts after a name.
+fn tell_parts(out: &mut Writer, parts: &[CowStr<'_>]) -> Result<(), AllocError>
+    ensures { Tells result out.old out.new (texts_data (map cow_str_bytes parts.now)) }
+{
+    out.begin_array()?;
+    for part in parts {
+        out.string(part.as_str())?;
+    }
+    out.end_array()
+}
+
 /// A name with its scope, and the parts after it.
-fn tell_qualified_id(out: &mut Writer, id: &Id, parts: &[String]) -> Result<(), AllocError>
-    ensures { Tells result out.old out.new (reference_data (qualified_id (id_view id.now) (map string_bytes parts.now))) }
+fn tell_qualified_id(out: &mut Writer, id: &Id, parts: &[CowStr<'_>]) -> Result<(), AllocError>
+    ensures { Tells result out.old out.new (reference_data (qualified_id (id_view id.now) (map cow_str_bytes parts.now))) }
 {
     out.begin_array()?;
     out.string("qualified")?;
     out.string(id.name.as_str())?;
     out.u64(u64::from(id.scope))?;
-    tell_texts(out, parts)?;
+    tell_parts(out, parts)?;
     out.end_array()
 }
 
 /// The text of an import type, and the parts after it.
-fn tell_import_type(out: &mut Writer, text: &str, parts: &[String]) -> Result<(), AllocError>
-    ensures { Tells result out.old out.new (reference_data (import_type text.now (map string_bytes parts.now))) }
+fn tell_import_type(out: &mut Writer, text: &str, parts: &[CowStr<'_>]) -> Result<(), AllocError>
+    ensures { Tells result out.old out.new (reference_data (import_type text.now (map cow_str_bytes parts.now))) }
 {
     out.begin_array()?;
     out.string("import")?;
     out.string(text)?;
-    tell_texts(out, parts)?;
+    tell_parts(out, parts)?;
     out.end_array()
 }
 
 /// A reference.
-fn tell_reference(out: &mut Writer, reference: &SymbolNodeDep) -> Result<(), AllocError>
+fn tell_reference(out: &mut Writer, reference: &SymbolNodeDep<'_>) -> Result<(), AllocError>
     ensures { Tells result out.old out.new (reference_data (reference_view reference.now)) }
 {
     match reference {
         SymbolNodeDep::Id(id) => tell_id(out, id),
         SymbolNodeDep::QualifiedId(id, parts) => tell_qualified_id(out, id, parts.as_slice()),
-        SymbolNodeDep::ImportType(text, parts) => {
-            tell_import_type(out, text.as_str(), parts.as_slice())
-        }
+        SymbolNodeDep::ImportType(text, parts) => tell_import_type(out, text, parts.as_slice()),
     }
 }
 
@@ -80,7 +92,7 @@ fn namespace_word(namespace: ReferenceNamespace) -> &'static str
 /// A dependency: a reference and its namespace.
 fn tell_dependency(
     out: &mut Writer,
-    dependency: &(SymbolNodeDep, ReferenceNamespace),
+    dependency: &(SymbolNodeDep<'_>, ReferenceNamespace),
 ) -> Result<(), AllocError>
     ensures { Tells result out.old out.new (dependency_data (dependency_view dependency.now)) }
 {
@@ -94,7 +106,7 @@ fn tell_dependency(
 /// A list of dependencies.
 fn tell_dependencies(
     out: &mut Writer,
-    dependencies: &[(SymbolNodeDep, ReferenceNamespace)],
+    dependencies: &[(SymbolNodeDep<'_>, ReferenceNamespace)],
 ) -> Result<(), AllocError>
     ensures { Tells result out.old out.new (dependencies_data (map dependency_view dependencies.now)) }
 {

@@ -5,10 +5,10 @@ ghost use Rattle.symq_reader.specs.Plain.{data_of, items_data};
 ghost use Rattle.symq_core.specs.Queries.{query_of, parts_of_query, module_question, exports_question, symbol_question, one_symbol, name_question, paths_question, definitions_question, leaves_question, mode_named, deps_question, resolve_question};
 ghost use Rattle.symq_core.specs.Answering.{question_view, query_view};
 
-use crate::program::references::{read_id, read_reference};
+use crate::program::references::{AskedReference, read_id, read_reference};
 use json::Value;
 use std::alloc::{AllocError, Global};
-use symbols_nodes::deps::{ResolveDepsMode, SymbolNodeDep};
+use symbols_nodes::deps::ResolveDepsMode;
 use symbols_tree::ids::SymbolId;
 use symbols_tree::tree::Id;
 use symq_reader::{as_list, as_text, as_u32};
@@ -38,7 +38,7 @@ pub(crate) enum Question {
     /// All ends of these paths.
     Leaves(SymbolId),
     /// What a reference in it stands for.
-    Resolve(SymbolNodeDep),
+    Resolve(AskedReference),
     /// What its table tells.
     Table(TableQuestion),
 }

@@ -1,19 +1,62 @@
 //! References that a query asks of.
 
 ghost use Rattle.std.specs.Prelude.{◌≡◌, map, string_bytes, option_map, IfOk};
+ghost use Rattle.std.specs.Cow.{cow_str_bytes};
 ghost use Rattle.std.specs.Option.{option_and_then};
 ghost use Rattle.serde_json.specs.Find.{as_array, as_str};
 ghost use Rattle.symbols_syntax.specs.Ids.{id_view};
 ghost use Rattle.symbols_nodes.specs.References.{reference_view};
 ghost use Rattle.symq_reader.specs.Plain.{data_of, items_data};
 ghost use Rattle.symq_reader.specs.UnderKeys.{each_item};
+ghost use Rattle.symq_core.specs.Answering.{asked_view};
 ghost use Rattle.symq_core.specs.ReferenceForms.{read_id, read_parts, id_form, qualified_form, import_form, word_and_rest, reference_of};
 
 use json::Value;
 use std::alloc::{AllocError, Global};
+use std::borrow::CowStr;
 use symbols_nodes::deps::SymbolNodeDep;
 use symbols_tree::tree::Id;
 use symq_reader::{as_list, as_text, as_u32};
+
+/// A reference that a query asks of, as it is read from the line: it owns its names.
+#[derive(Drop)]
+pub(crate) enum AskedReference {
+    /// A name.
+    Id(Id),
+    /// A name with the parts after it.
+    QualifiedId(Id, Vec<String>),
+    /// The text of an import type, and the parts after it.
+    ImportType(String, Vec<String>),
+}
+
+/// Parts, lent.
+fn lent_parts<'r>(alloc: Global, parts: &'r [String]) -> Result<Vec<CowStr<'r>>, AllocError>
+    ensures { IfOk result (λ lent. map cow_str_bytes lent.items ≡ map string_bytes parts.now) }
+{
+    let mut lent = Vec::with_capacity(alloc, parts.len())?;
+    for part in parts {
+        lent.push(CowStr::Borrowed(part.as_str()))?;
+    }
+    Ok(lent)
+}
+
+impl AskedReference {
+    /// The reference with its names lent, as the library is asked.
+    pub(crate) fn lent<'r>(&'r self, alloc: Global) -> Result<SymbolNodeDep<'r>, AllocError>
+        ensures { IfOk result (λ dep. reference_view dep ≡ asked_view self.now) }
+    {
+        match self {
+            AskedReference::Id(id) => Ok(SymbolNodeDep::Id(id)),
+            AskedReference::QualifiedId(id, parts) => {
+                Ok(SymbolNodeDep::QualifiedId(id, lent_parts(alloc, parts)?))
+            }
+            AskedReference::ImportType(text, parts) => {
+                let parts = lent_parts(alloc, parts)?;
+                Ok(SymbolNodeDep::ImportType(text.as_str(), parts))
+            }
+        }
+    }
+}
 
 /// A name with its scope.
 pub(crate) fn read_id(
@@ -56,19 +99,19 @@ fn read_parts(alloc: Global, value: &Value<'_>) -> Result<Option<Vec<String>>, A
 
 /// The items behind the word `id`: a name with its scope.
 #[tactic(auto, using(crate::proofs::Forms::id_short, crate::proofs::Forms::id_long))]
-fn id_form(alloc: Global, items: &[Value<'_>]) -> Result<Option<SymbolNodeDep>, AllocError>
-    ensures { IfOk result (λ found. option_map reference_view found ≡ id_form (items_data items.now)) }
+fn id_form(alloc: Global, items: &[Value<'_>]) -> Result<Option<AskedReference>, AllocError>
+    ensures { IfOk result (λ found. option_map asked_view found ≡ id_form (items_data items.now)) }
 {
     let [name, scope] = items else {
         return Ok(None);
     };
-    Ok(read_id(alloc, name, scope)?.map(|id| SymbolNodeDep::Id(id)))
+    Ok(read_id(alloc, name, scope)?.map(|id| AskedReference::Id(id)))
 }
 
 /// The items behind the word `qualified`: a name with its scope, and the parts behind it.
 #[tactic(auto, using(crate::proofs::Forms::qualified_short, crate::proofs::Forms::qualified_long))]
-fn qualified_form(alloc: Global, items: &[Value<'_>]) -> Result<Option<SymbolNodeDep>, AllocError>
-    ensures { IfOk result (λ found. option_map reference_view found ≡ qualified_form (items_data items.now)) }
+fn qualified_form(alloc: Global, items: &[Value<'_>]) -> Result<Option<AskedReference>, AllocError>
+    ensures { IfOk result (λ found. option_map asked_view found ≡ qualified_form (items_data items.now)) }
 {
     let [name, scope, parts] = items else {
         return Ok(None);
@@ -76,13 +119,13 @@ fn qualified_form(alloc: Global, items: &[Value<'_>]) -> Result<Option<SymbolNod
     let Some(id) = read_id(alloc, name, scope)? else {
         return Ok(None);
     };
-    Ok(read_parts(alloc, parts)?.map(|parts| SymbolNodeDep::QualifiedId(id, parts)))
+    Ok(read_parts(alloc, parts)?.map(|parts| AskedReference::QualifiedId(id, parts)))
 }
 
 /// The items behind the word `import`: the text of a module, and the parts behind it.
 #[tactic(auto, using(crate::proofs::Forms::import_short, crate::proofs::Forms::import_long))]
-fn import_form(alloc: Global, items: &[Value<'_>]) -> Result<Option<SymbolNodeDep>, AllocError>
-    ensures { IfOk result (λ found. option_map reference_view found ≡ import_form (items_data items.now)) }
+fn import_form(alloc: Global, items: &[Value<'_>]) -> Result<Option<AskedReference>, AllocError>
+    ensures { IfOk result (λ found. option_map asked_view found ≡ import_form (items_data items.now)) }
 {
     let [text, parts] = items else {
         return Ok(None);
@@ -91,7 +134,7 @@ fn import_form(alloc: Global, items: &[Value<'_>]) -> Result<Option<SymbolNodeDe
         return Ok(None);
     };
     let text = String::from_str(alloc, text)?;
-    Ok(read_parts(alloc, parts)?.map(|parts| SymbolNodeDep::ImportType(text, parts)))
+    Ok(read_parts(alloc, parts)?.map(|parts| AskedReference::ImportType(text, parts)))
 }
 
 /// The word that a list begins with, and the items behind it.
@@ -109,8 +152,8 @@ fn word_and_rest<'v, 'a>(value: &'v Value<'a>) -> Option<(&'a str, &'v [Value<'a
 pub(crate) fn read_reference(
     alloc: Global,
     value: &Value<'_>,
-) -> Result<Option<SymbolNodeDep>, AllocError>
-    ensures { IfOk result (λ found. option_map reference_view found ≡ reference_of (data_of value.now)) }
+) -> Result<Option<AskedReference>, AllocError>
+    ensures { IfOk result (λ found. option_map asked_view found ≡ reference_of (data_of value.now)) }
 {
     let Some((word, items)) = word_and_rest(value) else {
         return Ok(None);

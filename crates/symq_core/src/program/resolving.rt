@@ -7,12 +7,14 @@ ghost use Rattle.symbols_exports.specs.Exporting.{specifier_in};
 ghost use Rattle.symbols_paths.specs.DepAnswers.{entry_told, entries_of};
 ghost use Rattle.symbols_answers.specs.Answers.{tells_entries};
 ghost use Rattle.symq_core.specs.AnswerData.{answer_data};
+ghost use Rattle.symq_core.specs.Answering.{asked_view};
 ghost use Rattle.symq_core.specs.PathData.{standing_data};
 ghost use Rattle.symq_core.specs.Telling.{Adds, Tells, rest_tokens};
 
 use crate::program::exporting::specifier_of;
 use crate::program::finding::tell_path;
 use crate::program::paths::begin_list;
+use crate::program::references::AskedReference;
 use crate::program::telling::{tell_fault, tell_text};
 use json::Writer;
 use std::alloc::AllocError;
@@ -52,11 +54,11 @@ fn end_entries(
 }
 
 /// What a reference in a stored module stands for.
-pub(crate) fn tell_entries(
+fn tell_entries_of(
     out: &mut Writer,
     root: &mut RootSymbol<'_>,
     module_id: ModuleId,
-    reference: &SymbolNodeDep,
+    reference: &SymbolNodeDep<'_>,
 ) -> Result<(), AllocError>
     requires widest { root.old.limits ≡ widest }
     requires known { module_id.0 < length root.old.stored }
@@ -71,4 +73,20 @@ pub(crate) fn tell_entries(
         }
         Err(fault) => tell_fault(out, &fault),
     }
+}
+
+/// What a reference that a query asks of stands for in a stored module.
+pub(crate) fn tell_entries(
+    out: &mut Writer,
+    root: &mut RootSymbol<'_>,
+    module_id: ModuleId,
+    reference: &AskedReference,
+) -> Result<(), AllocError>
+    requires widest { root.old.limits ≡ widest }
+    requires known { module_id.0 < length root.old.stored }
+    ensures kept { (root.new.graph ≡ root.old.graph) × (root.new.limits ≡ root.old.limits) }
+    ensures value { Tells result out.old out.new (answer_data (tells_entries (entries_of root.old.graph (specifier_in root.old module_id) (asked_view reference.now)))) }
+{
+    let lent = reference.lent(root.alloc())?;
+    tell_entries_of(out, root, module_id, &lent)
 }

@@ -40,7 +40,7 @@ returns-in_ok-push-in-Expr-Member t c =
     let there = rw c.in-Some-node_below.is at c.node_below.ensures.found in
     let inner = rw c.in-Some-2.is at c.in_ok-name-in-Expr-Member.ensures in
     read_by_kind member_reading (node_view c.args.node) c.kind.result.now (Some _) c.kind.ensures
-    (rw (kind, ← part, ← there, ← inner, c.in_ok-push-in-Expr-Member.ensures.items, map-append, c.in_ok-to_string-in-Expr-Member.ensures) refl)
+    (rw (kind, ← part, ← there, ← inner, c.in_ok-push-in-Expr-Member.ensures.items, map-append, c.in_ok-to_text-in-Expr-Member.ensures) refl)
 
 pub returns-in_default : goal.returns-in_default
 returns-in_default t c =

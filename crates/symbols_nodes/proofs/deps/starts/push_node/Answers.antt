@@ -1,11 +1,13 @@
-use Rattle.std.proofs.Common.{◌++◌, ◌∙◌, ◌≡◌, ap, List, map, is_some, rules}
+use Rattle.std.proofs.Common.{◌≡◌, ◌++◌, ◌∙◌, ap, false, List, map, rules}
+use Rattle.std.proofs.lemmas.Result.{on_ok_weaker}
 use Rattle.symbols_syntax.specs.NodeRefs.{node_view}
-use Rattle.symbols_nodes.specs.References.{Dependency, dependency_view, reference_at}
-use Rattle.symbols_nodes.proofs.VisitLists.{begins_at_node}
+use Rattle.symbols_nodes.specs.KnownFacts.{may_refer}
+use Rattle.symbols_nodes.specs.References.{Dependency, dependency_view}
+use Rattle.symbols_nodes.proofs.VisitLists.{begins_alone}
 use Rattle.symbols_nodes.proofs.deps.starts.push_node.Goals as goal
 
 pub returns : goal.returns
 returns c =
-    let refers : c.is_some-refers.result ≡ is_some (reference_at (node_view c.args.node)) = search rules in
-    c.in_ok-visit_edges.ensures
-    ∙ ap (λ (ds : List Dependency). map dependency_view c.args.found.now.items ++ ds) (begins_at_node c.args.mode (node_view c.args.node) c.is_some-refers.result c.kind.result.now c.kind.ensures refers)
+    let not_so : may_refer c.kind.result.now ≡ false = search rules in
+    on_ok_weaker c.visit_node.result (λ below. below
+    ∙ ap (λ (ds : List Dependency). map dependency_view c.args.found.now.items ++ ds) (begins_alone c.args.mode (node_view c.args.node) c.kind.result.now c.kind.ensures not_so)) c.visit_node.ensures

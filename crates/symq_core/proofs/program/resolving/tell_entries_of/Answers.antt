@@ -7,7 +7,7 @@ use Rattle.symq_core.specs.AnswerData.{answer_data}
 use Rattle.symq_core.specs.Telling.{Tells}
 use Rattle.symq_core.proofs.Texts.{then}
 use Rattle.symq_core.proofs.Tables.{no_success}
-use Rattle.symq_core.proofs.program.resolving.tell_entries.Goals as goal
+use Rattle.symq_core.proofs.program.resolving.tell_entries_of.Goals as goal
 
 pub returns-in_ok-end_entries-in-Ok-clause-value : goal.returns-in_ok-end_entries-in-Ok-clause-value
 returns-in_ok-end_entries-in-Ok-clause-value c =
