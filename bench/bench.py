@@ -12,11 +12,12 @@ It prints a table with a row for each graph and stage. In counts the stages are
     check     a run without queries, less read
     analyse   a run with a query for each module, less one without queries
     depend    a run with a query for what the first symbol of each module depends on, less one with the queries of
-              analyse: of the graph of references alone
+              analyse: of the graph of references; of graphs of files what each symbol does, in both modes
     export    a run with a query for what each module exports, less one with the queries of analyse: of the graph of
               webs, which is taken of 4n too, and of graphs of files
     path      a run with a query for the paths of a symbol, of graphs of files of each, less one without queries: of
-              re-exports in a row and of candidates of an import, which it analyses on the way
+              re-exports in a row, of candidates of an import, of aliases in a chain and of an alias of many parts, which it
+              analyses on the way
     name      a run with a query for the paths of an import along one `export *`, less one without queries: of one name of
               many webs, of which half are gone through
     whole     of the same graph a run with a query for all that is exported there, less one without queries
@@ -273,6 +274,9 @@ def hub_of(n):
 
 STAGES = ('read', 'check', 'analyse')
 
+# the modes of dependencies
+MODES = ('types', 'all')
+
 # stages that are less a run without queries
 APART = ('path', 'name', 'whole')
 
@@ -294,7 +298,7 @@ MADE = [
 
 class Files:
     """A graph's files in a folder, and lines that ask each of its modules something. Of a graph that counts its symbols
-    by module the paths of each are asked, else those of the first module's first."""
+    by module the paths of each are asked, and what each depends on; else the paths of the first module's first."""
 
     def __init__(self, folder, graph, symbols=None):
         modules = graph['modules']
@@ -303,7 +307,8 @@ class Files:
         write(self.refused, dict(graph, modules=modules + [{'specifier': modules[0]['specifier'], 'kind': 'external'}]))
         self.queries = b''.join(line('symbol', m['specifier'], '', 0) for m in modules)
         self.asked = {
-            'depend': b''.join(line('deps', m['specifier'], 1, 'all') for m in modules),
+            'depend': b''.join(line('deps', m, k, mode) for m, count in symbols.items() for k in range(count) for mode in MODES)
+            if symbols else b''.join(line('deps', m['specifier'], 1, 'all') for m in modules),
             'export': b''.join(line('exports', m['specifier']) for m in modules),
             'path': b''.join(line('paths', m, k) for m, count in symbols.items() for k in range(count))
             if symbols else line('paths', modules[0]['specifier'], 1),
@@ -459,7 +464,7 @@ def main():
         with open(file) as f:
             graph = json.load(f)
         made = (graph, symbols_of(a.program, file, graph))
-        measure(a, os.path.basename(file), [lambda: made], [lambda: made], STAGES + ('export', 'path'))
+        measure(a, os.path.basename(file), [lambda: made], [lambda: made], STAGES + ('depend', 'export', 'path'))
 
 
 if __name__ == '__main__':
