@@ -15,7 +15,7 @@ run: setup
 	@cd crates/symq && rt try --data graph.json=../../examples/first/graph.json -- graph.json \
 		< ../../examples/first/queries
 	@echo 'proved=no: this build is not the proved one, is far slower, and is not kept.' >&2
-	@echo '`make symq` proves and builds ./symq, which takes about 20 minutes on four processors.' >&2
+	@echo '`make symq` proves and builds ./symq, which takes about 45 minutes on four processors.' >&2
 
 test: setup
 	@python3 tools/gate.py
