@@ -268,6 +268,12 @@ parts_and_below mode namespace node form children is rows old new below =
     alone_and_below mode namespace node form (Kind.Pat (Pat.Plain children)) is refl old new
     (below ∙ ap (λ (ds : List Dependency). old ++ ds) (sym (ap (flat_map (dependencies_of_edge mode namespace node)) rows ∙ append-nil inner)))
 
+pub at_parts : (mode : ResolveDepsMode) (namespace : ReferenceNamespace) (node : TreeNode) (form : Form) (children : Vec ℕ Global) → kind_of node ≡ Some (Kind.Pat (Pat.Plain children))
+    → form_edges node form (has_annotation node) (Pat.Plain children) ≡ to_each plain_rules children.items ∷ []
+    → dependencies_at mode namespace (place_of node form) ≡ dependencies_of_edge mode namespace node (to_each plain_rules children.items)
+at_parts mode namespace node form children is rows =
+    sym (parts_and_below mode namespace node form children is rows [] (dependencies_of_edge mode namespace node (to_each plain_rules children.items)) refl)
+
 -- ---- where the walk begins
 
 by_along : (mode : ResolveDepsMode) (steps : List Step) → dependencies_by mode steps ≡ dependencies_along mode In.Value steps
@@ -286,6 +292,11 @@ pub begins_at_node : (mode : ResolveDepsMode) (node : TreeNode) (refers : Bool) 
     → flat_map (dependencies_of_edge mode In.Value node) (edges node Form.Usual refers (has_annotation node) kind) ≡ dependencies_by mode (steps_from (place_of node Form.Usual))
 begins_at_node mode node refers kind is refers_is =
     along_place mode In.Value node Form.Usual refers kind is refers_is ∙ sym (by_along mode (steps_from (place_of node Form.Usual)))
+
+-- the same of a node that is no reference
+pub begins_unnamed : (mode : ResolveDepsMode) (node : TreeNode) (kind : Kind) → kind_of node ≡ Some kind → may_refer kind ≡ false
+    → flat_map (dependencies_of_edge mode In.Value node) (edges node Form.Usual false (has_annotation node) kind) ≡ dependencies_by mode (steps_from (place_of node Form.Usual))
+begins_unnamed mode node kind is not_so = begins_at_node mode node false kind is (rw (refers_to_nothing node kind is not_so) refl)
 
 pub begins_at_first : (mode : ResolveDepsMode) (node : TreeNode) (kind : Kind) → kind_of node ≡ Some kind
     → flat_map (dependencies_of_edge mode In.Value node) (first_edges kind) ≡ dependencies_by mode (first_steps node)

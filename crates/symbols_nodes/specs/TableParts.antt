@@ -1,5 +1,5 @@
 -- For inner functions alone: the parts of the table of edges that are told by functions of their own.
-use Rattle.std.specs.Prelude.{Bool, true, false, List, [], if◌then◌else◌}
+use Rattle.std.specs.Prelude.{Bool, true, false, ◌||◌, List, [], if◌then◌else◌}
 use Rattle.symbols_syntax.specs.declared.tree.kinds.Decl.{Decl}
 use Rattle.symbols_syntax.specs.declared.tree.kinds.Member.{Member}
 use Rattle.symbols_syntax.specs.NodeRefs.{TreeNode}
@@ -22,12 +22,15 @@ is_function_part (Decl.FnExpr _ _) = true
 is_function_part (Decl.Function _ _ _ _) = true
 is_function_part _ = false
 
--- the edges of all but classes, and of all but classes and functions
+-- the edges of classes, of functions, and of all else
+abbrev pub class_edges : TreeNode → Decl → List EdgeView
+class_edges node decl = if is_class_part decl then decl_edges node decl else []
+
 abbrev pub function_edges : TreeNode → Decl → List EdgeView
-function_edges node decl = if is_class_part decl then [] else decl_edges node decl
+function_edges node decl = if is_function_part decl then decl_edges node decl else []
 
 abbrev pub statement_edges : TreeNode → Decl → List EdgeView
-statement_edges node decl = if is_function_part decl then [] else function_edges node decl
+statement_edges node decl = if is_class_part decl || is_function_part decl then [] else decl_edges node decl
 
 abbrev pub is_keyed : Member → Bool
 is_keyed (Member.TsPropertySignature _ _ _) = true
@@ -36,9 +39,12 @@ is_keyed (Member.TsSetterSignature _ _ _) = true
 is_keyed (Member.TsMethodSignature _ _ _ _ _) = true
 is_keyed _ = false
 
--- of the elements of an interface that have a key
+-- of the elements of an interface that have a key, and of all other members
 abbrev pub keyed_edges : Member → List EdgeView
 keyed_edges member = if is_keyed member then member_edges member else []
+
+abbrev pub unkeyed_edges : Member → List EdgeView
+unkeyed_edges member = if is_keyed member then [] else member_edges member
 
 -- to what a variable, a property or a pattern starts with
 abbrev pub initializer_rules : Rules

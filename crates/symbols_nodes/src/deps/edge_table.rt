@@ -6,7 +6,7 @@ ghost use Rattle.symbols_nodes.specs.Annotations.{has_annotation};
 ghost use Rattle.symbols_nodes.specs.EdgeTable.{signature_rules, key_rules, decl_edges, member_edges, ty_edges, expr_edges, pat_edges, signature_edges, asserts, property_edges, edges, first_edges};
 ghost use Rattle.symbols_nodes.specs.KnownFacts.{is_known, IsExpr, IsPat};
 ghost use Rattle.symbols_nodes.specs.References.{dependency_view, reference_at};
-ghost use Rattle.symbols_nodes.specs.TableParts.{statement_edges, function_edges, keyed_edges, initializer_rules, plain_rules};
+ghost use Rattle.symbols_nodes.specs.TableParts.{statement_edges, function_edges, class_edges, keyed_edges, unkeyed_edges, initializer_rules, plain_rules};
 
 use crate::deps::annotations::{has_annotation, is_annotated};
 use crate::deps::dep::ReferenceNamespace;
@@ -62,6 +62,7 @@ impl<'a> Visit<'a> {
 
     /// Declarations that are statements, and their parts.
     #[cycle(walk)]
+    #[inline(never)]
     fn visit_statement(self, decl: &Decl, found: &mut Found<'a>) -> Result<(), AllocError>
         ensures { OnOk result (map dependency_view found.new.items ≡ map dependency_view found.old.items ++ along_edges self.entry (statement_edges (node_view self.entry.node) decl.now)) }
     {
@@ -97,8 +98,9 @@ impl<'a> Visit<'a> {
         }
     }
 
-    /// Functions, and what stands above.
+    /// Functions and what holds them.
     #[cycle(walk)]
+    #[inline(never)]
     fn visit_function(self, decl: &Decl, found: &mut Found<'a>) -> Result<(), AllocError>
         ensures { OnOk result (map dependency_view found.new.items ≡ map dependency_view found.old.items ++ along_edges self.entry (function_edges (node_view self.entry.node) decl.now)) }
     {
@@ -122,15 +124,15 @@ impl<'a> Visit<'a> {
                 self.visit_each(open, params, found)?;
                 self.visit_annotation(*return_type, found)
             }
-            _ => self.visit_statement(decl, found),
+            _ => Ok(()),
         }
     }
 
-    /// Classes, and what stands above: all declarations.
+    /// Classes and what holds them.
     #[cycle(walk)]
     #[inline(never)]
-    fn visit_decl(self, decl: &Decl, found: &mut Found<'a>) -> Result<(), AllocError>
-        ensures { OnOk result (map dependency_view found.new.items ≡ map dependency_view found.old.items ++ along_edges self.entry (decl_edges (node_view self.entry.node) decl.now)) }
+    fn visit_class(self, decl: &Decl, found: &mut Found<'a>) -> Result<(), AllocError>
+        ensures { OnOk result (map dependency_view found.new.items ≡ map dependency_view found.old.items ++ along_edges self.entry (class_edges (node_view self.entry.node) decl.now)) }
     {
         let open = Rules::open();
         match decl {
@@ -154,13 +156,30 @@ impl<'a> Visit<'a> {
                 self.visit_optional(open, *super_type_params, found)?;
                 self.visit_each(open, implements, found)
             }
-            _ => self.visit_function(decl, found),
+            _ => Ok(()),
+        }
+    }
+
+    /// All declarations.
+    #[cycle(walk)]
+    #[inline(always)]
+    pub(crate) fn visit_decl(self, decl: &Decl, found: &mut Found<'a>) -> Result<(), AllocError>
+        ensures { OnOk result (map dependency_view found.new.items ≡ map dependency_view found.old.items ++ along_edges self.entry (decl_edges (node_view self.entry.node) decl.now)) }
+    {
+        match decl {
+            Decl::ClassDecl { .. } | Decl::ClassExpr { .. } | Decl::Class { .. } => {
+                self.visit_class(decl, found)
+            }
+            Decl::FnDecl { .. } | Decl::FnExpr { .. } | Decl::Function { .. } => {
+                self.visit_function(decl, found)
+            }
+            _ => self.visit_statement(decl, found),
         }
     }
 
     /// The elements of an interface that have a key.
     #[cycle(walk)]
-    #[inline(always)]
+    #[inline(never)]
     fn visit_keyed(self, member: &Member, found: &mut Found<'a>) -> Result<(), AllocError>
         ensures { OnOk result (map dependency_view found.new.items ≡ map dependency_view found.old.items ++ along_edges self.entry (keyed_edges member.now)) }
     {
@@ -204,15 +223,11 @@ impl<'a> Visit<'a> {
         }
     }
 
-    /// Members of classes and interfaces.
+    /// Parameters that are properties, and the elements of an interface that have no key.
     #[cycle(walk)]
-    #[inline(always)]
-    pub(crate) fn visit_member(
-        self,
-        member: &Member,
-        found: &mut Found<'a>,
-    ) -> Result<(), AllocError>
-        ensures { OnOk result (map dependency_view found.new.items ≡ map dependency_view found.old.items ++ along_edges self.entry (member_edges member.now)) }
+    #[inline(never)]
+    fn visit_unkeyed(self, member: &Member, found: &mut Found<'a>) -> Result<(), AllocError>
+        ensures { OnOk result (map dependency_view found.new.items ≡ map dependency_view found.old.items ++ along_edges self.entry (unkeyed_edges member.now)) }
     {
         let open = Rules::open();
         match member {
@@ -241,7 +256,26 @@ impl<'a> Visit<'a> {
                 self.visit_each(signature_rules(), params, found)?;
                 self.visit_annotation(*type_ann, found)
             }
-            _ => self.visit_keyed(member, found),
+            _ => Ok(()),
+        }
+    }
+
+    /// Members of classes and interfaces.
+    #[cycle(walk)]
+    #[inline(always)]
+    pub(crate) fn visit_member(
+        self,
+        member: &Member,
+        found: &mut Found<'a>,
+    ) -> Result<(), AllocError>
+        ensures { OnOk result (map dependency_view found.new.items ≡ map dependency_view found.old.items ++ along_edges self.entry (member_edges member.now)) }
+    {
+        match member {
+            Member::TsPropertySignature { .. }
+            | Member::TsGetterSignature { .. }
+            | Member::TsSetterSignature { .. }
+            | Member::TsMethodSignature { .. } => self.visit_keyed(member, found),
+            _ => self.visit_unkeyed(member, found),
         }
     }
 

@@ -60,7 +60,8 @@ fn push_edges<'a>(
     Ok(())
 }
 
-/// The same. What stands at a node that is no reference is what stands along its edges.
+/// The same. What stands at a node that is no reference is what stands along its edges. Most
+/// declarations are of the kinds that have arms here, and need no call.
 fn push_node<'a>(
     alloc: Global,
     mode: ResolveDepsMode,
@@ -69,11 +70,19 @@ fn push_node<'a>(
 ) -> Result<(), AllocError>
     ensures { OnOk result (map dependency_view found.new.items ≡ map dependency_view found.old.items ++ dependencies_by mode (node_steps (node_view node.entry))) }
 {
-    if may_refer(node.kind()) {
-        return push_edges(alloc, mode, node, found);
-    }
     let namespace = ReferenceNamespace::Value;
-    Visit::visit_node(alloc, mode, node, namespace, Form::Usual, found)
+    let visit = Visit {
+        alloc,
+        mode,
+        node,
+        namespace,
+    };
+    match node.kind() {
+        Kind::Decl(decl) => visit.visit_decl(decl, found),
+        Kind::Member(member) => visit.visit_member(member, found),
+        kind if may_refer(kind) => push_edges(alloc, mode, node, found),
+        _ => Visit::visit_node(alloc, mode, node, namespace, Form::Usual, found),
+    }
 }
 
 /// Adds what stands along a child's own edges, if the child is there.

@@ -1,13 +1,15 @@
 //! The walk: from a node along its edges, adding each reference that it comes to.
 
-ghost use Rattle.std.specs.Prelude.{◌≡◌, ◌<◌, ◌++◌, [], map, IfSome, OnOk, Some, None, if◌then◌else◌};
+ghost use Rattle.std.specs.Prelude.{◌≡◌, ◌<◌, ◌++◌, ◌∷◌, [], map, IfSome, OnOk, Some, None, if◌then◌else◌};
+ghost use Rattle.symbols_syntax.specs.Ids.{id_view};
 ghost use Rattle.symbols_syntax.specs.NodeRefs.{TreeNode, node_view};
 ghost use Rattle.symbols_nodes.specs.declared.deps.dep.ReferenceNamespace.TheVariants as In;
 ghost use Rattle.symbols_nodes.specs.Dependencies.{place_of};
 ghost use Rattle.symbols_nodes.specs.EdgeRules.{open_rules, marking, to_child, to_each, to_optional};
 ghost use Rattle.symbols_nodes.specs.KnownFacts.{is_known};
 ghost use Rattle.symbols_nodes.specs.Readings.{node_below};
-ghost use Rattle.symbols_nodes.specs.References.{dependency_view};
+ghost use Rattle.symbols_nodes.specs.References.{dependency_view, id, in_namespace};
+ghost use Rattle.symbols_nodes.specs.TableParts.{plain_rules};
 
 use crate::deps::dep::{ReferenceNamespace, ResolveDepsMode};
 use crate::deps::dotted_names::node_below;
@@ -16,7 +18,7 @@ use crate::deps::known::Known;
 use crate::deps::references::{Found, is_reference_type, push_name, push_reference};
 use crate::deps::rules::{Form, Rules};
 use std::alloc::{AllocError, Global};
-use symbols_syntax::tree::{Expr, Kind, NodeId, NodeRef, Pat, Ty};
+use symbols_syntax::tree::{Expr, Id, Kind, NodeId, NodeRef, Pat, Ty};
 
 /// A node that the walk is at, and the namespace of what stands there without a mark.
 #[derive(Clone, Copy)]
@@ -140,7 +142,38 @@ impl<'a> Visit<'a> {
         })
     }
 
-    /// Adds what stands at a child and below it. A name and a type without children need no call.
+    /// The name that is the only one of these parts of a type, with its namespace.
+    #[inline(always)]
+    fn only_name(self, parts: &[NodeId]) -> Option<(&'a Id, ReferenceNamespace)>
+        ensures { IfSome result (λ name. along_edge self.entry (to_each plain_rules parts.now) ≡ in_namespace name.1 (id (id_view name.0.now)) ∷ []) }
+    {
+        if parts.len() != 1 {
+            return None;
+        }
+        let child = self.open_child(plain_rules(), parts[0])?;
+        match child.node.kind() {
+            Kind::Expr(Expr::Ident { sym }) => Some((sym, child.namespace)),
+            _ => None,
+        }
+    }
+
+    /// The name that is all that stands at the node and below it, with its namespace: the node
+    /// itself, or the only part of the type that it is.
+    #[inline(always)]
+    fn only_name_at(self, form: Form) -> Option<(&'a Id, ReferenceNamespace)>
+        ensures { IfSome result (λ name. dependencies_at self.entry.mode self.entry.namespace (place_of (node_view self.entry.node) form) ≡ in_namespace name.1 (id (id_view name.0.now)) ∷ []) }
+    {
+        match self.node.kind() {
+            Kind::Expr(Expr::Ident { sym }) => Some((sym, self.namespace)),
+            Kind::Pat(Pat::Plain { children }) => match form {
+                Form::Property => None,
+                Form::Usual | Form::Signature => self.only_name(children),
+            },
+            _ => None,
+        }
+    }
+
+    /// Adds what stands at a child and below it. One name and a type without children need no call.
     #[cycle(walk)]
     #[inline(always)]
     fn visit_at(self, child: Child<'a>, found: &mut Found<'a>) -> Result<(), AllocError>
@@ -151,8 +184,16 @@ impl<'a> Visit<'a> {
             namespace,
             form,
         } = child;
+        let below = Visit {
+            alloc: self.alloc,
+            mode: self.mode,
+            node,
+            namespace,
+        };
+        if let Some((sym, namespace)) = below.only_name_at(form) {
+            return push_name(sym, namespace, found);
+        }
         match node.kind() {
-            Kind::Expr(Expr::Ident { sym }) => push_name(sym, namespace, found),
             Kind::Pat(Pat::Plain { children }) if children.is_empty() => Ok(()),
             _ => Visit::visit_node(self.alloc, self.mode, node, namespace, form, found),
         }

@@ -1,10 +1,8 @@
-use Rattle.std.proofs.Common.{◌≡◌, ◌++◌, ◌||◌, inl, inr, Bool, true, false, not, List, [], ◌∷◌, length, map, unwrap_or, Some, refl, sym, ap, ◌∙◌, append-nil, arith, rules}
+use Rattle.std.proofs.Common.{◌≡◌, ◌++◌, ◌||◌, inl, inr, Bool, true, false, List, [], ◌∷◌, length, map, Some, refl, sym, ap, ◌∙◌, append-nil, arith, rules}
 use Rattle.std.specs.Prelude.{vec_len}
 use Rattle.std.proofs.lemmas.Bool.{eqb-true}
-use Rattle.std.proofs.lemmas.List.{map-append}
 use Rattle.std.proofs.lemmas.Result.{on_ok_weaker}
 use Rattle.symbols_syntax.specs.declared.tree.kinds.Kind.{Kind}
-use Rattle.symbols_syntax.specs.declared.tree.kinds.Expr.{Expr}
 use Rattle.symbols_syntax.specs.declared.tree.kinds.Pat.{Pat}
 use Rattle.symbols_syntax.specs.declared.tree.kinds.Ty.{Ty}
 use Rattle.symbols_syntax.specs.NodeRefs.{node_view, kind_of}
@@ -17,7 +15,7 @@ use Rattle.symbols_nodes.specs.TableParts.{plain_rules}
 use Rattle.symbols_nodes.specs.References.{Dependency, dependency_view, visits_expressions}
 use Rattle.symbols_nodes.specs.Visits.{along_edges}
 use Rattle.symbols_nodes.proofs.KnownLemmas.{left_annotated}
-use Rattle.symbols_nodes.proofs.VisitLists.{no_children, no_child, open_child, node_and_below, alone_and_below, parts_and_below, at_name, at_binding, at_annotation, at_bare, each_take_more}
+use Rattle.symbols_nodes.proofs.VisitLists.{no_children, no_child, open_child, node_and_below, alone_and_below, parts_and_below, at_binding, at_annotation, at_bare, each_take_more}
 use Rattle.symbols_nodes.proofs.deps.visit.Visit.+walk.Goals as goal
 
 -- ---- a node
@@ -75,11 +73,9 @@ nothing_in : {A : Type 0} (xs : List A) → length xs ≡ 0 → xs ≡ []
 nothing_in [] e = refl
 nothing_in (x ∷ xs) e = absurd (omega (arith, e))
 
-pub visit_at-returns-in-Expr-Ident : goal.visit_at-returns-in-Expr-Ident
-visit_at-returns-in-Expr-Ident t c =
-    let child = c.args.child in
-    let kind : kind_of (node_view child.node) ≡ Some (Kind.Expr (Expr.Ident c.in-Expr-Ident.sym)) = search rules in
-    on_ok_weaker c.push_name.result (λ below. below ∙ ap (λ (ds : List Dependency). map dependency_view c.args.found.now.items ++ ds) (sym (at_name c.args.self.mode child.namespace (node_view child.node) child.form c.in-Expr-Ident.sym kind))) c.push_name.ensures
+pub visit_at-returns-in-Some : goal.visit_at-returns-in-Some
+visit_at-returns-in-Some t c =
+    on_ok_weaker c.push_name.result (λ below. below ∙ ap (λ (ds : List Dependency). map dependency_view c.args.found.now.items ++ ds) (sym c.in-Some.ensures)) c.push_name.ensures
 
 pub visit_at-returns-in-Pat-Plain : goal.visit_at-returns-in-Pat-Plain
 visit_at-returns-in-Pat-Plain t c =

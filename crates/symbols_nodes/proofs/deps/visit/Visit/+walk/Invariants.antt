@@ -19,6 +19,9 @@ decreases-visit_edges l = 16 * (length l.self.node.tree.now.nodes.items - l.self
 abbrev pub decreases-visit_decl : goal.decreases-visit_decl
 decreases-visit_decl l = 16 * (length l.self.node.tree.now.nodes.items - l.self.node.number) + 4
 
+abbrev pub decreases-visit_class : goal.decreases-visit_class
+decreases-visit_class l = 16 * (length l.self.node.tree.now.nodes.items - l.self.node.number) + 3
+
 abbrev pub decreases-visit_function : goal.decreases-visit_function
 decreases-visit_function l = 16 * (length l.self.node.tree.now.nodes.items - l.self.node.number) + 3
 
@@ -33,6 +36,9 @@ decreases-visit_statement l = 16 * (length l.self.node.tree.now.nodes.items - l.
 
 abbrev pub decreases-visit_keyed : goal.decreases-visit_keyed
 decreases-visit_keyed l = 16 * (length l.self.node.tree.now.nodes.items - l.self.node.number) + 2
+
+abbrev pub decreases-visit_unkeyed : goal.decreases-visit_unkeyed
+decreases-visit_unkeyed l = 16 * (length l.self.node.tree.now.nodes.items - l.self.node.number) + 2
 
 abbrev pub decreases-visit_ty : goal.decreases-visit_ty
 decreases-visit_ty l = 16 * (length l.self.node.tree.now.nodes.items - l.self.node.number) + 2

@@ -1,4 +1,4 @@
-use Rattle.std.proofs.Common.{◌≡◌, ◌||◌, Bool, true, false, not, Some, unwrap_or, rules}
+use Rattle.std.proofs.Common.{◌≡◌, ◌||◌, true, false, not, unwrap_or, rules}
 use Rattle.symbols_syntax.specs.NodeRefs.{node_view}
 use Rattle.symbols_nodes.specs.Dependencies.{mark_of, is_guarded}
 use Rattle.symbols_nodes.specs.References.{visits_expressions}
