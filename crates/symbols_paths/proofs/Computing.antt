@@ -1,12 +1,12 @@
 -- What is chosen is what is computed.
-use Rattle.std.proofs.Common.{◌≡◌, ℕ, zero, suc, ◌+◌, ◌<◌, ◌≤◌, Bool, true, false, List, [], ◌∷◌, ◌++◌, length, Option, refl, sym, ◌∙◌, ap, subst, arith}
+use Rattle.std.proofs.Common.{◌≡◌, ℕ, zero, suc, ◌+◌, ◌≤◌, true, false, List, [], ◌∷◌, ◌++◌, length, Option, refl, sym, ◌∙◌, ap, arith}
 use Rattle.std.proofs.lemmas.List.{length-append}
-use Rattle.symbols_paths.specs.Trees.{NamedSymbol, NamedDecl, Parts, Defined, Missing, unresolved, LinkHead, Tree, Forest, leaf, link, none, more, one, join, link_to}
-use Rattle.symbols_paths.specs.Leads.{Ways, Lead}
-use Rattle.symbols_paths.specs.PartWays.{PartWay, to, itself, lacks, Links}
+use Rattle.symbols_paths.specs.Trees.{NamedSymbol, NamedDecl, Parts, Missing, Tree, Forest, none, more, join, link_to}
+use Rattle.symbols_paths.specs.Leads.{Lead}
+use Rattle.symbols_paths.specs.PartWays.{Links}
 use Rattle.symbols_paths.specs.Derived.{decl_at, head_at, alias_head, part_head, under_parts}
 use Rattle.symbols_paths.specs.Choice.{is_met, is_running, Finds, was_met, is_new, Expands, at_end, step, Follows, by_itself, by_ways, by_running, by_alias, Tries, no_more, first_with, passes, Walks, no_parts, under, Changes, of_none, of_more, ChangesOne, of_unresolved, of_link, of_definition, of_itself, of_lacking}
-use Rattle.symbols_paths.specs.Computed.{Searched, Search, AliasSearch, or_else, tried, followed, expanded, searched, at_part, changed_tree, changed, walked, enough, resolved}
+use Rattle.symbols_paths.specs.Computed.{Searched, Search, AliasSearch, or_else, tried, followed, expanded, searched, changed_tree, changed, walked, enough, resolved}
 
 -- ---- no fewer symbols are met
 

@@ -1,11 +1,11 @@
 -- No leaf of first reach is lost.
-use Rattle.std.proofs.Common.{◌≡◌, ℕ, zero, suc, ◌+◌, ◌<◌, Bool, true, false, List, [], ◌∷◌, ◌++◌, length, Option, None, Some, refl, sym, ◌∙◌, ap, subst, arith, append_assoc, append-nil, true≢false}
+use Rattle.std.proofs.Common.{◌≡◌, ℕ, zero, suc, ◌+◌, Bool, true, false, List, [], ◌∷◌, ◌++◌, Option, Some, refl, sym, ◌∙◌, subst, arith, true≢false}
 use Rattle.std.specs.Prelude.{Contains, slice_get}
 use Rattle.std.proofs.lemmas.List.Elements.{Contains-append_left, Contains-append_right}
-use Rattle.symbols_paths.specs.Trees.{NamedSymbol, NamedDecl, Parts, Missing, LinkHead, Tree, Forest, Leaf, definition, unresolved, leaf, none, more, one, join, link_to, leaves_of, leaves_in}
-use Rattle.symbols_paths.specs.Leads.{Ways, Lead, defines, leads, alias, StandsAt}
+use Rattle.symbols_paths.specs.Trees.{NamedSymbol, NamedDecl, Missing, LinkHead, Forest, Leaf, definition, unresolved, leaf, none, one, join, link_to, leaves_in}
+use Rattle.symbols_paths.specs.Leads.{Lead, leads, StandsAt}
 use Rattle.symbols_paths.specs.PartWays.{Links}
-use Rattle.symbols_paths.specs.Derived.{defined_at, head_at, alias_head}
+use Rattle.symbols_paths.specs.Derived.{defined_at, head_at}
 use Rattle.symbols_paths.specs.Reach.{LeadsFirst, GivesFirst, IsNear, begun, goes, IsNearLeaf}
 use Rattle.symbols_paths.specs.Choice.{is_met, Finds, was_met, is_new, Expands, at_end, step, Follows, by_itself, by_ways, by_running, by_alias, Tries, no_more, first_with, passes, missing_in}
 use Rattle.symbols_paths.proofs.Leaves.{leaves_in-join, leaves_in-link_to}

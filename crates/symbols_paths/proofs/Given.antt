@@ -1,7 +1,7 @@
 -- What a search that is done gives.
-use Rattle.std.proofs.Common.{◌≡◌, ℕ, zero, suc, ◌<◌, Bool, true, false, List, [], ◌∷◌, length, Some, refl, sym, ◌∙◌, ap, subst, arith, true≢false}
+use Rattle.std.proofs.Common.{◌≡◌, ℕ, zero, suc, Bool, true, false, List, [], ◌∷◌, refl, sym, ◌∙◌, ap, arith, true≢false}
 use Rattle.std.specs.Prelude.{Contains}
-use Rattle.symbols_paths.specs.Trees.{NamedSymbol, NamedDecl, Parts, Defined, LinkHead, Forest, Leaf, definition, join, link_to, leaves_in}
+use Rattle.symbols_paths.specs.Trees.{NamedSymbol, Parts, Defined, LinkHead, Forest, Leaf, definition, join, link_to, leaves_in}
 use Rattle.symbols_paths.specs.Leads.{Lead, alias, StandsAt}
 use Rattle.symbols_paths.specs.PartWays.{to, Links}
 use Rattle.symbols_paths.specs.Reach.{LeadsFirst, GivesLeaf}

@@ -1,21 +1,19 @@
 -- The definitions of a symbol are of modules that are needed on from its own, and star imports stand among declarations.
-use Rattle.std.proofs.Common.{◌≡◌, ℕ, zero, suc, ◌+◌, ◌<◌, Bool, true, false, List, [], ◌∷◌, length, map, Option, None, Some, option_map, option_and_then, refl, sym, ap, subst, ◌∙◌, slice_get, arith}
+use Rattle.std.proofs.Common.{◌≡◌, ℕ, zero, suc, Bool, true, false, List, [], ◌∷◌, map, Option, None, Some, option_map, refl, sym, ap, subst, ◌∙◌, slice_get, arith}
 use Rattle.std.specs.Prelude.{Contains, slice_index_or, if◌then◌else◌, ◌&&◌}
 use Rattle.std.specs.Str.{bytes_eq}
 use Rattle.std.specs.List.{filter_map, cons_option}
-use Rattle.std.proofs.lemmas.Option.{get_or_from_slice_get, same_Some}
 use Rattle.symbols_syntax.specs.declared.ids.SymbolId.{SymbolId}
 use Rattle.symbols_syntax.specs.declared.tree.arena.SourceRange.{SourceRange}
 use Rattle.symbols_syntax.specs.Graph.{GraphView}
 use Rattle.symbols_syntax.specs.Ids.{IdView}
 use Rattle.symbols_table.specs.DeclViews.{DepView, DeclKind, target, qualified_target, file_ref, definition as defines_node, all_names, one_name, Declaration}
-use Rattle.symbols_exports.specs.Chains.{target as statement_target}
 use Rattle.symbols_exports.specs.Exports.{Entry}
 use Rattle.symbols_exports.specs.OneName.{export_named}
 use Rattle.symbols_exports.specs.StarStatements.{text_target, statements_of}
 use Rattle.symbols_paths.specs.Trees.{NamedSymbol, NamedDecl, Parts, Defined, Missing, no_part, Leaf, definition, unresolved}
-use Rattle.symbols_paths.specs.Leads.{Ways, Lead, defines, leads, alias, StandsAt, symbol_of_id, own_export, export_along, exports_along, to_missing, target_ways, alias_lead, import_ways, ways_into, declarations_of, lead_of, leads_of}
-use Rattle.symbols_paths.specs.PartWays.{PartWay, to, itself, lacks, export_of_symbol, own_part, module_part, text_part, defined_part, part_of, is_class_at, prototype_name, Links, links_of}
+use Rattle.symbols_paths.specs.Leads.{Ways, Lead, defines, leads, alias, StandsAt, symbol_of_id, own_export, export_along, exports_along, target_ways, alias_lead, import_ways, ways_into, declarations_of, lead_of, leads_of}
+use Rattle.symbols_paths.specs.PartWays.{to, itself, lacks, export_of_symbol, own_part, module_part, text_part, defined_part, part_of, is_class_at, prototype_name, Links, links_of}
 use Rattle.symbols_paths.specs.Derived.{defined_at}
 use Rattle.symbols_paths.specs.Reach.{IsLeaf, given, led, by_alias, IsWalk, no_parts, stays, goes, is_itself, lacking}
 use Rattle.symbols_paths.specs.Needed.{IsNeeded, begun, imported, passed_on, owner, IsStarDeclared}

@@ -1,8 +1,8 @@
 -- The loops of a search, as what is left to be done tells them.
-use Rattle.std.proofs.Common.{◌≡◌, ℕ, zero, suc, ◌+◌, ◌<◌, Bool, true, false, List, [], ◌∷◌, ◌++◌, length, drop, Option, None, Some, refl, sym, ap, subst, ◌∙◌, arith, slice_get, append_assoc, append-nil}
+use Rattle.std.proofs.Common.{◌≡◌, ℕ, zero, suc, ◌+◌, false, List, [], ◌∷◌, ◌++◌, drop, Option, None, Some, refl, sym, ap, subst, arith, slice_get, append_assoc, append-nil}
 use Rattle.std.specs.List.{filter_map, cons_option}
 use Rattle.std.proofs.lemmas.Option.{same_Some}
-use Rattle.symbols_paths.specs.Trees.{NamedSymbol, NamedDecl, Parts, Defined, Missing, definition, Tree, Forest, leaf, none, more, join}
+use Rattle.symbols_paths.specs.Trees.{NamedSymbol, NamedDecl, Parts, Defined, Missing, definition, Forest, leaf, none, more, join}
 use Rattle.symbols_paths.specs.Leads.{Lead}
 use Rattle.symbols_paths.specs.PartWays.{Links}
 use Rattle.symbols_paths.specs.Choice.{is_met, Finds, is_new, Expands, at_end, step, Follows, Tries, no_more, first_with, passes, Walks, under, Changes, ChangesOne, missing_in}

@@ -1,6 +1,6 @@
 -- Aliases that are being resolved, and one more.
-use Rattle.std.proofs.Common.{◌≡◌, ℕ, zero, suc, ◌<◌, Bool, true, false, ◌&&◌, ◌||◌, List, [], ◌∷◌, ◌++◌, length, ◌⊎◌, inl, inr, refl, sym, nat_eq, true≢false, arith}
-use Rattle.std.proofs.lemmas.Bool.{eqb-true, eq-eqb}
+use Rattle.std.proofs.Common.{◌≡◌, Bool, true, false, ◌||◌, List, [], ◌∷◌, ◌++◌, ◌⊎◌, inl, inr, refl, sym, nat_eq, true≢false}
+use Rattle.std.proofs.lemmas.Bool.{eqb-true}
 use Rattle.symbols_paths.specs.Trees.{NamedDecl}
 use Rattle.symbols_paths.specs.Choice.{same_symbol, same_decl, is_running}
 use Rattle.symbols_paths.proofs.MetSymbols.{both_true, same_is}

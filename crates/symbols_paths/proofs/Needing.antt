@@ -1,5 +1,5 @@
 -- Which modules are needed on from one that is.
-use Rattle.std.proofs.Common.{◌≡◌, ℕ, List, Option, None, Some, option_map, refl, sym, ap, subst, ◌∙◌, slice_get}
+use Rattle.std.proofs.Common.{◌≡◌, ℕ, List, Option, None, Some, option_map, refl, sym, subst, slice_get}
 use Rattle.std.proofs.lemmas.Option.{same_Some}
 use Rattle.symbols_syntax.specs.Graph.{GraphView}
 use Rattle.symbols_table.specs.DeclViews.{one_name}
@@ -10,7 +10,7 @@ use Rattle.symbols_exports.specs.OneName.{export_named}
 use Rattle.symbols_exports.specs.StarStatements.{star_texts, text_target}
 use Rattle.symbols_paths.specs.Trees.{NamedSymbol}
 use Rattle.symbols_paths.specs.Leads.{export_along}
-use Rattle.symbols_paths.specs.Needed.{IsNeeded, begun, imported, passed_on, owner, IsRefused}
+use Rattle.symbols_paths.specs.Needed.{IsNeeded, begun, imported, owner, IsRefused}
 use Rattle.symbols_paths.specs.Searching.{IsImported}
 use Rattle.symbols_paths.proofs.LeafNeeds.{needed_from}
 use Rattle.symbols_paths.proofs.Targets.{needed_there, named_entry}

@@ -1,8 +1,8 @@
 -- The search has one outcome, whatever the limit.
-use Rattle.std.proofs.Common.{◌≡◌, ℕ, ◌+◌, ◌<◌, ◌≤◌, length, Bool, true, false, List, [], ◌∷◌, ◌++◌, Option, refl, sym, ◌∙◌, ap, subst, arith}
-use Rattle.symbols_paths.specs.Trees.{NamedSymbol, NamedDecl, Parts, Missing, LinkHead, Tree, Forest, unresolved, leaf, link, none, more, one, join, link_to}
-use Rattle.symbols_paths.specs.Leads.{Ways, Lead}
-use Rattle.symbols_paths.specs.PartWays.{PartWay, to, lacks, Links}
+use Rattle.std.proofs.Common.{◌≡◌, ℕ, ◌+◌, ◌≤◌, List, ◌∷◌, Option, refl, sym, ◌∙◌, ap, subst, arith}
+use Rattle.symbols_paths.specs.Trees.{NamedSymbol, NamedDecl, Parts, Missing, Tree, Forest, unresolved, leaf, link, one, join, link_to}
+use Rattle.symbols_paths.specs.Leads.{Lead}
+use Rattle.symbols_paths.specs.PartWays.{to, lacks, Links}
 use Rattle.symbols_paths.specs.Derived.{head_at, alias_head, part_head, under_parts}
 use Rattle.symbols_paths.specs.Choice.{Finds, was_met, is_new, Expands, at_end, step, Follows, by_itself, by_ways, by_running, by_alias, Tries, no_more, first_with, passes, Walks, no_parts, under, Changes, of_none, of_more, ChangesOne, of_unresolved, of_link, of_definition, of_itself, of_lacking, IsChosenUnder}
 

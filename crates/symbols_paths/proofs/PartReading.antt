@@ -13,7 +13,7 @@ use Rattle.symbols_root.specs.Roots.{RootView, IsRefusal}
 use Rattle.symbols_exports.specs.Exporting.{specifier_in}
 use Rattle.symbols_exports.specs.OneName.{export_named}
 use Rattle.symbols_paths.specs.Trees.{NamedDecl, Parts, no_part}
-use Rattle.symbols_paths.specs.PartWays.{PartWay, lacks, itself, prototype_name, is_class_at, own_part, module_part, text_part}
+use Rattle.symbols_paths.specs.PartWays.{lacks, itself, prototype_name, is_class_at, own_part, module_part, text_part}
 use Rattle.symbols_paths.specs.Views.{first_text}
 use Rattle.symbols_paths.specs.Growing.{HasGrown}
 use Rattle.symbols_paths.specs.Needed.{IsNeeded, IsRefused}

@@ -1,6 +1,6 @@
 -- An unresolved entry behind no alias stands only where all candidates of its declaration are told.
-use Rattle.std.proofs.Common.{◌≡◌, ℕ, zero, suc, ◌+◌, ◌<◌, ◌⊎◌, inl, inr, Bool, true, false, List, [], ◌∷◌, ◌++◌, length, map, Option, None, Some, refl, sym, ◌∙◌, ap, subst, arith, append_assoc, append-nil}
-use Rattle.std.specs.Prelude.{Contains, slice_get, if◌then◌else◌}
+use Rattle.std.proofs.Common.{◌≡◌, ℕ, zero, suc, ◌+◌, ◌⊎◌, inl, inr, true, false, List, [], ◌∷◌, ◌++◌, map, Option, None, Some, refl, sym, ◌∙◌, ap, subst, arith, append_assoc, append-nil}
+use Rattle.std.specs.Prelude.{Contains, slice_get}
 use Rattle.std.specs.Option.{option_map_or}
 use Rattle.std.proofs.lemmas.List.Elements.{Contains-append_cases}
 use Rattle.symbols_syntax.specs.declared.ids.SymbolId.{SymbolId}
@@ -9,14 +9,14 @@ use Rattle.symbols_syntax.specs.Graph.{GraphView}
 use Rattle.symbols_syntax.specs.Ids.{IdView}
 use Rattle.symbols_table.specs.DeclViews.{DeclKind, target, qualified_target, file_ref, definition as defines_node, all_names, one_name, Declaration}
 use Rattle.symbols_exports.specs.StarStatements.{text_target}
-use Rattle.symbols_paths.specs.Trees.{NamedSymbol, NamedDecl, Defined, Missing, no_symbol, no_module, no_part, LinkHead, Forest, Leaf, definition, unresolved, leaf, link, none, more, one, join, link_to, leaves_in}
-use Rattle.symbols_paths.specs.Leads.{Ways, Lead, Leads, defines, leads, alias, StandsAt, symbol_of_id, own_export, exports_along, to_missing, target_ways, alias_lead, import_ways, ways_into, declarations_of, lead_of, leads_of}
+use Rattle.symbols_paths.specs.Trees.{NamedSymbol, NamedDecl, Defined, Missing, no_symbol, no_module, no_part, LinkHead, Forest, Leaf, definition, unresolved, none, more, one, join, link_to, leaves_in}
+use Rattle.symbols_paths.specs.Leads.{Ways, Lead, Leads, defines, leads, alias, StandsAt, symbol_of_id, own_export, exports_along, to_missing, target_ways, alias_lead, import_ways, ways_into, declarations_of, lead_of}
 use Rattle.symbols_paths.specs.PartWays.{Links, links_of}
 use Rattle.symbols_paths.specs.Derived.{decl_at, defined_at, head_at, alias_head}
-use Rattle.symbols_paths.specs.Reach.{is_alias, is_alias_at, outer_leaves_in, IsNearLeaf, IsPartLast}
+use Rattle.symbols_paths.specs.Reach.{is_alias, is_alias_at, outer_leaves_in, IsPartLast}
 use Rattle.symbols_paths.specs.Choice.{is_met, Finds, was_met, is_new, Expands, at_end, step, Follows, by_itself, by_ways, by_running, by_alias, Tries, no_more, first_with, passes, missing_in}
 use Rattle.symbols_paths.proofs.Leaves.{IsTail, later, here, whole}
-use Rattle.symbols_paths.proofs.Covers.{finds_covers, follows_covers, expands_covers, tries_covers, met_given}
+use Rattle.symbols_paths.proofs.Covers.{finds_covers, expands_covers, tries_covers, met_given}
 
 -- ---- leaves behind no alias
 

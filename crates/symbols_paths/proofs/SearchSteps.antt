@@ -1,12 +1,12 @@
 -- Met symbols, and aliases that are being resolved, by numbers and by names.
-use Rattle.std.proofs.Common.{◌≡◌, ℕ, zero, suc, ◌<◌, Bool, true, false, ◌&&◌, ◌||◌, List, [], ◌∷◌, ◌++◌, length, map, get_or, refl, sym, ap, ◌∙◌, arith, nat_eq}
+use Rattle.std.proofs.Common.{◌≡◌, zero, suc, ◌<◌, Bool, true, false, ◌&&◌, ◌||◌, List, [], ◌∷◌, ◌++◌, length, get_or, refl, ◌∙◌, arith, nat_eq}
 use Rattle.std.specs.List.{IsDistinct, list_any}
 use Rattle.std.specs.Str.{bytes_eq}
 use Rattle.std.proofs.lemmas.List.{map-append}
 use Rattle.symbols_syntax.specs.declared.ids.UniqueSymbolId.{UniqueSymbolId}
 use Rattle.symbols_root.specs.Roots.{RootView}
 use Rattle.symbols_paths.specs.declared.paths.resolving.AliasDecl.{AliasDecl}
-use Rattle.symbols_paths.specs.Choice.{same_symbol, is_met, is_running}
+use Rattle.symbols_paths.specs.Choice.{is_met, is_running}
 use Rattle.symbols_paths.specs.Growing.{HasGrown}
 use Rattle.symbols_paths.specs.Views.{named}
 use Rattle.symbols_paths.specs.Searching.{AreNumbered, AreAliasesNumbered, met_told, running_told, alias_told}

@@ -1,18 +1,16 @@
 -- What texts and `export *` lead to, in a root that stores it.
-use Rattle.std.proofs.Common.{◌≡◌, ℕ, zero, suc, ◌<◌, ◌⊎◌, inl, inr, List, [], ◌∷◌, length, map, get_or, Option, None, Some, option_map, option_to_list, option_and_then, Result, Ok, Err, OnOk, OnErr, refl, sym, ap, subst, ◌∙◌, arith, slice_get}
-use Rattle.std.specs.Prelude.{Contains}
+use Rattle.std.proofs.Common.{◌≡◌, ℕ, zero, suc, ◌<◌, inl, inr, List, [], ◌∷◌, length, map, get_or, Option, None, Some, option_map, option_to_list, option_and_then, Result, Ok, Err, OnOk, OnErr, refl, sym, ap, subst, ◌∙◌, arith, slice_get}
 use Rattle.std.proofs.lemmas.Option.{get_or_from_slice_get, none-some, same_Some}
 use Rattle.symbols_syntax.specs.declared.ids.ModuleId.{ModuleId}
-use Rattle.symbols_syntax.specs.declared.ids.SymbolId.{SymbolId}
 use Rattle.symbols_syntax.specs.declared.ids.UniqueSymbolId.{UniqueSymbolId}
 use Rattle.symbols_syntax.specs.Graph.{GraphView}
 use Rattle.symbols_table.specs.declared.info.fault.SymbolsFault.{SymbolsFault}
 use Rattle.symbols_root.specs.Roots.{RootView, with_stored, specifier_under, IsRefusal}
 use Rattle.symbols_exports.specs.declared.exports.path.ResolvedExportOrReExportAllPath.{ResolvedExportOrReExportAllPath}
-use Rattle.symbols_exports.specs.Chains.{Statements, target, chain_end}
+use Rattle.symbols_exports.specs.Chains.{target, chain_end}
 use Rattle.symbols_exports.specs.Exports.{Entry}
 use Rattle.symbols_exports.specs.Exporting.{specifier_in}
-use Rattle.symbols_exports.specs.OneName.{export_named, IsNameAnswer, IsNameFault, IsNameBrokenOff, named_way}
+use Rattle.symbols_exports.specs.OneName.{export_named, IsNameAnswer, IsNameFault, named_way}
 use Rattle.symbols_exports.specs.Paths.{resolved_export}
 use Rattle.symbols_exports.specs.StarStatements.{star_texts, text_target, statements_of}
 use Rattle.symbols_exports.specs.Taking.{NameView}
@@ -22,7 +20,7 @@ use Rattle.symbols_paths.specs.Leads.{export_along}
 use Rattle.symbols_paths.specs.Views.{named}
 use Rattle.symbols_paths.specs.Growing.{HasGrown}
 use Rattle.symbols_paths.specs.Needed.{IsNeeded, begun, passed_on, IsRefused}
-use Rattle.symbols_paths.proofs.Growing.{grown_not, grown_on, grown_by_one, grown_by_all}
+use Rattle.symbols_paths.proofs.Growing.{grown_not, grown_by_one, grown_by_all}
 
 pub grown_by : {A : Type 0} (old new : RootView) (needed : Option (List ℕ)) (result : Result A SymbolsFault) → OnOk result (new ≡ with_stored old needed) → OnErr result (new ≡ old) → HasGrown old new
 grown_by old new needed (Ok x) stored same = subst (HasGrown old) (sym stored) (grown_by_one old needed)

@@ -1,7 +1,7 @@
 -- The choice as a function of the graph, for whoever computes with it.
 use Rattle.std.specs.Prelude.{ℕ, zero, suc, ◌+◌, ◌^◌, List, [], ◌∷◌, ◌++◌, Option, if◌then◌else◌}
 use Rattle.symbols_syntax.specs.Graph.{GraphView}
-use Rattle.symbols_paths.specs.Trees.{NamedSymbol, NamedDecl, Parts, Defined, Missing, definition, unresolved, LinkHead, Tree, Forest, leaf, link, none, more, one, join, link_to}
+use Rattle.symbols_paths.specs.Trees.{NamedSymbol, NamedDecl, Parts, Defined, Missing, definition, unresolved, Tree, Forest, leaf, link, none, more, one, join, link_to}
 use Rattle.symbols_paths.specs.Leads.{Lead, defines, leads, alias}
 use Rattle.symbols_paths.specs.PartWays.{PartWay, to, itself, lacks, Links, links_of}
 use Rattle.symbols_paths.specs.Derived.{decl_at, defined_at, head_at, alias_head, part_head, under_parts}

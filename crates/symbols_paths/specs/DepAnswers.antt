@@ -1,5 +1,5 @@
 -- What `resolve_symbol_dep` answers.
-use Rattle.std.specs.Prelude.{◌≡◌, ◌<◌, ◌≤◌, ◌⊎◌, ℕ, List, [], ◌∷◌, length, map, Option, Some, None, MatchOption}
+use Rattle.std.specs.Prelude.{◌≡◌, ◌<◌, ◌≤◌, ◌⊎◌, ℕ, List, [], ◌∷◌, length, Option, Some, None, MatchOption}
 use Rattle.std.specs.Option.{option_map, option_map_or}
 use Rattle.symbols_syntax.specs.declared.ids.ModuleId.{ModuleId}
 use Rattle.symbols_syntax.specs.declared.ids.SymbolId.{SymbolId}
@@ -13,7 +13,7 @@ use Rattle.symbols_exports.specs.Exporting.{specifier_in}
 use Rattle.symbols_exports.specs.StarStatements.{text_target}
 use Rattle.symbols_paths.specs.declared.paths.resolve.ResolvedSymbolDepEntry.{ResolvedSymbolDepEntry}
 use Rattle.symbols_paths.specs.declared.paths.resolve.ResolvedSymbolDepEntry.TheVariants as entry
-use Rattle.symbols_paths.specs.Trees.{NamedSymbol, Parts, Missing, no_symbol, no_module, unresolved, Tree, Forest, leaf, none, more, one}
+use Rattle.symbols_paths.specs.Trees.{NamedSymbol, Parts, no_symbol, no_module, unresolved, Tree, Forest, leaf, none, more, one}
 use Rattle.symbols_paths.specs.Leads.{symbol_of_id}
 use Rattle.symbols_paths.specs.PartWays.{PartWay, to, itself, lacks, text_part}
 use Rattle.symbols_paths.specs.Computed.{paths_under}

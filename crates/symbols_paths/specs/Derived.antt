@@ -2,7 +2,7 @@
 use Rattle.std.specs.Prelude.{◌≡◌, ℕ, ◌+◌, List, [], ◌∷◌, Some, Option, Contains}
 use Rattle.symbols_syntax.specs.declared.tree.arena.SourceRange.{SourceRange}
 use Rattle.symbols_table.specs.DeclViews.{DepView}
-use Rattle.symbols_paths.specs.Trees.{NamedSymbol, NamedDecl, Parts, Defined, Missing, Leaf, definition, unresolved, LinkHead, Tree, Forest, leaf, link, none, more, one}
+use Rattle.symbols_paths.specs.Trees.{NamedSymbol, NamedDecl, Parts, Defined, Missing, definition, unresolved, LinkHead, Tree, Forest, leaf, link, none, more, one}
 use Rattle.symbols_paths.specs.Leads.{Ways, Lead, defines, leads, alias}
 use Rattle.symbols_paths.specs.PartWays.{to, itself, lacks, Links}
 

@@ -9,7 +9,7 @@ use Rattle.symbols_syntax.specs.declared.tree.arena.SourceRange.{SourceRange}
 use Rattle.symbols_syntax.specs.Graph.{GraphView}
 use Rattle.symbols_syntax.specs.Ids.{IdView}
 use Rattle.symbols_table.specs.Changes.{mapped_after}
-use Rattle.symbols_table.specs.DeclViews.{DepName, all_names, one_name, DepView, DeclKind, target, qualified_target, file_ref, definition, Declaration}
+use Rattle.symbols_table.specs.DeclViews.{all_names, one_name, DepView, DeclKind, target, qualified_target, file_ref, definition, Declaration}
 use Rattle.symbols_table.specs.SymbolViews.{SymbolView, symbol_after}
 use Rattle.symbols_exports.specs.Exports.{Entry}
 use Rattle.symbols_exports.specs.OneName.{export_named}

@@ -6,7 +6,7 @@ use Rattle.std.specs.Str.{bytes_eq}
 use Rattle.symbols_syntax.specs.declared.ids.SymbolId.{SymbolId}
 use Rattle.symbols_syntax.specs.Graph.{GraphView}
 use Rattle.symbols_nodes.specs.NodeTests.{is_class}
-use Rattle.symbols_table.specs.DeclViews.{DepView, Declaration, node_test}
+use Rattle.symbols_table.specs.DeclViews.{DepView, node_test}
 use Rattle.symbols_table.specs.SymbolViews.{SymbolView, symbol_after}
 use Rattle.symbols_exports.specs.Exports.{Entry}
 use Rattle.symbols_exports.specs.OneName.{export_named}

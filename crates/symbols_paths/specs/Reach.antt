@@ -1,8 +1,8 @@
 -- The leaves of a symbol, also under parts, and those of first reach, which no list of paths may lose.
-use Rattle.std.specs.Prelude.{◌≡◌, ℕ, List, [], ◌∷◌, ◌++◌, Bool, true, false, if◌then◌else◌, Option, None, Some, slice_get, Contains}
+use Rattle.std.specs.Prelude.{◌≡◌, ℕ, List, [], ◌∷◌, ◌++◌, Bool, true, false, if◌then◌else◌, Some, slice_get, Contains}
 use Rattle.std.specs.Option.{option_map_or}
 use Rattle.symbols_syntax.specs.Graph.{GraphView}
-use Rattle.symbols_paths.specs.Trees.{NamedSymbol, NamedDecl, Parts, Defined, Missing, no_part, Leaf, definition, unresolved, LinkHead, Tree, Forest, leaf, link, none, more}
+use Rattle.symbols_paths.specs.Trees.{NamedSymbol, NamedDecl, Parts, Defined, Missing, no_part, Leaf, definition, unresolved, Tree, Forest, leaf, link, none, more}
 use Rattle.symbols_paths.specs.Leads.{Lead, Leads, defines, leads, alias, StandsAt, exports_along, leads_of}
 use Rattle.symbols_paths.specs.PartWays.{to, itself, lacks, Links, links_of}
 use Rattle.symbols_paths.specs.Derived.{defined_at}

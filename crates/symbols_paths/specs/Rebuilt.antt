@@ -1,5 +1,5 @@
 -- For inner functions and proofs alone: paths with others in the places of their definitions.
-use Rattle.std.specs.Prelude.{ℕ, List, [], ◌∷◌, ◌++◌}
+use Rattle.std.specs.Prelude.{List, [], ◌∷◌, ◌++◌}
 use Rattle.symbols_paths.specs.Trees.{Parts, Defined, definition, unresolved, Tree, Forest, leaf, link, none, more, one, join, link_to}
 use Rattle.symbols_paths.specs.Derived.{under_parts}
 

@@ -1,26 +1,16 @@
 -- The widest limits leave room for each module of a graph.
-use Rattle.std.proofs.Common.{◌≡◌, ℕ, ◌<◌, ◌≤◌, ◌-◌, ◌^◌, inl, inr, true, false, string_bytes, List, [], ◌∷◌, ◌++◌, length, slice_get, option_map, Option, None, Some, refl, sym, ap, subst, ◌∙◌, arith}
+use Rattle.std.proofs.Common.{◌≡◌, ℕ, ◌<◌, ◌≤◌, ◌-◌, ◌^◌, true, false, List, [], ◌∷◌, ◌++◌, length, slice_get, option_map, Option, None, Some, refl, sym, ap, subst, ◌∙◌, arith}
 use Rattle.std.specs.List.{IsDistinct}
 use Rattle.std.specs.Str.{bytes_eq}
-use Rattle.std.proofs.lemmas.Bool.{cases_lt}
 use Rattle.std.proofs.lemmas.List.{length_push}
 use Rattle.std.proofs.lemmas.Map.Keys.{IsDistinct-push}
 use Rattle.std.proofs.lemmas.Option.{none-some, same_Some, slice_get-map}
-use Rattle.symbols_syntax.specs.declared.graph.faults.TreeFault.TheVariants.{TooManyNodes}
-use Rattle.symbols_syntax.specs.declared.tree.arena.Tree.{Tree}
-use Rattle.symbols_syntax.specs.Graph.{GraphView, ModuleView, Content, esm, json, external, IsChecked}
-use Rattle.symbols_syntax.specs.TreeFaults.{IsFaultless}
+use Rattle.symbols_syntax.specs.Graph.{GraphView, ModuleView}
 use Rattle.symbols_tree.specs.GraphFaults.{specifiers}
-use Rattle.symbols_table.specs.declared.info.fault.SymbolsFault.{SymbolsFault}
 use Rattle.symbols_table.specs.declared.info.fault.SymbolsFault.TheVariants as fault
-use Rattle.symbols_table.specs.Analysis.{symbol_count, source_changes, json_changes}
-use Rattle.symbols_table.specs.JsonEvents.{json_events}
-use Rattle.symbols_table.specs.Modules.{Source, parsed, json_text, source_of}
-use Rattle.symbols_table.proofs.Counts.{few_symbols}
-use Rattle.symbols_table.proofs.CountsEvents.{symbols_by}
 use Rattle.symbols_root.specs.declared.root.limits.Limits.{Limits}
 use Rattle.symbols_root.specs.Specifiers.{module_under, is_among}
-use Rattle.symbols_root.specs.Roots.{RootView, widest, IsRefusal}
+use Rattle.symbols_root.specs.Roots.{RootView, widest}
 use Rattle.symbols_root.specs.StoredModules.{StoredModule, stored_specifiers, AreWhole}
 use Rattle.symbols_root.proofs.Among.{laws, AreIn, under_in, one_more_in, no_more, among_place}
 

@@ -1,4 +1,4 @@
-use Rattle.std.proofs.Common.{◌≡◌, ◌++◌, ℕ, List, map, drop, take}
+use Rattle.std.proofs.Common.{◌≡◌, ℕ, List, map, take}
 use Rattle.std.specs.Borrow.{Bor}
 use Rattle.symbols_paths.specs.Views.{texts_of}
 use Rattle.symbols_paths.proofs.paths.link.copied_parts.Given as goal

@@ -1,9 +1,9 @@
-use Rattle.std.proofs.Common.{◌≡◌, Bool, false, ◌&&◌, Result, Ok, Err, IfOk, None, sym, ap, subst, ◌∙◌}
+use Rattle.std.proofs.Common.{◌≡◌, false, ◌&&◌, Result, Ok, Err, IfOk, None, sym, subst, ◌∙◌}
 use Rattle.std.specs.Str.{bytes_eq}
 use Rattle.symbols_exports.specs.Exporting.{specifier_in}
 use Rattle.symbols_paths.specs.Trees.{no_part}
 use Rattle.symbols_paths.specs.PartWays.{lacks, prototype_name, is_class_at, export_of_symbol}
-use Rattle.symbols_paths.specs.Views.{named_in, decl_told, first_text, later_texts}
+use Rattle.symbols_paths.specs.Views.{decl_told, first_text, later_texts}
 use Rattle.symbols_paths.proofs.PartReading.{first_read, bytes_swapped, lacks_own, not_first, not_second}
 use Rattle.symbols_paths.proofs.Walking.{some_parts}
 use Rattle.symbols_paths.proofs.paths.parts.own_part.Goals as goal

@@ -1,4 +1,4 @@
-use Rattle.std.proofs.Common.{◌≡◌, ℕ, length, ◌-◌, ◌^◌}
+use Rattle.std.proofs.Common.{length, ◌-◌, ◌^◌}
 use Rattle.symbols_exports.specs.Exporting.{specifier_in}
 use Rattle.symbols_exports.specs.StarStatements.{star_texts}
 use Rattle.symbols_paths.specs.Leads.{declarations_of}

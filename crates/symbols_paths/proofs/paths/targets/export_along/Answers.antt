@@ -1,8 +1,8 @@
-use Rattle.std.proofs.Common.{◌∙◌, ap, subst}
+use Rattle.std.proofs.Common.{◌∙◌, ap}
 use Rattle.symbols_exports.specs.Exporting.{specifier_in}
 use Rattle.symbols_exports.specs.StarStatements.{text_target}
 use Rattle.symbols_paths.proofs.Growing.{grown_on}
-use Rattle.symbols_paths.proofs.Targets.{IsTarget, target_is, refused_there, grown_answer, grown_fault, refused_along, none_along, some_along, some_stored}
+use Rattle.symbols_paths.proofs.Targets.{target_is, refused_there, grown_answer, grown_fault, refused_along, none_along, some_along, some_stored}
 use Rattle.symbols_paths.proofs.paths.targets.export_along.Goals as goal
 
 pub returns-in-Err-clause-refused : goal.returns-in-Err-clause-refused

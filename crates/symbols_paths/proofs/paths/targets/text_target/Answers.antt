@@ -1,4 +1,3 @@
-use Rattle.std.proofs.Common.{◌≡◌, ap, ◌∙◌, sym, Some, option_copied}
 use Rattle.symbols_root.specs.TypesChains.{stands_for}
 use Rattle.symbols_paths.proofs.Targets.{grown_by}
 use Rattle.symbols_paths.proofs.paths.targets.text_target.Goals as goal
