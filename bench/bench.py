@@ -18,6 +18,7 @@ It prints a table with a row for each graph and stage. In counts the stages are
     path      a run with a query for the paths of a symbol, of graphs of files of each, less one without queries: of
               re-exports in a row, of candidates of an import, of aliases in a chain and of an alias of many parts, which it
               analyses on the way
+    call      a run with a query for what the innermost of namespaces in a nest is called, less one without queries
     name      a run with a query for the paths of an import along one `export *`, less one without queries: of one name of
               many webs, of which half are gone through
     whole     of the same graph a run with a query for all that is exported there, less one without queries
@@ -259,6 +260,12 @@ def parts_of(n):
     return {'modules': [tree.module('m', [alias(tree, 'A', 'N', n), namespaces(tree, n)])]}
 
 
+def nest_of(n):
+    """Namespaces in a nest, n deep."""
+    tree = Tree()
+    return {'modules': [tree.module('m', [namespaces(tree, n - 1)])]}
+
+
 def hub_of(n):
     """n modules in webs of ten, a module with an `export *` for each web, and an import of a name that a web in the
     middle owns, along one `export *` of that module."""
@@ -278,7 +285,7 @@ STAGES = ('read', 'check', 'analyse')
 MODES = ('types', 'all')
 
 # stages that are less a run without queries
-APART = ('path', 'name', 'whole')
+APART = ('path', 'call', 'name', 'whole')
 
 # a graph's name, its n, how it is made, what is asked beyond the stages, and the multiples of n
 MADE = [
@@ -292,6 +299,7 @@ MADE = [
     ('candidates of an import', 10000, candidates_of, ('path',), (1, 2)),
     ('aliases in a chain', 600, aliases_of, ('path',), (1, 2)),
     ('an alias of many parts', 600, parts_of, ('path',), (1, 2)),
+    ('namespaces in a nest', 600, nest_of, ('call',), (1, 2)),
     ('one name of webs', 20000, hub_of, ('name', 'whole'), (1, 2)),
 ]
 
@@ -312,9 +320,14 @@ class Files:
             'export': b''.join(line('exports', m['specifier']) for m in modules),
             'path': b''.join(line('paths', m, k) for m, count in symbols.items() for k in range(count))
             if symbols else line('paths', modules[0]['specifier'], 1),
+            'call': line('name', modules[0]['specifier'], namespaces_in(modules[0])),
             'name': line('paths', 'first', 1),
             'whole': line('exports', 'hub'),
         }
+
+
+def namespaces_in(module):
+    return sum(node['kind'] == 'TsModuleDecl' for node in (module.get('tree') or {}).get('nodes', []))
 
 
 def symbols_of(program, path, graph):
