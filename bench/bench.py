@@ -18,7 +18,9 @@ It prints a table with a row for each graph and stage. In counts the stages are
     path      a run with a query for the paths of a symbol, of graphs of files of each, less one without queries: of
               re-exports in a row, of candidates of an import, of aliases in a chain and of an alias of many parts, which it
               analyses on the way
-    call      a run with a query for what the innermost of namespaces in a nest is called, less one without queries
+    ends      a run with a query for the definitions at the ends of such paths, less one with the queries of analyse: of aliases
+              in a chain and of an alias of many parts
+    call      a run with a query for what the innermost of namespaces in a nest is called, less one with the queries of analyse
     name      a run with a query for the paths of an import along one `export *`, less one without queries: of one name of
               many webs, of which half are gone through
     whole     of the same graph a run with a query for all that is exported there, less one without queries
@@ -285,7 +287,7 @@ STAGES = ('read', 'check', 'analyse')
 MODES = ('types', 'all')
 
 # stages that are less a run without queries
-APART = ('path', 'call', 'name', 'whole')
+APART = ('path', 'name', 'whole')
 
 # a graph's name, its n, how it is made, what is asked beyond the stages, and the multiples of n
 MADE = [
@@ -297,8 +299,8 @@ MADE = [
     ('webs of ten modules', 2000, webs_of, ('export',), (1, 2, 4)),
     ('re-exports in a row', 10000, row_of, ('path',), (1, 2)),
     ('candidates of an import', 10000, candidates_of, ('path',), (1, 2)),
-    ('aliases in a chain', 600, aliases_of, ('path',), (1, 2)),
-    ('an alias of many parts', 600, parts_of, ('path',), (1, 2)),
+    ('aliases in a chain', 600, aliases_of, ('path', 'ends'), (1, 2)),
+    ('an alias of many parts', 600, parts_of, ('path', 'ends'), (1, 2)),
     ('namespaces in a nest', 600, nest_of, ('call',), (1, 2)),
     ('one name of webs', 20000, hub_of, ('name', 'whole'), (1, 2)),
 ]
@@ -320,6 +322,7 @@ class Files:
             'export': b''.join(line('exports', m['specifier']) for m in modules),
             'path': b''.join(line('paths', m, k) for m, count in symbols.items() for k in range(count))
             if symbols else line('paths', modules[0]['specifier'], 1),
+            'ends': line('definitions', modules[0]['specifier'], 1),
             'call': line('name', modules[0]['specifier'], namespaces_in(modules[0])),
             'name': line('paths', 'first', 1),
             'whole': line('exports', 'hub'),

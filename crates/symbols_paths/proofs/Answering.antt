@@ -1,5 +1,5 @@
 -- What a search of its own answers.
-use Rattle.std.proofs.Common.{◌≡◌, ◌≢◌, ℕ, ◌<◌, ◌≤◌, ◌^◌, true, false, List, [], ◌∷◌, length, Option, None, Some, option_map, option_copied, slice_get, sym, ap, subst, ◌∙◌, arith}
+use Rattle.std.proofs.Common.{◌≡◌, ◌≢◌, ℕ, ◌<◌, ◌≤◌, ◌^◌, true, false, List, [], ◌∷◌, length, Option, None, Some, option_map, option_copied, slice_get, inr, sym, ap, subst, ◌∙◌, arith}
 use Rattle.std.specs.Prelude.{is_some, Contains}
 use Rattle.std.specs.Borrow.{Bor}
 use Rattle.std.proofs.lemmas.List.{length-map}
@@ -8,11 +8,11 @@ use Rattle.symbols_syntax.specs.declared.ids.SymbolId.{SymbolId}
 use Rattle.symbols_syntax.specs.declared.ids.UniqueSymbolId.{UniqueSymbolId}
 use Rattle.symbols_syntax.specs.Graph.{GraphView}
 use Rattle.symbols_table.specs.declared.decl.symbol.Symbol.{Symbol}
+use Rattle.symbols_table.specs.declared.info.fault.SymbolsFault.TheVariants.{OutOfMemory}
 use Rattle.symbols_table.specs.Modules.{Table}
 use Rattle.symbols_table.specs.SymbolViews.{symbol_view}
 use Rattle.symbols_root.specs.Roots.{RootView, IsStoredTable}
 use Rattle.symbols_exports.specs.Exporting.{specifier_in}
-use Rattle.symbols_paths.specs.declared.paths.node.DefinitionPathNode.{DefinitionPathNode}
 use Rattle.symbols_paths.specs.declared.paths.trail.Trail.{Trail}
 use Rattle.symbols_paths.specs.Trees.{NamedSymbol, NamedDecl, Parts, Leaf, Forest, leaves_in}
 use Rattle.symbols_paths.specs.PartWays.{Links, links_of}
@@ -22,10 +22,10 @@ use Rattle.symbols_paths.specs.Searches as searches
 use Rattle.symbols_paths.specs.Choice.{Finds, Walks, no_parts, under, Changes}
 use Rattle.symbols_paths.specs.Computed.{enough, paths_under, paths_of}
 use Rattle.symbols_paths.specs.Growing.{HasGrown}
-use Rattle.symbols_paths.specs.Views.{named, named_in, texts_in, forest_told, modules_in, AreStored}
+use Rattle.symbols_paths.specs.Views.{named, named_in}
 use Rattle.symbols_paths.specs.Trails.{trails_told, modules_of_trails}
 use Rattle.symbols_paths.specs.Searching.{met_told, HasSearched, IsFound, IsWalked}
-use Rattle.symbols_paths.specs.Answers.{ArePathsUnder, ArePaths, symbol_in, IsPathsAnswer}
+use Rattle.symbols_paths.specs.Answers.{ArePathsUnder, ArePaths, symbol_in, IsPathsFault}
 use Rattle.symbols_paths.proofs.Deriving.{finds_derived, walks_derived}
 use Rattle.symbols_paths.proofs.Leaves.{finds_leaf, walks_leaf, changes_gives}
 use Rattle.symbols_paths.proofs.Covers.{near_given}
@@ -89,30 +89,34 @@ module _ {old new : RootView} {module_id : ModuleId} {s : SymbolId} {u : UniqueS
       subst (λ g. Finds (links_of g) enough [] [] (named_in old module_id s) (trails_told new trails) (met_told new after)) grown.graph
       (subst (λ n. Finds (links_of new.graph) enough [] [] n (trails_told new trails) (met_told new after)) called (found new (grown_not new)))
 
-  pub paths_answer : symbol_in old module_id s ≢ None → (paths : List DefinitionPathNode) → forest_told new paths ≡ trails_told new trails → (AreStored new (modules_of_trails trails) → AreStored new (modules_in paths)) → IsPathsAnswer old new module_id s paths
-  paths_answer has_symbol paths told stored = record {
-    known = known;
-    has_symbol = has_symbol;
-    are_paths = subst (ArePaths old.graph (named_in old module_id s)) (sym told) (are_paths old.graph enough (named_in old module_id s) (trails_told new trails) (met_told new after) found_before);
-    stored = stored searched_it.stored;
-  }
+  pub paths_found : ArePaths old.graph (named_in old module_id s) (trails_told new trails)
+  paths_found = are_paths old.graph enough (named_in old module_id s) (trails_told new trails) (met_told new after) found_before
 
   pub paths_listed : trails_told new trails ≡ paths_of old.graph (named_in old module_id s)
   paths_listed = is_computed old.graph (named_in old module_id s) [] (trails_told new trails) (met_told new after) (no_parts found_before) (omega (arith, length-map after (named new), searched_it.few (omega arith)))
 
 -- the same under parts
-module _ {old new : RootView} (u : UniqueSymbolId) (parts : List (Bor (List ℕ))) (trails : List Trail) {after : List UniqueSymbolId} (known : u.module_id.0 < length old.stored) (grown : HasGrown old new) (walked_it : IsWalked new [] [] u parts trails after) (searched_it : HasSearched new [] after (modules_of_trails trails)) where
-  walked_before : Walks (links_of old.graph) enough [] [] (named old u) (texts_in parts) (trails_told new trails) (met_told new after)
+module _ {old new : RootView} (u : UniqueSymbolId) (parts : Parts) (trails : List Trail) {after : List UniqueSymbolId} (known : u.module_id.0 < length old.stored) (grown : HasGrown old new) (walked_it : IsWalked new [] [] u parts trails after) (searched_it : HasSearched new [] after (modules_of_trails trails)) where
+  walked_before : Walks (links_of old.graph) enough [] [] (named old u) parts (trails_told new trails) (met_told new after)
   walked_before =
       let called : named new u ≡ named old u = (λ i. record { specifier = same_specifier grown u.module_id known i; number = u.symbol_id }) in
-      subst (λ g. Walks (links_of g) enough [] [] (named old u) (texts_in parts) (trails_told new trails) (met_told new after)) grown.graph
-      (subst (λ n. Walks (links_of new.graph) enough [] [] n (texts_in parts) (trails_told new trails) (met_told new after)) called (walked_it new (grown_not new)))
+      subst (λ g. Walks (links_of g) enough [] [] (named old u) parts (trails_told new trails) (met_told new after)) grown.graph
+      (subst (λ n. Walks (links_of new.graph) enough [] [] n parts (trails_told new trails) (met_told new after)) called (walked_it new (grown_not new)))
 
-  pub walked_found : ArePathsUnder old.graph (named old u) (texts_in parts) (trails_told new trails)
-  walked_found = are_paths_under old.graph enough (named old u) (texts_in parts) (trails_told new trails) (met_told new after) walked_before
+  pub walked_found : ArePathsUnder old.graph (named old u) parts (trails_told new trails)
+  walked_found = are_paths_under old.graph enough (named old u) parts (trails_told new trails) (met_told new after) walked_before
 
-  pub walked_listed : trails_told new trails ≡ paths_under old.graph (named old u) (texts_in parts)
-  walked_listed = is_computed old.graph (named old u) (texts_in parts) (trails_told new trails) (met_told new after) walked_before (omega (arith, length-map after (named new), searched_it.few (omega arith)))
+  pub walked_listed : trails_told new trails ≡ paths_under old.graph (named old u) parts
+  walked_listed = is_computed old.graph (named old u) parts (trails_told new trails) (met_told new after) walked_before (omega (arith, length-map after (named new), searched_it.few (omega arith)))
+
+-- ---- what is refused once the paths are found is memory
+
+pub memory_refused : {old new : RootView} {module_id : ModuleId} {s : SymbolId} → (module_id.0 < length old.stored) × (symbol_in old module_id s ≢ None) → IsPathsFault old new module_id s OutOfMemory
+memory_refused there = inr (inr (record {
+  known = there.0;
+  has_symbol = there.1;
+  refused = record { needed = None; is_needed = λ specifier e. absurd cc; refused = tt };
+}))
 
 -- ---- whether there is such a symbol
 

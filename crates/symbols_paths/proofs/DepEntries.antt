@@ -24,7 +24,7 @@ use Rattle.symbols_paths.specs.PartWays.{PartWay, to, itself, lacks, text_part}
 use Rattle.symbols_paths.specs.Computed.{paths_under}
 use Rattle.symbols_paths.specs.Growing.{HasGrown}
 use Rattle.symbols_paths.specs.Needed.{IsNeeded, begun, IsRefused}
-use Rattle.symbols_paths.specs.Views.{named, tree_told, forest_told, texts_in, first_text, later_texts}
+use Rattle.symbols_paths.specs.Views.{named, tree_told, forest_told, first_part, later_parts}
 use Rattle.symbols_paths.specs.Answers.{ArePathsUnder}
 use Rattle.symbols_paths.specs.DepAnswers.{EntryView, a_path, a_module, entry_told, entries_in, Asked, asked_by_id, asked_by_way, missing_id, missing_way, module_entry, other_entries, entries_of, ArePathsOf, IsDepAnswer, IsDepRefused, on_the_way, of_import}
 use Rattle.symbols_paths.proofs.Growing.{same_specifier}
@@ -70,12 +70,8 @@ entries_listed graph (Some it) otherwise paths entries others found told other =
 
 -- ---- parts of a module
 
-pub behind_first : (parts : List (Bor (List ℕ))) → texts_in (drop 1 parts) ≡ later_texts parts
-behind_first [] = refl
-behind_first (x ∷ xs) = refl
-
 -- what the first part leads to is a symbol, and its paths were found under the others, once its module was stored
-pub import_found : (old mid : RootView) (rest : Parts) (w : PartWay) (target : UniqueSymbolId) (texts : List (Bor (List ℕ))) (paths : Forest) → HasGrown old mid → to (named mid target) ≡ w → texts_in texts ≡ rest → ArePathsUnder mid.graph (named mid target) (texts_in texts) paths → paths ≡ paths_under mid.graph (named mid target) (texts_in texts) → ArePathsOf old.graph (asked_by_way rest w) (missing_way w) paths
+pub import_found : (old mid : RootView) (rest : Parts) (w : PartWay) (target : UniqueSymbolId) (texts : Parts) (paths : Forest) → HasGrown old mid → to (named mid target) ≡ w → texts ≡ rest → ArePathsUnder mid.graph (named mid target) texts paths → paths ≡ paths_under mid.graph (named mid target) texts → ArePathsOf old.graph (asked_by_way rest w) (missing_way w) paths
 import_found old mid rest w target texts paths grown is same found listed =
     let t = named mid target in
     let found_here : ArePathsUnder old.graph t rest paths = subst (λ g. ArePathsUnder g t rest paths) grown.graph (subst (λ ps. ArePathsUnder mid.graph t ps paths) same found) in
@@ -109,16 +105,16 @@ some_left (suc n) e = omega arith
 
 -- ---- the entries of an import type
 
-pub import_answer : (graph : GraphView) (m text : List ℕ) (parts : List (Bor (List ℕ))) (paths : Forest) (entries : List EntryView) → 0 < length parts → ArePathsOf graph (asked_by_way (later_texts parts) (text_part graph m text (first_text parts) (later_texts parts) (text_target graph m text))) (missing_way (text_part graph m text (first_text parts) (later_texts parts) (text_target graph m text))) paths → entries ≡ entries_in paths
-    → IsDepAnswer graph m (import_type text (texts_in parts)) entries × (entries ≡ entries_of graph m (import_type text (texts_in parts)))
+pub import_answer : (graph : GraphView) (m text : List ℕ) (parts : Parts) (paths : Forest) (entries : List EntryView) → 0 < length parts → ArePathsOf graph (asked_by_way (later_parts parts) (text_part graph m text (first_part parts) (later_parts parts) (text_target graph m text))) (missing_way (text_part graph m text (first_part parts) (later_parts parts) (text_target graph m text))) paths → entries ≡ entries_in paths
+    → IsDepAnswer graph m (import_type text parts) entries × (entries ≡ entries_of graph m (import_type text parts))
 import_answer graph m text parts paths entries some found told =
-    let w = text_part graph m text (first_text parts) (later_texts parts) (text_target graph m text) in
-    let asked = asked_by_way (later_texts parts) w in
+    let w = text_part graph m text (first_part parts) (later_parts parts) (text_target graph m text) in
+    let asked = asked_by_way (later_parts parts) w in
     subst (λ ps. IsDepAnswer graph m (import_type text ps) entries × (entries ≡ entries_of graph m (import_type text ps))) (sym (some_parts parts some))
     (entries_answer graph asked (missing_way w) paths entries (entries_in (missing_way w)) found told refl, entries_listed graph asked (missing_way w) paths entries (entries_in (missing_way w)) found told refl)
 
-pub module_answer : (graph : GraphView) (m text : List ℕ) (parts : List (Bor (List ℕ))) (entries : List EntryView) → length parts ≡ 0 → entries ≡ other_entries graph m (import_type text [])
-    → IsDepAnswer graph m (import_type text (texts_in parts)) entries × (entries ≡ entries_of graph m (import_type text (texts_in parts)))
+pub module_answer : (graph : GraphView) (m text : List ℕ) (parts : Parts) (entries : List EntryView) → length parts ≡ 0 → entries ≡ other_entries graph m (import_type text [])
+    → IsDepAnswer graph m (import_type text parts) entries × (entries ≡ entries_of graph m (import_type text parts))
 module_answer graph m text parts entries none_left told = subst (λ ps. IsDepAnswer graph m (import_type text ps) entries × (entries ≡ entries_of graph m (import_type text ps))) (sym (no_part_left parts none_left)) (told, told)
 
 -- the module, or one unresolved entry

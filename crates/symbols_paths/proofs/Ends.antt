@@ -1,5 +1,6 @@
 -- The ends of paths, one after the other.
-use Rattle.std.proofs.Common.{◌≡◌, List, [], ◌∷◌, ◌++◌, map, refl, sym, ap, ◌∙◌, append_assoc, append-nil}
+use Rattle.std.proofs.Common.{◌≡◌, List, [], ◌∷◌, ◌++◌, map, Vec, Box, refl, sym, ap, ◌∙◌, append_assoc, append-nil}
+use Rattle.std.specs.Global.{Global}
 use Rattle.symbols_root.specs.Roots.{RootView}
 use Rattle.symbols_paths.specs.declared.paths.definition.Definition.{Definition}
 use Rattle.symbols_paths.specs.declared.paths.iter.DefinitionOrUnresolved.{DefinitionOrUnresolved}
@@ -10,8 +11,14 @@ use Rattle.symbols_paths.specs.declared.paths.node.DefinitionPathNode.TheOpen as
 use Rattle.symbols_paths.specs.declared.paths.node.DefinitionPathNode.TheViews.{rolls-Resolved, rolls-Link}
 use Rattle.symbols_paths.specs.declared.paths.node.DefinitionPathNode.TheVariants as node
 use Rattle.symbols_paths.specs.declared.paths.node.DefinitionPathNodeResolved.TheVariants as resolved
-use Rattle.symbols_paths.specs.Trees.{Tree, Leaf, definition, unresolved, leaves_of, leaves_in, definitions_in}
+use Rattle.symbols_paths.specs.declared.paths.trail.Stretch.{Stretch}
+use Rattle.symbols_paths.specs.declared.paths.trail.Trail.{Trail}
+use Rattle.symbols_paths.specs.declared.paths.trail.Trail.TheVariants as trail
+use Rattle.symbols_paths.specs.Trees.{LinkHead, Tree, Forest, leaf, one, join, link_to, Leaf, definition, unresolved, leaves_of, leaves_in, definitions_in}
 use Rattle.symbols_paths.specs.Views.{node_step, resolved_step, link_step, tree_told, forest_told, leaf_told, definition_told}
+use Rattle.symbols_paths.specs.Trails.{heads_in, linked, trail_told, trails_told}
+use Rattle.symbols_paths.proofs.Leaves.{leaves_in-join, leaves_in-link_to}
+use Rattle.symbols_paths.proofs.Trailing.{told_to, told_fork}
 
 -- the leaves of a link are those of what is next
 pub leaves_of_link : (root : RootView) (l : DefinitionPathLink) → leaves_of (tree_told root (node.Resolved (resolved.Link l))) ≡ leaves_in (forest_told root (out-DefinitionPathLink l).next.items)
@@ -32,6 +39,33 @@ ends_next left more_left begun path rest paths so added = λ root.
 
 pub ends_last : (left begun : List DefinitionOrUnresolved) (rest paths : List DefinitionPathNode) → rest ≡ [] → AreEndsSo left rest begun paths → (root : RootView) → map (leaf_told root) left ≡ map (leaf_told root) begun ++ leaves_in (forest_told root paths)
 ends_last left begun rest paths over so root = sym (append-nil (map (leaf_told root) left)) ∙ (ap (λ xs. map (leaf_told root) left ++ leaves_in (forest_told root xs)) (sym over) ∙ so root)
+
+-- ---- the ends of trails
+
+leaves_linked : (heads : List LinkHead) (f : Forest) → leaves_in (linked heads f) ≡ leaves_in f
+leaves_linked [] f = refl
+leaves_linked (head ∷ heads) f = leaves_linked heads (link_to head f) ∙ leaves_in-link_to head f
+
+pub leaves_to : (root : RootView) (xs : Vec Stretch Global) (end : DefinitionOrUnresolved) → leaves_in (trail_told root (trail.To xs end)) ≡ leaf_told root end ∷ []
+leaves_to root xs end = ap leaves_in (told_to root xs end) ∙ leaves_linked (heads_in root xs.items) (one (leaf (leaf_told root end)))
+
+pub leaves_fork : (root : RootView) (xs : Vec Stretch Global) (others : Vec Trail Global) (last : Box Trail Global) → leaves_in (trail_told root (trail.Fork xs others last)) ≡ leaves_in (trails_told root others.items) ++ leaves_in (trail_told root last.value)
+leaves_fork root xs others last =
+    ap leaves_in (told_fork root xs others last)
+    ∙ (leaves_linked (heads_in root xs.items) (join (trails_told root others.items) (trail_told root last.value)) ∙ leaves_in-join (trails_told root others.items) (trail_told root last.value))
+
+-- the ends so far, and those of the trails that are left
+abbrev pub AreTrailEndsSo : List DefinitionOrUnresolved → List Trail → List DefinitionOrUnresolved → List Trail → Type 0
+AreTrailEndsSo left rest begun trails = (root : RootView) → map (leaf_told root) left ++ leaves_in (trails_told root rest) ≡ map (leaf_told root) begun ++ leaves_in (trails_told root trails)
+
+pub trail_ends_next : (left more_left begun : List DefinitionOrUnresolved) (one_trail : Trail) (rest trails : List Trail) → AreTrailEndsSo left (one_trail ∷ rest) begun trails → ((root : RootView) → map (leaf_told root) more_left ≡ map (leaf_told root) left ++ leaves_in (trail_told root one_trail)) → AreTrailEndsSo more_left rest begun trails
+trail_ends_next left more_left begun one_trail rest trails so added = λ root.
+    ap (λ xs. xs ++ leaves_in (trails_told root rest)) (added root)
+    ∙ (append_assoc (map (leaf_told root) left) (leaves_in (trail_told root one_trail)) (leaves_in (trails_told root rest))
+    ∙ (ap (λ xs. map (leaf_told root) left ++ xs) (sym (leaves_in-join (trail_told root one_trail) (trails_told root rest))) ∙ so root))
+
+pub trail_ends_last : (left begun : List DefinitionOrUnresolved) (rest trails : List Trail) → rest ≡ [] → AreTrailEndsSo left rest begun trails → (root : RootView) → map (leaf_told root) left ≡ map (leaf_told root) begun ++ leaves_in (trails_told root trails)
+trail_ends_last left begun rest trails over so root = sym (append-nil (map (leaf_told root) left)) ∙ (ap (λ xs. map (leaf_told root) left ++ leaves_in (trails_told root xs)) (sym over) ∙ so root)
 
 -- ---- the definitions among them
 

@@ -17,6 +17,7 @@ use Rattle.symbols_paths.specs.declared.paths.definition.DefinitionKind.{Definit
 use Rattle.symbols_paths.specs.declared.paths.leads.Lead.TheVariants as read
 use Rattle.symbols_paths.specs.declared.paths.leads.NamedImport.{NamedImport}
 use Rattle.symbols_paths.specs.declared.paths.resolving.AliasDecl.{AliasDecl}
+use Rattle.symbols_paths.specs.declared.paths.shared_parts.SharedParts.{SharedParts}
 use Rattle.symbols_paths.specs.declared.paths.trail.Trail.{Trail}
 use Rattle.symbols_paths.specs.Trees.{NamedSymbol, NamedDecl, Parts, no_symbol, definition, Forest, leaf, none, more, one, link_to}
 use Rattle.symbols_paths.specs.Leads.{Ways, defines, leads, alias, nowhere, to_missing, target_ways, import_ways, ways_into, own_export}
@@ -25,8 +26,8 @@ use Rattle.symbols_paths.specs.Derived.{decl_at, head_at, alias_head}
 use Rattle.symbols_paths.specs.Choice.{Finds, Follows, by_itself, by_ways, by_running, by_alias, Tries, no_more, first_with, passes, missing_in}
 use Rattle.symbols_paths.specs.Computed.{enough}
 use Rattle.symbols_paths.specs.Growing.{HasGrown}
-use Rattle.symbols_paths.specs.Views.{named, named_in, decl_told, texts_in, star_of, AreStored}
-use Rattle.symbols_paths.specs.Trails.{trail_told, trails_told, trails_of_option, modules_of_trail, modules_of_trails}
+use Rattle.symbols_paths.specs.Views.{named, named_in, decl_told, star_of, AreStored}
+use Rattle.symbols_paths.specs.Trails.{parts_told, trail_told, trails_told, trails_of_option, modules_of_trail, modules_of_trails}
 use Rattle.symbols_paths.specs.Searching.{met_told, running_told, Resolves, while_running, by_walk, IsFound, IsFollowed, IsTried, IsResolved, ways_of_import, ways_along}
 use Rattle.symbols_paths.proofs.Growing.{grown_on, same_specifier}
 
@@ -48,9 +49,9 @@ pub followed_nowhere : (root : RootView) (running : List AliasDecl) (met : List 
 followed_nowhere root running met symbol index = λ later grown. by_ways {ways = nowhere (named later symbol)} no_more
 
 -- an unresolved name with parts behind it
-pub followed_unmapped : (root : RootView) (running : List AliasDecl) (met : List UniqueSymbolId) (symbol : UniqueSymbolId) (index : ℕ) (id : Bor Id) (parts : Vec (Bor (List ℕ)) Global) (path : Option Trail) → ((later : RootView) → trails_of_option later path ≡ link_to (head_at (named later symbol) index (unmapped_ways (named later symbol) (id_view id.now) (texts_in parts.items))) (missing_in (unmapped_ways (named later symbol) (id_view id.now) (texts_in parts.items)).otherwise)) → IsFollowed root running met symbol index (read.Unmapped id parts) path met
+pub followed_unmapped : (root : RootView) (running : List AliasDecl) (met : List UniqueSymbolId) (symbol : UniqueSymbolId) (index : ℕ) (id : Bor Id) (parts : SharedParts) (path : Option Trail) → ((later : RootView) → trails_of_option later path ≡ link_to (head_at (named later symbol) index (unmapped_ways (named later symbol) (id_view id.now) (parts_told parts))) (missing_in (unmapped_ways (named later symbol) (id_view id.now) (parts_told parts)).otherwise)) → IsFollowed root running met symbol index (read.Unmapped id parts) path met
 followed_unmapped root running met symbol index id parts path told = λ later grown.
-    let ways = unmapped_ways (named later symbol) (id_view id.now) (texts_in parts.items) in
+    let ways = unmapped_ways (named later symbol) (id_view id.now) (parts_told parts) in
     subst (λ f. Follows (links_of later.graph) enough (running_told later running) (met_told later met) (named later symbol) index (leads ways) f (met_told later met)) (sym (told later)) (by_ways {ways = ways} no_more)
 
 -- an alias, by what it came to
@@ -58,12 +59,12 @@ follows_alias : {links : Links} {limit : ℕ} {running : List NamedDecl} {met : 
 follows_alias (while_running e) = by_running e
 follows_alias (by_walk e few fits x) = by_alias e few fits x
 
-pub followed_alias : (root : RootView) (running : List AliasDecl) (met : List UniqueSymbolId) (symbol target : UniqueSymbolId) (t : SymbolId) (index : ℕ) (parts : Vec (Bor (List ℕ)) Global) (next : List Trail) (path : Option Trail) → target.module_id ≡ symbol.module_id → target.symbol_id ≡ t → IsResolved root running (record { «module» = symbol.module_id; decl = record { symbol = symbol.symbol_id; index = index } }) target parts.items next → ((later : RootView) → trails_of_option later path ≡ link_to (record { symbol = named later symbol; decl = decl_told later symbol.module_id (record { symbol = symbol.symbol_id; index = index }); parts = texts_in parts.items }) (trails_told later next)) → IsFollowed root running met symbol index (read.Alias t parts) path met
+pub followed_alias : (root : RootView) (running : List AliasDecl) (met : List UniqueSymbolId) (symbol target : UniqueSymbolId) (t : SymbolId) (index : ℕ) (parts : SharedParts) (next : List Trail) (path : Option Trail) → target.module_id ≡ symbol.module_id → target.symbol_id ≡ t → IsResolved root running (record { «module» = symbol.module_id; decl = record { symbol = symbol.symbol_id; index = index } }) target (parts_told parts) next → ((later : RootView) → trails_of_option later path ≡ link_to (record { symbol = named later symbol; decl = decl_told later symbol.module_id (record { symbol = symbol.symbol_id; index = index }); parts = parts_told parts }) (trails_told later next)) → IsFollowed root running met symbol index (read.Alias t parts) path met
 followed_alias root running met symbol target t index parts next path in_module number resolved told = λ later grown.
     let same : target ≡ record { module_id = symbol.module_id; symbol_id = t } = (λ i. record { module_id = in_module i; symbol_id = number i }) in
     let s = named later symbol in
-    let to : Resolves (links_of later.graph) enough (running_told later running) (decl_at s index) (named_in later symbol.module_id t) (texts_in parts.items) (trails_told later next) = subst (λ (u : UniqueSymbolId). Resolves (links_of later.graph) enough (running_told later running) (decl_at s index) (named later u) (texts_in parts.items) (trails_told later next)) same (resolved later grown) in
-    subst (λ f. Follows (links_of later.graph) enough (running_told later running) (met_told later met) s index (alias (named_in later symbol.module_id t) (texts_in parts.items)) f (met_told later met)) (sym (told later)) (follows_alias to)
+    let to : Resolves (links_of later.graph) enough (running_told later running) (decl_at s index) (named_in later symbol.module_id t) (parts_told parts) (trails_told later next) = subst (λ (u : UniqueSymbolId). Resolves (links_of later.graph) enough (running_told later running) (decl_at s index) (named later u) (parts_told parts) (trails_told later next)) same (resolved later grown) in
+    subst (λ f. Follows (links_of later.graph) enough (running_told later running) (met_told later met) s index (alias (named_in later symbol.module_id t) (parts_told parts)) f (met_told later met)) (sym (told later)) (follows_alias to)
 
 -- what is stored of a path, if there is one
 pub option_stored : (root : RootView) (path : Option Trail) → IfSome path (λ p. AreStored root (modules_of_trail p)) → AreStored root (modules_of_trails (option_to_list path))

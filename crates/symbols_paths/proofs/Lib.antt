@@ -16,6 +16,7 @@ pub mod Growing
 pub mod Reading
 mod Told
 mod Trailing
+mod SharedParts
 mod Unrolling
 pub mod Targets
 mod SearchSteps

@@ -1,7 +1,7 @@
 -- What the first of some parts leads to, as it is read.
 use Rattle.std.proofs.Common.{◌≡◌, ℕ, ◌<◌, Bool, true, false, ◌&&◌, List, [], ◌∷◌, length, get_or, Option, None, Some, refl, sym, ap, subst, ◌∙◌, arith, true≢false}
-use Rattle.std.specs.Prelude.{if◌then◌else◌}
-use Rattle.std.specs.Borrow.{Bor}
+use Rattle.std.specs.Prelude.{if◌then◌else◌, String, string_bytes}
+use Rattle.std.specs.Global.{Global}
 use Rattle.std.specs.Str.{bytes_eq}
 use Rattle.std.proofs.lemmas.Cmp.{nat_list_eq_equiv}
 use Rattle.std.proofs.lemmas.Slice.Eq.{bytes_eq-Decides}
@@ -14,15 +14,15 @@ use Rattle.symbols_exports.specs.Exporting.{specifier_in}
 use Rattle.symbols_exports.specs.OneName.{export_named}
 use Rattle.symbols_paths.specs.Trees.{NamedDecl, Parts, no_part}
 use Rattle.symbols_paths.specs.PartWays.{lacks, itself, prototype_name, is_class_at, own_part, module_part, text_part}
-use Rattle.symbols_paths.specs.Views.{first_text}
+use Rattle.symbols_paths.specs.Views.{texts_of, first_part}
 use Rattle.symbols_paths.specs.Growing.{HasGrown}
 use Rattle.symbols_paths.specs.Needed.{IsNeeded, IsRefused}
 use Rattle.symbols_paths.proofs.Growing.{grown_on}
 use Rattle.symbols_paths.proofs.Needing.{refused_from}
 
-pub first_read : (parts : List (Bor (List ℕ))) (d : Bor (List ℕ)) → 0 < length parts → (get_or parts 0 d).now ≡ first_text parts
-first_read [] d some = absurd (omega (arith, some))
-first_read (x ∷ xs) d some = refl
+pub first_read : (parts : List (String Global)) (part : String Global) → 0 < length parts → part ≡ get_or parts 0 part → string_bytes part ≡ first_part (texts_of parts)
+first_read [] part some is = absurd (omega (arith, some))
+first_read (x ∷ xs) part some is = ap (λ p. string_bytes p) is
 
 -- nothing that the symbol exports, and no `prototype` of a class
 pub lacks_own : (graph : GraphView) (decl : NamedDecl) (part : List ℕ) (rest : Parts) (found : Option SymbolId) → found ≡ None → (bytes_eq prototype_name part && is_class_at graph decl) ≡ false → own_part graph decl part rest found ≡ lacks (record { specifier = decl.symbol.specifier; reason = no_part part; parts = part ∷ rest })

@@ -1,11 +1,12 @@
 -- Trails as paths, and what they name, part by part.
 use Rattle.std.proofs.Common.{◌≡◌, ℕ, zero, suc, List, [], ◌∷◌, ◌++◌, length, map, Option, None, Some, option_to_list, Vec, Box, true, false, true≢false, refl, sym, ◌∙◌, ap, subst, arith, append_assoc, append-nil}
-use Rattle.std.specs.Prelude.{String, vec_len, ◌==◌}
+use Rattle.std.specs.Prelude.{vec_len, ◌==◌}
 use Rattle.std.specs.Global.{Global}
 use Rattle.std.proofs.lemmas.List.{map-append}
 use Rattle.symbols_syntax.specs.declared.ids.ModuleId.{ModuleId}
 use Rattle.symbols_root.specs.Roots.{RootView}
 use Rattle.symbols_paths.specs.declared.paths.iter.DefinitionOrUnresolved.{DefinitionOrUnresolved}
+use Rattle.symbols_paths.specs.declared.paths.shared_parts.SharedParts.{SharedParts}
 use Rattle.symbols_paths.specs.declared.paths.trail.Step.{Step}
 use Rattle.symbols_paths.specs.declared.paths.trail.Stretch.{Stretch}
 use Rattle.symbols_paths.specs.declared.paths.trail.Stretch.TheFolds.{fold-roll-Stretch}
@@ -19,8 +20,8 @@ use Rattle.symbols_paths.specs.declared.paths.trail.Trail.TheViews.{roll-Trail}
 use Rattle.symbols_paths.specs.Trees.{Parts, LinkHead, Tree, Forest, leaf, link, none, more, one, join, link_to}
 use Rattle.symbols_paths.specs.Derived.{under_parts}
 use Rattle.symbols_paths.specs.Rebuilt.{defined_of, defined_within, rebuilt_tree, rebuilt}
-use Rattle.symbols_paths.specs.Views.{leaf_told, module_of_end, texts_of, joined, AreStored}
-use Rattle.symbols_paths.specs.Trails.{step_head, heads_under, all_heads, stretch_heads, heads_of, heads_in, linked, all_joined, trail_step, trail_told, trails_told, trails_of_option, stretch_modules, modules_of_stretch, modules_of_stretches, trail_modules, modules_of_trail, modules_of_trails}
+use Rattle.symbols_paths.specs.Views.{leaf_told, module_of_end, joined, AreStored}
+use Rattle.symbols_paths.specs.Trails.{parts_told, step_head, heads_under, all_heads, stretch_heads, heads_of, heads_in, linked, all_joined, trail_step, trail_told, trails_told, trails_of_option, stretch_modules, modules_of_stretch, modules_of_stretches, trail_modules, modules_of_trail, modules_of_trails}
 use Rattle.symbols_paths.proofs.Told.{none_at, stored_both}
 use Rattle.symbols_paths.proofs.Loops.{join_none, join_assoc}
 
@@ -47,13 +48,13 @@ modules_fork xs others last = ap modules_of_trail (sym (trail.rolls-Fork xs othe
 pub heads_of_step : (root : RootView) (step : Step) → heads_of root (stretch.Step step) ≡ step_head root step ∷ []
 heads_of_step root step = ap (heads_of root) (sym (stretch.rolls-Step step)) ∙ fold-roll-Stretch Heads (stretch_heads root) (open_stretch.Step step)
 
-pub heads_of_under : (root : RootView) (parts : Vec (String Global) Global) (inner : Vec Stretch Global) → heads_of root (stretch.Under parts inner) ≡ heads_under (texts_of parts.items) (heads_in root inner.items)
+pub heads_of_under : (root : RootView) (parts : SharedParts) (inner : Vec Stretch Global) → heads_of root (stretch.Under parts inner) ≡ heads_under (parts_told parts) (heads_in root inner.items)
 heads_of_under root parts inner = ap (heads_of root) (sym (stretch.rolls-Under parts inner)) ∙ fold-roll-Stretch Heads (stretch_heads root) (open_stretch.Under parts inner)
 
 pub modules_of_one_step : (step : Step) → modules_of_stretch (stretch.Step step) ≡ step.symbol.module_id ∷ []
 modules_of_one_step step = ap modules_of_stretch (sym (stretch.rolls-Step step)) ∙ fold-roll-Stretch Ids stretch_modules (open_stretch.Step step)
 
-pub modules_of_under : (parts : Vec (String Global) Global) (inner : Vec Stretch Global) → modules_of_stretch (stretch.Under parts inner) ≡ modules_of_stretches inner.items
+pub modules_of_under : (parts : SharedParts) (inner : Vec Stretch Global) → modules_of_stretch (stretch.Under parts inner) ≡ modules_of_stretches inner.items
 modules_of_under parts inner = ap modules_of_stretch (sym (stretch.rolls-Under parts inner)) ∙ fold-roll-Stretch Ids stretch_modules (open_stretch.Under parts inner)
 
 -- ---- links

@@ -1,10 +1,9 @@
 -- The walk of a symbol under parts, over a root that stores more.
-use Rattle.std.proofs.Common.{◌≡◌, ℕ, zero, suc, ◌+◌, ◌-◌, ◌<◌, ◌≤◌, ◌^◌, true, false, List, [], ◌∷◌, ◌++◌, length, map, drop, take, get_or, Option, None, Some, option_to_list, inl, inr, refl, sym, ap, subst, ◌∙◌, arith}
+use Rattle.std.proofs.Common.{◌≡◌, ℕ, zero, suc, ◌+◌, ◌<◌, ◌≤◌, ◌^◌, true, false, List, [], ◌∷◌, ◌++◌, length, map, get_or, Option, None, Some, option_to_list, inl, inr, refl, sym, ap, subst, ◌∙◌, arith}
 use Rattle.std.specs.Prelude.{Contains, All}
-use Rattle.std.specs.Borrow.{Bor}
 use Rattle.std.specs.List.{IsDistinct, list_any}
 use Rattle.std.specs.Str.{bytes_eq}
-use Rattle.std.proofs.lemmas.List.{length-map, map-append, take_rest}
+use Rattle.std.proofs.lemmas.List.{length-map, map-append}
 use Rattle.std.proofs.lemmas.List.Elements.{Contains-append_left, Contains-append_right, Contains-append_cases}
 use Rattle.symbols_syntax.specs.declared.ids.ModuleId.{ModuleId}
 use Rattle.symbols_syntax.specs.declared.ids.UniqueSymbolId.{UniqueSymbolId}
@@ -24,7 +23,7 @@ use Rattle.symbols_paths.specs.Choice.{is_running, Walks, no_parts, ChangesOne, 
 use Rattle.symbols_paths.specs.Computed.{enough}
 use Rattle.symbols_paths.specs.Rebuilt.{defined_of, defined_within, rebuilt}
 use Rattle.symbols_paths.specs.Growing.{HasGrown}
-use Rattle.symbols_paths.specs.Views.{named, named_in, decl_told, definition_told, unresolved_told, texts_in, first_text, later_texts, star_of, module_of_definition, AreStored}
+use Rattle.symbols_paths.specs.Views.{named, named_in, decl_told, definition_told, unresolved_told, first_part, later_parts, star_of, module_of_definition, AreStored}
 use Rattle.symbols_paths.specs.Trails.{trails_told, trails_of_option, trail_told, modules_of_trail, modules_of_trails, present}
 use Rattle.symbols_paths.specs.Needed.{IsNeeded, IsRefused, IsStarDeclared}
 use Rattle.symbols_paths.specs.Searching.{AreNumbered, AreAliasesNumbered, met_told, running_told, alias_told, HasSearched, while_running, by_walk, IsFound, IsWalked, IsResolved, IsChanged, way_told, IsWayStored}
@@ -36,19 +35,19 @@ use Rattle.symbols_paths.proofs.Needing.{refused_from}
 use Rattle.symbols_paths.proofs.Loops.{IsStepping, stepping_first, stepping_next, stepping_last}
 use Rattle.symbols_paths.proofs.SearchSteps.{is_alias_decl, running_by_name, running_with, still_aliases}
 
--- ---- parts that are lent
+-- ---- parts
 
-pub some_parts : (parts : List (Bor (List ℕ))) → 0 < length parts → texts_in parts ≡ first_text parts ∷ later_texts parts
+pub some_parts : (parts : Parts) → 0 < length parts → parts ≡ first_part parts ∷ later_parts parts
 some_parts [] some = absurd (omega (arith, some))
 some_parts (x ∷ xs) some = refl
 
-pub no_part_left : (parts : List (Bor (List ℕ))) → length parts ≡ 0 → texts_in parts ≡ []
+pub no_part_left : (parts : Parts) → length parts ≡ 0 → parts ≡ []
 no_part_left [] e = refl
 no_part_left (x ∷ xs) e = absurd (omega (arith, e))
 
 -- ---- without parts
 
-pub walked_alone : (root : RootView) (running : List AliasDecl) (before after : List UniqueSymbolId) (s : UniqueSymbolId) (parts : List (Bor (List ℕ))) (paths : List Trail) → length parts ≡ 0 → IsFound root running before s paths after → IsWalked root running before s parts paths after
+pub walked_alone : (root : RootView) (running : List AliasDecl) (before after : List UniqueSymbolId) (s : UniqueSymbolId) (parts : Parts) (paths : List Trail) → length parts ≡ 0 → IsFound root running before s paths after → IsWalked root running before s parts paths after
 walked_alone root running before after s parts paths e found = λ later grown.
     subst (λ ps. Walks (links_of later.graph) enough (running_told later running) (met_told later before) (named later s) ps (trails_told later paths) (met_told later after)) (sym (no_part_left parts e)) (no_parts (found later grown))
 
@@ -66,26 +65,26 @@ definition_later {root = root} grown x within = (λ i. record (definition_told r
 part_later : {old later : RootView} → HasGrown old later → (x : Definition) → x.«module».0 < length old.stored → (p : List ℕ) (ps : Parts) → part_of later.graph (definition_told later x) p ps ≡ part_of old.graph (definition_told old x) p ps
 part_later grown x within p ps = (λ i. part_of (grown.graph i) (definition_later grown x within i) p ps)
 
-module _ {old mid : RootView} (running : List AliasDecl) (before : List UniqueSymbolId) (x : Definition) (parts : List (Bor (List ℕ))) (within : x.«module».0 < length old.stored) (w : ReadWay) (kept : HasGrown old mid) (stored : IsWayStored mid w) (leads : way_told mid w ≡ part_of old.graph (definition_told old x) (first_text parts) (later_texts parts)) where
-  way_there : (later : RootView) → HasGrown mid later → part_of later.graph (definition_told later x) (first_text parts) (later_texts parts) ≡ way_told later w
-  way_there later grown = part_later (grown_on kept grown) x within (first_text parts) (later_texts parts) ∙ (sym leads ∙ sym (way_later grown w stored))
+module _ {old mid : RootView} (running : List AliasDecl) (before : List UniqueSymbolId) (x : Definition) (parts : Parts) (within : x.«module».0 < length old.stored) (w : ReadWay) (kept : HasGrown old mid) (stored : IsWayStored mid w) (leads : way_told mid w ≡ part_of old.graph (definition_told old x) (first_part parts) (later_parts parts)) where
+  way_there : (later : RootView) → HasGrown mid later → part_of later.graph (definition_told later x) (first_part parts) (later_parts parts) ≡ way_told later w
+  way_there later grown = part_later (grown_on kept grown) x within (first_part parts) (later_parts parts) ∙ (sym leads ∙ sym (way_later grown w stored))
 
   pub changed_itself : w ≡ way.Itself → (path : Trail) → ((later : RootView) → trail_told later path ≡ one (leaf (definition (definition_told later x)))) → IsChanged mid running before x parts (Some path) before
   changed_itself is path told = λ later grown.
-      subst (λ f. ChangesOne (links_of later.graph) enough (running_told later running) (met_told later before) (first_text parts) (later_texts parts) (leaf (definition (definition_told later x))) f (met_told later before)) (sym (told later)) (of_itself (way_there later grown ∙ ap (way_told later) is))
+      subst (λ f. ChangesOne (links_of later.graph) enough (running_told later running) (met_told later before) (first_part parts) (later_parts parts) (leaf (definition (definition_told later x))) f (met_told later before)) (sym (told later)) (of_itself (way_there later grown ∙ ap (way_told later) is))
 
-  pub changed_lacking : (missing : DefinitionUnresolved) → w ≡ way.Lacks missing → 0 < length parts → (path : Option Trail) → ((later : RootView) → trails_of_option later path ≡ link_to (part_head (definition_told later x) (texts_in parts)) (one (leaf (unresolved (unresolved_told later missing))))) → IsChanged mid running before x parts path before
+  pub changed_lacking : (missing : DefinitionUnresolved) → w ≡ way.Lacks missing → 0 < length parts → (path : Option Trail) → ((later : RootView) → trails_of_option later path ≡ link_to (part_head (definition_told later x) parts) (one (leaf (unresolved (unresolved_told later missing))))) → IsChanged mid running before x parts path before
   changed_lacking missing is some path told = λ later grown.
-      let it : ChangesOne (links_of later.graph) enough (running_told later running) (met_told later before) (first_text parts) (later_texts parts) (leaf (definition (definition_told later x))) (one (link (part_head (definition_told later x) (first_text parts ∷ later_texts parts)) (one (leaf (unresolved (unresolved_told later missing)))))) (met_told later before) = of_lacking (way_there later grown ∙ ap (way_told later) is) in
-      let same : trails_of_option later path ≡ one (link (part_head (definition_told later x) (first_text parts ∷ later_texts parts)) (one (leaf (unresolved (unresolved_told later missing))))) = told later ∙ ap (λ ps. one (link (part_head (definition_told later x) ps) (one (leaf (unresolved (unresolved_told later missing)))))) (some_parts parts some) in
-      subst (λ f. ChangesOne (links_of later.graph) enough (running_told later running) (met_told later before) (first_text parts) (later_texts parts) (leaf (definition (definition_told later x))) f (met_told later before)) (sym same) it
+      let it : ChangesOne (links_of later.graph) enough (running_told later running) (met_told later before) (first_part parts) (later_parts parts) (leaf (definition (definition_told later x))) (one (link (part_head (definition_told later x) (first_part parts ∷ later_parts parts)) (one (leaf (unresolved (unresolved_told later missing)))))) (met_told later before) = of_lacking (way_there later grown ∙ ap (way_told later) is) in
+      let same : trails_of_option later path ≡ one (link (part_head (definition_told later x) (first_part parts ∷ later_parts parts)) (one (leaf (unresolved (unresolved_told later missing))))) = told later ∙ ap (λ ps. one (link (part_head (definition_told later x) ps) (one (leaf (unresolved (unresolved_told later missing)))))) (some_parts parts some) in
+      subst (λ f. ChangesOne (links_of later.graph) enough (running_told later running) (met_told later before) (first_part parts) (later_parts parts) (leaf (definition (definition_told later x))) f (met_told later before)) (sym same) it
 
-  pub changed_on : {after : RootView} (target : UniqueSymbolId) → w ≡ way.To target → 0 < length parts → (rest : List (Bor (List ℕ))) → texts_in rest ≡ later_texts parts → HasGrown mid after → (met_after : List UniqueSymbolId) (next : List Trail) → IsWalked after running before target rest next met_after → (path : Option Trail) → ((later : RootView) → trails_of_option later path ≡ link_to (part_head (definition_told later x) (texts_in parts)) (trails_told later next)) → IsChanged after running before x parts path met_after
+  pub changed_on : {after : RootView} (target : UniqueSymbolId) → w ≡ way.To target → 0 < length parts → (rest : Parts) → rest ≡ later_parts parts → HasGrown mid after → (met_after : List UniqueSymbolId) (next : List Trail) → IsWalked after running before target rest next met_after → (path : Option Trail) → ((later : RootView) → trails_of_option later path ≡ link_to (part_head (definition_told later x) parts) (trails_told later next)) → IsChanged after running before x parts path met_after
   changed_on target is some rest others onward met_after next walked path told = λ later grown.
       let there = way_there later (grown_on onward grown) ∙ ap (way_told later) is in
-      let walk : Walks (links_of later.graph) enough (running_told later running) (met_told later before) (named later target) (later_texts parts) (trails_told later next) (met_told later met_after) = subst (λ ps. Walks (links_of later.graph) enough (running_told later running) (met_told later before) (named later target) ps (trails_told later next) (met_told later met_after)) others (walked later grown) in
-      let same : trails_of_option later path ≡ link_to (part_head (definition_told later x) (first_text parts ∷ later_texts parts)) (trails_told later next) = told later ∙ ap (λ ps. link_to (part_head (definition_told later x) ps) (trails_told later next)) (some_parts parts some) in
-      subst (λ f. ChangesOne (links_of later.graph) enough (running_told later running) (met_told later before) (first_text parts) (later_texts parts) (leaf (definition (definition_told later x))) f (met_told later met_after)) (sym same) (of_definition there walk)
+      let walk : Walks (links_of later.graph) enough (running_told later running) (met_told later before) (named later target) (later_parts parts) (trails_told later next) (met_told later met_after) = subst (λ ps. Walks (links_of later.graph) enough (running_told later running) (met_told later before) (named later target) ps (trails_told later next) (met_told later met_after)) others (walked later grown) in
+      let same : trails_of_option later path ≡ link_to (part_head (definition_told later x) (first_part parts ∷ later_parts parts)) (trails_told later next) = told later ∙ ap (λ ps. link_to (part_head (definition_told later x) ps) (trails_told later next)) (some_parts parts some) in
+      subst (λ f. ChangesOne (links_of later.graph) enough (running_told later running) (met_told later before) (first_part parts) (later_parts parts) (leaf (definition (definition_told later x))) f (met_told later met_after)) (sym same) (of_definition there walk)
 
 -- the link in its place
 pub head_in_place : (root : RootView) (symbol : UniqueSymbolId) (x : Definition) (ps : Parts) → symbol.module_id ≡ x.«module» → symbol.symbol_id ≡ x.symbol_decl.symbol → head_told root symbol.module_id symbol.symbol_id x.symbol_decl ps ≡ part_head (definition_told root x) ps
@@ -95,33 +94,22 @@ head_in_place root symbol x ps in_module number = (λ i. record { symbol = named
 pub definition_in_place : (root : RootView) (symbol : UniqueSymbolId) (x : Definition) → symbol.module_id ≡ x.«module» → one (leaf (definition (record { decl = decl_told root symbol.module_id x.symbol_decl; range = x.range; star = star_of x.kind }))) ≡ one (leaf (definition (definition_told root x)))
 definition_in_place root symbol x in_module = (λ i. one (leaf (definition (record { decl = decl_told root (in_module i) x.symbol_decl; range = x.range; star = star_of x.kind }))))
 
--- the parts behind the first
-pub parts_behind : (parts : List (Bor (List ℕ))) → texts_in (take (length parts - 1) (drop 1 parts)) ≡ later_texts parts
-parts_behind parts = ap texts_in (take_rest parts 1) ∙ by parts
-  where
-    by : (xs : List (Bor (List ℕ))) → texts_in (drop 1 xs) ≡ later_texts xs
-    by [] = refl
-    by (x ∷ xs) = refl
-
-pub one_less : (parts : List (Bor (List ℕ))) → 0 < length parts → length (take (length parts - 1) (drop 1 parts)) + 1 ≡ length parts
-one_less parts some = ap (λ (xs : List (Bor (List ℕ))). length xs + 1) (take_rest parts 1) ∙ by parts some
-  where
-    by : (xs : List (Bor (List ℕ))) → 0 < length xs → length (drop 1 xs) + 1 ≡ length xs
-    by [] some = absurd (omega (arith, some))
-    by (x ∷ xs) some = omega arith
+pub one_less : (parts : Parts) → 0 < length parts → length (later_parts parts) + 1 ≡ length parts
+one_less [] some = absurd (omega (arith, some))
+one_less (x ∷ xs) some = omega arith
 
 -- ---- the loop over the definitions; these are left
 
-pub record IsWalking (old : RootView) (running : List AliasDecl) (begun found_met : List UniqueSymbolId) (s : UniqueSymbolId) (parts : List (Bor (List ℕ))) (paths : List Trail) (root : RootView) (now : List AliasDecl) (rest : List Definition) (met : List UniqueSymbolId) (changed : List (Option Trail)) : Type 0 where
+pub record IsWalking (old : RootView) (running : List AliasDecl) (begun found_met : List UniqueSymbolId) (s : UniqueSymbolId) (parts : Parts) (paths : List Trail) (root : RootView) (now : List AliasDecl) (rest : List Definition) (met : List UniqueSymbolId) (changed : List (Option Trail)) : Type 0 where
   pub grown : HasGrown old root
   pub same : now ≡ running
   pub numbered : AreNumbered root met
   pub longer : length begun ≤ length met
   pub few : length begun ≤ 2 ^ 64 → length met ≤ 2 ^ 64
   pub stored : AreStored root (modules_of_trails (present changed))
-  pub told : (later : RootView) → HasGrown root later → IsStepping (links_of later.graph) enough (running_told later running) (met_told later found_met) (first_text parts) (later_texts parts) (defined_within (trails_told later paths)) (map (definition_told later) rest) (met_told later met) (map (trails_of_option later) changed)
+  pub told : (later : RootView) → HasGrown root later → IsStepping (links_of later.graph) enough (running_told later running) (met_told later found_met) (first_part parts) (later_parts parts) (defined_within (trails_told later paths)) (map (definition_told later) rest) (met_told later met) (map (trails_of_option later) changed)
 
-pub walking_first : (root new : RootView) (running : List AliasDecl) (begun found_met : List UniqueSymbolId) (s : UniqueSymbolId) (parts : List (Bor (List ℕ))) (paths : List Trail) (rest : List Definition) (now : List AliasDecl) → now ≡ running → HasGrown root new → HasSearched new begun found_met (modules_of_trails paths) → ((later : RootView) → map (definition_told later) rest ≡ defined_within (trails_told later paths)) → IsWalking root running begun found_met s parts paths new now rest found_met []
+pub walking_first : (root new : RootView) (running : List AliasDecl) (begun found_met : List UniqueSymbolId) (s : UniqueSymbolId) (parts : Parts) (paths : List Trail) (rest : List Definition) (now : List AliasDecl) → now ≡ running → HasGrown root new → HasSearched new begun found_met (modules_of_trails paths) → ((later : RootView) → map (definition_told later) rest ≡ defined_within (trails_told later paths)) → IsWalking root running begun found_met s parts paths new now rest found_met []
 walking_first root new running begun found_met s parts paths rest now same grown searched listed = record {
   grown = grown;
   same = same;
@@ -129,7 +117,7 @@ walking_first root new running begun found_met s parts paths rest now same grown
   longer = searched.longer;
   few = searched.few;
   stored = λ k d h. absurd (omega (arith, h));
-  told = λ later more. subst (λ xs. IsStepping (links_of later.graph) enough (running_told later running) (met_told later found_met) (first_text parts) (later_texts parts) (defined_within (trails_told later paths)) xs (met_told later found_met) []) (sym (listed later)) (stepping_first (links_of later.graph) enough (running_told later running) (met_told later found_met) (first_text parts) (later_texts parts) (defined_within (trails_told later paths)));
+  told = λ later more. subst (λ xs. IsStepping (links_of later.graph) enough (running_told later running) (met_told later found_met) (first_part parts) (later_parts parts) (defined_within (trails_told later paths)) xs (met_told later found_met) []) (sym (listed later)) (stepping_first (links_of later.graph) enough (running_told later running) (met_told later found_met) (first_part parts) (later_parts parts) (defined_within (trails_told later paths)));
 }
 
 present_with : (changed : List (Option Trail)) (path : Option Trail) → present (changed ++ path ∷ []) ≡ present changed ++ option_to_list path
@@ -154,7 +142,7 @@ stored_on root (x ∷ xs) ys a b =
         first others zero d w = h 0 d (omega arith)
         first others (suc k) d w = others k d (omega (arith, w))
 
-module _ {old : RootView} {running : List AliasDecl} {begun found_met : List UniqueSymbolId} {s : UniqueSymbolId} {parts : List (Bor (List ℕ))} {paths : List Trail} {root : RootView} {now : List AliasDecl} {rest : List Definition} {met : List UniqueSymbolId} {changed : List (Option Trail)} where
+module _ {old : RootView} {running : List AliasDecl} {begun found_met : List UniqueSymbolId} {s : UniqueSymbolId} {parts : Parts} {paths : List Trail} {root : RootView} {now : List AliasDecl} {rest : List Definition} {met : List UniqueSymbolId} {changed : List (Option Trail)} where
   pub walking_next : {after : RootView} {mid : List UniqueSymbolId} (x : Definition) → IsWalking old running begun found_met s parts paths root now (x ∷ rest) met changed → HasGrown root after → (path : Option Trail) → IsChanged after now met x parts path mid → (onward : List AliasDecl) → onward ≡ now → HasSearched after met mid (modules_of_trails (option_to_list path)) → IsWalking old running begun found_met s parts paths after onward rest mid (changed ++ path ∷ [])
   walking_next {after = after} {mid = mid} x is kept path stepped onward on searched = record {
     grown = grown_on is.grown kept;
@@ -163,18 +151,18 @@ module _ {old : RootView} {running : List AliasDecl} {begun found_met : List Uni
     longer = omega (arith, is.longer, searched.longer);
     few = λ h. searched.few (is.few h);
     stored = subst (λ ps. AreStored after (modules_of_trails ps)) (sym (present_with changed path)) (stored_on after (present changed) (option_to_list path) (all_still_stored kept (modules_of_trails (present changed)) is.stored) searched.stored);
-    told = λ later grown. subst (λ cs. IsStepping (links_of later.graph) enough (running_told later running) (met_told later found_met) (first_text parts) (later_texts parts) (defined_within (trails_told later paths)) (map (definition_told later) rest) (met_told later mid) cs) (sym (map-append (trails_of_option later) changed (path ∷ [])))
+    told = λ later grown. subst (λ cs. IsStepping (links_of later.graph) enough (running_told later running) (met_told later found_met) (first_part parts) (later_parts parts) (defined_within (trails_told later paths)) (map (definition_told later) rest) (met_told later mid) cs) (sym (map-append (trails_of_option later) changed (path ∷ [])))
         (stepping_next (links_of later.graph) enough (running_told later running) (definition_told later x) (is.told later (grown_on kept grown)) (subst (λ r. IsChanged after r met x parts path mid) is.same stepped later grown));
   }
 
-module _ {old : RootView} {running : List AliasDecl} {begun found_met : List UniqueSymbolId} {s : UniqueSymbolId} {parts : List (Bor (List ℕ))} {paths : List Trail} {root : RootView} {now : List AliasDecl} {met : List UniqueSymbolId} {changed : List (Option Trail)} where
-  pub walking_last : {new : RootView} (found : List Trail) → IsWalking old running begun found_met s parts paths root now [] met changed → 0 < length parts → HasGrown new root → IsFound new running begun s paths found_met → ((later : RootView) → trails_told later found ≡ (rebuilt (texts_in parts) (trails_told later paths) (map (trails_of_option later) changed)).0) → IsWalked root running begun s parts found met
+module _ {old : RootView} {running : List AliasDecl} {begun found_met : List UniqueSymbolId} {s : UniqueSymbolId} {parts : Parts} {paths : List Trail} {root : RootView} {now : List AliasDecl} {met : List UniqueSymbolId} {changed : List (Option Trail)} where
+  pub walking_last : {new : RootView} (found : List Trail) → IsWalking old running begun found_met s parts paths root now [] met changed → 0 < length parts → HasGrown new root → IsFound new running begun s paths found_met → ((later : RootView) → trails_told later found ≡ (rebuilt parts (trails_told later paths) (map (trails_of_option later) changed)).0) → IsWalked root running begun s parts found met
   walking_last found is some since was_found told = λ later grown.
       let it = stepping_last (links_of later.graph) enough (running_told later running) (is.told later grown) (was_found later (grown_on since grown)) in
       let parts_are = some_parts parts some in
-      let same : trails_told later found ≡ (rebuilt (first_text parts ∷ later_texts parts) (trails_told later paths) (map (trails_of_option later) changed)).0 = told later ∙ ap (λ ps. (rebuilt ps (trails_told later paths) (map (trails_of_option later) changed)).0) parts_are in
+      let same : trails_told later found ≡ (rebuilt (first_part parts ∷ later_parts parts) (trails_told later paths) (map (trails_of_option later) changed)).0 = told later ∙ ap (λ ps. (rebuilt ps (trails_told later paths) (map (trails_of_option later) changed)).0) parts_are in
       subst (λ ps. Walks (links_of later.graph) enough (running_told later running) (met_told later begun) (named later s) ps (trails_told later found) (met_told later met)) (sym parts_are)
-      (subst (λ f. Walks (links_of later.graph) enough (running_told later running) (met_told later begun) (named later s) (first_text parts ∷ later_texts parts) f (met_told later met)) (sym same) it)
+      (subst (λ f. Walks (links_of later.graph) enough (running_told later running) (met_told later begun) (named later s) (first_part parts ∷ later_parts parts) f (met_told later met)) (sym same) it)
 
 -- ---- an alias
 
@@ -182,14 +170,14 @@ module _ (root : RootView) (once : IsDistinct bytes_eq root.stored) (running : L
   later_running : (later : RootView) → HasGrown root later → list_any (is_alias_decl alias) running ≡ is_running (running_told later running) (alias_told later alias)
   later_running later grown = running_by_name later (grown.once once) running alias (still_aliases grown running numbered) (still_stored grown alias.«module».0 within)
 
-  pub resolved_open : (target : UniqueSymbolId) (parts : List (Bor (List ℕ))) → list_any (is_alias_decl alias) running ≡ true → IsResolved root running alias target parts []
+  pub resolved_open : (target : UniqueSymbolId) (parts : Parts) → list_any (is_alias_decl alias) running ≡ true → IsResolved root running alias target parts []
   resolved_open target parts open_now = λ later grown. while_running (sym (later_running later grown) ∙ open_now)
 
-  pub resolved_walk : {after : RootView} (target : UniqueSymbolId) (parts : List (Bor (List ℕ))) (paths : List Trail) (met : List UniqueSymbolId) → list_any (is_alias_decl alias) running ≡ false → length running < 2 ^ 64 → length met ≤ 2 ^ 64 → HasGrown root after → IsWalked after (running ++ alias ∷ []) [] target parts paths met → IsResolved after running alias target parts paths
+  pub resolved_walk : {after : RootView} (target : UniqueSymbolId) (parts : Parts) (paths : List Trail) (met : List UniqueSymbolId) → list_any (is_alias_decl alias) running ≡ false → length running < 2 ^ 64 → length met ≤ 2 ^ 64 → HasGrown root after → IsWalked after (running ++ alias ∷ []) [] target parts paths met → IsResolved after running alias target parts paths
   resolved_walk target parts paths met fresh few fits kept walked = λ later grown.
       let closed = sym (later_running later (grown_on kept grown)) ∙ fresh in
       by_walk closed (omega (arith, few, length-map running (alias_told later))) (omega (arith, fits, length-map met (named later)))
-      (subst (λ r. Walks (links_of later.graph) enough r [] (named later target) (texts_in parts) (trails_told later paths) (met_told later met)) (running_with later running alias) (walked later grown))
+      (subst (λ r. Walks (links_of later.graph) enough r [] (named later target) parts (trails_told later paths) (met_told later met)) (running_with later running alias) (walked later grown))
 
 -- ---- the definitions that are left: each is of a stored module, which is needed, and a star import is declared there
 
@@ -255,7 +243,7 @@ refused_given {s = s} {root = root} old new x fault known before onward is refus
     subst (λ v. IsRefused new v fault) (same_specifier before s.module_id known) (refused_from new needed refused)
 
 -- of the symbol that a part leads to
-pub refused_on : (old mid new : RootView) (x : Definition) (parts : List (Bor (List ℕ))) (target : UniqueSymbolId) (fault : SymbolsFault) → HasGrown old mid → HasGrown mid new → IsStarDeclared old.graph (definition_told old x) → to (named mid target) ≡ part_of old.graph (definition_told old x) (first_text parts) (later_texts parts) → IsRefused new (specifier_in mid target.module_id) fault → IsRefused new (specifier_in old x.«module») fault
+pub refused_on : (old mid new : RootView) (x : Definition) (parts : Parts) (target : UniqueSymbolId) (fault : SymbolsFault) → HasGrown old mid → HasGrown mid new → IsStarDeclared old.graph (definition_told old x) → to (named mid target) ≡ part_of old.graph (definition_told old x) (first_part parts) (later_parts parts) → IsRefused new (specifier_in mid target.module_id) fault → IsRefused new (specifier_in old x.«module») fault
 refused_on old mid new x parts target fault kept onward declared leads_to refused =
-    let there : IsNeeded old.graph (specifier_in old x.«module») (specifier_in mid target.module_id) = part_needed old.graph (definition_told old x) (first_text parts) (later_texts parts) (named mid target) declared (sym leads_to) in
+    let there : IsNeeded old.graph (specifier_in old x.«module») (specifier_in mid target.module_id) = part_needed old.graph (definition_told old x) (first_part parts) (later_parts parts) (named mid target) declared (sym leads_to) in
     refused_from new (subst (λ g. IsNeeded g (specifier_in old x.«module») (specifier_in mid target.module_id)) (sym (onward.graph ∙ kept.graph)) there) refused

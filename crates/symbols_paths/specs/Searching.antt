@@ -1,6 +1,5 @@
 -- For inner functions and proofs alone: what each step of a search promises.
 use Rattle.std.specs.Prelude.{◌≡◌, ℕ, ◌<◌, ◌≤◌, ◌^◌, true, false, List, [], ◌∷◌, ◌++◌, length, map, All, Option, Some, None, Contains, slice_get}
-use Rattle.std.specs.Borrow.{Bor}
 use Rattle.std.specs.Option.{option_map}
 use Rattle.symbols_syntax.specs.declared.ids.ModuleId.{ModuleId}
 use Rattle.symbols_syntax.specs.declared.ids.UniqueSymbolId.{UniqueSymbolId}
@@ -22,8 +21,8 @@ use Rattle.symbols_paths.specs.Leads.{Ways, Lead, defines, leads, alias, nowhere
 use Rattle.symbols_paths.specs.PartWays.{PartWay, to, itself, lacks, Links, links_of}
 use Rattle.symbols_paths.specs.Choice.{is_running, Finds, Follows, Tries, Walks, ChangesOne}
 use Rattle.symbols_paths.specs.Computed.{enough}
-use Rattle.symbols_paths.specs.Views.{named, named_in, decl_told, definition_told, unresolved_told, texts_in, first_text, later_texts, star_of, AreStored}
-use Rattle.symbols_paths.specs.Trails.{trails_told, trails_of_option}
+use Rattle.symbols_paths.specs.Views.{named, named_in, decl_told, definition_told, unresolved_told, first_part, later_parts, star_of, AreStored}
+use Rattle.symbols_paths.specs.Trails.{parts_told, trails_told, trails_of_option}
 use Rattle.symbols_paths.specs.Growing.{HasGrown}
 
 -- what is found of a symbol, if there is one
@@ -41,8 +40,8 @@ abbrev pub lead_told : GraphView → NamedSymbol → ReadLead → Lead
 lead_told graph s (read.Defines kind range) = defines range (star_of kind)
 lead_told graph s read.Nowhere = leads (nowhere s)
 lead_told graph s (read.Target t) = leads (target_ways s (Some t))
-lead_told graph s (read.Unmapped id parts) = alias_lead s (id_view id.now) (texts_in parts.items) None
-lead_told graph s (read.Alias t parts) = alias (record { specifier = s.specifier; number = t }) (texts_in parts.items)
+lead_told graph s (read.Unmapped id parts) = alias_lead s (id_view id.now) (parts_told parts) None
+lead_told graph s (read.Alias t parts) = alias (record { specifier = s.specifier; number = t }) (parts_told parts)
 lead_told graph s (read.Import taken) = leads (import_ways graph s taken.name.now taken.text.now (text_target graph s.specifier taken.text.now))
 
 -- an import that was read is one by this name and text
@@ -121,13 +120,13 @@ abbrev pub IsOffered : RootView → List AliasDecl → List UniqueSymbolId → O
 IsOffered root running before candidate paths after = (later : RootView) → HasGrown root later → FindsOne (links_of later.graph) enough (running_told later running) (met_told later before) (option_map (named later) candidate) (trails_told later paths) (met_told later after)
 
 -- what an alias came to
-abbrev pub IsResolved : RootView → List AliasDecl → AliasDecl → UniqueSymbolId → List (Bor (List ℕ)) → List Trail → Type 0
-IsResolved root running d target parts paths = (later : RootView) → HasGrown root later → Resolves (links_of later.graph) enough (running_told later running) (alias_told later d) (named later target) (texts_in parts) (trails_told later paths)
+abbrev pub IsResolved : RootView → List AliasDecl → AliasDecl → UniqueSymbolId → Parts → List Trail → Type 0
+IsResolved root running d target parts paths = (later : RootView) → HasGrown root later → Resolves (links_of later.graph) enough (running_told later running) (alias_told later d) (named later target) parts (trails_told later paths)
 
 -- what a symbol came to under parts
-abbrev pub IsWalked : RootView → List AliasDecl → List UniqueSymbolId → UniqueSymbolId → List (Bor (List ℕ)) → List Trail → List UniqueSymbolId → Type 0
-IsWalked root running before s parts paths after = (later : RootView) → HasGrown root later → Walks (links_of later.graph) enough (running_told later running) (met_told later before) (named later s) (texts_in parts) (trails_told later paths) (met_told later after)
+abbrev pub IsWalked : RootView → List AliasDecl → List UniqueSymbolId → UniqueSymbolId → Parts → List Trail → List UniqueSymbolId → Type 0
+IsWalked root running before s parts paths after = (later : RootView) → HasGrown root later → Walks (links_of later.graph) enough (running_told later running) (met_told later before) (named later s) parts (trails_told later paths) (met_told later after)
 
 -- what stands in the place of a definition
-abbrev pub IsChanged : RootView → List AliasDecl → List UniqueSymbolId → Definition → List (Bor (List ℕ)) → Option Trail → List UniqueSymbolId → Type 0
-IsChanged root running before x parts path after = (later : RootView) → HasGrown root later → ChangesOne (links_of later.graph) enough (running_told later running) (met_told later before) (first_text parts) (later_texts parts) (leaf (definition (definition_told later x))) (trails_of_option later path) (met_told later after)
+abbrev pub IsChanged : RootView → List AliasDecl → List UniqueSymbolId → Definition → Parts → Option Trail → List UniqueSymbolId → Type 0
+IsChanged root running before x parts path after = (later : RootView) → HasGrown root later → ChangesOne (links_of later.graph) enough (running_told later running) (met_told later before) (first_part parts) (later_parts parts) (leaf (definition (definition_told later x))) (trails_of_option later path) (met_told later after)

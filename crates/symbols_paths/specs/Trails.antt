@@ -1,7 +1,10 @@
 -- For inner functions and proofs alone: paths while they are searched for, as a root tells them.
-use Rattle.std.specs.Prelude.{List, [], ◌∷◌, ◌++◌, map, Option, Some, None}
+use Rattle.std.specs.Prelude.{List, [], ◌∷◌, ◌++◌, map, drop, Option, Some, None}
+use Rattle.std.specs.Option.{option_map_or}
+use Rattle.std.specs.Rc.{rc_slice_items}
 use Rattle.symbols_syntax.specs.declared.ids.ModuleId.{ModuleId}
 use Rattle.symbols_root.specs.Roots.{RootView}
+use Rattle.symbols_paths.specs.declared.paths.shared_parts.SharedParts.{SharedParts}
 use Rattle.symbols_paths.specs.declared.paths.trail.Step.{Step}
 use Rattle.symbols_paths.specs.declared.paths.trail.Stretch.{Stretch}
 use Rattle.symbols_paths.specs.declared.paths.trail.Stretch.TheFolds.{fold-Stretch}
@@ -13,9 +16,13 @@ use Rattle.symbols_paths.specs.Trees.{Parts, LinkHead, Forest, leaf, none, one, 
 use Rattle.symbols_paths.specs.Derived.{under_parts}
 use Rattle.symbols_paths.specs.Views.{named, decl_told, texts_of, leaf_told, module_of_end, joined}
 
+-- the parts of a list from the first that is still looked for
+abbrev pub parts_told : SharedParts → Parts
+parts_told parts = drop parts.first (texts_of (rc_slice_items parts.list))
+
 -- what a step's link tells
 abbrev pub step_head : RootView → Step → LinkHead
-step_head root step = record { symbol = named root step.symbol; decl = decl_told root step.symbol.module_id step.symbol_decl; parts = texts_of step.parts.items }
+step_head root step = record { symbol = named root step.symbol; decl = decl_told root step.symbol.module_id step.symbol_decl; parts = option_map_or parts_told step.parts [] }
 
 -- the same links, where these parts are looked for
 abbrev pub heads_under : Parts → List LinkHead → List LinkHead
@@ -28,7 +35,7 @@ all_heads (heads ∷ rest) = heads ++ all_heads rest
 
 abbrev pub stretch_heads : RootView → stretch.Stretch-F (List LinkHead) → List LinkHead
 stretch_heads root (stretch.Step step) = step_head root step ∷ []
-stretch_heads root (stretch.Under parts inner) = heads_under (texts_of parts.items) (all_heads inner.items)
+stretch_heads root (stretch.Under parts inner) = heads_under (parts_told parts) (all_heads inner.items)
 
 abbrev pub heads_of : RootView → Stretch → List LinkHead
 heads_of root = fold-Stretch (List LinkHead) (stretch_heads root)

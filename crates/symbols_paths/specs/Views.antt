@@ -56,17 +56,18 @@ reason_told (why.Part name) = no_part (string_bytes name)
 abbrev pub texts_of : List (String Global) → Parts
 texts_of texts = map (λ text. string_bytes text) texts
 
--- names of parts that are lent: all of them, the first, and those behind it
+-- texts that are lent
 abbrev pub texts_in : List (Bor (List ℕ)) → Parts
 texts_in texts = map (λ (text : Bor (List ℕ)). text.now) texts
 
-abbrev pub first_text : List (Bor (List ℕ)) → List ℕ
-first_text [] = []
-first_text (text ∷ texts) = text.now
+-- the first of some parts, and those behind it
+abbrev pub first_part : Parts → List ℕ
+first_part [] = []
+first_part (p ∷ ps) = p
 
-abbrev pub later_texts : List (Bor (List ℕ)) → Parts
-later_texts [] = []
-later_texts (text ∷ texts) = texts_in texts
+abbrev pub later_parts : Parts → Parts
+later_parts [] = []
+later_parts (p ∷ ps) = ps
 
 abbrev pub unresolved_told : RootView → DefinitionUnresolved → Missing
 unresolved_told root x = record { specifier = specifier_in root x.«module»; reason = reason_told x.kind; parts = texts_of x.parts.items }

@@ -11,6 +11,7 @@ mod rebuild;
 mod resolve;
 mod resolving;
 mod search;
+mod shared_parts;
 mod targets;
 mod trail;
 mod unresolved;

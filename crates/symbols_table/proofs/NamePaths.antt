@@ -1,7 +1,9 @@
 -- Paths of symbols, and the names along them.
-use Rattle.std.proofs.Common.{◌≡◌, ℕ, zero, suc, ◌<◌, length, get_or, true, arith, subst, List, [], ◌∷◌, ◌++◌, Option, None, Some, refl, sym, ap, ◌∙◌, append_assoc}
-use Rattle.std.specs.Prelude.{codes, slice_get, string_bytes, String}
+use Rattle.std.proofs.Common.{◌≡◌, inl, inr, ℕ, zero, suc, ◌<◌, length, get_or, arith, subst, List, [], ◌∷◌, ◌++◌, Option, None, Some, refl, sym, ap, ◌∙◌, append_assoc, append-nil}
+use Rattle.std.specs.Prelude.{slice_get}
+use Rattle.std.specs.Cow.{cow_str_bytes}
 use Rattle.std.specs.Global.{Global}
+use Rattle.std.specs.declared.borrow.CowStr.{CowStr}
 use Rattle.std.proofs.lemmas.Option.{slice_get_read, slice_get-get_or, get_or_from_slice_get}
 use Rattle.std.specs.Option.{option_and_then, option_map}
 use Rattle.symbols_syntax.specs.declared.ids.ModuleId.{ModuleId}
@@ -9,10 +11,9 @@ use Rattle.symbols_syntax.specs.declared.ids.SymbolId.{SymbolId}
 use Rattle.symbols_table.specs.declared.decl.symbol.Symbol.{Symbol}
 use Rattle.symbols_table.specs.declared.info.qualified_name.Named.{Named}
 use Rattle.symbols_table.specs.Laws.{IsParentOf, AreLawful}
-use Rattle.symbols_table.specs.NamePaths.{IsNamed, IsNamedPart}
-use Rattle.symbols_nodes.specs.NodeTests.{is_class}
-use Rattle.symbols_table.specs.SymbolViews.{SymbolView, symbol_view, symbol_name, symbol_test, numbered}
-use Rattle.symbols_table.specs.QualifiedNames.{SymbolAt, has_member, name_over, path_name, path_within, path_to}
+use Rattle.symbols_table.specs.NamePaths.{text_told, IsNamed, IsNamedPart}
+use Rattle.symbols_table.specs.SymbolViews.{SymbolView, symbol_view, symbol_name, numbered}
+use Rattle.symbols_table.specs.QualifiedNames.{SymbolAt, name_over, path_name, path_within, path_to, if_any, qualified_name}
 
 -- a path ends below the module
 pub path_ends : (symbols : SymbolAt) (n : ℕ) (s : SymbolId) (symbol : SymbolView) → symbols s ≡ Some symbol → symbol.parent ≡ None → path_within symbols (suc n) s ≡ []
@@ -39,10 +40,15 @@ no_name_first symbol (inner ∷ lower) none = by (path_name (inner ∷ lower)) r
     by None e = refl
     by (Some text) e = rw none refl
 
--- what is called in a class
-pub over_class : (symbol : SymbolView) (inner : SymbolId) (text name : List ℕ) → 0 < length text → has_member symbol inner ≡ true → symbol_test is_class symbol ≡ true → name_over symbol inner text name ≡ name ++ (codes ".prototype." ++ text)
-over_class symbol inner [] name some member class = absurd (omega (arith, some))
-over_class symbol inner (b ∷ text) name some member class = rw (member, class) refl
+-- one piece more is the first of the text
+pub piece_first : (pieces : List (CowStr Global)) (piece : CowStr Global) → text_told (pieces ++ piece ∷ []) ≡ cow_str_bytes piece ++ text_told pieces
+piece_first [] piece = sym (append-nil (cow_str_bytes piece))
+piece_first (last ∷ pieces) piece = ap (λ (text : List ℕ). text ++ cow_str_bytes last) (piece_first pieces piece) ∙ append_assoc (cow_str_bytes piece) (text_told pieces) (cow_str_bytes last)
+
+-- the first piece of some is taken to the text before them
+pub one_taken : (text first : List ℕ) (pieces rest : List (CowStr Global)) (piece : CowStr Global) (whole : List ℕ) → pieces ≡ rest ++ piece ∷ [] → first ≡ cow_str_bytes piece → text ++ text_told pieces ≡ whole → (text ++ first) ++ text_told rest ≡ whole
+one_taken text first pieces rest piece whole is first_is so =
+    append_assoc text first (text_told rest) ∙ (ap (λ t. text ++ t) (ap (λ t. t ++ text_told rest) first_is ∙ (sym (piece_first rest piece) ∙ sym (ap text_told is))) ∙ so)
 
 -- what was read of the path to a symbol, and what is left of it: the path to this number, of so many symbols at most
 abbrev pub IsReadTo : List Symbol → SymbolId → SymbolId → Option Named → Type 0
@@ -70,12 +76,12 @@ shorter symbols asked number parent symbol n lower at has path =
     path ∙ ap (λ (p : List SymbolView). p ++ lower) up ∙ append_assoc (path_within (numbered symbols) n parent) (symbol_view symbol ∷ []) lower
 
 -- one symbol more was read
-pub one_more : (symbols : List Symbol) (module_id : ModuleId) (asked number parent : SymbolId) (symbol d : Symbol) (inner : Option Named) (name : List ℕ) (text : String Global) → AreLawful module_id symbols → symbol ≡ get_or symbols number.0 symbol
+pub one_more : (symbols : List Symbol) (module_id : ModuleId) (asked number parent : SymbolId) (symbol d : Symbol) (inner named : Option Named) (name : List ℕ) → AreLawful module_id symbols → symbol ≡ get_or symbols number.0 symbol
     → (get_or symbols number.0 d).parent_id ≡ Some parent → symbol_name (symbol_view symbol) ≡ Some name
-    → ((path : List SymbolView) → IsNamed inner path → symbol_name (symbol_view symbol) ≡ Some name → path_name (symbol_view symbol ∷ path) ≡ Some (string_bytes text)) → IsReadTo symbols asked number inner
-    → IsReadTo symbols asked parent (Some (record { number = number; text = text }))
-one_more symbols module_id asked number parent symbol d inner name text lawful read has named called (zero, lower, below, few, path, told) = absurd (omega (arith, few))
-one_more symbols module_id asked number parent symbol d inner name text lawful read has named called (suc n, lower, below, few, path, told) =
+    → ((path : List SymbolView) → IsNamed inner path → symbol_name (symbol_view symbol) ≡ Some name → IsNamed named (symbol_view symbol ∷ path)) → IsReadTo symbols asked number inner
+    → IsReadTo symbols asked parent named
+one_more symbols module_id asked number parent symbol d inner named name lawful read has has_name called (zero, lower, below, few, path, told) = absurd (omega (arith, few))
+one_more symbols module_id asked number parent symbol d inner named name lawful read has has_name called (suc n, lower, below, few, path, told) =
     let at = stands symbols number symbol below read in
     let lower_number = falls symbols module_id number parent d lawful below has in (
       n,
@@ -83,20 +89,17 @@ one_more symbols module_id asked number parent symbol d inner name text lawful r
       omega (arith, lower_number, below),
       omega (arith, lower_number, few),
       shorter symbols asked number parent symbol n lower at (has_parent symbols number parent symbol d at has) path,
-      record {
-        first = (symbol_view symbol, lower, refl, (lawful number symbol at).number);
-        name = called lower told named;
-      },
+      called lower told has_name,
     )
 
 -- a symbol on the path has no name
 pub unnamed : (symbols : List Symbol) (asked number parent : SymbolId) (symbol d : Symbol) (inner : Option Named) → symbol ≡ get_or symbols number.0 symbol → (get_or symbols number.0 d).parent_id ≡ Some parent → symbol_name (symbol_view symbol) ≡ None
-    → IsReadTo symbols asked number inner → None ≡ path_name (path_to (numbered symbols) asked)
+    → IsReadTo symbols asked number inner → None ≡ qualified_name (numbered symbols) asked
 unnamed symbols asked number parent symbol d inner read has none (zero, lower, below, few, path, told) = absurd (omega (arith, few))
 unnamed symbols asked number parent symbol d inner read has none (suc n, lower, below, few, path, told) =
     let at = stands symbols number symbol below read in
     let whole = shorter symbols asked number parent symbol n lower at (has_parent symbols number parent symbol d at has) path in
-    sym (ap path_name whole ∙ no_name_above (path_within (numbered symbols) n parent) (symbol_view symbol) lower (no_name_first (symbol_view symbol) lower none))
+    sym (ap (option_and_then if_any) (ap path_name whole ∙ no_name_above (path_within (numbered symbols) n parent) (symbol_view symbol) lower (no_name_first (symbol_view symbol) lower none)))
 
 -- the whole path was read
 all_read : (symbols : List Symbol) (asked number : SymbolId) (d : Symbol) (inner : Option Named) → (get_or symbols number.0 d).parent_id ≡ None → (is : IsReadTo symbols asked number inner) → path_to (numbered symbols) asked ≡ is.1
@@ -105,13 +108,22 @@ all_read symbols asked number d inner none (suc n, lower, below, few, path, told
     let at = ap (option_map symbol_view) (slice_get-get_or symbols number.0 d below) in
     path ∙ ap (λ (p : List SymbolView). p ++ lower) (path_ends (numbered symbols) n number (symbol_view (get_or symbols number.0 d)) at none)
 
+any_text : (text : List ℕ) → 0 < length text → if_any text ≡ Some text
+any_text [] some = absurd (omega (arith, some))
+any_text (b ∷ text) some = refl
+
 pub whole_name : (symbols : List Symbol) (asked number : SymbolId) (d : Symbol) (inner : Option Named) (named : Named) → (get_or symbols number.0 d).parent_id ≡ None → IsReadTo symbols asked number inner → inner ≡ Some named
-    → Some (string_bytes named.text) ≡ path_name (path_to (numbered symbols) asked)
+    → Some (text_told named.pieces.items) ≡ qualified_name (numbered symbols) asked
 whole_name symbols asked number d inner named none is has =
     let part : IsNamedPart named is.1 = subst (λ (o : Option Named). IsNamed o is.1) has is.5 in
-    sym (ap path_name (all_read symbols asked number d inner none is) ∙ part.name)
+    sym (ap (option_and_then if_any) (ap path_name (all_read symbols asked number d inner none is) ∙ part.name) ∙ any_text (text_told named.pieces.items) part.some)
 
-pub no_path : (symbols : List Symbol) (asked number : SymbolId) (d : Symbol) (inner : Option Named) → (get_or symbols number.0 d).parent_id ≡ None → IsReadTo symbols asked number inner → inner ≡ None → None ≡ path_name (path_to (numbered symbols) asked)
-no_path symbols asked number d inner none is has =
-    let empty : is.1 ≡ [] = subst (λ (o : Option Named). IsNamed o is.1) has is.5 in
-    sym (ap path_name (all_read symbols asked number d inner none is ∙ empty))
+pub no_path : (symbols : List Symbol) (asked number : SymbolId) (d : Symbol) (inner : Option Named) → (get_or symbols number.0 d).parent_id ≡ None → IsReadTo symbols asked number inner → inner ≡ None → None ≡ qualified_name (numbered symbols) asked
+no_path symbols asked number d inner none is has = by (subst (λ (o : Option Named). IsNamed o is.1) has is.5)
+  where
+    whole : qualified_name (numbered symbols) asked ≡ option_and_then if_any (path_name is.1)
+    whole = ap (λ path. option_and_then if_any (path_name path)) (all_read symbols asked number d inner none is)
+
+    by : IsNamed None is.1 → None ≡ qualified_name (numbered symbols) asked
+    by (inl empty) = sym (whole ∙ ap (λ path. option_and_then if_any (path_name path)) empty)
+    by (inr empty) = sym (whole ∙ ap (option_and_then if_any) empty)

@@ -26,17 +26,17 @@ escaped_char c = if c == 34 then 92 ∷ 34 ∷ [] else c ∷ []
 abbrev pub escaped : List ℕ → List ℕ
 escaped text = encode_utf8_all (flat_map escaped_char (chars text))
 
--- a name, and what is called so in it: `name.text`, of a member `name["text"]`, of a member of a class `name.prototype.text`
-abbrev pub joined : SymbolView → SymbolId → List ℕ → List ℕ → List ℕ
-joined symbol inner name text =
-    if not (has_member symbol inner) then name ++ (codes "." ++ text) else
-    if symbol_test is_class symbol then name ++ (codes ".prototype." ++ text) else
-    name ++ (codes "[\"" ++ (escaped text ++ codes "\"]"))
+-- what follows a symbol's name before the text that a symbol in it is called: `.text`, before a member `["text"]`, before a member of a class `.prototype.text`
+abbrev pub behind : SymbolView → SymbolId → List ℕ → List ℕ
+behind symbol inner text =
+    if not (has_member symbol inner) then codes "." ++ text else
+    if symbol_test is_class symbol then codes ".prototype." ++ text else
+    codes "[\"" ++ (escaped text ++ codes "\"]")
 
 -- the name of a symbol where it stands alone, or where what is called in it has no text
 abbrev pub name_over : SymbolView → SymbolId → List ℕ → List ℕ → List ℕ
 name_over symbol inner [] name = name
-name_over symbol inner (b ∷ text) name = joined symbol inner name (b ∷ text)
+name_over symbol inner (b ∷ text) name = name ++ behind symbol inner (b ∷ text)
 
 -- the name along a path of symbols, each in the one before; there is none where a symbol has none
 abbrev pub path_name : List SymbolView → Option (List ℕ)

@@ -7,18 +7,48 @@ ghost use Rattle.symbols_paths.specs.Trees.{Forest, leaves_in, definitions_in};
 ghost use Rattle.symbols_paths.specs.PartWays.{links_of};
 ghost use Rattle.symbols_paths.specs.Choice.{IsChosen};
 ghost use Rattle.symbols_paths.specs.Computed.{paths_of};
-ghost use Rattle.symbols_paths.specs.Views.{named_in, forest_told, definition_told, leaf_told, definitions_left, ends_left};
+ghost use Rattle.symbols_paths.specs.Views.{named_in, forest_told, definition_told, leaf_told, definitions_left, ends_left, AreStored};
+ghost use Rattle.symbols_paths.specs.Trails.{trails_told, modules_of_trails};
 ghost use Rattle.symbols_paths.specs.Growing.{HasGrown};
 ghost use Rattle.symbols_paths.specs.Answers.{ArePaths, symbol_in, IsPathsAnswer, IsPathsFault};
 
 use crate::paths::iter::{DefinitionsIter, DefinitionsOrUnresolvedsIter, definitions_of, ends_of};
 use crate::paths::node::DefinitionPathNode;
 use crate::paths::search::find;
+use crate::paths::trail::Trail;
 use crate::paths::unroll::nodes_of;
 use indexmap::IndexSet;
 use symbols_root::root::RootSymbol;
 use symbols_table::info::SymbolsFault;
 use symbols_tree::ids::{ModuleId, SymbolId, UniqueSymbolId};
+
+/// The paths of a symbol of a stored module, as trails.
+fn trails_of<'a>(
+    root: &mut RootSymbol<'a>,
+    module_id: ModuleId,
+    symbol_id: SymbolId,
+) -> Result<Vec<Trail<'a>>, SymbolsFault>
+    ensures answers { IfOk result (λ trails. ArePaths root.old.graph (named_in root.old module_id symbol_id) (trails_told root.new trails.items)) }
+    ensures listed { IfOk result (λ trails. trails_told root.new trails.items ≡ paths_of root.old.graph (named_in root.old module_id symbol_id)) }
+    ensures known { IfOk result (λ trails. (module_id.0 < length root.old.stored) × (symbol_in root.old module_id symbol_id ≢ None)) }
+    ensures stored { IfOk result (λ trails. AreStored root.new (modules_of_trails trails.items)) }
+    ensures faults { IfErr result (IsPathsFault root.old root.new module_id symbol_id) }
+    ensures kept { HasGrown root.old root.new }
+    ensures enough { root.old.limits ≡ widest → module_id.0 < length root.old.stored → symbol_in root.old module_id symbol_id ≢ None → IfErr result (λ fault. fault ≡ OutOfMemory) }
+{
+    match root.module_from_id(module_id) {
+        None => return Err(SymbolsFault::UnknownModule),
+        Some(info) => {
+            if info.symbol(symbol_id).is_none() {
+                return Err(SymbolsFault::UnknownSymbol);
+            }
+        }
+    }
+    let mut resolving = IndexSet::new(root.alloc());
+    let mut met = IndexSet::new(root.alloc());
+    let symbol = UniqueSymbolId::new(module_id, symbol_id);
+    find(root, &mut resolving, &mut met, symbol)
+}
 
 /// The paths to what a symbol of a stored module is defined by (as deno_graph, which finds them by a
 /// module and a symbol of it): along other names of its module, aliases with parts behind a name,
@@ -42,18 +72,7 @@ pub fn find_definition_paths<'a>(
     ensures only { (f g : Forest) → IsChosen (links_of root.old.graph) (named_in root.old module_id symbol_id) f → IsChosen (links_of root.old.graph) (named_in root.old module_id symbol_id) g → f ≡ g }
     ensures enough { root.old.limits ≡ widest → module_id.0 < length root.old.stored → symbol_in root.old module_id symbol_id ≢ None → IfErr result (λ fault. fault ≡ OutOfMemory) }
 {
-    match root.module_from_id(module_id) {
-        None => return Err(SymbolsFault::UnknownModule),
-        Some(info) => {
-            if info.symbol(symbol_id).is_none() {
-                return Err(SymbolsFault::UnknownSymbol);
-            }
-        }
-    }
-    let mut resolving = IndexSet::new(root.alloc());
-    let mut met = IndexSet::new(root.alloc());
-    let symbol = UniqueSymbolId::new(module_id, symbol_id);
-    match find(root, &mut resolving, &mut met, symbol) {
+    match trails_of(root, module_id, symbol_id) {
         Err(fault) => Err(fault),
         Ok(trails) => Ok(nodes_of(root.alloc(), trails)?),
     }
@@ -77,11 +96,10 @@ pub fn go_to_definitions_or_unresolveds<'a>(
     ensures kept { HasGrown root.old root.new }
     ensures enough { root.old.limits ≡ widest → module_id.0 < length root.old.stored → symbol_in root.old module_id symbol_id ≢ None → IfErr result (λ fault. fault ≡ OutOfMemory) }
 {
-    let paths = match find_definition_paths(root, module_id, symbol_id) {
-        Err(fault) => return Err(fault),
-        Ok(paths) => paths,
-    };
-    Ok(ends_of(root.alloc(), paths)?)
+    match trails_of(root, module_id, symbol_id) {
+        Err(fault) => Err(fault),
+        Ok(trails) => Ok(ends_of(root.alloc(), trails)?),
+    }
 }
 
 /// The definitions of a symbol, those at the ends of these paths from left to right (as deno_graph).

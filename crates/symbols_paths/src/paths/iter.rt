@@ -4,9 +4,11 @@ ghost use Rattle.std.specs.Prelude.{◌≡◌, ◌++◌, ◌∷◌, [], map, IfO
 ghost use Rattle.symbols_root.specs.Roots.{RootView};
 ghost use Rattle.symbols_paths.specs.Trees.{leaves_of, leaves_in, definitions_in};
 ghost use Rattle.symbols_paths.specs.Views.{tree_told, forest_told, definition_told, leaf_told, module_of_end, symbol_of_end, definitions_left, ends_left};
+ghost use Rattle.symbols_paths.specs.Trails.{trail_told, trails_told};
 
 use crate::paths::definition::Definition;
 use crate::paths::node::{DefinitionPathLink, DefinitionPathNode, DefinitionPathNodeResolved};
+use crate::paths::trail::Trail;
 use crate::paths::unresolved::DefinitionUnresolved;
 use std::alloc::{AllocError, Global};
 use std::collections::VecDeque;
@@ -128,15 +130,49 @@ fn add_end<'a>(
     }
 }
 
-/// The ends of paths.
+/// Adds the ends of trails.
+#[cycle(trail_ends)]
+fn add_trail_ends<'a>(
+    trails: Vec<Trail<'a>>,
+    left: &mut VecDeque<DefinitionOrUnresolved<'a>>,
+) -> Result<(), AllocError>
+    ensures { OnOk result ((root : RootView) → map (leaf_told root) left.new.items ≡ map (leaf_told root) left.old.items ++ leaves_in (trails_told root trails.entry.items)) }
+{
+    for trail in trails {
+        add_trail_end(trail, left)?;
+    }
+    Ok(())
+}
+
+/// Adds the ends of a trail.
+#[cycle(trail_ends)]
+fn add_trail_end<'a>(
+    trail: Trail<'a>,
+    left: &mut VecDeque<DefinitionOrUnresolved<'a>>,
+) -> Result<(), AllocError>
+    ensures { OnOk result ((root : RootView) → map (leaf_told root) left.new.items ≡ map (leaf_told root) left.old.items ++ leaves_in (trail_told root trail.entry)) }
+{
+    match trail {
+        Trail::To(_, end) => {
+            left.push_back(end)?;
+            Ok(())
+        }
+        Trail::Fork(_, others, last) => {
+            add_trail_ends(others, left)?;
+            add_trail_end(Box::into_inner(last), left)
+        }
+    }
+}
+
+/// The ends of trails.
 pub(crate) fn ends_of<'a>(
     alloc: Global,
-    paths: Vec<DefinitionPathNode<'a>>,
+    trails: Vec<Trail<'a>>,
 ) -> Result<DefinitionsOrUnresolvedsIter<'a>, AllocError>
-    ensures { IfOk result (λ ends. (root : RootView) → map (leaf_told root) (ends_left ends) ≡ leaves_in (forest_told root paths.entry.items)) }
+    ensures { IfOk result (λ ends. (root : RootView) → map (leaf_told root) (ends_left ends) ≡ leaves_in (trails_told root trails.entry.items)) }
 {
     let mut left = VecDeque::new(alloc);
-    add_ends(paths, &mut left)?;
+    add_trail_ends(trails, &mut left)?;
     Ok(DefinitionsOrUnresolvedsIter { left })
 }
 

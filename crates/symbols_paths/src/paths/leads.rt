@@ -11,10 +11,11 @@ ghost use Rattle.symbols_exports.specs.StarStatements.{star_texts};
 ghost use Rattle.symbols_paths.specs.Trees.{NamedSymbol};
 ghost use Rattle.symbols_paths.specs.Leads.{own_export, declarations_of, lead_of, symbol_of_id};
 ghost use Rattle.symbols_paths.specs.PartWays.{export_of_symbol, is_class_at};
-ghost use Rattle.symbols_paths.specs.Views.{named, decl_told, first_text};
+ghost use Rattle.symbols_paths.specs.Views.{named, decl_told, texts_of, first_part};
 ghost use Rattle.symbols_paths.specs.Searching.{lead_told, IsImportOf, IsRead};
 
 use crate::paths::definition::{DeclRef, DefinitionKind};
+use crate::paths::shared_parts::SharedParts;
 use std::alloc::{AllocError, Global};
 use symbols_root::root::RootSymbol;
 use symbols_table::decl::{FileDepName, SymbolDecl, SymbolDeclKind};
@@ -37,8 +38,8 @@ pub(crate) enum Lead<'a> {
     Defines(DefinitionKind<'a>, SourceRange),
     Nowhere,
     Target(SymbolId),
-    Unmapped(&'a Id, Vec<&'a str>),
-    Alias(SymbolId, Vec<&'a str>),
+    Unmapped(&'a Id, SharedParts),
+    Alias(SymbolId, SharedParts),
     Import(NamedImport<'a>),
 }
 
@@ -68,8 +69,8 @@ fn lead_of<'a>(
             None => Ok(Lead::Nowhere),
         },
         SymbolDeclKind::QualifiedTarget(id, parts) => match mapped(info, id) {
-            Some(symbol_id) => Ok(Lead::Alias(symbol_id, parts.to_vec(alloc)?)),
-            None => Ok(Lead::Unmapped(*id, parts.to_vec(alloc)?)),
+            Some(symbol_id) => Ok(Lead::Alias(symbol_id, SharedParts::new(alloc, parts)?)),
+            None => Ok(Lead::Unmapped(*id, SharedParts::new(alloc, parts)?)),
         },
         SymbolDeclKind::FileRef(dep) => match dep.name {
             FileDepName::Star => Ok(Lead::Defines(DefinitionKind::ExportStar(*dep), decl.range)),
@@ -172,15 +173,15 @@ pub(crate) fn symbol_of_id(root: &RootSymbol<'_>, module_id: ModuleId, id: &Id) 
 pub(crate) fn export_of_symbol(
     root: &RootSymbol<'_>,
     symbol: UniqueSymbolId,
-    parts: &[&str],
+    parts: &[String],
 ) -> Option<SymbolId>
     requires known { symbol.module_id.0 < length root.now.stored }
     requires some { 0 < length parts.now }
-    ensures { result ≡ export_of_symbol root.now.graph (named root.now symbol) (first_text parts.now) }
+    ensures { result ≡ export_of_symbol root.now.graph (named root.now symbol) (first_part (texts_of parts.now)) }
 {
     match root.module_from_id(symbol.module_id)? {
-        ModuleInfoRef::Esm(esm) => esm.symbol(symbol.symbol_id)?.export(parts[0]),
-        ModuleInfoRef::Json(json) => json.symbol(symbol.symbol_id)?.export(parts[0]),
+        ModuleInfoRef::Esm(esm) => esm.symbol(symbol.symbol_id)?.export(parts[0].as_str()),
+        ModuleInfoRef::Json(json) => json.symbol(symbol.symbol_id)?.export(parts[0].as_str()),
     }
 }
 

@@ -1,16 +1,17 @@
 //! The parts that trails are made of.
 
-ghost use Rattle.std.specs.Prelude.{◌≡◌, ◌<◌, ◌++◌, [], length, map, string_bytes, IfOk, IfSome, OnOk};
+ghost use Rattle.std.specs.Prelude.{◌≡◌, ◌<◌, ◌++◌, [], length, IfOk, IfSome, OnOk};
 ghost use Rattle.std.specs.Option.{option_to_list};
 ghost use Rattle.symbols_syntax.specs.Ids.{id_view};
 ghost use Rattle.symbols_root.specs.Roots.{RootView};
 ghost use Rattle.symbols_exports.specs.Exporting.{specifier_in};
 ghost use Rattle.symbols_paths.specs.Trees.{leaf, link, one, link_to, definition, unresolved, no_symbol};
-ghost use Rattle.symbols_paths.specs.Views.{named, decl_told, star_of, reason_told, texts_of, texts_in, unresolved_told, AreStored};
-ghost use Rattle.symbols_paths.specs.Trails.{step_head, trail_told, trails_told, trails_of_option, modules_of_trail, modules_of_trails};
+ghost use Rattle.symbols_paths.specs.Views.{named, decl_told, star_of, reason_told, texts_of, unresolved_told, AreStored};
+ghost use Rattle.symbols_paths.specs.Trails.{parts_told, step_head, trail_told, trails_told, trails_of_option, modules_of_trail, modules_of_trails};
 
 use crate::paths::definition::{DeclRef, Definition, DefinitionKind};
 use crate::paths::iter::DefinitionOrUnresolved;
+use crate::paths::shared_parts::SharedParts;
 use crate::paths::trail::{Step, Stretch, Trail, ended, joined, put_before};
 use crate::paths::unresolved::{DefinitionUnresolved, DefinitionUnresolvedKind};
 use std::alloc::{AllocError, Global};
@@ -67,7 +68,7 @@ pub(crate) fn link<'a>(
     let step = Step {
         symbol,
         symbol_decl,
-        parts: Vec::new(alloc),
+        parts: None,
     };
     link_by(alloc, step, next)
 }
@@ -78,10 +79,10 @@ pub(crate) fn link_under<'a>(
     alloc: Global,
     symbol: UniqueSymbolId,
     symbol_decl: DeclRef,
-    parts: &[&str],
+    parts: &SharedParts,
     next: Vec<Trail<'a>>,
 ) -> Result<Option<Trail<'a>>, AllocError>
-    ensures told { IfOk result (λ trail. (root : RootView) → trails_of_option root trail ≡ link_to (record { symbol = named root symbol; decl = decl_told root symbol.module_id symbol_decl; parts = texts_in parts.now }) (trails_told root next.entry.items)) }
+    ensures told { IfOk result (λ trail. (root : RootView) → trails_of_option root trail ≡ link_to (record { symbol = named root symbol; decl = decl_told root symbol.module_id symbol_decl; parts = parts_told parts.now }) (trails_told root next.entry.items)) }
     ensures stored { IfOk result (λ trail. (root : RootView) → symbol.module_id.0 < length root.stored → AreStored root (modules_of_trails next.entry.items) → IfSome trail (λ t. AreStored root (modules_of_trail t))) }
 {
     if next.is_empty() {
@@ -90,7 +91,7 @@ pub(crate) fn link_under<'a>(
     let step = Step {
         symbol,
         symbol_decl,
-        parts: copied_parts(alloc, parts)?,
+        parts: Some(parts.same()?),
     };
     link_by(alloc, step, next)
 }
@@ -148,25 +149,14 @@ pub(crate) fn copied_id(alloc: Global, id: &Id) -> Result<Id, AllocError>
     })
 }
 
-pub(crate) fn copied_parts(alloc: Global, parts: &[&str]) -> Result<Vec<String>, AllocError>
-    ensures { IfOk result (λ copies. texts_of copies.items ≡ texts_in parts.now) }
+pub(crate) fn copied_parts(alloc: Global, parts: &[String]) -> Result<Vec<String>, AllocError>
+    ensures { IfOk result (λ copies. texts_of copies.items ≡ texts_of parts.now) }
 {
     let mut copies = Vec::new(alloc);
     for part in parts {
-        copies.push(String::from_str(alloc, part)?)?;
+        copies.push(String::from_str(alloc, part.as_str())?)?;
     }
     Ok(copies)
-}
-
-/// Texts, lent.
-pub(crate) fn lent<'p>(alloc: Global, parts: &'p [String]) -> Result<Vec<&'p str>, AllocError>
-    ensures { IfOk result (λ texts. texts_in texts.items ≡ map string_bytes parts.now) }
-{
-    let mut texts = Vec::new(alloc);
-    for part in parts {
-        texts.push(part.as_str())?;
-    }
-    Ok(texts)
 }
 
 /// A step by a declaration that names a name which stands for no symbol, with the parts after it.
@@ -175,12 +165,13 @@ pub(crate) fn unmapped<'a>(
     symbol: UniqueSymbolId,
     symbol_decl: DeclRef,
     id: &Id,
-    parts: &[&str],
+    parts: &SharedParts,
 ) -> Result<Option<Trail<'a>>, AllocError>
-    ensures told { IfOk result (λ trail. (root : RootView) → trails_of_option root trail ≡ one (link (record { symbol = named root symbol; decl = decl_told root symbol.module_id symbol_decl; parts = texts_in parts.now }) (one (leaf (unresolved (record { specifier = specifier_in root symbol.module_id; reason = no_symbol (id_view id.now); parts = texts_in parts.now })))))) }
+    ensures told { IfOk result (λ trail. (root : RootView) → trails_of_option root trail ≡ one (link (record { symbol = named root symbol; decl = decl_told root symbol.module_id symbol_decl; parts = parts_told parts.now }) (one (leaf (unresolved (record { specifier = specifier_in root symbol.module_id; reason = no_symbol (id_view id.now); parts = parts_told parts.now })))))) }
     ensures stored { IfOk result (λ trail. (root : RootView) → symbol.module_id.0 < length root.stored → IfSome trail (λ t. AreStored root (modules_of_trail t))) }
 {
     let kind = DefinitionUnresolvedKind::Id(copied_id(alloc, id)?);
-    let next = unresolved(alloc, symbol.module_id, kind, copied_parts(alloc, parts)?)?;
+    let missing = copied_parts(alloc, parts.texts())?;
+    let next = unresolved(alloc, symbol.module_id, kind, missing)?;
     link_under(alloc, symbol, symbol_decl, parts, next)
 }

@@ -7,7 +7,7 @@ ghost use Rattle.symbols_exports.specs.Exporting.{specifier_in};
 ghost use Rattle.symbols_exports.specs.OneName.{export_named};
 ghost use Rattle.symbols_exports.specs.StarStatements.{text_target};
 ghost use Rattle.symbols_paths.specs.PartWays.{lacks, own_part, export_of_symbol, module_part, text_part, part_of};
-ghost use Rattle.symbols_paths.specs.Views.{named_in, decl_told, definition_told, reason_told, first_text, later_texts, texts_in};
+ghost use Rattle.symbols_paths.specs.Views.{named_in, decl_told, definition_told, reason_told, first_part, later_parts, texts_of};
 ghost use Rattle.symbols_paths.specs.Growing.{HasGrown};
 ghost use Rattle.symbols_paths.specs.Needed.{IsNeeded, IsRefused, IsStarDeclared};
 ghost use Rattle.symbols_paths.specs.Searching.{way_told, IsWayStored};
@@ -37,9 +37,9 @@ fn lacking(
     alloc: Global,
     module: ModuleId,
     kind: DefinitionUnresolvedKind,
-    parts: &[&str],
+    parts: &[String],
 ) -> Result<PartWay, AllocError>
-    ensures told { IfOk result (λ way. (root : RootView) → way_told root way ≡ lacks (record { specifier = specifier_in root «module»; reason = reason_told kind; parts = texts_in parts.now })) }
+    ensures told { IfOk result (λ way. (root : RootView) → way_told root way ≡ lacks (record { specifier = specifier_in root «module»; reason = reason_told kind; parts = texts_of parts.now })) }
     ensures stored { IfOk result (λ way. (root : RootView) → «module».0 < length root.stored → IsWayStored root way) }
 {
     Ok(PartWay::Lacks(DefinitionUnresolved {
@@ -54,21 +54,21 @@ fn own_part(
     root: &RootSymbol<'_>,
     module_id: ModuleId,
     decl: DeclRef,
-    parts: &[&str],
+    parts: &[String],
 ) -> Result<PartWay, AllocError>
     requires known { module_id.0 < length root.now.stored }
     requires some { 0 < length parts.now }
-    ensures told { IfOk result (λ way. way_told root.now way ≡ own_part root.now.graph (decl_told root.now module_id decl) (first_text parts.now) (later_texts parts.now) (export_of_symbol root.now.graph (named_in root.now module_id decl.symbol) (first_text parts.now))) }
+    ensures told { IfOk result (λ way. way_told root.now way ≡ own_part root.now.graph (decl_told root.now module_id decl) (first_part (texts_of parts.now)) (later_parts (texts_of parts.now)) (export_of_symbol root.now.graph (named_in root.now module_id decl.symbol) (first_part (texts_of parts.now)))) }
     ensures stored { IfOk result (IsWayStored root.now) }
 {
     let symbol = UniqueSymbolId::new(module_id, decl.symbol);
     if let Some(symbol_id) = export_of_symbol(root, symbol, parts) {
         return Ok(PartWay::To(UniqueSymbolId::new(module_id, symbol_id)));
     }
-    if parts[0] == "prototype" && is_class_at(root, module_id, decl) {
+    if parts[0].as_str() == "prototype" && is_class_at(root, module_id, decl) {
         return Ok(PartWay::Itself);
     }
-    let name = String::from_str(root.alloc(), parts[0])?;
+    let name = String::from_str(root.alloc(), parts[0].as_str())?;
     lacking(
         root.alloc(),
         module_id,
@@ -81,20 +81,20 @@ fn own_part(
 fn module_part(
     root: &mut RootSymbol<'_>,
     module_id: ModuleId,
-    parts: &[&str],
+    parts: &[String],
 ) -> Result<PartWay, SymbolsFault>
     requires known { module_id.0 < length root.old.stored }
     requires some { 0 < length parts.now }
     ensures kept { HasGrown root.old root.new }
-    ensures told { IfOk result (λ way. way_told root.new way ≡ module_part (specifier_in root.old module_id) (first_text parts.now) (later_texts parts.now) (export_named root.old.graph (specifier_in root.old module_id) (first_text parts.now))) }
+    ensures told { IfOk result (λ way. way_told root.new way ≡ module_part (specifier_in root.old module_id) (first_part (texts_of parts.now)) (later_parts (texts_of parts.now)) (export_named root.old.graph (specifier_in root.old module_id) (first_part (texts_of parts.now)))) }
     ensures stored { IfOk result (IsWayStored root.new) }
     ensures refused { IfErr result (IsRefused root.new (specifier_in root.old module_id)) }
     ensures enough { root.old.limits ≡ widest → IfErr result (λ fault. fault ≡ OutOfMemory) }
 {
-    match export_of(root, module_id, parts[0]) {
+    match export_of(root, module_id, parts[0].as_str()) {
         Err(fault) => Err(fault),
         Ok(None) => {
-            let name = String::from_str(root.alloc(), parts[0])?;
+            let name = String::from_str(root.alloc(), parts[0].as_str())?;
             let kind = DefinitionUnresolvedKind::Part(name);
             Ok(lacking(root.alloc(), module_id, kind, parts)?)
         }
@@ -110,12 +110,12 @@ pub(crate) fn text_part(
     root: &mut RootSymbol<'_>,
     module_id: ModuleId,
     text: &str,
-    parts: &[&str],
+    parts: &[String],
 ) -> Result<PartWay, SymbolsFault>
     requires known { module_id.0 < length root.old.stored }
     requires some { 0 < length parts.now }
     ensures kept { HasGrown root.old root.new }
-    ensures told { IfOk result (λ way. way_told root.new way ≡ text_part root.old.graph (specifier_in root.old module_id) text.now (first_text parts.now) (later_texts parts.now) (text_target root.old.graph (specifier_in root.old module_id) text.now)) }
+    ensures told { IfOk result (λ way. way_told root.new way ≡ text_part root.old.graph (specifier_in root.old module_id) text.now (first_part (texts_of parts.now)) (later_parts (texts_of parts.now)) (text_target root.old.graph (specifier_in root.old module_id) text.now)) }
     ensures stored { IfOk result (IsWayStored root.new) }
     ensures refused { IfErr result (λ fault. (start : List ℕ) → ((k : List ℕ) → text_target root.old.graph (specifier_in root.old module_id) text.now ≡ Some k → IsNeeded root.old.graph start k) → IsRefused root.new start fault) }
     ensures enough { root.old.limits ≡ widest → IfErr result (λ fault. fault ≡ OutOfMemory) }
@@ -135,13 +135,13 @@ pub(crate) fn text_part(
 pub(crate) fn part_of(
     root: &mut RootSymbol<'_>,
     definition: &Definition<'_>,
-    parts: &[&str],
+    parts: &[String],
 ) -> Result<PartWay, SymbolsFault>
     requires known { definition.now.«module».0 < length root.old.stored }
     requires some { 0 < length parts.now }
     requires declared { IsStarDeclared root.old.graph (definition_told root.old definition.now) }
     ensures kept { HasGrown root.old root.new }
-    ensures told { IfOk result (λ way. way_told root.new way ≡ part_of root.old.graph (definition_told root.old definition.now) (first_text parts.now) (later_texts parts.now)) }
+    ensures told { IfOk result (λ way. way_told root.new way ≡ part_of root.old.graph (definition_told root.old definition.now) (first_part (texts_of parts.now)) (later_parts (texts_of parts.now))) }
     ensures stored { IfOk result (IsWayStored root.new) }
     ensures refused { IfErr result (IsRefused root.new (specifier_in root.old definition.now.«module»)) }
     ensures enough { root.old.limits ≡ widest → IfErr result (λ fault. fault ≡ OutOfMemory) }

@@ -3,14 +3,15 @@
 ghost use Rattle.std.specs.Prelude.{◌≡◌, ◌++◌, ◌∷◌, [], map, IfOk, OnOk};
 ghost use Rattle.std.specs.Option.{option_to_list};
 ghost use Rattle.symbols_root.specs.Roots.{RootView};
-ghost use Rattle.symbols_paths.specs.Views.{texts_in, definition_told, leaf_told, module_of_end, module_of_definition, AreStored};
+ghost use Rattle.symbols_paths.specs.Views.{definition_told, leaf_told, module_of_end, module_of_definition, AreStored};
 ghost use Rattle.symbols_paths.specs.Trees.{Parts, leaf};
 ghost use Rattle.symbols_paths.specs.Rebuilt.{defined_of, defined_within, rebuilt_tree, rebuilt};
-ghost use Rattle.symbols_paths.specs.Trails.{heads_in, heads_under, linked, trail_told, trails_told, trails_of_option, modules_of_stretches, modules_of_trail, modules_of_trails, present};
+ghost use Rattle.symbols_paths.specs.Trails.{parts_told, heads_in, heads_under, linked, trail_told, trails_told, trails_of_option, modules_of_stretches, modules_of_trail, modules_of_trails, present};
 
 use crate::paths::definition::Definition;
 use crate::paths::iter::DefinitionOrUnresolved;
 use crate::paths::link::add;
+use crate::paths::shared_parts::SharedParts;
 use crate::paths::trail::{Stretch, Trail, ended, joined, put_behind};
 use std::alloc::{AllocError, Global};
 use std::collections::VecDeque;
@@ -78,11 +79,11 @@ pub(crate) fn definitions_in<'a>(
 pub(crate) fn rebuild<'a>(
     alloc: Global,
     trails: Vec<Trail<'a>>,
-    parts: &[&str],
+    parts: &SharedParts,
     changed: &mut VecDeque<Option<Trail<'a>>>,
 ) -> Result<Vec<Trail<'a>>, AllocError>
-    ensures found { IfOk result (λ found. (root : RootView) → trails_told root found.items ≡ (rebuilt (texts_in parts.now) (trails_told root trails.entry.items) (map (trails_of_option root) changed.old.items)).0) }
-    ensures left { OnOk result ((root : RootView) → map (trails_of_option root) changed.new.items ≡ (rebuilt (texts_in parts.now) (trails_told root trails.entry.items) (map (trails_of_option root) changed.old.items)).1) }
+    ensures found { IfOk result (λ found. (root : RootView) → trails_told root found.items ≡ (rebuilt (parts_told parts.now) (trails_told root trails.entry.items) (map (trails_of_option root) changed.old.items)).0) }
+    ensures left { OnOk result ((root : RootView) → map (trails_of_option root) changed.new.items ≡ (rebuilt (parts_told parts.now) (trails_told root trails.entry.items) (map (trails_of_option root) changed.old.items)).1) }
     ensures stored { IfOk result (λ found. (root : RootView) → AreStored root (modules_of_trails trails.entry.items) → AreStored root (modules_of_trails (present changed.old.items)) → AreStored root (modules_of_trails found.items) × AreStored root (modules_of_trails (present changed.new.items))) }
 {
     let mut found = Vec::new(alloc);
@@ -98,24 +99,24 @@ pub(crate) fn rebuild<'a>(
 fn rebuild_one<'a>(
     alloc: Global,
     trail: Trail<'a>,
-    parts: &[&str],
+    parts: &SharedParts,
     changed: &mut VecDeque<Option<Trail<'a>>>,
 ) -> Result<Option<Trail<'a>>, AllocError>
-    ensures found { IfOk result (λ found. (root : RootView) → trails_of_option root found ≡ (rebuilt (texts_in parts.now) (trail_told root trail.entry) (map (trails_of_option root) changed.old.items)).0) }
-    ensures left { OnOk result ((root : RootView) → map (trails_of_option root) changed.new.items ≡ (rebuilt (texts_in parts.now) (trail_told root trail.entry) (map (trails_of_option root) changed.old.items)).1) }
+    ensures found { IfOk result (λ found. (root : RootView) → trails_of_option root found ≡ (rebuilt (parts_told parts.now) (trail_told root trail.entry) (map (trails_of_option root) changed.old.items)).0) }
+    ensures left { OnOk result ((root : RootView) → map (trails_of_option root) changed.new.items ≡ (rebuilt (parts_told parts.now) (trail_told root trail.entry) (map (trails_of_option root) changed.old.items)).1) }
     ensures stored { IfOk result (λ found. (root : RootView) → AreStored root (modules_of_trail trail.entry) → AreStored root (modules_of_trails (present changed.old.items)) → AreStored root (modules_of_trails (option_to_list found)) × AreStored root (modules_of_trails (present changed.new.items))) }
 {
     match trail {
         Trail::To(stretches, end) => {
             let trail = rebuild_end(alloc, end, changed);
-            under(alloc, stretches, parts, trail)
+            under(stretches, parts, trail)
         }
         Trail::Fork(stretches, others, last) => {
             let mut next = rebuild(alloc, others, parts, changed)?;
             let last = rebuild_one(alloc, Box::into_inner(last), parts, changed)?;
             add(&mut next, last)?;
             let whole = joined(alloc, next)?;
-            under(alloc, stretches, parts, whole)
+            under(stretches, parts, whole)
         }
     }
 }
@@ -141,16 +142,15 @@ fn rebuild_end<'a>(
 
 /// A trail, if there is one, behind the stretches in front of the place where it stands.
 fn under<'a>(
-    alloc: Global,
     stretches: Vec<Stretch>,
-    parts: &[&str],
+    parts: &SharedParts,
     trail: Option<Trail<'a>>,
 ) -> Result<Option<Trail<'a>>, AllocError>
-    ensures told { IfOk result (λ found. (root : RootView) → trails_of_option root found ≡ linked (heads_under (texts_in parts.now) (heads_in root stretches.items)) (trails_of_option root trail.entry)) }
+    ensures told { IfOk result (λ found. (root : RootView) → trails_of_option root found ≡ linked (heads_under (parts_told parts.now) (heads_in root stretches.items)) (trails_of_option root trail.entry)) }
     ensures stored { IfOk result (λ found. (root : RootView) → AreStored root (modules_of_stretches stretches.items) → AreStored root (modules_of_trails (option_to_list trail.entry)) → AreStored root (modules_of_trails (option_to_list found))) }
 {
     match trail {
         None => Ok(None),
-        Some(trail) => Ok(Some(put_behind(alloc, stretches, parts, trail)?)),
+        Some(trail) => Ok(Some(put_behind(stretches, parts, trail)?)),
     }
 }

@@ -12,8 +12,8 @@ ghost use Rattle.symbols_exports.specs.Exporting.{specifier_in};
 ghost use Rattle.symbols_exports.specs.StarStatements.{text_target};
 ghost use Rattle.symbols_paths.specs.PartWays.{text_part};
 ghost use Rattle.symbols_paths.specs.Computed.{paths_under};
-ghost use Rattle.symbols_paths.specs.Views.{named, texts_in, first_text, later_texts, forest_told};
-ghost use Rattle.symbols_paths.specs.Trails.{trails_told};
+ghost use Rattle.symbols_paths.specs.Views.{named, texts_in, first_part, later_parts, forest_told};
+ghost use Rattle.symbols_paths.specs.Trails.{parts_told, trails_told};
 ghost use Rattle.symbols_paths.specs.Growing.{HasGrown};
 ghost use Rattle.symbols_paths.specs.Needed.{IsNeeded, IsRefused};
 ghost use Rattle.symbols_paths.specs.Answers.{ArePathsUnder};
@@ -24,6 +24,7 @@ use crate::paths::link::{copied_id, copied_parts, one_unresolved, unresolved};
 use crate::paths::node::DefinitionPathNode;
 use crate::paths::parts::{PartWay, text_part};
 use crate::paths::search::walk;
+use crate::paths::shared_parts::SharedParts;
 use crate::paths::targets::text_target;
 use crate::paths::trail::Trail;
 use crate::paths::unresolved::DefinitionUnresolvedKind;
@@ -49,19 +50,38 @@ pub enum ResolvedSymbolDepEntry<'a> {
 fn paths_under<'a>(
     root: &mut RootSymbol<'a>,
     symbol: UniqueSymbolId,
-    parts: &[&str],
+    parts: &SharedParts,
 ) -> Result<Vec<Trail<'a>>, SymbolsFault>
     requires known { symbol.module_id.0 < length root.old.stored }
     requires once { IsDistinct bytes_eq root.old.stored }
     ensures kept { HasGrown root.old root.new }
-    ensures found { IfOk result (λ paths. ArePathsUnder root.old.graph (named root.old symbol) (texts_in parts.now) (trails_told root.new paths.items)) }
-    ensures listed { IfOk result (λ paths. trails_told root.new paths.items ≡ paths_under root.old.graph (named root.old symbol) (texts_in parts.now)) }
+    ensures found { IfOk result (λ paths. ArePathsUnder root.old.graph (named root.old symbol) (parts_told parts.now) (trails_told root.new paths.items)) }
+    ensures listed { IfOk result (λ paths. trails_told root.new paths.items ≡ paths_under root.old.graph (named root.old symbol) (parts_told parts.now)) }
     ensures refused { IfErr result (IsRefused root.new (specifier_in root.old symbol.module_id)) }
     ensures enough { root.old.limits ≡ widest → IfErr result (λ fault. fault ≡ OutOfMemory) }
 {
     let mut resolving = IndexSet::new(root.alloc());
     let mut met = IndexSet::new(root.alloc());
     walk(root, &mut resolving, &mut met, symbol, parts)
+}
+
+/// The paths of a symbol of a stored module under the parts behind the first.
+fn paths_behind_first<'a>(
+    root: &mut RootSymbol<'a>,
+    symbol: UniqueSymbolId,
+    parts: &SharedParts,
+) -> Result<Vec<Trail<'a>>, SymbolsFault>
+    requires known { symbol.module_id.0 < length root.old.stored }
+    requires some { 0 < length (parts_told parts.now) }
+    requires once { IsDistinct bytes_eq root.old.stored }
+    ensures kept { HasGrown root.old root.new }
+    ensures found { IfOk result (λ paths. ArePathsUnder root.old.graph (named root.old symbol) (later_parts (parts_told parts.now)) (trails_told root.new paths.items)) }
+    ensures listed { IfOk result (λ paths. trails_told root.new paths.items ≡ paths_under root.old.graph (named root.old symbol) (later_parts (parts_told parts.now))) }
+    ensures refused { IfErr result (IsRefused root.new (specifier_in root.old symbol.module_id)) }
+    ensures enough { root.old.limits ≡ widest → IfErr result (λ fault. fault ≡ OutOfMemory) }
+{
+    let rest = parts.behind_first()?;
+    paths_under(root, symbol, &rest)
 }
 
 /// The parts of a reference, lent.
@@ -75,18 +95,26 @@ fn lent_names<'p>(alloc: Global, parts: &'p [CowStr<'_>]) -> Result<Vec<&'p str>
     Ok(texts)
 }
 
+/// The parts of a reference, copied once.
+fn shared_names(alloc: Global, parts: &[CowStr<'_>]) -> Result<SharedParts, AllocError>
+    ensures { IfOk result (λ shared. parts_told shared ≡ map cow_str_bytes parts.now) }
+{
+    let texts = lent_names(alloc, parts)?;
+    SharedParts::new(alloc, &texts)
+}
+
 /// The paths of what a name of a stored module stands for, under parts; one unresolved entry where it
 /// stands for no symbol.
 fn paths_of_id<'a>(
     root: &mut RootSymbol<'a>,
     module_id: ModuleId,
     id: &Id,
-    parts: &[&str],
+    parts: &SharedParts,
 ) -> Result<Vec<Trail<'a>>, SymbolsFault>
     requires known { module_id.0 < length root.old.stored }
     requires once { IsDistinct bytes_eq root.old.stored }
     ensures kept { HasGrown root.old root.new }
-    ensures found { IfOk result (λ paths. ArePathsOf root.old.graph (asked_by_id root.old.graph (specifier_in root.old module_id) (id_view id.now) (texts_in parts.now)) (missing_id (specifier_in root.old module_id) (id_view id.now) (texts_in parts.now)) (trails_told root.new paths.items)) }
+    ensures found { IfOk result (λ paths. ArePathsOf root.old.graph (asked_by_id root.old.graph (specifier_in root.old module_id) (id_view id.now) (parts_told parts.now)) (missing_id (specifier_in root.old module_id) (id_view id.now) (parts_told parts.now)) (trails_told root.new paths.items)) }
     ensures refused { IfErr result (IsRefused root.new (specifier_in root.old module_id)) }
     ensures enough { root.old.limits ≡ widest → IfErr result (λ fault. fault ≡ OutOfMemory) }
 {
@@ -94,7 +122,7 @@ fn paths_of_id<'a>(
         Some(symbol_id) => paths_under(root, UniqueSymbolId::new(module_id, symbol_id), parts),
         None => {
             let kind = DefinitionUnresolvedKind::Id(copied_id(root.alloc(), id)?);
-            let parts = copied_parts(root.alloc(), parts)?;
+            let parts = copied_parts(root.alloc(), parts.texts())?;
             Ok(unresolved(root.alloc(), module_id, kind, parts)?)
         }
     }
@@ -105,19 +133,19 @@ fn paths_of_import<'a>(
     root: &mut RootSymbol<'a>,
     module_id: ModuleId,
     text: &str,
-    parts: &[&str],
+    parts: &SharedParts,
 ) -> Result<Vec<Trail<'a>>, SymbolsFault>
     requires known { module_id.0 < length root.old.stored }
-    requires some { 0 < length parts.now }
+    requires some { 0 < length (parts_told parts.now) }
     requires once { IsDistinct bytes_eq root.old.stored }
     ensures kept { HasGrown root.old root.new }
-    ensures found { IfOk result (λ paths. ArePathsOf root.old.graph (asked_by_way (later_texts parts.now) (text_part root.old.graph (specifier_in root.old module_id) text.now (first_text parts.now) (later_texts parts.now) (text_target root.old.graph (specifier_in root.old module_id) text.now))) (missing_way (text_part root.old.graph (specifier_in root.old module_id) text.now (first_text parts.now) (later_texts parts.now) (text_target root.old.graph (specifier_in root.old module_id) text.now))) (trails_told root.new paths.items)) }
+    ensures found { IfOk result (λ paths. ArePathsOf root.old.graph (asked_by_way (later_parts (parts_told parts.now)) (text_part root.old.graph (specifier_in root.old module_id) text.now (first_part (parts_told parts.now)) (later_parts (parts_told parts.now)) (text_target root.old.graph (specifier_in root.old module_id) text.now))) (missing_way (text_part root.old.graph (specifier_in root.old module_id) text.now (first_part (parts_told parts.now)) (later_parts (parts_told parts.now)) (text_target root.old.graph (specifier_in root.old module_id) text.now))) (trails_told root.new paths.items)) }
     ensures refused { IfErr result (λ fault. (start : List ℕ) → ((k : List ℕ) → text_target root.old.graph (specifier_in root.old module_id) text.now ≡ Some k → IsNeeded root.old.graph start k) → IsRefused root.new start fault) }
     ensures enough { root.old.limits ≡ widest → IfErr result (λ fault. fault ≡ OutOfMemory) }
 {
-    match text_part(root, module_id, text, parts) {
+    match text_part(root, module_id, text, parts.texts()) {
         Err(fault) => Err(fault),
-        Ok(PartWay::To(target)) => paths_under(root, target, &parts[1..]),
+        Ok(PartWay::To(target)) => paths_behind_first(root, target, parts),
         Ok(PartWay::Lacks(missing)) => Ok(one_unresolved(root.alloc(), missing)?),
         Ok(PartWay::Itself) => Ok(Vec::new(root.alloc())),
     }
@@ -182,13 +210,13 @@ fn entries_of_id<'a>(
     root: &mut RootSymbol<'a>,
     module_id: ModuleId,
     id: &Id,
-    parts: &[&str],
+    parts: &SharedParts,
 ) -> Result<Vec<ResolvedSymbolDepEntry<'a>>, SymbolsFault>
     requires known { module_id.0 < length root.old.stored }
     requires once { IsDistinct bytes_eq root.old.stored }
     ensures kept { HasGrown root.old root.new }
-    ensures answers { IfOk result (λ entries. IsDepAnswer root.old.graph (specifier_in root.old module_id) (qualified_id (id_view id.now) (texts_in parts.now)) (map (entry_told root.new) entries.items)) }
-    ensures listed { IfOk result (λ entries. map (entry_told root.new) entries.items ≡ entries_of root.old.graph (specifier_in root.old module_id) (qualified_id (id_view id.now) (texts_in parts.now))) }
+    ensures answers { IfOk result (λ entries. IsDepAnswer root.old.graph (specifier_in root.old module_id) (qualified_id (id_view id.now) (parts_told parts.now)) (map (entry_told root.new) entries.items)) }
+    ensures listed { IfOk result (λ entries. map (entry_told root.new) entries.items ≡ entries_of root.old.graph (specifier_in root.old module_id) (qualified_id (id_view id.now) (parts_told parts.now))) }
     ensures refused { IfErr result (IsRefused root.new (specifier_in root.old module_id)) }
     ensures enough { root.old.limits ≡ widest → IfErr result (λ fault. fault ≡ OutOfMemory) }
 {
@@ -203,13 +231,13 @@ fn entries_of_import<'a>(
     root: &mut RootSymbol<'a>,
     module_id: ModuleId,
     text: &str,
-    parts: &[&str],
+    parts: &SharedParts,
 ) -> Result<Vec<ResolvedSymbolDepEntry<'a>>, SymbolsFault>
     requires known { module_id.0 < length root.old.stored }
     requires once { IsDistinct bytes_eq root.old.stored }
     ensures kept { HasGrown root.old root.new }
-    ensures answers { IfOk result (λ entries. IsDepAnswer root.old.graph (specifier_in root.old module_id) (import_type text.now (texts_in parts.now)) (map (entry_told root.new) entries.items)) }
-    ensures listed { IfOk result (λ entries. map (entry_told root.new) entries.items ≡ entries_of root.old.graph (specifier_in root.old module_id) (import_type text.now (texts_in parts.now))) }
+    ensures answers { IfOk result (λ entries. IsDepAnswer root.old.graph (specifier_in root.old module_id) (import_type text.now (parts_told parts.now)) (map (entry_told root.new) entries.items)) }
+    ensures listed { IfOk result (λ entries. map (entry_told root.new) entries.items ≡ entries_of root.old.graph (specifier_in root.old module_id) (import_type text.now (parts_told parts.now))) }
     ensures refused { IfErr result (λ fault. (start : List ℕ) → ((k : List ℕ) → text_target root.old.graph (specifier_in root.old module_id) text.now ≡ Some k → IsNeeded root.old.graph start k) → IsRefused root.new start fault) }
     ensures enough { root.old.limits ≡ widest → IfErr result (λ fault. fault ≡ OutOfMemory) }
 {
@@ -246,13 +274,16 @@ pub fn resolve_symbol_dep<'a>(
         return Err(SymbolsFault::UnknownModule);
     }
     match dep {
-        SymbolNodeDep::Id(id) => entries_of_id(root, module_id, id, &[]),
+        SymbolNodeDep::Id(id) => {
+            let parts = shared_names(root.alloc(), &[])?;
+            entries_of_id(root, module_id, id, &parts)
+        }
         SymbolNodeDep::QualifiedId(id, parts) => {
-            let parts = lent_names(root.alloc(), parts)?;
+            let parts = shared_names(root.alloc(), parts)?;
             entries_of_id(root, module_id, id, &parts)
         }
         SymbolNodeDep::ImportType(text, parts) => {
-            let parts = lent_names(root.alloc(), parts)?;
+            let parts = shared_names(root.alloc(), parts)?;
             entries_of_import(root, module_id, text, &parts)
         }
     }

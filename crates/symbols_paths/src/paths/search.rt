@@ -10,8 +10,8 @@ ghost use Rattle.symbols_table.specs.DeclViews.{Declaration};
 ghost use Rattle.symbols_root.specs.Roots.{widest};
 ghost use Rattle.symbols_exports.specs.Exporting.{specifier_in};
 ghost use Rattle.symbols_paths.specs.Leads.{declarations_of};
-ghost use Rattle.symbols_paths.specs.Views.{named, definition_told, AreStored};
-ghost use Rattle.symbols_paths.specs.Trails.{modules_of_trails};
+ghost use Rattle.symbols_paths.specs.Views.{named, later_parts, definition_told, AreStored};
+ghost use Rattle.symbols_paths.specs.Trails.{parts_told, modules_of_trails};
 ghost use Rattle.symbols_paths.specs.Growing.{HasGrown};
 ghost use Rattle.symbols_paths.specs.Needed.{IsRefused, IsStarDeclared};
 ghost use Rattle.symbols_paths.specs.Searching.{AreNumbered, AreAliasesNumbered, HasSearched, IsFound, IsFollowed, IsTried, IsOffered, IsResolved, IsWalked, IsChanged, IsImported, IsImportOf, ways_of_import, ways_along};
@@ -22,6 +22,7 @@ use crate::paths::link::{add, defined, link, link_under, one_unresolved, unmappe
 use crate::paths::parts::{PartWay, part_of};
 use crate::paths::rebuild::{definitions_in, rebuild};
 use crate::paths::resolving::AliasDecl;
+use crate::paths::shared_parts::SharedParts;
 use crate::paths::targets::{export_along, text_target};
 use crate::paths::trail::Trail;
 use crate::paths::unresolved::DefinitionUnresolvedKind;
@@ -233,14 +234,14 @@ fn resolve<'a>(
     resolving: &mut IndexSet<AliasDecl>,
     alias: AliasDecl,
     target: UniqueSymbolId,
-    parts: &[&str],
+    parts: &SharedParts,
 ) -> Result<Vec<Trail<'a>>, SymbolsFault>
     requires known { target.module_id.0 < length root.old.stored }
     requires alias { alias.«module».0 < length root.old.stored }
     requires resolving { AreAliasesNumbered root.old resolving.old.keys }
     requires once { IsDistinct bytes_eq root.old.stored }
     ensures kept { HasGrown root.old root.new }
-    ensures resolved { IfOk result (λ paths. IsResolved root.new resolving.old.keys alias target parts.now paths.items) }
+    ensures resolved { IfOk result (λ paths. IsResolved root.new resolving.old.keys alias target (parts_told parts.now) paths.items) }
     ensures stored { IfOk result (λ paths. AreStored root.new (modules_of_trails paths.items)) }
     ensures same { OnOk result (resolving.new.keys ≡ resolving.old.keys) }
     ensures refused { IfErr result (IsRefused root.new (specifier_in root.old target.module_id)) }
@@ -267,14 +268,14 @@ pub(crate) fn walk<'a>(
     resolving: &mut IndexSet<AliasDecl>,
     met: &mut IndexSet<UniqueSymbolId>,
     symbol: UniqueSymbolId,
-    parts: &[&str],
+    parts: &SharedParts,
 ) -> Result<Vec<Trail<'a>>, SymbolsFault>
     requires known { symbol.module_id.0 < length root.old.stored }
     requires met { AreNumbered root.old met.old.keys }
     requires resolving { AreAliasesNumbered root.old resolving.old.keys }
     requires once { IsDistinct bytes_eq root.old.stored }
     ensures kept { HasGrown root.old root.new }
-    ensures walked { IfOk result (λ paths. IsWalked root.new resolving.old.keys met.old.keys symbol parts.now paths.items met.new.keys) }
+    ensures walked { IfOk result (λ paths. IsWalked root.new resolving.old.keys met.old.keys symbol (parts_told parts.now) paths.items met.new.keys) }
     ensures searched { IfOk result (λ paths. HasSearched root.new met.old.keys met.new.keys (modules_of_trails paths.items)) }
     ensures same { OnOk result (resolving.new.keys ≡ resolving.old.keys) }
     ensures refused { IfErr result (IsRefused root.new (specifier_in root.old symbol.module_id)) }
@@ -298,6 +299,31 @@ pub(crate) fn walk<'a>(
     Ok(rebuild(root.alloc(), paths, parts, &mut changed)?)
 }
 
+/// The paths of a symbol under the parts behind the first.
+#[cycle(search)]
+fn walk_on<'a>(
+    root: &mut RootSymbol<'a>,
+    resolving: &mut IndexSet<AliasDecl>,
+    met: &mut IndexSet<UniqueSymbolId>,
+    symbol: UniqueSymbolId,
+    parts: &SharedParts,
+) -> Result<Vec<Trail<'a>>, SymbolsFault>
+    requires known { symbol.module_id.0 < length root.old.stored }
+    requires some { 0 < length (parts_told parts.now) }
+    requires met { AreNumbered root.old met.old.keys }
+    requires resolving { AreAliasesNumbered root.old resolving.old.keys }
+    requires once { IsDistinct bytes_eq root.old.stored }
+    ensures kept { HasGrown root.old root.new }
+    ensures walked { IfOk result (λ paths. IsWalked root.new resolving.old.keys met.old.keys symbol (later_parts (parts_told parts.now)) paths.items met.new.keys) }
+    ensures searched { IfOk result (λ paths. HasSearched root.new met.old.keys met.new.keys (modules_of_trails paths.items)) }
+    ensures same { OnOk result (resolving.new.keys ≡ resolving.old.keys) }
+    ensures refused { IfErr result (IsRefused root.new (specifier_in root.old symbol.module_id)) }
+    ensures enough { root.old.limits ≡ widest → IfErr result (λ fault. fault ≡ OutOfMemory) }
+{
+    let rest = parts.behind_first()?;
+    walk(root, resolving, met, symbol, &rest)
+}
+
 /// What stands in the place of a definition under parts.
 #[cycle(search)]
 fn step<'a>(
@@ -305,16 +331,16 @@ fn step<'a>(
     resolving: &mut IndexSet<AliasDecl>,
     met: &mut IndexSet<UniqueSymbolId>,
     definition: &Definition<'a>,
-    parts: &[&str],
+    parts: &SharedParts,
 ) -> Result<Option<Trail<'a>>, SymbolsFault>
     requires known { definition.now.«module».0 < length root.old.stored }
-    requires some { 0 < length parts.now }
+    requires some { 0 < length (parts_told parts.now) }
     requires declared { IsStarDeclared root.old.graph (definition_told root.old definition.now) }
     requires met { AreNumbered root.old met.old.keys }
     requires resolving { AreAliasesNumbered root.old resolving.old.keys }
     requires once { IsDistinct bytes_eq root.old.stored }
     ensures kept { HasGrown root.old root.new }
-    ensures changed { IfOk result (λ path. IsChanged root.new resolving.old.keys met.old.keys definition.now parts.now path met.new.keys) }
+    ensures changed { IfOk result (λ path. IsChanged root.new resolving.old.keys met.old.keys definition.now (parts_told parts.now) path met.new.keys) }
     ensures searched { IfOk result (λ path. HasSearched root.new met.old.keys met.new.keys (modules_of_trails (option_to_list path))) }
     ensures same { OnOk result (resolving.new.keys ≡ resolving.old.keys) }
     ensures refused { IfErr result (IsRefused root.new (specifier_in root.old definition.now.«module»)) }
@@ -322,7 +348,7 @@ fn step<'a>(
 {
     let symbol = UniqueSymbolId::new(definition.module, definition.symbol_decl.symbol);
     let decl = definition.symbol_decl;
-    match part_of(root, definition, parts) {
+    match part_of(root, definition, parts.texts()) {
         Err(fault) => Err(fault),
         Ok(PartWay::Itself) => {
             let itself = defined(
@@ -338,7 +364,7 @@ fn step<'a>(
             let next = one_unresolved(root.alloc(), missing)?;
             Ok(link_under(root.alloc(), symbol, decl, parts, next)?)
         }
-        Ok(PartWay::To(target)) => match walk(root, resolving, met, target, &parts[1..]) {
+        Ok(PartWay::To(target)) => match walk_on(root, resolving, met, target, parts) {
             Err(fault) => Err(fault),
             Ok(next) => Ok(link_under(root.alloc(), symbol, decl, parts, next)?),
         },

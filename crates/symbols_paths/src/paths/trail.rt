@@ -4,29 +4,29 @@ ghost use Rattle.std.specs.Prelude.{IfOk, ◌≡◌, ◌++◌, ◌∷◌, []};
 ghost use Rattle.std.specs.Option.{option_to_list};
 ghost use Rattle.symbols_root.specs.Roots.{RootView};
 ghost use Rattle.symbols_paths.specs.Trees.{one, leaf};
-ghost use Rattle.symbols_paths.specs.Views.{leaf_told, module_of_end, texts_in, AreStored};
-ghost use Rattle.symbols_paths.specs.Trails.{heads_of, heads_in, heads_under, linked, trail_told, trails_told, trails_of_option, modules_of_stretch, modules_of_stretches, modules_of_trail, modules_of_trails};
+ghost use Rattle.symbols_paths.specs.Views.{leaf_told, module_of_end, AreStored};
+ghost use Rattle.symbols_paths.specs.Trails.{parts_told, heads_of, heads_in, heads_under, linked, trail_told, trails_told, trails_of_option, modules_of_stretch, modules_of_stretches, modules_of_trail, modules_of_trails};
 
 use crate::paths::definition::DeclRef;
 use crate::paths::iter::DefinitionOrUnresolved;
-use crate::paths::link::copied_parts;
+use crate::paths::shared_parts::SharedParts;
 use std::alloc::{AllocError, Global};
 use symbols_tree::ids::UniqueSymbolId;
 
 /// What a link of a path tells: the symbol that is linked, the declaration of its module that leads
-/// on, and the parts that are looked for from here on.
+/// on, and the parts that are looked for from here on, if there are any.
 #[derive(Drop)]
 pub(crate) struct Step {
     pub(crate) symbol: UniqueSymbolId,
     pub(crate) symbol_decl: DeclRef,
-    pub(crate) parts: Vec<String>,
+    pub(crate) parts: Option<SharedParts>,
 }
 
 /// A step, or stretches whose steps all tell these parts in the place of their own.
 #[derive(Drop)]
 pub(crate) enum Stretch {
     Step(Step),
-    Under(Vec<String>, Vec<Stretch>),
+    Under(SharedParts, Vec<Stretch>),
 }
 
 /// A path while it is searched for: its stretches from the end to the front, so that one more is put
@@ -86,19 +86,15 @@ pub(crate) fn joined<'a>(
 
 /// The trail behind stretches whose steps tell these parts in the place of their own.
 pub(crate) fn put_behind<'a>(
-    alloc: Global,
     stretches: Vec<Stretch>,
-    parts: &[&str],
+    parts: &SharedParts,
     trail: Trail<'a>,
 ) -> Result<Trail<'a>, AllocError>
-    ensures told { IfOk result (λ longer. (root : RootView) → trail_told root longer ≡ linked (heads_under (texts_in parts.now) (heads_in root stretches.items)) (trail_told root trail.entry)) }
+    ensures told { IfOk result (λ longer. (root : RootView) → trail_told root longer ≡ linked (heads_under (parts_told parts.now) (heads_in root stretches.items)) (trail_told root trail.entry)) }
     ensures stored { IfOk result (λ longer. (root : RootView) → AreStored root (modules_of_stretches stretches.items) → AreStored root (modules_of_trail trail.entry) → AreStored root (modules_of_trail longer)) }
 {
     if stretches.is_empty() {
         return Ok(trail);
     }
-    put_before(
-        trail,
-        Stretch::Under(copied_parts(alloc, parts)?, stretches),
-    )
+    put_before(trail, Stretch::Under(parts.same()?, stretches))
 }

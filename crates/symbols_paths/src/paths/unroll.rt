@@ -1,14 +1,16 @@
 //! Trails that were found, as paths.
 
 ghost use Rattle.std.specs.Prelude.{◌≡◌, ◌<◌, ◌∷◌, [], length, IfOk};
+ghost use Rattle.std.specs.Option.{option_map_or};
 ghost use Rattle.symbols_root.specs.Roots.{RootView};
 ghost use Rattle.symbols_paths.specs.Trees.{leaf, one, link_to};
-ghost use Rattle.symbols_paths.specs.Views.{leaf_told, module_of_end, texts_in, forest_told, modules_in, AreStored};
-ghost use Rattle.symbols_paths.specs.Trails.{step_head, heads_of, heads_in, heads_under, linked, trail_told, trails_told, modules_of_stretch, modules_of_stretches, modules_of_trail, modules_of_trails};
+ghost use Rattle.symbols_paths.specs.Views.{leaf_told, module_of_end, texts_of, forest_told, modules_in, AreStored};
+ghost use Rattle.symbols_paths.specs.Trails.{parts_told, step_head, heads_of, heads_in, heads_under, linked, trail_told, trails_told, modules_of_stretch, modules_of_stretches, modules_of_trail, modules_of_trails};
 
 use crate::paths::iter::DefinitionOrUnresolved;
-use crate::paths::link::{copied_parts, lent};
+use crate::paths::link::copied_parts;
 use crate::paths::node::{DefinitionPathLink, DefinitionPathNode, DefinitionPathNodeResolved};
+use crate::paths::shared_parts::SharedParts;
 use crate::paths::trail::{Step, Stretch, Trail};
 use std::alloc::{AllocError, Global};
 
@@ -33,6 +35,16 @@ fn end_alone<'a>(
     Ok(paths)
 }
 
+/// Copies of the parts that a step tells.
+fn strings_of(alloc: Global, parts: &Option<SharedParts>) -> Result<Vec<String>, AllocError>
+    ensures { IfOk result (λ copies. texts_of copies.items ≡ option_map_or parts_told parts.now []) }
+{
+    match parts {
+        Some(parts) => copied_parts(alloc, parts.texts()),
+        None => Ok(Vec::new(alloc)),
+    }
+}
+
 /// A link in front of paths; none where nothing is next.
 fn link_before<'a>(
     alloc: Global,
@@ -46,12 +58,13 @@ fn link_before<'a>(
     if next.is_empty() {
         return Ok(paths);
     }
+    let parts = strings_of(alloc, &step.parts)?;
     paths.push(DefinitionPathNode::Resolved(DefinitionPathNodeResolved::Link(
         DefinitionPathLink {
             module: step.symbol.module_id,
             symbol: step.symbol.symbol_id,
             symbol_decl: step.symbol_decl,
-            parts: step.parts,
+            parts,
             next,
         },
     )))?;
@@ -85,10 +98,7 @@ fn lay_one<'a>(
 {
     match stretch {
         Stretch::Step(step) => link_before(alloc, step, next),
-        Stretch::Under(parts, inner) => {
-            let parts = lent(alloc, &parts)?;
-            lay_under(alloc, inner, &parts, next)
-        }
+        Stretch::Under(parts, inner) => { lay_under(alloc, inner, &parts, next) }
     }
 }
 
@@ -97,10 +107,10 @@ fn lay_one<'a>(
 fn lay_under<'a>(
     alloc: Global,
     stretches: Vec<Stretch>,
-    parts: &[&str],
+    parts: &SharedParts,
     next: Vec<DefinitionPathNode<'a>>,
 ) -> Result<Vec<DefinitionPathNode<'a>>, AllocError>
-    ensures told { IfOk result (λ paths. (root : RootView) → forest_told root paths.items ≡ linked (heads_under (texts_in parts.now) (heads_in root stretches.items)) (forest_told root next.entry.items)) }
+    ensures told { IfOk result (λ paths. (root : RootView) → forest_told root paths.items ≡ linked (heads_under (parts_told parts.now) (heads_in root stretches.items)) (forest_told root next.entry.items)) }
     ensures stored { IfOk result (λ paths. (root : RootView) → AreStored root (modules_of_stretches stretches.items) → AreStored root (modules_in next.entry.items) → AreStored root (modules_in paths.items)) }
 {
     let mut paths = next;
@@ -115,10 +125,10 @@ fn lay_under<'a>(
 fn lay_one_under<'a>(
     alloc: Global,
     stretch: Stretch,
-    parts: &[&str],
+    parts: &SharedParts,
     next: Vec<DefinitionPathNode<'a>>,
 ) -> Result<Vec<DefinitionPathNode<'a>>, AllocError>
-    ensures told { IfOk result (λ paths. (root : RootView) → forest_told root paths.items ≡ linked (heads_under (texts_in parts.now) (heads_of root stretch)) (forest_told root next.entry.items)) }
+    ensures told { IfOk result (λ paths. (root : RootView) → forest_told root paths.items ≡ linked (heads_under (parts_told parts.now) (heads_of root stretch)) (forest_told root next.entry.items)) }
     ensures stored { IfOk result (λ paths. (root : RootView) → AreStored root (modules_of_stretch stretch) → AreStored root (modules_in next.entry.items) → AreStored root (modules_in paths.items)) }
 {
     match stretch {
@@ -126,7 +136,7 @@ fn lay_one_under<'a>(
             let step = Step {
                 symbol: step.symbol,
                 symbol_decl: step.symbol_decl,
-                parts: copied_parts(alloc, parts)?,
+                parts: Some(parts.same()?),
             };
             link_before(alloc, step, next)
         }

@@ -1,19 +1,21 @@
 //! What a symbol is called in full.
 
-ghost use Rattle.std.specs.Prelude.{◌≡◌, ◌<◌, ◌++◌, [], ◌∷◌, List, length, Some, string_bytes, encode_utf8_all, IfOk, OnOk, IfErr, IsSome};
+ghost use Rattle.std.specs.Prelude.{◌≡◌, ◌<◌, ◌++◌, ◌∷◌, List, length, Some, codes, string_bytes, encode_utf8_all, IfOk, OnOk, IfErr, IsSome};
+ghost use Rattle.std.specs.Cow.{cow_str_bytes};
 ghost use Rattle.std.specs.Option.{option_map};
 ghost use Rattle.symbols_syntax.specs.declared.ids.ModuleId.{ModuleId};
 ghost use Rattle.symbols_nodes.specs.NodeTests.{is_class};
 ghost use Rattle.symbols_table.specs.Laws.{AreLawful};
 ghost use Rattle.symbols_table.specs.SymbolViews.{SymbolView, symbol_view, symbol_name, symbol_test, numbered};
 ghost use Rattle.symbols_table.specs.Modules.{lent_table, symbol_in};
-ghost use Rattle.symbols_table.specs.QualifiedNames.{escaped_char, escaped, name_over, path_name, path_to, qualified_name, IsNameFault};
-ghost use Rattle.symbols_table.specs.NamePaths.{IsNamed};
+ghost use Rattle.symbols_table.specs.QualifiedNames.{escaped_char, escaped, behind, qualified_name, IsNameFault};
+ghost use Rattle.symbols_table.specs.NamePaths.{text_told, IsNamed};
 
 use crate::decl::Symbol;
 use crate::info::fault::SymbolsFault;
 use crate::info::module_info::ModuleInfoRef;
 use std::alloc::{AllocError, Global};
+use std::borrow::CowStr;
 use symbols_syntax::ids::SymbolId;
 
 fn push_escaped(text: &mut String, c: char) -> Result<(), AllocError>
@@ -46,75 +48,110 @@ fn is_class(symbol: &Symbol<'_>) -> bool
     }
 }
 
-/// The name of a symbol before what a symbol in it is called.
-fn name_over(
-    alloc: Global,
-    symbol: &Symbol<'_>,
-    inner: SymbolId,
-    text: &str,
-    name: &str,
-) -> Result<String, AllocError>
-    ensures { IfOk result (λ made. string_bytes made ≡ name_over (symbol_view symbol.now) inner text.now name.now) }
+/// Pieces of a text, from the last to the first, as one text.
+fn text_of(alloc: Global, pieces: Vec<CowStr<'_>>) -> Result<String, AllocError>
+    ensures { IfOk result (λ text. string_bytes text ≡ text_told pieces.entry.items) }
 {
-    if text.is_empty() {
-        return String::from_str(alloc, name);
+    let mut text = String::new(alloc);
+    let mut pieces = pieces;
+    while let Some(piece) = pieces.pop() {
+        text.push_str(piece.as_str())?;
     }
-    if !symbol.members.contains(&inner) {
-        return format!(in alloc; "{name}.{text}");
+    Ok(text)
+}
+
+/// What the lower part of a path is called, which isn't empty, in pieces from the last to the first,
+/// and the first symbol of that part.
+#[derive(Drop)]
+pub(crate) struct Named<'a> {
+    pub(crate) number: SymbolId,
+    pub(crate) pieces: Vec<CowStr<'a>>,
+}
+
+/// The pieces with one before them.
+fn with_piece<'a>(pieces: Vec<CowStr<'a>>, piece: CowStr<'a>) -> Result<Vec<CowStr<'a>>, AllocError>
+    ensures { IfOk result (λ more. text_told more.items ≡ cow_str_bytes piece.entry ++ text_told pieces.entry.items) }
+{
+    let mut pieces = pieces;
+    pieces.push(piece)?;
+    Ok(pieces)
+}
+
+/// A text in brackets and quotes, as one piece.
+fn in_brackets<'a>(alloc: Global, text: &str) -> Result<Vec<CowStr<'a>>, AllocError>
+    ensures { IfOk result (λ pieces. text_told pieces.items ≡ codes "[\"" ++ (escaped text.now ++ codes "\"]")) }
+{
+    let text = escaped(alloc, text)?;
+    let piece = CowStr::Owned(format!(in alloc; "[\"{text}\"]")?);
+    with_piece(Vec::new(alloc), piece)
+}
+
+/// The pieces behind the name of a symbol that say what a symbol in it is called.
+fn behind<'a>(
+    alloc: Global,
+    symbol: &Symbol<'a>,
+    inner: Named<'a>,
+) -> Result<Vec<CowStr<'a>>, AllocError>
+    ensures { IfOk result (λ pieces. text_told pieces.items ≡ behind (symbol_view symbol.now) inner.entry.number (text_told inner.entry.pieces.items)) }
+{
+    if !symbol.members.contains(&inner.number) {
+        return with_piece(inner.pieces, CowStr::Borrowed("."));
     }
     if is_class(symbol) {
-        return format!(in alloc; "{name}.prototype.{text}");
+        return with_piece(inner.pieces, CowStr::Borrowed(".prototype."));
     }
-    let text = escaped(alloc, text)?;
-    format!(in alloc; "{name}[\"{text}\"]")
+    let text = text_of(alloc, inner.pieces)?;
+    in_brackets(alloc, text.as_str())
 }
 
-/// The first symbol of the lower part of a path, and the name along that part.
-#[derive(Drop)]
-pub(crate) struct Named {
-    pub(crate) number: SymbolId,
-    pub(crate) text: String,
-}
-
-/// The name along a path that begins one symbol higher.
-fn name_from(
+/// What a path that begins one symbol higher is called; nothing where that is empty.
+fn name_from<'a>(
     alloc: Global,
-    symbol: &Symbol<'_>,
-    name: &str,
-    inner: &Option<Named>,
-) -> Result<String, AllocError>
-    ensures { IfOk result (λ made. (path : List SymbolView) → IsNamed inner.now path → symbol_name (symbol_view symbol.now) ≡ Some name.now
-        → path_name (symbol_view symbol.now ∷ path) ≡ Some (string_bytes made)) }
+    symbol: &Symbol<'a>,
+    name: CowStr<'a>,
+    inner: Option<Named<'a>>,
+) -> Result<Option<Named<'a>>, AllocError>
+    ensures { IfOk result (λ named. (path : List SymbolView) → IsNamed inner.entry path → symbol_name (symbol_view symbol.now) ≡ Some (cow_str_bytes name.entry)
+        → IsNamed named (symbol_view symbol.now ∷ path)) }
 {
+    let number = symbol.symbol_id;
     match inner {
-        None => String::from_str(alloc, name),
-        Some(inner) => name_over(alloc, symbol, inner.number, inner.text.as_str(), name),
+        None => {
+            if name.as_str().is_empty() {
+                return Ok(None);
+            }
+            let pieces = with_piece(Vec::new(alloc), name)?;
+            Ok(Some(Named { number, pieces }))
+        }
+        Some(inner) => {
+            let pieces = with_piece(behind(alloc, symbol, inner)?, name)?;
+            Ok(Some(Named { number, pieces }))
+        }
     }
 }
 
-/// The name along the path from below the module to a symbol.
-fn path_name(
+/// The name along the path from below the module to a symbol; none where that is empty.
+fn qualified_name(
     alloc: Global,
     symbols: &[Symbol<'_>],
     symbol_id: SymbolId,
 ) -> Result<Option<String>, AllocError>
     requires lawful { (module_id : ModuleId) × AreLawful module_id symbols.now }
     requires stored { symbol_id.0 < length symbols.now }
-    ensures { IfOk result (λ name. option_map string_bytes name ≡ path_name (path_to (numbered symbols.now) symbol_id)) }
+    ensures { IfOk result (λ name. option_map string_bytes name ≡ qualified_name (numbered symbols.now) symbol_id) }
 {
-    let mut inner: Option<Named> = None;
+    let mut inner: Option<Named<'_>> = None;
     let mut number = symbol_id;
     while let Some(parent) = symbols[number.0 as usize].parent_id {
         let symbol = &symbols[number.0 as usize];
         let Some(name) = symbol.maybe_name()? else {
             return Ok(None);
         };
-        let text = name_from(alloc, symbol, name.as_str(), &inner)?;
-        inner = Some(Named { number, text });
+        inner = name_from(alloc, symbol, name, inner)?;
         number = parent;
     }
     match inner {
-        Some(named) => Ok(Some(named.text)),
+        Some(named) => Ok(Some(text_of(alloc, named.pieces)?)),
         None => Ok(None),
     }
 }
@@ -140,9 +177,6 @@ impl<'r, 'a> ModuleInfoRef<'r, 'a> {
         if self.symbol(symbol_id).is_none() {
             return Err(SymbolsFault::UnknownSymbol);
         }
-        match path_name(alloc, self.all_symbols(), symbol_id)? {
-            Some(name) if !name.is_empty() => Ok(Some(name)),
-            _ => Ok(None),
-        }
+        Ok(qualified_name(alloc, self.all_symbols(), symbol_id)?)
     }
 }

@@ -1,12 +1,25 @@
-use Rattle.std.proofs.Common.{ap, ◌∙◌}
+use Rattle.std.proofs.Common.{◌≡◌, sym, ap, subst, ◌∙◌, Result, Ok, Err, IfErr}
+use Rattle.std.specs.Prelude.{IsErrAnd}
+use Rattle.symbols_table.specs.declared.info.fault.SymbolsFault.{SymbolsFault}
+use Rattle.symbols_table.specs.declared.info.fault.SymbolsFault.TheVariants.{OutOfMemory}
 use Rattle.symbols_paths.specs.Trees.{leaves_in}
-use Rattle.symbols_paths.specs.Views.{forest_told}
+use Rattle.symbols_paths.specs.Answers.{IsPathsFault}
+use Rattle.symbols_paths.specs.Trails.{trails_told}
+use Rattle.symbols_paths.proofs.Answering.{memory_refused}
 use Rattle.symbols_paths.proofs.paths.find.go_to_definitions_or_unresolveds.Goals as goal
 
-pub returns-clause-answers : goal.returns-clause-answers
-returns-clause-answers c =
-    let root = c.find_definition_paths.new.root in
-    (forest_told root c.in-Ok.paths.items, c.in-Ok.ensures.answers.are_paths, c.in_ok-ends_of.ensures root)
+-- a fault that can only be that memory was refused
+on_memory : {A : Type 0} (P : SymbolsFault → Type 0) (r : Result A SymbolsFault) → IsErrAnd r (λ fault. fault ≡ OutOfMemory) → P OutOfMemory → IfErr r P
+on_memory P (Ok x) is held = tt
+on_memory P (Err fault) is held = subst P (sym is) held
 
-pub returns-clause-listed : goal.returns-clause-listed
-returns-clause-listed c = c.in_ok-ends_of.ensures c.find_definition_paths.new.root ∙ ap leaves_in c.in-Ok.ensures.listed
+pub returns-in_ok-ends_of-in-Ok-clause-answers : goal.returns-in_ok-ends_of-in-Ok-clause-answers
+returns-in_ok-ends_of-in-Ok-clause-answers c =
+    let root = c.trails_of.new.root in
+    (trails_told root c.in-Ok.trails.items, c.in-Ok.ensures.answers, c.in_ok-ends_of-in-Ok.ensures root)
+
+pub returns-in_ok-ends_of-in-Ok-clause-listed : goal.returns-in_ok-ends_of-in-Ok-clause-listed
+returns-in_ok-ends_of-in-Ok-clause-listed c = c.in_ok-ends_of-in-Ok.ensures c.trails_of.new.root ∙ ap leaves_in c.in-Ok.ensures.listed
+
+pub returns-in_err-ends_of-in-Ok-clause-faults : goal.returns-in_err-ends_of-in-Ok-clause-faults
+returns-in_err-ends_of-in-Ok-clause-faults c = on_memory (IsPathsFault c.args.root.now c.trails_of.new.root c.args.module_id c.args.symbol_id) c.from_residual.result c.from_residual.ensures.1 (memory_refused c.in-Ok.ensures.known)

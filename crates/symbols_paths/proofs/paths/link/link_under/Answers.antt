@@ -1,7 +1,7 @@
 use Rattle.std.proofs.Common.{Result, Ok, Err, IfOk, ap, sym, ◌∙◌}
 use Rattle.symbols_paths.specs.Trees.{link_to}
-use Rattle.symbols_paths.specs.Views.{named, decl_told, texts_in}
-use Rattle.symbols_paths.specs.Trails.{trails_told}
+use Rattle.symbols_paths.specs.Views.{named, decl_told}
+use Rattle.symbols_paths.specs.Trails.{parts_told, trails_told}
 use Rattle.symbols_paths.proofs.Told.{head_told}
 use Rattle.symbols_paths.proofs.Trailing.{is_none}
 use Rattle.symbols_paths.proofs.paths.link.link_under.Goals as goal
@@ -13,10 +13,10 @@ on_answer (Err e) h f = tt
 pub returns-then-is_empty-clause-told : goal.returns-then-is_empty-clause-told
 returns-then-is_empty-clause-told c = λ root.
     let s = c.args.symbol in
-    ap (link_to (head_told root s.module_id s.symbol_id c.args.symbol_decl (texts_in c.args.parts.now))) (sym (is_none root c.args.next (sym c.if-is_empty.true ∙ c.is_empty.ensures)))
+    ap (link_to (head_told root s.module_id s.symbol_id c.args.symbol_decl (parts_told c.args.parts.now))) (sym (is_none root c.args.next (sym c.if-is_empty.true ∙ c.is_empty.ensures)))
 
 pub returns-clause-told : goal.returns-clause-told
 returns-clause-told c =
     let s = c.args.symbol in
     on_answer c.link_by.result c.link_by.ensures.told (λ trail told root.
-    told root ∙ (λ i. link_to (record { symbol = named root s; decl = decl_told root s.module_id c.args.symbol_decl; parts = c.in_ok-copied_parts.ensures i }) (trails_told root c.args.next.items)))
+    told root ∙ (λ i. link_to (record { symbol = named root s; decl = decl_told root s.module_id c.args.symbol_decl; parts = c.in_ok-same.ensures i }) (trails_told root c.args.next.items)))

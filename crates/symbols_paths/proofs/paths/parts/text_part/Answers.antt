@@ -1,7 +1,7 @@
 use Rattle.std.proofs.Common.{Result, Ok, Err, IfOk, IfErr, ◌∙◌}
 use Rattle.symbols_exports.specs.Exporting.{specifier_in}
 use Rattle.symbols_exports.specs.StarStatements.{text_target}
-use Rattle.symbols_paths.specs.Views.{first_text, later_texts}
+use Rattle.symbols_paths.specs.Views.{texts_of, first_part, later_parts}
 use Rattle.symbols_paths.proofs.PartReading.{text_told, refused_text, refused_behind}
 use Rattle.symbols_paths.proofs.Targets.{target_is}
 use Rattle.symbols_paths.proofs.paths.parts.text_part.Goals as goal
@@ -23,7 +23,7 @@ returns-in-Ok-Some-clause-told c =
     let mid = c.text_target.new.root in
     let found = text_target old.graph (specifier_in old c.args.module_id) c.args.text.now in
     let leads = target_is mid c.in-Ok-Some.target found (rw c.in-Ok-Some.field-0-is at c.in-Ok-Some.ensures.gives) in
-    on_answer c.module_part.result (λ way told. told ∙ text_told old mid (specifier_in old c.args.module_id) c.args.text.now (first_text c.args.parts.now) (later_texts c.args.parts.now) c.in-Ok-Some.target found c.in-Ok-Some.ensures.kept leads.is) c.module_part.ensures.told
+    on_answer c.module_part.result (λ way told. told ∙ text_told old mid (specifier_in old c.args.module_id) c.args.text.now (first_part (texts_of c.args.parts.now)) (later_parts (texts_of c.args.parts.now)) c.in-Ok-Some.target found c.in-Ok-Some.ensures.kept leads.is) c.module_part.ensures.told
 
 pub returns-in-Ok-Some-clause-refused : goal.returns-in-Ok-Some-clause-refused
 returns-in-Ok-Some-clause-refused c =

@@ -3,8 +3,8 @@ use Rattle.std.specs.Prelude.{Result, Ok, Err, OnOk, IfOk}
 use Rattle.std.proofs.lemmas.List.{nil_from_length}
 use Rattle.symbols_paths.specs.Trees.{Forest}
 use Rattle.symbols_paths.specs.Rebuilt.{rebuilt}
-use Rattle.symbols_paths.specs.Views.{texts_in, module_of_end, AreStored}
-use Rattle.symbols_paths.specs.Trails.{heads_in, heads_under, linked, trail_told, trails_told, trails_of_option, modules_of_stretches, modules_of_trail, modules_of_trails}
+use Rattle.symbols_paths.specs.Views.{module_of_end, AreStored}
+use Rattle.symbols_paths.specs.Trails.{parts_told, heads_in, heads_under, linked, trail_told, trails_told, trails_of_option, modules_of_stretches, modules_of_trail, modules_of_trails}
 use Rattle.symbols_paths.proofs.Trailing.{told_with_option, modules_to, modules_fork, stored_apart, stored_with_option}
 use Rattle.symbols_paths.proofs.Listing.{AreRebuilt, rebuilt_next, rebuilt_last, rebuilt_to, rebuilt_fork, both_rebuilt, left_of_both}
 use Rattle.symbols_paths.proofs.paths.rebuild.+rebuilding.Goals as goal
@@ -19,7 +19,7 @@ on_answer (Err e) h f = tt
 
 pub rebuild-loop-trail-preserved : goal.rebuild-loop-trail-preserved
 rebuild-loop-trail-preserved t c =
-    let ps = texts_in c.args.parts.now in
+    let ps = parts_told c.args.parts.now in
     let begun = c.args.changed.now.items in
     let so = subst (λ rest. AreRebuilt ps c.loop-trail.found.items rest c.loop-trail.changed.items c.args.trails.items begun) c.in-Some.ensures.steps.0 c.loop-trail.invariant in
     let next = rebuilt_next c.in-Some.trail c.in_ok-trail.trail so c.in_ok-trail.ensures.found c.in_ok-trail.ensures.left c.in_ok-trail.ensures.stored in
@@ -42,7 +42,7 @@ rebuild-returns-clause-stored t c = λ root a b. let h = c.loop-trail.invariant.
 
 pub rebuild_one-returns-in-To-clause-found : goal.rebuild_one-returns-in-To-clause-found
 rebuild_one-returns-in-To-clause-found t c =
-    let ps = texts_in c.args.parts.now in
+    let ps = parts_told c.args.parts.now in
     let xs = c.in-To.stretches in
     on_answer c.under.result c.under.ensures.told (λ found told root.
     let ready = map (trails_of_option root) c.args.changed.now.items in
@@ -52,7 +52,7 @@ rebuild_one-returns-in-To-clause-found t c =
 
 pub rebuild_one-returns-in-To-clause-left : goal.rebuild_one-returns-in-To-clause-left
 rebuild_one-returns-in-To-clause-left t c =
-    let ps = texts_in c.args.parts.now in
+    let ps = parts_told c.args.parts.now in
     always c.under.result (λ root.
     let ready = map (trails_of_option root) c.args.changed.now.items in
     c.rebuild_end-trail.ensures.left root ps
@@ -69,7 +69,7 @@ rebuild_one-returns-in-To-clause-stored t c =
 
 pub rebuild_one-returns-in_ok-whole-in-Fork-clause-found : goal.rebuild_one-returns-in_ok-whole-in-Fork-clause-found
 rebuild_one-returns-in_ok-whole-in-Fork-clause-found t c =
-    let ps = texts_in c.args.parts.now in
+    let ps = parts_told c.args.parts.now in
     let x = c.in-Fork in
     let next = c.in_ok-next-in-Fork.next.items in
     let last = c.in_ok-last-in-Fork.last in
@@ -82,7 +82,7 @@ rebuild_one-returns-in_ok-whole-in-Fork-clause-found t c =
 
 pub rebuild_one-returns-in_ok-whole-in-Fork-clause-left : goal.rebuild_one-returns-in_ok-whole-in-Fork-clause-left
 rebuild_one-returns-in_ok-whole-in-Fork-clause-left t c =
-    let ps = texts_in c.args.parts.now in
+    let ps = parts_told c.args.parts.now in
     let x = c.in-Fork in
     always c.under-in-Fork.result (λ root.
     let ready = map (trails_of_option root) c.args.changed.now.items in

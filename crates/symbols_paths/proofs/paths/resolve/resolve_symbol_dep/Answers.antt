@@ -4,7 +4,7 @@ use Rattle.symbols_syntax.specs.Ids.{id_view}
 use Rattle.symbols_nodes.specs.References.{Reference, qualified_id, import_type, reference_view}
 use Rattle.symbols_table.specs.declared.info.fault.SymbolsFault.{SymbolsFault}
 use Rattle.symbols_exports.specs.Exporting.{specifier_in}
-use Rattle.symbols_paths.specs.Views.{texts_in}
+use Rattle.symbols_paths.specs.Trails.{parts_told}
 use Rattle.symbols_paths.specs.DepAnswers.{entry_told, entries_of, IsDepAnswer, IsDepRefused}
 use Rattle.symbols_paths.proofs.DepEntries.{dep_refused}
 use Rattle.symbols_paths.proofs.paths.resolve.resolve_symbol_dep.Goals as goal
@@ -20,23 +20,23 @@ on_fault (Err e) h f = f e h
 pub returns-in_ok-parts-in-QualifiedId-clause-answers : goal.returns-in_ok-parts-in-QualifiedId-clause-answers
 returns-in_ok-parts-in-QualifiedId-clause-answers c =
     let known : c.args.module_id.0 < length c.args.root.now.stored = search rules in
-    let parts = ap texts_in c.deref-in-QualifiedId.ensures.value ∙ (c.in_ok-parts-in-QualifiedId.ensures ∙ ap (map cow_str_bytes) c.deref.ensures.value) in
-    let is : qualified_id (id_view c.in-QualifiedId.id.now) (texts_in c.deref-in-QualifiedId.result.now) ≡ reference_view c.args.dep.now = ap (qualified_id (id_view c.in-QualifiedId.id.now)) parts ∙ sym (ap reference_view c.in-QualifiedId.is) in
+    let parts = c.in_ok-parts-in-QualifiedId.ensures ∙ ap (map cow_str_bytes) c.deref.ensures.value in
+    let is : qualified_id (id_view c.in-QualifiedId.id.now) (parts_told c.in_ok-parts-in-QualifiedId.parts) ≡ reference_view c.args.dep.now = ap (qualified_id (id_view c.in-QualifiedId.id.now)) parts ∙ sym (ap reference_view c.in-QualifiedId.is) in
     on_answer c.entries_of_id-in-QualifiedId.result c.entries_of_id-in-QualifiedId.ensures.answers (λ entries told.
     (known, subst (λ (r : Reference). IsDepAnswer c.args.root.now.graph (specifier_in c.args.root.now c.args.module_id) r (map (entry_told c.entries_of_id-in-QualifiedId.new.root) entries.items)) is told))
 
 pub returns-in_ok-parts-in-QualifiedId-clause-listed : goal.returns-in_ok-parts-in-QualifiedId-clause-listed
 returns-in_ok-parts-in-QualifiedId-clause-listed c =
-    let parts = ap texts_in c.deref-in-QualifiedId.ensures.value ∙ (c.in_ok-parts-in-QualifiedId.ensures ∙ ap (map cow_str_bytes) c.deref.ensures.value) in
-    let is : qualified_id (id_view c.in-QualifiedId.id.now) (texts_in c.deref-in-QualifiedId.result.now) ≡ reference_view c.args.dep.now = ap (qualified_id (id_view c.in-QualifiedId.id.now)) parts ∙ sym (ap reference_view c.in-QualifiedId.is) in
+    let parts = c.in_ok-parts-in-QualifiedId.ensures ∙ ap (map cow_str_bytes) c.deref.ensures.value in
+    let is : qualified_id (id_view c.in-QualifiedId.id.now) (parts_told c.in_ok-parts-in-QualifiedId.parts) ≡ reference_view c.args.dep.now = ap (qualified_id (id_view c.in-QualifiedId.id.now)) parts ∙ sym (ap reference_view c.in-QualifiedId.is) in
     on_answer c.entries_of_id-in-QualifiedId.result c.entries_of_id-in-QualifiedId.ensures.listed (λ entries told. told ∙ ap (λ (r : Reference). entries_of c.args.root.now.graph (specifier_in c.args.root.now c.args.module_id) r) is)
 
 pub returns-in_ok-parts-in-ImportType-clause-faults : goal.returns-in_ok-parts-in-ImportType-clause-faults
 returns-in_ok-parts-in-ImportType-clause-faults c =
     let known : c.args.module_id.0 < length c.args.root.now.stored = search rules in
     let m = specifier_in c.args.root.now c.args.module_id in
-    let texts = texts_in c.deref-in-ImportType-2.result.now in
-    let parts = ap texts_in c.deref-in-ImportType-2.ensures.value ∙ (c.in_ok-parts-in-ImportType.ensures ∙ ap (map cow_str_bytes) c.deref-in-ImportType.ensures.value) in
+    let texts = parts_told c.in_ok-parts-in-ImportType.parts in
+    let parts = c.in_ok-parts-in-ImportType.ensures ∙ ap (map cow_str_bytes) c.deref-in-ImportType.ensures.value in
     let is : import_type c.in-ImportType.text.now texts ≡ reference_view c.args.dep.now = ap (import_type c.in-ImportType.text.now) parts ∙ sym (ap reference_view c.in-ImportType.is) in
     on_fault c.entries_of_import.result c.entries_of_import.ensures.refused (λ fault refused.
     inr (known, subst (λ (r : Reference). IsDepRefused c.entries_of_import.new.root m r fault) is (dep_refused c.args.root.now c.entries_of_import.new.root m c.in-ImportType.text.now texts fault c.entries_of_import.ensures.kept refused)))

@@ -1,4 +1,4 @@
-use Rattle.std.proofs.Common.{◌≡◌, ◌<◌, ◌^◌, List, [], ◌∷◌, refl, length, drop, take, ◌-◌, Some, Result, Ok, Err, IfOk, IfErr, ◌+◌, option_map, sym, ap, subst, ◌∙◌, arith}
+use Rattle.std.proofs.Common.{◌≡◌, ◌<◌, ◌^◌, List, [], ◌∷◌, refl, length, Some, Result, Ok, Err, IfOk, IfErr, ◌+◌, option_map, sym, ap, subst, ◌∙◌, arith}
 use Rattle.std.proofs.lemmas.List.{length-append, nil_from_length}
 use Rattle.symbols_syntax.specs.declared.ids.ModuleId.{ModuleId}
 use Rattle.symbols_table.specs.declared.info.fault.SymbolsFault.{SymbolsFault}
@@ -8,8 +8,8 @@ use Rattle.symbols_exports.specs.StarStatements.{text_target}
 use Rattle.symbols_paths.specs.declared.paths.definition.Definition.{Definition}
 use Rattle.symbols_paths.specs.declared.paths.resolving.AliasDecl.{AliasDecl}
 use Rattle.symbols_paths.specs.Trees.{no_module, no_part, unresolved, leaf, one, link_to}
-use Rattle.symbols_paths.specs.Views.{named, texts_of, texts_in}
-use Rattle.symbols_paths.specs.Trails.{trails_told, modules_of_trails}
+use Rattle.symbols_paths.specs.Views.{named, texts_of, later_parts}
+use Rattle.symbols_paths.specs.Trails.{parts_told, trails_told, modules_of_trails}
 use Rattle.symbols_paths.specs.Needed.{IsNeeded, IsRefused}
 use Rattle.symbols_paths.specs.Searching.{AreNumbered, AreAliasesNumbered, IsRead}
 use Rattle.symbols_paths.proofs.Growing.{grown_not, grown_on, same_specifier, still_stored, still_numbered, all_still_stored}
@@ -21,7 +21,8 @@ use Rattle.symbols_paths.proofs.Following.{followed_itself, followed_alias, foll
 use Rattle.symbols_paths.proofs.Trying.{asking_first, asking_within, position_within, position_before, asking_next, asking_here, here_searched, asking_last, last_searched}
 use Rattle.symbols_paths.proofs.SearchSteps.{still_aliases, aliases_with}
 use Rattle.symbols_paths.proofs.Aliases.{new_alias, old_alias, alias_few, popped}
-use Rattle.symbols_paths.proofs.Walking.{IsWalking, AreGiven, head_in_place, definition_in_place, parts_behind, one_less, walked_alone, changed_itself, changed_lacking, changed_on, walking_first, walking_next, walking_last, resolved_open, resolved_walk, first_given, others_given, given_first, refused_given, refused_on}
+use Rattle.symbols_paths.proofs.SharedParts.{short_parts}
+use Rattle.symbols_paths.proofs.Walking.{IsWalking, AreGiven, head_in_place, definition_in_place, one_less, walked_alone, changed_itself, changed_lacking, changed_on, walking_first, walking_next, walking_last, resolved_open, resolved_walk, first_given, others_given, given_first, refused_given, refused_on}
 use Rattle.symbols_paths.proofs.Needing.{refused_from, needed_import, refused_import, needed_candidate}
 use Rattle.symbols_paths.proofs.paths.search.+search.Goals as goal
 
@@ -141,7 +142,7 @@ follow-returns-in_ok-link-in-Ok-clause-searched t c =
 
 pub follow-returns-in_ok-unmapped-in-Unmapped-clause-followed : goal.follow-returns-in_ok-unmapped-in-Unmapped-clause-followed
 follow-returns-in_ok-unmapped-in-Unmapped-clause-followed t c =
-    rw c.in-Unmapped.is (followed_unmapped c.args.root.now c.args.resolving.now.keys c.args.met.now.keys c.args.symbol c.args.index c.in-Unmapped.id c.in-Unmapped.parts c.in_ok-unmapped-in-Unmapped.field-0 (λ later. rw c.deref-in-Unmapped.ensures.value at c.in_ok-unmapped-in-Unmapped.ensures.told later))
+    rw c.in-Unmapped.is (followed_unmapped c.args.root.now c.args.resolving.now.keys c.args.met.now.keys c.args.symbol c.args.index c.in-Unmapped.id c.in-Unmapped.parts c.in_ok-unmapped-in-Unmapped.field-0 c.in_ok-unmapped-in-Unmapped.ensures.told)
 
 pub follow-returns-in_ok-link-in-Ok-import-clause-followed : goal.follow-returns-in_ok-link-in-Ok-import-clause-followed
 follow-returns-in_ok-link-in-Ok-import-clause-followed t c = rw c.in-Import.is (followed_import c.import.new.root c.args.resolving.now.keys c.args.met.now.keys c.import.new.met.keys c.args.symbol c.in-Import.taken c.args.index c.in-Ok-import.next.items c.in_ok-link-in-Ok-import.field-0 c.in-Ok-import.ensures.tried c.in_ok-link-in-Ok-import.ensures.told)
@@ -333,7 +334,7 @@ follow-resolve-requires t c =
 
 pub follow-returns-in_ok-link_under-in-Ok-resolve-clause-followed : goal.follow-returns-in_ok-link_under-in-Ok-resolve-clause-followed
 follow-returns-in_ok-link_under-in-Ok-resolve-clause-followed t c =
-    rw c.in-Alias.is (followed_alias c.resolve.new.root c.args.resolving.now.keys c.args.met.now.keys c.args.symbol c.new-target-in-Alias.result c.in-Alias.symbol_id c.args.index c.in-Alias.parts c.in-Ok-resolve.next.items c.in_ok-link_under-in-Ok-resolve.field-0 c.new-target-in-Alias.ensures.module c.new-target-in-Alias.ensures.symbol (rw c.deref.ensures.value at c.in-Ok-resolve.ensures.resolved) (λ later. rw c.deref-in-Ok-resolve.ensures.value at c.in_ok-link_under-in-Ok-resolve.ensures.told later))
+    rw c.in-Alias.is (followed_alias c.resolve.new.root c.args.resolving.now.keys c.args.met.now.keys c.args.symbol c.new-target-in-Alias.result c.in-Alias.symbol_id c.args.index c.in-Alias.parts c.in-Ok-resolve.next.items c.in_ok-link_under-in-Ok-resolve.field-0 c.new-target-in-Alias.ensures.module c.new-target-in-Alias.ensures.symbol c.in-Ok-resolve.ensures.resolved c.in_ok-link_under-in-Ok-resolve.ensures.told)
 
 pub follow-returns-in_ok-link_under-in-Ok-resolve-clause-searched : goal.follow-returns-in_ok-link_under-in-Ok-resolve-clause-searched
 follow-returns-in_ok-link_under-in-Ok-resolve-clause-searched t c =
@@ -345,7 +346,7 @@ follow-returns-in_ok-link_under-in-Ok-resolve-clause-searched t c =
 pub resolve-returns-then-not-is_new-clause-resolved : goal.resolve-returns-then-not-is_new-clause-resolved
 resolve-returns-then-not-is_new-clause-resolved t c =
     let old = old_alias c.args.resolving.now.keys c.insert_full.new.self.keys c.args.alias c.in_ok-is_new.is_new c.in_ok-is_new.ensures.added c.in_ok-is_new.ensures.keys c.if-not-is_new.true in
-    rw c.new.ensures.items (resolved_open c.args.root.now c.requires.once c.args.resolving.now.keys c.args.alias c.requires.resolving c.requires.alias c.args.target c.args.parts.now old.0)
+    rw c.new.ensures.items (resolved_open c.args.root.now c.requires.once c.args.resolving.now.keys c.args.alias c.requires.resolving c.requires.alias c.args.target (parts_told c.args.parts.now) old.0)
 
 pub resolve-returns-then-not-is_new-clause-same : goal.resolve-returns-then-not-is_new-clause-same
 resolve-returns-then-not-is_new-clause-same t c = (old_alias c.args.resolving.now.keys c.insert_full.new.self.keys c.args.alias c.in_ok-is_new.is_new c.in_ok-is_new.ensures.added c.in_ok-is_new.ensures.keys c.if-not-is_new.true).1
@@ -357,8 +358,8 @@ resolve-walk-requires t c =
     let few = alias_few running c.args.alias c.in_ok-is_new.field-0-0 new.0 c.in_ok-is_new.ensures.index (omega arith) in
     let longer : length c.insert_full.new.self.keys ≡ length running + 1 = ap length new.1 ∙ length-append running (c.args.alias ∷ []) in
     let none_met : length c.new-met.result.keys ≡ 0 = ap length c.new-met.ensures.empty in
-    let short : length c.args.parts.now < 2 ^ 64 = omega arith in
-    let parts = length c.args.parts.now in
+    let short = short_parts c.args.parts.now in
+    let parts = length (parts_told c.args.parts.now) in
     let less = subst (λ n. left n parts (length c.new-met.result.keys) 6 < left (length running) 0 (2 ^ 64) 3) (sym longer) (subst (λ n. left (length running + 1) parts n 6 < left (length running) 0 (2 ^ 64) 3) (sym none_met) (one_alias_more (length running) parts 6 3 few short (omega arith))) in
     let numbered = subst (AreAliasesNumbered c.args.root.now) (sym new.1) (aliases_with c.args.root.now running c.args.alias c.requires.resolving c.requires.alias) in
     let met = subst (AreNumbered c.args.root.now) (sym c.new-met.ensures.empty) (λ k d h. absurd (omega (arith, h))) in
@@ -372,7 +373,7 @@ resolve-returns-clause-resolved t c =
     let walked = rw (new.1, c.new-met.ensures.empty) at c.in-Ok.ensures.walked in
     let none_met : length c.new-met.result.keys ≡ 0 = ap length c.new-met.ensures.empty in
     let fits = c.in-Ok.ensures.searched.few (omega (arith, none_met)) in
-    resolved_walk c.args.root.now c.requires.once running c.args.alias c.requires.resolving c.requires.alias c.args.target c.args.parts.now c.in-Ok.paths.items c.walk.new.met.keys new.0 few fits c.in-Ok.ensures.kept walked
+    resolved_walk c.args.root.now c.requires.once running c.args.alias c.requires.resolving c.requires.alias c.args.target (parts_told c.args.parts.now) c.in-Ok.paths.items c.walk.new.met.keys new.0 few fits c.in-Ok.ensures.kept walked
 
 pub resolve-returns-clause-same : goal.resolve-returns-clause-same
 resolve-returns-clause-same t c =
@@ -383,10 +384,10 @@ resolve-returns-clause-same t c =
 -- ---- a walk
 
 pub walk-find-requires : goal.walk-find-requires
-walk-find-requires t c = (omega (arith, c.decreases, without_parts (length c.args.resolving.now.keys) (length c.args.parts.now) (length c.args.met.now.keys) 0 6 (omega arith)), (c.requires.known, (c.requires.met, (c.requires.resolving, c.requires.once))))
+walk-find-requires t c = (omega (arith, c.decreases, without_parts (length c.args.resolving.now.keys) (length (parts_told c.args.parts.now)) (length c.args.met.now.keys) 0 6 (omega arith)), (c.requires.known, (c.requires.met, (c.requires.resolving, c.requires.once))))
 
 pub walk-returns-then-is_empty-clause-walked : goal.walk-returns-then-is_empty-clause-walked
-walk-returns-then-is_empty-clause-walked t c = walked_alone c.find.new.root c.args.resolving.now.keys c.args.met.now.keys c.find.new.met.keys c.args.symbol c.args.parts.now c.in-Ok.paths.items (none_at (length c.args.parts.now) (sym c.if-is_empty.true ∙ c.is_empty.ensures)) c.in-Ok.ensures.found
+walk-returns-then-is_empty-clause-walked t c = walked_alone c.find.new.root c.args.resolving.now.keys c.args.met.now.keys c.find.new.met.keys c.args.symbol (parts_told c.args.parts.now) c.in-Ok.paths.items (none_at (length (parts_told c.args.parts.now)) (sym c.if-is_empty.true ∙ c.is_empty.ensures)) c.in-Ok.ensures.found
 
 pub walk-loop-definition-init : goal.walk-loop-definition-init
 walk-loop-definition-init t c =
@@ -396,13 +397,13 @@ walk-loop-definition-init t c =
     let kept = rw c.deref.ensures.value at c.in_ok-definitions.ensures.stored in
     let listed = kept root searched.stored in
     let given : c.into_iter-definition-iterator.result.rest.items ≡ c.in_ok-definitions.definitions.items = c.into_iter-definition-iterator.ensures.into_iter_gives.0 in
-    rw (c.new-changed.ensures.items, given) (walking_first root root c.args.resolving.now.keys c.args.met.now.keys c.find.new.met.keys c.args.symbol c.args.parts.now c.in-Ok.paths.items c.in_ok-definitions.definitions.items c.find.new.resolving.keys c.in-Ok.ensures.same (grown_not root) searched told, given_first root c.args.resolving.now.keys c.args.met.now.keys c.find.new.met.keys c.args.symbol c.in-Ok.paths.items c.in_ok-definitions.definitions.items c.in-Ok.ensures.found (told root) listed)
+    rw (c.new-changed.ensures.items, given) (walking_first root root c.args.resolving.now.keys c.args.met.now.keys c.find.new.met.keys c.args.symbol (parts_told c.args.parts.now) c.in-Ok.paths.items c.in_ok-definitions.definitions.items c.find.new.resolving.keys c.in-Ok.ensures.same (grown_not root) searched told, given_first root c.args.resolving.now.keys c.args.met.now.keys c.find.new.met.keys c.args.symbol c.in-Ok.paths.items c.in_ok-definitions.definitions.items c.in-Ok.ensures.found (told root) listed)
 
 pub walk-step-requires : goal.walk-step-requires
 walk-step-requires t c =
     let is = c.loop-definition.invariant.0 in
     let given = first_given c.in-Some.definition c.next.new.self.rest.items (subst (AreGiven c.args.symbol c.loop-definition.root) c.in-Some.ensures.steps.0 c.loop-definition.invariant.1) in
-    let parts = length c.args.parts.now in
+    let parts = length (parts_told c.args.parts.now) in
     let less = subst (λ (r : List AliasDecl). left (length r) parts (length c.loop-definition.met.keys) 5 < left (length c.args.resolving.now.keys) parts (length c.args.met.now.keys) 6) (sym is.same) (fewer_steps (length c.args.resolving.now.keys) parts (length c.args.met.now.keys) (length c.loop-definition.met.keys) 5 6 is.longer (omega arith)) in
     let grown = grown_on c.in-Ok.ensures.kept is.grown in
     let numbered = subst (AreAliasesNumbered c.loop-definition.root) (sym is.same) (still_aliases grown c.args.resolving.now.keys c.requires.resolving) in
@@ -431,7 +432,7 @@ walk-loop-definition-preserved t c =
     let root = c.find.new.root in
     let here = c.loop-definition.root in
     let rest = c.next.new.self.rest.items in
-    let is = subst (λ (r : List Definition). IsWalking root c.args.resolving.now.keys c.args.met.now.keys c.find.new.met.keys c.args.symbol c.args.parts.now c.in-Ok.paths.items here c.loop-definition.resolving.keys r c.loop-definition.met.keys c.loop-definition.changed.items) c.in-Some.ensures.steps.0 c.loop-definition.invariant.0 in
+    let is = subst (λ (r : List Definition). IsWalking root c.args.resolving.now.keys c.args.met.now.keys c.find.new.met.keys c.args.symbol (parts_told c.args.parts.now) c.in-Ok.paths.items here c.loop-definition.resolving.keys r c.loop-definition.met.keys c.loop-definition.changed.items) c.in-Some.ensures.steps.0 c.loop-definition.invariant.0 in
     let given = subst (AreGiven c.args.symbol here) c.in-Some.ensures.steps.0 c.loop-definition.invariant.1 in
     let known = still_stored (grown_on c.in-Ok.ensures.kept is.grown) c.args.symbol.module_id.0 c.requires.known in
     rw c.in_ok-push_back-in-Ok-step.ensures.items (walking_next c.in-Some.definition is c.in-Ok-step.ensures.kept c.in-Ok-step.path c.in-Ok-step.ensures.changed c.step.new.resolving.keys c.in-Ok-step.ensures.same c.in-Ok-step.ensures.searched, others_given c.in-Some.definition rest known c.in-Ok-step.ensures.kept given)
@@ -446,8 +447,8 @@ pub walk-returns-clause-walked : goal.walk-returns-clause-walked
 walk-returns-clause-walked t c =
     let rest = c.loop-definition.definition-iterator.rest in
     let over = nil_from_length rest.items (omega (arith, c.in-None.ensures.steps.0, rest.ok.0)) in
-    let is = subst (λ (r : List Definition). IsWalking c.find.new.root c.args.resolving.now.keys c.args.met.now.keys c.find.new.met.keys c.args.symbol c.args.parts.now c.in-Ok.paths.items c.loop-definition.root c.loop-definition.resolving.keys r c.loop-definition.met.keys c.loop-definition.changed.items) over c.loop-definition.invariant.0 in
-    let some = some_at (length c.args.parts.now) (sym c.if-is_empty.false ∙ c.is_empty.ensures) in
+    let is = subst (λ (r : List Definition). IsWalking c.find.new.root c.args.resolving.now.keys c.args.met.now.keys c.find.new.met.keys c.args.symbol (parts_told c.args.parts.now) c.in-Ok.paths.items c.loop-definition.root c.loop-definition.resolving.keys r c.loop-definition.met.keys c.loop-definition.changed.items) over c.loop-definition.invariant.0 in
+    let some = some_at (length (parts_told c.args.parts.now)) (sym c.if-is_empty.false ∙ c.is_empty.ensures) in
     walking_last c.in_ok-rebuild.field-0.items is some is.grown c.in-Ok.ensures.found c.in_ok-rebuild.ensures.found
 
 pub walk-returns-clause-searched : goal.walk-returns-clause-searched
@@ -457,12 +458,26 @@ walk-returns-clause-searched t c =
     let stored = c.in_ok-rebuild.ensures.stored root (all_still_stored is.grown (modules_of_trails c.in-Ok.paths.items) c.in-Ok.ensures.searched.stored) is.stored in
     record { numbered = is.numbered; longer = is.longer; few = is.few; stored = stored.0 }
 
+-- ---- under the parts behind the first
+
+pub walk_on-walk-requires : goal.walk_on-walk-requires
+walk_on-walk-requires t c =
+    let parts = parts_told c.args.parts.now in
+    let rest = parts_told c.in_ok-rest.rest in
+    let shorter : length rest + 1 ≡ length parts = ap (λ ps. length ps + 1) c.in_ok-rest.ensures ∙ one_less parts c.requires.some in
+    let met = length c.args.met.now.keys in
+    let less = one_part_less (length c.args.resolving.now.keys) (length parts) (length rest) met met 6 4 shorter (omega arith) (omega arith) in
+    (omega (arith, c.decreases, less), (c.requires.known, (c.requires.met, (c.requires.resolving, c.requires.once))))
+
+pub walk_on-returns-clause-walked : goal.walk_on-returns-clause-walked
+walk_on-returns-clause-walked t c = rw c.in_ok-rest.ensures at c.walk.ensures.walked
+
 -- ---- in a definition's place
 
 pub step-returns-in-Ok-Itself-clause-changed : goal.step-returns-in-Ok-Itself-clause-changed
 step-returns-in-Ok-Itself-clause-changed t c =
     let x = c.args.definition.now in
-    changed_itself c.args.resolving.now.keys c.args.met.now.keys x c.args.parts.now c.requires.known c.in-Ok-Itself.field-0 c.in-Ok-Itself.ensures.kept c.in-Ok-Itself.ensures.stored c.in-Ok-Itself.ensures.told c.in-Ok-Itself.field-0-is c.defined-itself.result (λ later. c.defined-itself.ensures.told later ∙ definition_in_place later c.new-symbol.result x c.new-symbol.ensures.module)
+    changed_itself c.args.resolving.now.keys c.args.met.now.keys x (parts_told c.args.parts.now) c.requires.known c.in-Ok-Itself.field-0 c.in-Ok-Itself.ensures.kept c.in-Ok-Itself.ensures.stored (rw c.texts.ensures.told at c.in-Ok-Itself.ensures.told) c.in-Ok-Itself.field-0-is c.defined-itself.result (λ later. c.defined-itself.ensures.told later ∙ definition_in_place later c.new-symbol.result x c.new-symbol.ensures.module)
 
 pub step-returns-in-Ok-Itself-clause-searched : goal.step-returns-in-Ok-Itself-clause-searched
 step-returns-in-Ok-Itself-clause-searched t c =
@@ -474,9 +489,9 @@ step-returns-in-Ok-Itself-clause-searched t c =
 pub step-returns-in_ok-link_under-in-Ok-Lacks-clause-changed : goal.step-returns-in_ok-link_under-in-Ok-Lacks-clause-changed
 step-returns-in_ok-link_under-in-Ok-Lacks-clause-changed t c =
     let x = c.args.definition.now in
-    let parts = c.args.parts.now in
-    let told = λ (later : RootView). c.in_ok-link_under-in-Ok-Lacks.ensures.told later ∙ (λ i. link_to (head_in_place later c.new-symbol.result x (texts_in parts) c.new-symbol.ensures.module c.new-symbol.ensures.symbol i) (c.in_ok-next-in-Ok-Lacks.ensures.told later i)) in
-    changed_lacking c.args.resolving.now.keys c.args.met.now.keys x parts c.requires.known c.in-Ok-Lacks.field-0 c.in-Ok-Lacks.ensures.kept c.in-Ok-Lacks.ensures.stored c.in-Ok-Lacks.ensures.told c.in-Ok-Lacks.missing c.in-Ok-Lacks.field-0-is c.requires.some c.in_ok-link_under-in-Ok-Lacks.field-0 told
+    let parts = parts_told c.args.parts.now in
+    let told = λ (later : RootView). c.in_ok-link_under-in-Ok-Lacks.ensures.told later ∙ (λ i. link_to (head_in_place later c.new-symbol.result x parts c.new-symbol.ensures.module c.new-symbol.ensures.symbol i) (c.in_ok-next-in-Ok-Lacks.ensures.told later i)) in
+    changed_lacking c.args.resolving.now.keys c.args.met.now.keys x parts c.requires.known c.in-Ok-Lacks.field-0 c.in-Ok-Lacks.ensures.kept c.in-Ok-Lacks.ensures.stored (rw c.texts.ensures.told at c.in-Ok-Lacks.ensures.told) c.in-Ok-Lacks.missing c.in-Ok-Lacks.field-0-is c.requires.some c.in_ok-link_under-in-Ok-Lacks.field-0 told
 
 pub step-returns-in_ok-link_under-in-Ok-Lacks-clause-searched : goal.step-returns-in_ok-link_under-in-Ok-Lacks-clause-searched
 step-returns-in_ok-link_under-in-Ok-Lacks-clause-searched t c =
@@ -486,34 +501,32 @@ step-returns-in_ok-link_under-in-Ok-Lacks-clause-searched t c =
     let missing : c.in-Ok-Lacks.missing.«module».0 < length root.stored = rw c.in-Ok-Lacks.field-0-is at c.in-Ok-Lacks.ensures.stored in
     record { numbered = still_numbered kept c.args.met.now.keys c.requires.met; longer = omega arith; few = λ h. h; stored = option_stored root c.in_ok-link_under-in-Ok-Lacks.field-0 (c.in_ok-link_under-in-Ok-Lacks.ensures.stored root within (c.in_ok-next-in-Ok-Lacks.ensures.stored root missing)) }
 
-pub step-walk-requires : goal.step-walk-requires
-step-walk-requires t c =
+pub step-walk_on-requires : goal.step-walk_on-requires
+step-walk_on-requires t c =
     let kept = c.in-Ok-To.ensures.kept in
-    let parts = c.args.parts.now in
-    let rest = take (length parts - 1) (drop 1 parts) in
+    let parts = parts_told c.args.parts.now in
     let met = length c.args.met.now.keys in
-    let less = one_part_less (length c.args.resolving.now.keys) (length parts) (length rest) met met 6 5 (one_less parts c.requires.some) (omega arith) (omega arith) in
+    let less = fewer_steps (length c.args.resolving.now.keys) (length parts) met met 4 5 (omega arith) (omega arith) in
     let within : c.in-Ok-To.target.module_id.0 < length c.part_of.new.root.stored = rw c.in-Ok-To.field-0-is at c.in-Ok-To.ensures.stored in
-    (omega (arith, c.decreases, less), (within, (still_numbered kept c.args.met.now.keys c.requires.met, (still_aliases kept c.args.resolving.now.keys c.requires.resolving, kept.once c.requires.once))))
+    (omega (arith, c.decreases, less), (within, (c.requires.some, (still_numbered kept c.args.met.now.keys c.requires.met, (still_aliases kept c.args.resolving.now.keys c.requires.resolving, kept.once c.requires.once)))))
 
-pub step-returns-in-Err-walk-clause-kept : goal.step-returns-in-Err-walk-clause-kept
-step-returns-in-Err-walk-clause-kept t c = grown_on c.in-Ok-To.ensures.kept c.in-Err-walk.ensures.kept
+pub step-returns-in-Err-walk_on-clause-kept : goal.step-returns-in-Err-walk_on-clause-kept
+step-returns-in-Err-walk_on-clause-kept t c = grown_on c.in-Ok-To.ensures.kept c.in-Err-walk_on.ensures.kept
 
-pub step-returns-in-Err-walk-clause-refused : goal.step-returns-in-Err-walk-clause-refused
-step-returns-in-Err-walk-clause-refused t c = refused_on c.args.root.now c.part_of.new.root c.walk.new.root c.args.definition.now c.args.parts.now c.in-Ok-To.target c.in-Err-walk.fault c.in-Ok-To.ensures.kept c.in-Err-walk.ensures.kept c.requires.declared (rw c.in-Ok-To.field-0-is at c.in-Ok-To.ensures.told) c.in-Err-walk.ensures.refused
+pub step-returns-in-Err-walk_on-clause-refused : goal.step-returns-in-Err-walk_on-clause-refused
+step-returns-in-Err-walk_on-clause-refused t c = refused_on c.args.root.now c.part_of.new.root c.walk_on.new.root c.args.definition.now (parts_told c.args.parts.now) c.in-Ok-To.target c.in-Err-walk_on.fault c.in-Ok-To.ensures.kept c.in-Err-walk_on.ensures.kept c.requires.declared (rw (c.in-Ok-To.field-0-is, c.texts.ensures.told) at c.in-Ok-To.ensures.told) c.in-Err-walk_on.ensures.refused
 
 pub step-returns-in_ok-link_under-in-Ok-clause-changed : goal.step-returns-in_ok-link_under-in-Ok-clause-changed
 step-returns-in_ok-link_under-in-Ok-clause-changed t c =
     let x = c.args.definition.now in
-    let parts = c.args.parts.now in
-    let rest = take (length parts - 1) (drop 1 parts) in
-    let told = λ (later : RootView). c.in_ok-link_under-in-Ok.ensures.told later ∙ ap (λ head. link_to head (trails_told later c.in-Ok.next.items)) (head_in_place later c.new-symbol.result x (texts_in parts) c.new-symbol.ensures.module c.new-symbol.ensures.symbol) in
-    changed_on c.args.resolving.now.keys c.args.met.now.keys x parts c.requires.known c.in-Ok-To.field-0 c.in-Ok-To.ensures.kept c.in-Ok-To.ensures.stored c.in-Ok-To.ensures.told c.in-Ok-To.target c.in-Ok-To.field-0-is c.requires.some rest (parts_behind parts) c.in-Ok.ensures.kept c.walk.new.met.keys c.in-Ok.next.items c.in-Ok.ensures.walked c.in_ok-link_under-in-Ok.field-0 told
+    let parts = parts_told c.args.parts.now in
+    let told = λ (later : RootView). c.in_ok-link_under-in-Ok.ensures.told later ∙ ap (λ head. link_to head (trails_told later c.in-Ok.next.items)) (head_in_place later c.new-symbol.result x parts c.new-symbol.ensures.module c.new-symbol.ensures.symbol) in
+    changed_on c.args.resolving.now.keys c.args.met.now.keys x parts c.requires.known c.in-Ok-To.field-0 c.in-Ok-To.ensures.kept c.in-Ok-To.ensures.stored (rw c.texts.ensures.told at c.in-Ok-To.ensures.told) c.in-Ok-To.target c.in-Ok-To.field-0-is c.requires.some (later_parts parts) refl c.in-Ok.ensures.kept c.walk_on.new.met.keys c.in-Ok.next.items c.in-Ok.ensures.walked c.in_ok-link_under-in-Ok.field-0 told
 
 pub step-returns-in_ok-link_under-in-Ok-clause-searched : goal.step-returns-in_ok-link_under-in-Ok-clause-searched
 step-returns-in_ok-link_under-in-Ok-clause-searched t c =
     let is = c.in-Ok.ensures.searched in
-    let root = c.walk.new.root in
+    let root = c.walk_on.new.root in
     let kept = grown_on c.in-Ok-To.ensures.kept c.in-Ok.ensures.kept in
     let within : c.new-symbol.result.module_id.0 < length root.stored = subst (λ (id : ModuleId). id.0 < length root.stored) (sym c.new-symbol.ensures.module) (still_stored kept c.args.definition.now.«module».0 c.requires.known) in
     record { numbered = is.numbered; longer = is.longer; few = is.few; stored = option_stored root c.in_ok-link_under-in-Ok.field-0 (c.in_ok-link_under-in-Ok.ensures.stored root within is.stored) }

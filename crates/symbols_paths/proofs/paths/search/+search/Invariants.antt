@@ -3,6 +3,7 @@ use Rattle.symbols_exports.specs.Exporting.{specifier_in}
 use Rattle.symbols_exports.specs.StarStatements.{star_texts}
 use Rattle.symbols_paths.specs.Leads.{declarations_of}
 use Rattle.symbols_paths.specs.Views.{named}
+use Rattle.symbols_paths.specs.Trails.{parts_told}
 use Rattle.symbols_paths.proofs.Finding.{IsFinding, left}
 use Rattle.symbols_paths.proofs.Trying.{IsAsking}
 use Rattle.symbols_paths.proofs.Walking.{IsWalking, AreGiven}
@@ -39,10 +40,13 @@ abbrev pub decreases-resolve : goal.decreases-resolve
 decreases-resolve l = left (length l.resolving.now.keys) 0 (2 ^ 64) 3
 
 abbrev pub decreases-walk : goal.decreases-walk
-decreases-walk l = left (length l.resolving.now.keys) (length l.parts.now) (length l.met.now.keys) 6
+decreases-walk l = left (length l.resolving.now.keys) (length (parts_told l.parts.now)) (length l.met.now.keys) 6
+
+abbrev pub decreases-walk_on : goal.decreases-walk_on
+decreases-walk_on l = left (length l.resolving.now.keys) (length (parts_told l.parts.now)) (length l.met.now.keys) 4
 
 abbrev pub decreases-step : goal.decreases-step
-decreases-step l = left (length l.resolving.now.keys) (length l.parts.now) (length l.met.now.keys) 5
+decreases-step l = left (length l.resolving.now.keys) (length (parts_told l.parts.now)) (length l.met.now.keys) 5
 
 abbrev pub invariant-walk-loop-definition : goal.invariant-walk-loop-definition
-invariant-walk-loop-definition l = IsWalking l.initial.root l.fn.resolving.keys l.fn.met.keys l.initial.met.keys l.fn.symbol l.parts l.paths.items l.root l.resolving.keys l.definition-iterator.rest.items l.met.keys l.changed.items × AreGiven l.fn.symbol l.root l.definition-iterator.rest.items
+invariant-walk-loop-definition l = IsWalking l.initial.root l.fn.resolving.keys l.fn.met.keys l.initial.met.keys l.fn.symbol (parts_told l.parts) l.paths.items l.root l.resolving.keys l.definition-iterator.rest.items l.met.keys l.changed.items × AreGiven l.fn.symbol l.root l.definition-iterator.rest.items

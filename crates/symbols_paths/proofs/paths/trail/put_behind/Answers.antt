@@ -10,5 +10,5 @@ on_answer (Err e) f h = tt
 
 pub returns-clause-told : goal.returns-clause-told
 returns-clause-told c =
-    let told = λ (root : RootView). heads_of_under root c.in_ok-copied_parts.field-0 c.args.stretches ∙ ap (λ ps. heads_under ps (heads_in root c.args.stretches.items)) c.in_ok-copied_parts.ensures in
+    let told = λ (root : RootView). heads_of_under root c.in_ok-same.field-0 c.args.stretches ∙ ap (λ ps. heads_under ps (heads_in root c.args.stretches.items)) c.in_ok-same.ensures in
     on_answer c.put_before.result (λ trail is root. is root ∙ ap (λ heads. linked heads (trail_told root c.args.trail)) (told root)) c.put_before.ensures.told

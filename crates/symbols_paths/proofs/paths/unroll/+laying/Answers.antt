@@ -1,8 +1,8 @@
 use Rattle.std.proofs.Common.{Some, Result, Ok, Err, IfOk, ap, sym, subst, ◌∙◌, arith}
 use Rattle.std.proofs.lemmas.List.{nil_from_length}
 use Rattle.symbols_paths.specs.Trees.{link_to}
-use Rattle.symbols_paths.specs.Views.{named, decl_told, texts_of, texts_in, forest_told, AreStored}
-use Rattle.symbols_paths.specs.Trails.{heads_of, heads_in, heads_under, linked, modules_of_stretch}
+use Rattle.symbols_paths.specs.Views.{named, decl_told, forest_told, AreStored}
+use Rattle.symbols_paths.specs.Trails.{parts_told, heads_of, heads_in, heads_under, linked, modules_of_stretch}
 use Rattle.symbols_paths.proofs.Trailing.{heads_of_step, heads_of_under, under_twice, modules_of_one_step, modules_of_under}
 use Rattle.symbols_paths.proofs.Unrolling.{AreLaid, laid_first, laid_next, laid_last}
 use Rattle.symbols_paths.proofs.paths.unroll.+laying.Goals as goal
@@ -13,14 +13,14 @@ on_answer (Err e) h f = tt
 
 pub lay_under-loop-stretch-init : goal.lay_under-loop-stretch-init
 lay_under-loop-stretch-init t c =
-    let over = Some (texts_in c.args.parts.now) in
+    let over = Some (parts_told c.args.parts.now) in
     let all = c.args.stretches.items in
     let next = c.args.next.items in
     subst (λ rest. AreLaid over next rest all next) (sym c.into_iter-stretch-iterator.ensures.into_iter_gives.0) (laid_first over all next)
 
 pub lay_under-loop-stretch-preserved : goal.lay_under-loop-stretch-preserved
 lay_under-loop-stretch-preserved t c =
-    let over = Some (texts_in c.args.parts.now) in
+    let over = Some (parts_told c.args.parts.now) in
     let so = subst (λ rest. AreLaid over c.loop-stretch.paths.items rest c.args.stretches.items c.args.next.items) c.in-Some.ensures.steps.0 c.loop-stretch.invariant in
     laid_next c.in-Some.stretch c.in_ok-paths.paths.items so c.in_ok-paths.ensures.told c.in_ok-paths.ensures.stored
 
@@ -35,11 +35,11 @@ lay_under-returns-clause-stored t c = λ root a b. (c.loop-stretch.invariant.sto
 pub lay_one_under-returns-in-Step-clause-told : goal.lay_one_under-returns-in-Step-clause-told
 lay_one_under-returns-in-Step-clause-told t c =
     let step = c.in-Step.step in
-    let ps = texts_in c.args.parts.now in
+    let ps = parts_told c.args.parts.now in
     on_answer c.link_before.result c.link_before.ensures.told (λ paths told root.
     let next = forest_told root c.args.next.items in
     told root
-    ∙ ((λ i. link_to (record { symbol = named root step.symbol; decl = decl_told root step.symbol.module_id step.symbol_decl; parts = c.in_ok-copied_parts-in-Step.ensures i }) next)
+    ∙ ((λ i. link_to (record { symbol = named root step.symbol; decl = decl_told root step.symbol.module_id step.symbol_decl; parts = c.in_ok-same-in-Step.ensures i }) next)
     ∙ ap (λ heads. linked (heads_under ps heads) next) (sym (ap (heads_of root) c.in-Step.is ∙ heads_of_step root step))))
 
 pub lay_one_under-returns-in-Step-clause-stored : goal.lay_one_under-returns-in-Step-clause-stored
@@ -49,11 +49,11 @@ lay_one_under-returns-in-Step-clause-stored t c =
 
 pub lay_one_under-returns-clause-told : goal.lay_one_under-returns-clause-told
 lay_one_under-returns-clause-told t c =
-    let ps = texts_in c.args.parts.now in
+    let ps = parts_told c.args.parts.now in
     let x = c.in-Under in
     on_answer c.lay_under.result c.lay_under.ensures.told (λ paths told root.
     told root
-    ∙ ap (λ heads. linked heads (forest_told root c.args.next.items)) (sym (ap (λ stretch. heads_under ps (heads_of root stretch)) x.is ∙ (ap (heads_under ps) (heads_of_under root x.field-0 x.inner) ∙ under_twice ps (texts_of x.field-0.items) (heads_in root x.inner.items)))))
+    ∙ ap (λ heads. linked heads (forest_told root c.args.next.items)) (sym (ap (λ stretch. heads_under ps (heads_of root stretch)) x.is ∙ (ap (heads_under ps) (heads_of_under root x.field-0 x.inner) ∙ under_twice ps (parts_told x.field-0) (heads_in root x.inner.items)))))
 
 pub lay_one_under-returns-clause-stored : goal.lay_one_under-returns-clause-stored
 lay_one_under-returns-clause-stored t c =

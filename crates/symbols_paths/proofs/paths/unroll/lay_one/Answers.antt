@@ -19,15 +19,14 @@ returns-in-Step-clause-stored c =
     on_answer c.link_before.result c.link_before.ensures.stored (λ paths stored root a b.
     stored root (subst (AreStored root) (ap modules_of_stretch c.in-Step.is ∙ modules_of_one_step c.in-Step.step) a 0 c.in-Step.step.symbol.module_id (omega arith)) b)
 
-pub returns-in_ok-parts-in-Under-clause-told : goal.returns-in_ok-parts-in-Under-clause-told
-returns-in_ok-parts-in-Under-clause-told c =
+pub returns-in-Under-clause-told : goal.returns-in-Under-clause-told
+returns-in-Under-clause-told c =
     let x = c.in-Under in
-    let parts = ap texts_in c.deref-in-Under.ensures.value ∙ (c.in_ok-parts-in-Under.ensures ∙ ap (map string_bytes) c.deref.ensures.value) in
     on_answer c.lay_under.result c.lay_under.ensures.told (λ paths told root.
     told root
-    ∙ ap (λ heads. linked heads (forest_told root c.args.next.items)) (ap (λ ps. heads_under ps (heads_in root x.inner.items)) parts ∙ sym (ap (heads_of root) x.is ∙ heads_of_under root x.parts x.inner)))
+    ∙ ap (λ heads. linked heads (forest_told root c.args.next.items)) (sym (ap (heads_of root) x.is ∙ heads_of_under root x.parts x.inner)))
 
-pub returns-in_ok-parts-in-Under-clause-stored : goal.returns-in_ok-parts-in-Under-clause-stored
-returns-in_ok-parts-in-Under-clause-stored c =
+pub returns-in-Under-clause-stored : goal.returns-in-Under-clause-stored
+returns-in-Under-clause-stored c =
     let x = c.in-Under in
     on_answer c.lay_under.result c.lay_under.ensures.stored (λ paths stored root a b. stored root (subst (AreStored root) (ap modules_of_stretch x.is ∙ modules_of_under x.parts x.inner) a) b)

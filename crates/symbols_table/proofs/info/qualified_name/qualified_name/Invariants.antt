@@ -2,7 +2,7 @@ use Rattle.std.proofs.Common.{◌≡◌, ℕ, ◌<◌, List, ◌++◌, length}
 use Rattle.symbols_table.specs.SymbolViews.{SymbolView, numbered}
 use Rattle.symbols_table.specs.QualifiedNames.{path_within, path_to}
 use Rattle.symbols_table.specs.NamePaths.{IsNamed}
-use Rattle.symbols_table.proofs.info.qualified_name.path_name.Given as goal
+use Rattle.symbols_table.proofs.info.qualified_name.qualified_name.Given as goal
 
 abbrev pub invariant-loop-number : goal.invariant-loop-number
 invariant-loop-number l =
