@@ -1,7 +1,6 @@
 -- What a declaration that leads on comes to, as later roots tell it.
 use Rattle.std.proofs.Common.{◌≡◌, ℕ, ◌<◌, List, [], ◌∷◌, length, Option, None, Some, option_to_list, refl, sym, ap, subst, ◌∙◌, arith, append-nil}
-use Rattle.std.specs.Prelude.{IfSome, Vec}
-use Rattle.std.specs.Global.{Global}
+use Rattle.std.specs.Prelude.{IfSome}
 use Rattle.std.specs.Borrow.{Bor}
 use Rattle.symbols_syntax.specs.declared.ids.ModuleId.{ModuleId}
 use Rattle.symbols_syntax.specs.declared.ids.SymbolId.{SymbolId}

@@ -1,7 +1,6 @@
-use Rattle.std.proofs.Common.{Result, Ok, Err, IfOk, map, ap, sym, subst, ◌∙◌, arith}
-use Rattle.std.specs.Prelude.{string_bytes}
-use Rattle.symbols_paths.specs.Views.{texts_in, forest_told, AreStored}
-use Rattle.symbols_paths.specs.Trails.{heads_of, heads_under, heads_in, linked, modules_of_stretch}
+use Rattle.std.proofs.Common.{Result, Ok, Err, IfOk, ap, sym, subst, ◌∙◌, arith}
+use Rattle.symbols_paths.specs.Views.{forest_told, AreStored}
+use Rattle.symbols_paths.specs.Trails.{heads_of, linked, modules_of_stretch}
 use Rattle.symbols_paths.proofs.Trailing.{heads_of_step, heads_of_under, modules_of_one_step, modules_of_under}
 use Rattle.symbols_paths.proofs.paths.unroll.lay_one.Goals as goal
 
