@@ -1,0 +1,11 @@
+/** What ends the command: a line for people, and a status. */
+export class Failure extends Error {
+  /**
+   * @param {string} text what to do about it, without the command's name
+   * @param {number} [status] 2 for wrong words, 3 for what couldn't be done
+   */
+  constructor(text, status = 3) {
+    super(text);
+    this.status = status;
+  }
+}

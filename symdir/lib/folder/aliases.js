@@ -1,0 +1,125 @@
+// Other names of modules, as configuration files give them: `paths` and `baseUrl` of TypeScript, import maps, `imports` of Deno.
+import path from 'node:path';
+
+/** @typedef {import('./configs.js').Configs} Configs */
+
+/**
+ * @typedef {object} Paths
+ * @property {string | null} base where `baseUrl` leads
+ * @property {Record<string, string[]>} paths
+ * @property {string} from what the paths are relative to
+ */
+
+/**
+ * Where the text of `extends` leads.
+ * @param {Configs} configs
+ * @param {string} text
+ * @param {string} folder of the file that says it
+ * @returns {string | null}
+ */
+function extended(configs, text, folder) {
+  const ends = ['', '.json', '/tsconfig.json'];
+  if (/^\.{0,2}\//.test(text)) return ends.map((it) => path.posix.resolve(folder, text) + it).find((it) => configs.value(it)) ?? null;
+  for (let at = folder; ; at = path.posix.dirname(at)) {
+    const found = ends.map((it) => path.posix.join(at, 'node_modules', text) + it).find((it) => configs.value(it));
+    if (found || at === path.posix.dirname(at)) return found ?? null;
+  }
+}
+
+/** @param {Configs} configs @param {string} file @param {number} [depth] @returns {Paths} with what it extends, of which its own words win */
+function pathsOf(configs, file, depth = 0) {
+  const folder = path.posix.dirname(file);
+  const { extends: above, compilerOptions: own = {} } = configs.value(file);
+  /** @type {Paths} */
+  let found = { base: null, paths: {}, from: folder };
+  for (const it of [above ?? []].flat()) {
+    const next = typeof it === 'string' && depth < 20 ? extended(configs, it, folder) : null;
+    if (next) found = { ...found, ...pathsOf(configs, next, depth + 1) };
+  }
+  if (typeof own.baseUrl === 'string') found = { ...found, base: path.posix.resolve(folder, own.baseUrl), from: path.posix.resolve(folder, own.baseUrl) };
+  if (own.paths && typeof own.paths === 'object') found = { ...found, paths: own.paths, from: found.base ?? folder };
+  return found;
+}
+
+/**
+ * What stands for `*` where the text is of the pattern.
+ * @param {string} pattern with one `*` at most
+ * @param {string} text
+ * @returns {string | null}
+ */
+export function starOf(pattern, text) {
+  const star = pattern.indexOf('*');
+  if (star < 0) return pattern === text ? '' : null;
+  const [before, behind] = [pattern.slice(0, star), pattern.slice(star + 1)];
+  const fits = text.length >= pattern.length - 1 && text.startsWith(before) && text.endsWith(behind);
+  return fits ? text.slice(star, text.length - behind.length) : null;
+}
+
+/** @param {string[]} patterns @param {string} text @returns {string | null} the whole text, else the pattern with the longest beginning */
+export function bestPattern(patterns, text) {
+  const fitting = patterns.filter((it) => starOf(it, text) !== null);
+  if (fitting.includes(text)) return text;
+  return fitting.reduce((/** @type {string | null} */ best, it) => (best !== null && best.indexOf('*') >= it.indexOf('*') ? best : it), null);
+}
+
+/** @param {Configs} configs @param {string} folder @returns {Paths | null} what tsconfig.json or jsconfig.json say for modules of the folder */
+export function typeScriptPaths(configs, folder) {
+  const found = configs.nearest(folder, ['tsconfig.json', 'jsconfig.json']);
+  return found && pathsOf(configs, found.file);
+}
+
+/**
+ * Where `paths` and `baseUrl` say that a text may lead.
+ * @param {Paths} paths
+ * @param {string} text
+ * @returns {string[]} absolute paths, of which the first with a file counts
+ */
+export function pathsFor(paths, text) {
+  const pattern = bestPattern(Object.keys(paths.paths), text);
+  const targets = pattern === null ? [] : [paths.paths[pattern]].flat();
+  const star = pattern === null ? '' : /** @type {string} */ (starOf(pattern, text));
+  const found = targets.filter((it) => typeof it === 'string').map((it) => path.posix.resolve(paths.from, it.replace('*', () => star)));
+  if (paths.base) found.push(path.posix.resolve(paths.base, text));
+  return found;
+}
+
+/**
+ * @typedef {object} ImportMap
+ * @property {string} folder of the file that has it, and which relative targets start at
+ * @property {Record<string, string>} imports
+ * @property {Record<string, Record<string, string>>} scopes
+ */
+
+/** @param {Configs} configs @param {string} folder @returns {ImportMap | null} of deno.json, or of the file that it names */
+export function importMap(configs, folder) {
+  const found = configs.nearest(folder, ['deno.json', 'deno.jsonc', 'import_map.json', 'importmap.json']);
+  if (!found) return null;
+  const named = found.value.importMap;
+  const file = typeof named === 'string' ? path.posix.resolve(found.folder, named) : found.file;
+  const value = configs.value(file);
+  return value && { folder: path.posix.dirname(file), imports: value.imports ?? {}, scopes: value.scopes ?? {} };
+}
+
+/** @param {Record<string, string>} imports @param {string} text @returns {string | null} the whole text's target, else that of the longest `key/` */
+function mapped(imports, text) {
+  if (typeof imports[text] === 'string') return imports[text];
+  const keys = Object.keys(imports).filter((it) => it.endsWith('/') && text.startsWith(it) && typeof imports[it] === 'string');
+  const key = keys.sort((a, b) => b.length - a.length)[0];
+  return key === undefined ? null : imports[key] + text.slice(key.length);
+}
+
+/**
+ * What an import map makes of a text.
+ * @param {ImportMap} map
+ * @param {string} text
+ * @param {string} from the module
+ * @returns {string | null} a specifier, or an absolute path
+ */
+export function mappedText(map, text, from) {
+  const inScope = Object.keys(map.scopes).filter((it) => from.startsWith(path.posix.resolve(map.folder, it))).sort((a, b) => b.length - a.length);
+  for (const imports of [...inScope.map((it) => map.scopes[it]), map.imports]) {
+    const target = mapped(imports, text);
+    if (target !== null) return /^\.{0,2}\//.test(target) ? path.posix.resolve(map.folder, target) + (target.endsWith('/') ? '/' : '') : target;
+  }
+  return null;
+}

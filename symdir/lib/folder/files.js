@@ -1,0 +1,84 @@
+// The files below a folder, as paths with slashes.
+import { readdirSync, statSync } from 'node:fs';
+import path from 'node:path';
+
+import { Failure } from '../failure.js';
+import { isCode } from '../language.js';
+
+/** @typedef {import('node:fs').Dirent} Dirent */
+
+/** @param {string} file @returns {string} with slashes alone */
+export function withSlashes(file) {
+  return path.sep === '/' ? file : file.split(path.sep).join('/');
+}
+
+/** @param {string} file @returns {boolean} */
+export function isFile(file) {
+  return statSync(file, { throwIfNoEntry: false })?.isFile() ?? false;
+}
+
+/** @param {string} folder @returns {boolean} */
+export function isFolder(folder) {
+  return statSync(folder, { throwIfNoEntry: false })?.isDirectory() ?? false;
+}
+
+export class Files {
+  /**
+   * @param {string} folder absolute
+   * @param {RegExp[]} skip paths below the folder that are left out
+   */
+  constructor(folder, skip) {
+    this.folder = folder;
+    this.skip = skip;
+    /** @type {Set<string>} each file of the folder, by its absolute path */
+    this.all = new Set();
+    /** @type {string[]} what can't be listed */
+    this.unread = [];
+    if (!isFolder(folder)) throw new Failure(`no folder ${folder}`, isFile(folder) ? 2 : 3);
+    this.list(folder);
+  }
+
+  /** @param {string} folder whose files are put into the set, with those of the folders in it */
+  list(folder) {
+    /** @type {Dirent[]} */
+    let entries;
+    try {
+      entries = readdirSync(folder, { withFileTypes: true });
+    } catch {
+      this.unread.push(folder);
+      return;
+    }
+    for (const it of entries) {
+      const file = `${folder === '/' ? '' : folder}/${it.name}`;
+      if (it.isDirectory()) {
+        if (it.name !== 'node_modules' && !it.name.startsWith('.')) this.list(file);
+      } else if (it.isFile() || (it.isSymbolicLink() && isFile(file))) this.all.add(file);
+    }
+  }
+
+  /** @param {string} file absolute @returns {string} below the folder; with `../` where it is elsewhere */
+  below(file) {
+    return withSlashes(path.relative(this.folder, file));
+  }
+
+  /** @param {string} file absolute @returns {boolean} whether `--skip` leaves it out */
+  isSkipped(file) {
+    const below = this.below(file);
+    return this.skip.some((it) => it.test(below));
+  }
+
+  /** @param {string} file absolute @returns {boolean} whether it stands in the folder, packages that are installed there apart */
+  holds(file) {
+    return file.startsWith(this.folder === '/' ? '/' : `${this.folder}/`) && !file.includes('/node_modules/', this.folder.length);
+  }
+
+  /** @param {string} file absolute @returns {boolean} whether it is there, in the folder or elsewhere */
+  has(file) {
+    return this.holds(file) ? this.all.has(file) : isFile(file);
+  }
+
+  /** @returns {string[]} the modules of TypeScript and JavaScript in the folder, in the order of their paths */
+  code() {
+    return [...this.all].filter((it) => isCode(it) && !this.isSkipped(it)).sort();
+  }
+}

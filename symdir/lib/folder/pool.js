@@ -1,0 +1,85 @@
+// Threads that parse files, as many as processors.
+import { statSync } from 'node:fs';
+import os from 'node:os';
+import { Worker } from 'node:worker_threads';
+
+/** @typedef {import('./kept.js').Parsed} Parsed */
+
+/** A file, and the specifier of its module. */
+/** @typedef {{ file: string, specifier: string }} Job */
+
+/** A thread takes a moment to start, so one has at least so many bytes to parse. */
+const BYTES_FOR_A_THREAD = 100_000;
+/** How many files a thread is given ahead. */
+const AHEAD = 3;
+/** Trees are deep, and walked by recursion. */
+const STACK_MEGABYTES = 64;
+
+export class Pool {
+  /** @param {{ typescript: string, bodies: boolean, ambient: boolean }} how */
+  constructor(how) {
+    this.how = how;
+    /** @type {Worker[]} */
+    this.workers = [];
+  }
+
+  /** @param {number} count starts threads until there are so many */
+  start(count) {
+    while (this.workers.length < count) {
+      this.workers.push(new Worker(new URL('./worker.js', import.meta.url), {
+        workerData: this.how,
+        resourceLimits: { stackSizeMb: STACK_MEGABYTES, maxOldGenerationSizeMb: 4096 },
+      }));
+    }
+  }
+
+  /**
+   * @param {Job[]} jobs
+   * @param {(file: string, made: Parsed | null, error: string | null) => void} done
+   * @returns {Promise<void>}
+   */
+  async parse(jobs, done) {
+    if (jobs.length === 0) return;
+    const sized = jobs.map((job) => ({ job, size: statSync(job.file, { throwIfNoEntry: false })?.size ?? 0 }));
+    sized.sort((a, b) => b.size - a.size);
+    const bytes = sized.reduce((sum, it) => sum + it.size, 0);
+    this.start(Math.max(1, Math.min(os.cpus().length, jobs.length, Math.ceil(bytes / BYTES_FOR_A_THREAD))));
+    const waiting = sized.map((it) => it.job).reverse();
+    await Promise.all(this.workers.map((it) => serve(it, waiting, done)));
+  }
+
+  /** @returns {Promise<unknown>} */
+  close() {
+    return Promise.all(this.workers.map((it) => it.terminate()));
+  }
+}
+
+/**
+ * Gives a thread files until none waits.
+ * @param {Worker} worker
+ * @param {Job[]} waiting the next at the end
+ * @param {(file: string, made: Parsed | null, error: string | null) => void} done
+ * @returns {Promise<void>}
+ */
+function serve(worker, waiting, done) {
+  return new Promise((resolve, reject) => {
+    let open = 0;
+    const give = () => {
+      for (; open < AHEAD && waiting.length > 0; open++) worker.postMessage(waiting.pop());
+      if (open > 0) return;
+      worker.off('message', take);
+      worker.off('error', reject);
+      resolve();
+    };
+    /** @param {{ file: string, made?: Parsed, error?: string }} said */
+    const take = ({ file, made, error }) => {
+      open--;
+      if (made) done(file, { ...made, text: Buffer.from(made.text.buffer, made.text.byteOffset, made.text.byteLength) }, null);
+      else done(file, null, error ?? '');
+      give();
+    };
+    worker.on('message', take);
+    worker.on('error', reject);
+    give();
+  });
+}

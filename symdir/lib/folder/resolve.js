@@ -1,0 +1,154 @@
+// What the text of an import stands for.
+import { builtinModules } from 'node:module';
+import path from 'node:path';
+import { fileURLToPath } from 'node:url';
+
+import { importMap, mappedText, pathsFor, typeScriptPaths } from './aliases.js';
+import { isJavaScript } from '../language.js';
+import { dependencies, packageFile, tableTargets } from './packages.js';
+import { foundAt } from './endings.js';
+import { isFolder, withSlashes } from './files.js';
+
+/**
+ * @typedef {object} Target
+ * @property {string} [file] absolute
+ * @property {string} [external] the specifier of a module that isn't a file of the folder: of a scheme, as `npm:a`
+ */
+
+const BUILTIN = new Set(builtinModules);
+const SCHEME = /^[a-z][a-z0-9+.-]*:/i;
+
+export class Resolver {
+  /** @param {import('./files.js').Files} files @param {import('./configs.js').Configs} configs */
+  constructor(files, configs) {
+    this.files = files;
+    this.configs = configs;
+    /** @type {Map<string, string> | null} */
+    this.named = null;
+    /** @type {Map<string, any>} */
+    this.paths = new Map();
+    /** @type {Map<string, any>} */
+    this.maps = new Map();
+  }
+
+  /**
+   * @param {string} from the module, absolute
+   * @param {string} text
+   * @returns {Target | null} null where it leads nowhere
+   */
+  resolve(from, text) {
+    const folder = path.posix.dirname(from);
+    const map = kept(this.maps, folder, () => importMap(this.configs, folder));
+    const mapped = map && mappedText(map, text, from);
+    return this.plain(from, folder, mapped ?? text);
+  }
+
+  /** @param {string} from @param {string} folder @param {string} text behind the import map @returns {Target | null} */
+  plain(from, folder, text) {
+    if (text.startsWith('file://')) return this.at(from, withSlashes(fileURLToPath(text)));
+    if (SCHEME.test(text)) return { external: text };
+    if (/^(\.{1,2}(\/|$)|\/)/.test(text)) return this.at(from, path.posix.resolve(folder, text) + (/(^|\/)\.{0,2}\/?$/.test(text) ? '/' : ''));
+    if (text === '') return null;
+    if (text.startsWith('#')) return this.privateImport(from, folder, text);
+    const aliased = this.byPaths(from, folder, text);
+    if (aliased) return aliased;
+    if (BUILTIN.has(text)) return { external: `node:${text}` };
+    return this.package(from, folder, text);
+  }
+
+  /** @param {string} from @param {string} at absolute @returns {Target | null} */
+  at(from, at) {
+    const found = foundAt(this.files, at, isJavaScript(from));
+    if (found) return { file: found };
+    const json = this.configs.value(path.posix.join(at, 'package.json'));
+    const file = json && packageFile(this.files, at.replace(/\/$/, ''), json, '', isJavaScript(from));
+    return file ? { file } : null;
+  }
+
+  /** @param {string} from @param {string} folder @param {string} text @returns {Target | null} by TypeScript's `paths` and `baseUrl` */
+  byPaths(from, folder, text) {
+    const paths = kept(this.paths, folder, () => typeScriptPaths(this.configs, folder));
+    for (const it of paths ? pathsFor(paths, text) : []) {
+      const found = this.at(from, it);
+      if (found) return found;
+    }
+    return null;
+  }
+
+  /** @param {string} from @param {string} folder @param {string} text as `#name`, which the package's own `imports` tell */
+  privateImport(from, folder, text) {
+    const own = this.configs.packageAt(folder);
+    for (const it of own ? tableTargets(own.value.imports ?? {}, text) : []) {
+      const found = it.startsWith('.') ? this.at(from, path.posix.resolve(/** @type {any} */ (own).folder, it)) : this.package(from, folder, it);
+      if (found) return found;
+    }
+    return this.byPaths(from, folder, text);
+  }
+
+  /** @returns {Map<string, string>} the packages of the folder, by their names */
+  packages() {
+    if (!this.named) {
+      this.named = new Map();
+      const configs = [...this.files.all].filter((it) => /\/(package\.json|deno\.jsonc?)$/.test(it)).sort((a, b) => b.length - a.length);
+      for (const file of configs) {
+        const name = this.configs.value(file)?.name;
+        if (typeof name === 'string' && name !== '') this.named.set(name, path.posix.dirname(file));
+      }
+    }
+    return this.named;
+  }
+
+  /** @param {string} from @param {string} folder @param {string} text a package's name, and maybe a path @returns {Target | null} */
+  package(from, folder, text) {
+    const parts = /^(@[^/]+\/[^/]+|[^/]+)(?:\/(.*))?$/.exec(text);
+    if (!parts) return null;
+    const [, name, sub = ''] = parts;
+    const own = this.packages().get(name);
+    if (own) {
+      const found = this.inFolder(own, sub, from);
+      if (found) return { file: found };
+    }
+    const installed = this.installed(folder, name, sub, from);
+    if (installed) return { file: installed };
+    return this.isKnown(folder, name) ? { external: `npm:${text}` } : null;
+  }
+
+  /** @param {string} at @param {string} sub @param {string} from @returns {string | null} */
+  inFolder(at, sub, from) {
+    const json = this.configs.value(path.posix.join(at, 'package.json')) ?? this.configs.value(path.posix.join(at, 'deno.json')) ?? {};
+    return packageFile(this.files, at, json, sub, isJavaScript(from));
+  }
+
+  /** @param {string} folder @param {string} name @param {string} sub @param {string} from @returns {string | null} in node_modules, here or above */
+  installed(folder, name, sub, from) {
+    const types = `@types/${name.replace(/^@/, '').replace('/', '__')}`;
+    for (let at = folder; ; at = path.posix.dirname(at)) {
+      for (const it of [name, types]) {
+        const found = this.inFolder(path.posix.join(at, 'node_modules', it), sub, from);
+        if (found) return found;
+      }
+      if (at === path.posix.dirname(at)) return null;
+    }
+  }
+
+  /** @param {string} folder @param {string} name @returns {boolean} whether a package.json here or above says that the package is needed, or its folder is there */
+  isKnown(folder, name) {
+    for (let at = folder; ; at = path.posix.dirname(at)) {
+      if (dependencies(this.configs.value(path.posix.join(at, 'package.json'))).includes(name)) return true;
+      if (isFolder(path.posix.join(at, 'node_modules', name))) return true;
+      if (at === path.posix.dirname(at)) return false;
+    }
+  }
+}
+
+/**
+ * @template T
+ * @param {Map<string, T>} map
+ * @param {string} key
+ * @param {() => T} make
+ * @returns {T}
+ */
+function kept(map, key, make) {
+  if (!map.has(key)) map.set(key, make());
+  return /** @type {T} */ (map.get(key));
+}

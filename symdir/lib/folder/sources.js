@@ -1,0 +1,201 @@
+// A folder of sources: its modules, parsed, and what their imports stand for.
+import { readFileSync } from 'node:fs';
+import path from 'node:path';
+
+import { isCode, isJavaScript } from '../language.js';
+import { findTypeScript } from '../typescript.js';
+import { Configs } from './configs.js';
+import { sourcesOf } from './endings.js';
+import { Files, withSlashes } from './files.js';
+import { Kept, hashOf } from './kept.js';
+import { packageFile } from './packages.js';
+import { Pool } from './pool.js';
+import { Resolver } from './resolve.js';
+
+/** @typedef {import('./kept.js').Parsed} Parsed */
+/** @typedef {import('../tree/converter.js').Reference} Reference */
+
+/**
+ * @typedef {object} Reading
+ * @property {string} folder absolute
+ * @property {RegExp[]} skip
+ * @property {boolean} bodies
+ * @property {boolean} ambient
+ * @property {boolean} javascript whether JavaScript is read where declarations stand beside it
+ * @property {boolean} packages whether modules of installed packages are read
+ * @property {boolean} cache whether trees are kept
+ * @property {(done: number, all: number) => void} progress
+ */
+
+/**
+ * @typedef {object} Module
+ * @property {string} specifier
+ * @property {string} file absolute
+ * @property {Parsed} parsed
+ */
+
+export class Sources {
+  /** @param {Reading} reading */
+  constructor(reading) {
+    this.reading = reading;
+    this.folder = reading.folder;
+    this.files = new Files(reading.folder, reading.skip);
+    this.configs = new Configs(this.files);
+    this.resolver = new Resolver(this.files, this.configs);
+    /** @type {Map<string, Module>} by specifier */
+    this.modules = new Map();
+    /** @type {Map<string, Map<string, string>>} by specifier and text */
+    this.resolutions = new Map();
+    /** @type {Set<string>} specifiers of modules that aren't read */
+    this.external = new Set();
+    /** @type {{ file: string, error: string }[]} */
+    this.unread = this.files.unread.map((file) => ({ file: this.files.below(file), error: 'EACCES' }));
+  }
+
+  /** @param {string} file absolute @returns {string} */
+  specifierOf(file) {
+    const below = this.files.below(file);
+    if (!below.startsWith('../')) return `file:///${below}`;
+    const inPackages = file.lastIndexOf('/node_modules/');
+    return inPackages < 0 ? `file://${file}` : `file://${file.slice(inPackages)}`;
+  }
+
+  /** @param {string} specifier @returns {string} below the folder, as people read it */
+  short(specifier) {
+    return specifier.startsWith('file:///') ? specifier.slice('file:///'.length) : specifier;
+  }
+
+  /** @param {string} file a module of JavaScript @returns {boolean} whether declarations or sources say what it has */
+  hasTypes(file) {
+    if (sourcesOf(file).some((it) => this.files.has(it))) return true;
+    const own = this.configs.packageAt(path.posix.dirname(file));
+    const types = own && (own.value.types ?? own.value.typings);
+    return typeof types === 'string' && this.files.has(path.posix.join(own.folder, types));
+  }
+
+  /** Reads the modules of the folder, and then what they lead to. */
+  async read() {
+    const { typescript, kept } = this.start();
+    const pool = new Pool({ typescript, bodies: this.reading.bodies, ambient: this.reading.ambient });
+    let isNew = false;
+    try {
+      let wanted = this.files.code().filter((it) => this.reading.javascript || !isJavaScript(it) || !this.hasTypes(it));
+      while (wanted.length > 0) {
+        const parsed = await this.parse(wanted, kept, pool);
+        isNew ||= parsed > 0;
+        wanted = this.resolveAll(wanted);
+      }
+    } finally {
+      await pool.close();
+    }
+    if (this.reading.cache && (isNew || kept?.modules.size !== this.modules.size)) {
+      kept?.write(new Map([...this.modules.values()].map((it) => [it.file, it.parsed])));
+    }
+  }
+
+  /** @returns {{ typescript: string, kept: Kept | null }} */
+  start() {
+    const { file: typescript, version } = findTypeScript(this.folder);
+    const { bodies, ambient, cache } = this.reading;
+    return { typescript, kept: cache ? new Kept(JSON.stringify([this.folder, version, bodies, ambient])) : null };
+  }
+
+  /**
+   * @param {string[]} wanted files
+   * @param {Kept | null} kept
+   * @param {Pool} pool
+   * @returns {Promise<number>} how many were parsed
+   */
+  async parse(wanted, kept, pool) {
+    /** @type {Map<string, Parsed>} */
+    const found = new Map();
+    const jobs = [];
+    for (const file of wanted) {
+      const known = kept?.modules.has(file) ? kept.get(file, this.hash(file)) : null;
+      if (known) found.set(file, known);
+      else jobs.push({ file, specifier: this.specifierOf(file) });
+    }
+    let done = 0;
+    await pool.parse(jobs, (file, made, error) => {
+      this.reading.progress(++done, jobs.length);
+      if (made) found.set(file, made);
+      else this.unread.push({ file: this.files.below(file), error: error ?? '' });
+    });
+    for (const file of wanted) {
+      const parsed = found.get(file);
+      const specifier = this.specifierOf(file);
+      if (parsed) this.modules.set(specifier, { specifier, file, parsed });
+      else this.external.add(specifier);
+    }
+    return jobs.length;
+  }
+
+  /** @param {string} file @returns {string} */
+  hash(file) {
+    try {
+      return hashOf(readFileSync(file));
+    } catch {
+      return '';
+    }
+  }
+
+  /** @param {string[]} files whose references are resolved @returns {string[]} files that they lead to and that aren't read yet */
+  resolveAll(files) {
+    /** @type {Set<string>} */
+    const more = new Set();
+    for (const file of files) {
+      const module = this.modules.get(this.specifierOf(file));
+      if (!module) continue;
+      /** @type {Map<string, string>} */
+      const table = new Map();
+      this.resolutions.set(module.specifier, table);
+      for (const { text } of module.parsed.references) {
+        if (table.has(text)) continue;
+        const to = this.target(file, text, more);
+        if (to !== null) table.set(text, to);
+      }
+    }
+    return [...more].sort();
+  }
+
+  /** @param {string} from @param {string} text @param {Set<string>} more is given the file where it isn't read yet @returns {string | null} a specifier */
+  target(from, text, more) {
+    const found = this.resolver.resolve(from, text);
+    if (!found) return null;
+    const specifier = found.external ?? this.specifierOf(/** @type {string} */ (found.file));
+    if (this.modules.has(specifier) || more.has(found.file ?? '')) return specifier;
+    if (found.file && this.isRead(found.file)) more.add(found.file);
+    else if (found.file && !this.files.holds(found.file)) return this.outside(found.file, text);
+    else this.external.add(specifier);
+    return specifier;
+  }
+
+  /** @param {string} file @param {string} text @returns {string} the specifier of a module that isn't in the folder and isn't read */
+  outside(file, text) {
+    const specifier = file.includes('/node_modules/') && !text.startsWith('.') ? `npm:${text}` : this.specifierOf(file);
+    this.external.add(specifier);
+    return specifier;
+  }
+
+  /** @param {string} file @returns {boolean} whether a module that is met is read */
+  isRead(file) {
+    if (!isCode(file) && !file.endsWith('.json')) return false;
+    if (this.files.holds(file)) return !this.files.isSkipped(file);
+    return this.reading.packages && file.includes('/node_modules/');
+  }
+
+  /** @param {Module} module of JavaScript @returns {string | null} the specifier of the module with its types */
+  typesOf({ file }) {
+    if (!isJavaScript(file)) return null;
+    const beside = sourcesOf(file).find((it) => /\.d\.[mc]?ts$/.test(it) && this.modules.has(this.specifierOf(it)));
+    if (beside) return this.specifierOf(beside);
+    const own = this.configs.packageAt(path.posix.dirname(file));
+    const types = own && (own.value.types ?? own.value.typings);
+    if (typeof types !== 'string') return null;
+    const main = packageFile(this.files, own.folder, { ...own.value, types: undefined, typings: undefined }, '', true);
+    const at = this.specifierOf(path.posix.join(own.folder, types));
+    return main === file && this.modules.has(at) ? at : null;
+  }
+}
+
+export { withSlashes };

@@ -1,0 +1,40 @@
+// A thread that parses: a file's path in, what is known of its module out.
+import { readFileSync } from 'node:fs';
+import { parentPort, workerData } from 'node:worker_threads';
+
+import { languageOf } from '../language.js';
+import { convert } from '../tree/convert.js';
+import { hashOf } from './kept.js';
+
+const port = /** @type {import('node:worker_threads').MessagePort} */ (parentPort);
+
+/** @param {Buffer} bytes @returns {string} of UTF-8, or of UTF-16 where its mark says so */
+function decoded(bytes) {
+  return bytes[0] === 0xff && bytes[1] === 0xfe ? bytes.toString('utf16le') : bytes.toString('utf8');
+}
+
+/** @param {string} file @param {string} specifier @param {Buffer} bytes */
+function parse(file, specifier, bytes) {
+  const { bodies, ambient } = workerData;
+  const isJson = file.endsWith('.json');
+  const start = `{"specifier":${JSON.stringify(specifier)},"kind":"${isJson ? 'json' : 'esm'}","text":`;
+  if (isJson) {
+    const text = Buffer.from(start + JSON.stringify(decoded(bytes).replace(/^\ufeff/, '')));
+    return { text, fault: null, references: [], declarations: [], nodes: 0 };
+  }
+  const how = languageOf(file);
+  const { text, nodes, fault, references, declarations } = convert(file, decoded(bytes), { ...how, bodies, ambient });
+  const tree = nodes === null ? '' : `,"tree":{${how.declaration ? '"declaration":true,' : ''}"nodes":${nodes}}`;
+  const count = nodes === null ? 0 : nodes.split('{"kind"').length - 1;
+  return { text: Buffer.from(start + JSON.stringify(text) + tree), fault, references, declarations, nodes: count };
+}
+
+port.on('message', ({ file, specifier }) => {
+  try {
+    const bytes = readFileSync(file);
+    const made = { hash: hashOf(bytes), ...parse(file, specifier, bytes) };
+    port.postMessage({ file, made }, [/** @type {ArrayBuffer} */ (made.text.buffer)]);
+  } catch (error) {
+    port.postMessage({ file, error: /** @type {any} */ (error).code ?? String(/** @type {Error} */ (error).stack) });
+  }
+});

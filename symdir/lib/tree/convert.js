@@ -1,0 +1,108 @@
+// One text to one tree.
+import { Converter, K, hasModifier, ts } from './converter.js';
+import { hoist, hoistVars } from './scopes.js';
+import { nodesText, numbered } from './node.js';
+import { overNewer } from './newer.js';
+import { item } from './items.js';
+import { wellFormed } from './offsets.js';
+
+/** @typedef {import('./converter.js').Options} Options */
+
+/**
+ * @typedef {object} Fault
+ * @property {number} line from 1
+ * @property {number} column from 1, in UTF-16 units
+ * @property {string} text
+ */
+
+/**
+ * @typedef {object} Converted
+ * @property {string} text without a byte order mark
+ * @property {string | null} nodes the JSON text of the tree's nodes; null where there is none
+ * @property {Fault | null} fault why there is none
+ * @property {import('./converter.js').Reference[]} references
+ * @property {number[]} declarations
+ */
+
+/** @param {string} name @param {string} text @param {Options} options @returns {import('typescript').SourceFile} */
+function parsed(name, text, options) {
+  const kind = { ts: ts.ScriptKind.TS, tsx: ts.ScriptKind.TSX, js: ts.ScriptKind.JS, jsx: ts.ScriptKind.JSX }[options.language];
+  const how = { languageVersion: ts.ScriptTarget.Latest, jsDocParsingMode: 1 };
+  return ts.createSourceFile(name, text, /** @type {any} */ (how), false, kind);
+}
+
+/** @param {import('typescript').SourceFile} file @returns {readonly import('typescript').DiagnosticWithLocation[]} */
+function faultsOf(file) {
+  return /** @type {any} */ (file).parseDiagnostics;
+}
+
+/** @param {string} name @param {string} text @param {Options} options the text as it is, or written over where that has fewer faults */
+function parsedAnyhow(name, text, options) {
+  const file = parsed(name, text, options);
+  if (faultsOf(file).length === 0) return { file, marks: null };
+  const over = overNewer(text);
+  if (over.text === text) return { file, marks: null };
+  const again = parsed(name, over.text, options);
+  return faultsOf(again).length < faultsOf(file).length ? { file: again, marks: over.marks } : { file, marks: null };
+}
+
+/** @param {import('typescript').SourceFile} file @returns {boolean} whether TypeScript exports its declarations without a word */
+function exportsAll(file) {
+  const isModule = file.statements.some((it) => ts.isImportDeclaration(it) || ts.isImportEqualsDeclaration(it) || hasModifier(it, K.ExportKeyword));
+  return isModule && !file.statements.some((it) => ts.isExportDeclaration(it) || ts.isExportAssignment(it));
+}
+
+/** @param {Converter} c @returns {import('./node.js').TreeNode} */
+function program(c) {
+  const list = c.file.statements;
+  hoist(list, c.scope);
+  for (const it of list) hoistVars(it, c.scope);
+  const isAmbient = c.options.ambient && c.options.declaration && exportsAll(c.file);
+  const body = list.map((it) => item(c, it, isAmbient));
+  if (list.length === 0) return c.at('Program', 0, 0);
+  return c.at('Program', c.start(list[0]), list[list.length - 1].end, { body });
+}
+
+/** @param {import('typescript').SourceFile} file @param {number} at @param {string} text @returns {Fault} */
+function faultAt(file, at, text) {
+  const { line, character } = file.getLineAndCharacterOfPosition(at);
+  return { line: line + 1, column: character + 1, text };
+}
+
+/**
+ * The nodes of a text, for whoever looks at them.
+ * @param {string} name of the file, which TypeScript is told
+ * @param {string} source
+ * @param {Options} options
+ */
+export function nodesOf(name, source, options) {
+  const text = wellFormed(source.charCodeAt(0) === 0xfeff ? source.slice(1) : source);
+  const { file, marks } = parsedAnyhow(name, text, options);
+  const [first] = faultsOf(file);
+  if (first) {
+    const fault = faultAt(file, first.start, ts.flattenDiagnosticMessageText(first.messageText, ' '));
+    return { text, nodes: null, fault, references: [], declarations: [] };
+  }
+  const c = new Converter(file, marks, text, options);
+  const nodes = numbered(program(c));
+  const fault = nodes ? null : { line: 1, column: 1, text: 'it is nested more than 4,096 deep' };
+  return { text, nodes, fault, references: c.references, declarations: c.declarations };
+}
+
+/**
+ * The tree of a text, as it is written.
+ * @param {string} name of the file, which TypeScript is told
+ * @param {string} source
+ * @param {Options} options
+ * @returns {Converted}
+ */
+export function convert(name, source, options) {
+  try {
+    const made = nodesOf(name, source, options);
+    return { ...made, nodes: made.nodes && nodesText(made.nodes) };
+  } catch (error) {
+    if (!(error instanceof RangeError)) throw error;
+    const fault = { line: 1, column: 1, text: 'it is nested too deep for the parser' };
+    return { text: wellFormed(source), nodes: null, fault, references: [], declarations: [] };
+  }
+}

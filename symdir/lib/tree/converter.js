@@ -1,0 +1,181 @@
+// What stands while one text becomes a tree: the parsed text, the scope at hand, and what is noted on the way.
+import { K, ts } from './typescript.js';
+import { byteOffsets } from './offsets.js';
+import { TreeNode } from './node.js';
+import { MODULE_SCOPE, Scope, textOf } from './scopes.js';
+
+/** @typedef {import('typescript').Node} Node */
+/** @typedef {import('./node.js').Field} Field */
+
+/**
+ * @typedef {object} Options
+ * @property {'ts' | 'tsx' | 'js' | 'jsx'} language
+ * @property {boolean} declaration whether the text is a declaration file
+ * @property {boolean} bodies whether what stands in the bodies of functions becomes nodes
+ * @property {boolean} ambient whether the declarations of a declaration file without exports are exported
+ */
+
+/**
+ * What names another module.
+ * @typedef {object} Reference
+ * @property {'import' | 'export' | 'export *' | 'import type' | 'require' | 'import()'} how
+ * @property {string} text
+ * @property {number} start in bytes
+ * @property {[name: string, local: string, scope: number, start: number][]} names what it takes from there; `*` is all
+ */
+
+/** What a declaration is, by number. */
+export const KINDS = [
+  'class', 'function', 'interface', 'type', 'enum', 'namespace', 'const', 'let', 'var', 'using', 'default', 'export =',
+  'method', 'property', 'getter', 'setter', 'constructor', 'accessor', 'parameter', 'index', 'call', 'construct', 'import',
+];
+const NUMBER_OF = new Map(KINDS.map((it, i) => [it, i]));
+
+export class Converter {
+  /**
+   * @param {import('typescript').SourceFile} file
+   * @param {import('./newer.js').Marks | null} marks what newer syntax stood there
+   * @param {string} text the module's text, of the same length as the file's
+   * @param {Options} options
+   */
+  constructor(file, marks, text, options) {
+    this.file = file;
+    this.source = file.text;
+    this.marks = marks;
+    this.options = options;
+    this.byte = byteOffsets(text);
+    this.scope = new Scope(MODULE_SCOPE, null);
+    this.scopes = MODULE_SCOPE;
+    this.inType = false;
+    /** @type {Reference[]} */
+    this.references = [];
+    /** @type {number[]} five for each: start, end, number of the kind, start of the name, 1 where it is private */
+    this.declarations = [];
+  }
+
+  /** @param {Node} node @returns {number} in UTF-16 units, behind comments */
+  start(node) {
+    return node.getStart(this.file);
+  }
+
+  /** @param {string} kind @param {number} start @param {number} end both in UTF-16 units @param {Record<string, Field>} [fields] */
+  at(kind, start, end, fields = {}) {
+    return new TreeNode(kind, this.byte(start), this.byte(end), fields);
+  }
+
+  /** @param {string} kind @param {Node} node whose range it has @param {Record<string, Field>} [fields] */
+  node(kind, node, fields = {}) {
+    return new TreeNode(kind, this.byte(this.start(node)), this.byte(node.end), fields);
+  }
+
+  /** @param {Node} node @param {(TreeNode | null | undefined | false | '')[]} children */
+  other(node, children) {
+    return this.node('Other', node, { children: /** @type {TreeNode[]} */ (children.filter(Boolean)) });
+  }
+
+  /** @param {Node} node @param {(TreeNode | null | undefined | false | '')[]} children */
+  type(node, children) {
+    return this.node('Type', node, { children: /** @type {TreeNode[]} */ (children.filter(Boolean)) });
+  }
+
+  /**
+   * Opens a scope, fills it, does what is to be done in it, and closes it.
+   * @template T
+   * @param {(scope: Scope) => void} fill
+   * @param {() => T} body
+   * @returns {T}
+   */
+  within(fill, body) {
+    this.scope = new Scope(++this.scopes, this.scope);
+    fill(this.scope);
+    const made = body();
+    this.scope = /** @type {Scope} */ (this.scope.above);
+    return made;
+  }
+
+  /**
+   * @template T
+   * @param {boolean} inType whether names are types there
+   * @param {() => T} body
+   * @returns {T}
+   */
+  typed(inType, body) {
+    const before = this.inType;
+    this.inType = inType;
+    const made = body();
+    this.inType = before;
+    return made;
+  }
+
+  /** @param {string} name @param {boolean} inType @returns {number} the scope that declares it: of a type, types go first */
+  scopeOf(name, inType) {
+    if (inType) for (let it = /** @type {Scope | null} */ (this.scope); it; it = it.above) if (it.types.has(name)) return it.number;
+    for (let it = /** @type {Scope | null} */ (this.scope); it; it = it.above) if (it.values.has(name)) return it.number;
+    return MODULE_SCOPE;
+  }
+
+  /** @param {import('typescript').Identifier} name @param {boolean} [inType] @returns {[string, number]} */
+  symbolName(name, inType = this.inType) {
+    const text = textOf(name);
+    return [text, this.scopeOf(text, inType)];
+  }
+
+  /** @param {import('typescript').Identifier} name @param {boolean} [inType] */
+  ident(name, inType = this.inType) {
+    return this.node('Ident', name, { sym: this.symbolName(name, inType) });
+  }
+
+  /**
+   * Notes that a declaration of the kind has the range, and where its name stands.
+   * @param {string} kind one of KINDS
+   * @param {TreeNode} made
+   * @param {Node | undefined} name
+   * @param {boolean} [isPrivate]
+   * @returns {TreeNode} what was made
+   */
+  declares(kind, made, name, isPrivate = false) {
+    const place = name ? this.byte(this.start(name)) : made.start;
+    this.declarations.push(made.start, made.end, /** @type {number} */ (NUMBER_OF.get(kind)), place, isPrivate ? 1 : 0);
+    return made;
+  }
+
+  /**
+   * @param {Reference['how']} how
+   * @param {import('typescript').StringLiteralLike} text
+   * @param {Node} node
+   * @returns {string} the text
+   */
+  refers(how, text, node) {
+    this.references.push({ how, text: text.text, start: this.byte(this.start(node)), names: [] });
+    return text.text;
+  }
+
+  /** @param {string} name @param {string} local @param {number} scope @param {Node} node that the last reference takes it */
+  takes(name, local, scope, node) {
+    this.references[this.references.length - 1].names.push([name, local, scope, this.byte(this.start(node))]);
+  }
+
+  /** @param {Node} node @returns {string | undefined} the string that stands where an old parser was given a name */
+  stringAt(node) {
+    return this.marks?.strings.get(this.start(node));
+  }
+}
+
+/** @param {Node} node @returns {readonly import('typescript').ModifierLike[]} */
+export function modifiersOf(node) {
+  return /** @type {{ modifiers?: readonly import('typescript').ModifierLike[] }} */ (/** @type {unknown} */ (node)).modifiers ?? [];
+}
+
+/** @param {Node} node @param {number} kind @returns {boolean} */
+export function hasModifier(node, kind) {
+  return modifiersOf(node).some((it) => it.kind === kind);
+}
+
+/** @param {Node} node @returns {import('typescript').Decorator[]} as TypeScript 4.7 and newer ones keep them */
+export function decoratorsOf(node) {
+  const older = /** @type {{ decorators?: readonly import('typescript').Decorator[] }} */ (/** @type {unknown} */ (node)).decorators;
+  if (older?.length) return [...older];
+  return modifiersOf(node).filter(ts.isDecorator);
+}
+
+export { K, ts };

@@ -1,0 +1,183 @@
+// Functions and classes.
+import { K, decoratorsOf, hasModifier, modifiersOf, ts } from './converter.js';
+import { hoist, hoistFunction, hoistTypeParameters, textOf } from './scopes.js';
+import { key } from './names.js';
+import { parameter, parameters } from './patterns.js';
+import { annotation, element, heritage, typeArguments, typeParameters } from './types.js';
+import { expression } from './expressions.js';
+import { block, statements } from './statements.js';
+import { referencesIn } from './references.js';
+
+/** @typedef {import('./converter.js').Converter} Converter */
+/** @typedef {import('./node.js').TreeNode} TreeNode */
+
+/** @param {Converter} c @param {import('typescript').Block} node of a function, whose scope is open */
+export function body(c, node) {
+  if (c.options.bodies) return c.other(node, statements(c, node.statements));
+  referencesIn(c, node);
+  return c.other(node, []);
+}
+
+/**
+ * @param {Converter} c
+ * @param {import('typescript').FunctionLikeDeclaration} node
+ * @param {number} start @param {number} end
+ */
+export function functionNode(c, node, start, end) {
+  return c.within((scope) => hoistFunction(node, scope), () => c.at('Function', start, end, {
+    type_params: c.typed(true, () => typeParameters(c, node.typeParameters)),
+    params: parameters(c, node.parameters),
+    return_type: c.typed(true, () => annotation(c, node.type)),
+    body: node.body ? body(c, /** @type {import('typescript').Block} */ (node.body)) : null,
+  }));
+}
+
+/** @param {Converter} c @param {import('typescript').FunctionExpression} node */
+export function functionExpression(c, node) {
+  const make = () => c.node('FnExpr', node, {
+    ident: node.name ? c.ident(node.name) : null,
+    function: functionNode(c, node, c.start(node), node.end),
+  });
+  const { name } = node;
+  return c.typed(false, () => (name ? c.within((scope) => scope.values.add(textOf(name)), make) : make()));
+}
+
+/** @param {Converter} c @param {import('typescript').ArrowFunction} node */
+export function arrow(c, node) {
+  const block = ts.isBlock(node.body);
+  return c.typed(false, () => c.within((scope) => hoistFunction(node, scope), () => c.node('Arrow', node, {
+    type_params: c.typed(true, () => typeParameters(c, node.typeParameters)),
+    params: parameters(c, node.parameters),
+    return_type: c.typed(true, () => annotation(c, node.type)),
+    is_block: block,
+    body: ts.isBlock(node.body) ? body(c, node.body) : expression(c, node.body),
+  })));
+}
+
+/** @param {import('typescript').Node} member @returns {'public' | 'protected' | 'private' | null} */
+function accessibility(member) {
+  if (hasModifier(member, K.PublicKeyword)) return 'public';
+  if (hasModifier(member, K.ProtectedKeyword)) return 'protected';
+  return hasModifier(member, K.PrivateKeyword) ? 'private' : null;
+}
+
+/** @param {Converter} c @param {import('typescript').Node} node */
+function decorators(c, node) {
+  return decoratorsOf(node).map((it) => c.other(it, [expression(c, it.expression)]));
+}
+
+/** @param {Converter} c @param {import('typescript').ClassLikeDeclaration} node the superclass, its arguments, what is implemented */
+function heritageOf(c, node) {
+  const found = { super_class: /** @type {TreeNode | null} */ (null), super_type_params: /** @type {TreeNode | null} */ (null),
+    implements: /** @type {TreeNode[]} */ ([]) };
+  for (const clause of node.heritageClauses ?? []) {
+    for (const it of clause.types) {
+      if (clause.token === K.ExtendsKeyword && !found.super_class) {
+        found.super_class = c.typed(false, () => expression(c, it.expression));
+        found.super_type_params = c.typed(true, () => typeArguments(c, it.typeArguments));
+      } else found.implements.push(c.typed(true, () => heritage(c, it)));
+    }
+  }
+  return found;
+}
+
+/** @param {Converter} c @param {import('typescript').ClassElement} member @returns {TreeNode[]} decorators of it and of its parameters, and it */
+function memberWithDecorators(c, member) {
+  const parts = decorators(c, member);
+  const { parameters: list } = /** @type {{ parameters?: readonly import('typescript').Node[] }} */ (/** @type {unknown} */ (member));
+  for (const it of list ?? []) parts.push(...decorators(c, it));
+  parts.push(member_(c, member));
+  return parts;
+}
+
+/**
+ * @param {Converter} c
+ * @param {import('typescript').ClassLikeDeclaration} node
+ * @param {number} start @param {number} end of what stands after the name
+ * @returns {{ ident: TreeNode | null, class: TreeNode }}
+ */
+export function classParts(c, node, start, end) {
+  const first = decorators(c, node);
+  return c.within((scope) => {
+    hoistTypeParameters(node, scope);
+    if (ts.isClassExpression(node) && node.name) scope.add(textOf(node.name));
+  }, () => {
+    const ident = node.name ? c.ident(node.name, false) : null;
+    const type_params = c.typed(true, () => typeParameters(c, node.typeParameters));
+    const above = heritageOf(c, node);
+    const members = node.members.flatMap((it) => memberWithDecorators(c, it));
+    return { ident, class: c.at('Class', start, end, { type_params, ...above, body: [...first, ...members] }) };
+  });
+}
+
+/** @param {Converter} c @param {import('typescript').ConstructorDeclaration} m */
+function constructorNode(c, m) {
+  const made = c.within((scope) => hoistFunction(m, scope), () => c.node('Constructor', m, {
+    params: m.parameters.map((it) => constructorParameter(c, it)),
+    body: m.body ? body(c, m.body) : null,
+    accessibility: accessibility(m),
+  }));
+  return c.declares('constructor', made, undefined, hasModifier(m, K.PrivateKeyword));
+}
+
+/** @param {import('typescript').ParameterDeclaration} it @returns {boolean} whether it is a property too */
+function isProperty(it) {
+  return modifiersOf(it).some((word) => !ts.isDecorator(word));
+}
+
+/** @param {Converter} c @param {import('typescript').ParameterDeclaration} it */
+function constructorParameter(c, it) {
+  if (!isProperty(it) || !ts.isIdentifier(it.name) || it.dotDotDotToken) return parameter(c, it);
+  const access = accessibility(it);
+  return c.declares('parameter', c.node('TsParamProp', it, { param: parameter(c, it), accessibility: access }), it.name, access === 'private');
+}
+
+/** @param {Converter} c @param {import('typescript').MethodDeclaration | import('typescript').AccessorDeclaration} m */
+function method(c, m) {
+  const name = key(c, m.name);
+  const made = functionNode(c, m, c.start(m), m.end);
+  if (name.kind === 'PrivateName') return c.other(m, [name, made]);
+  const kind = ts.isGetAccessor(m) ? 'getter' : ts.isSetAccessor(m) ? 'setter' : 'method';
+  const access = accessibility(m);
+  return c.declares(kind, c.node('ClassMethod', m, {
+    key: name, function: made, method_kind: kind, is_static: hasModifier(m, K.StaticKeyword), accessibility: access,
+  }), m.name, access === 'private');
+}
+
+/** @param {Converter} c @param {import('typescript').PropertyDeclaration} m */
+function propertyNode(c, m) {
+  const marked = modifiersOf(m).some((it) => c.marks?.accessor.has(c.start(it)));
+  const isAccessor = marked || (K.AccessorKeyword !== undefined && hasModifier(m, K.AccessorKeyword));
+  const name = key(c, m.name);
+  const type_ann = c.typed(true, () => annotation(c, m.type));
+  const value = m.initializer ? expression(c, m.initializer) : null;
+  if (name.kind === 'PrivateName' && !isAccessor) return c.other(m, [name, type_ann, value]);
+  const access = accessibility(m);
+  const fields = { key: name, type_ann, value, is_static: hasModifier(m, K.StaticKeyword), accessibility: access };
+  return c.declares(isAccessor ? 'accessor' : 'property', c.node(isAccessor ? 'AutoAccessor' : 'ClassProp', m, fields), m.name,
+    access === 'private' || name.kind === 'PrivateName');
+}
+
+/** @type {Record<number, (c: Converter, member: any) => TreeNode>} */
+const MEMBERS = {
+  [K.Constructor]: constructorNode,
+  [K.MethodDeclaration]: method,
+  [K.GetAccessor]: method,
+  [K.SetAccessor]: method,
+  [K.PropertyDeclaration]: propertyNode,
+  [K.IndexSignature]: element,
+  [K.ClassStaticBlockDeclaration]: (c, member) => staticBlock(c, member),
+};
+
+/** @param {Converter} c @param {import('typescript').ClassStaticBlockDeclaration} member */
+function staticBlock(c, member) {
+  if (c.options.bodies) return block(c, member, member.body.statements);
+  referencesIn(c, member);
+  return c.within((scope) => hoist(member.body.statements, scope), () => c.other(member, []));
+}
+
+/** @param {Converter} c @param {import('typescript').ClassElement} member */
+function member_(c, member) {
+  const make = MEMBERS[member.kind];
+  return c.typed(false, () => (make ? make(c, member) : c.other(member, [])));
+}

@@ -1,0 +1,154 @@
+// The items of a module or a namespace: imports, exports, and statements.
+import { K, hasModifier, modifiersOf, ts } from './converter.js';
+import { MODULE_SCOPE, textOf } from './scopes.js';
+import { entity, moduleName } from './names.js';
+import { skipSpace } from './types.js';
+import { classParts, functionNode } from './functions.js';
+import { expression } from './expressions.js';
+import { declaration, interfaceNode, statement } from './statements.js';
+
+/** @typedef {import('./converter.js').Converter} Converter */
+/** @typedef {import('./node.js').TreeNode} TreeNode */
+
+/** @param {Converter} c @param {import('typescript').Identifier} local @param {string} name @param {import('typescript').Node} node */
+function takesLocal(c, local, name, node) {
+  const [text, scope] = c.symbolName(local, false);
+  c.takes(name, text, scope, node);
+}
+
+/** @param {Converter} c @param {import('typescript').ImportDeclaration} it */
+function importNode(c, it) {
+  const src = c.refers('import', /** @type {import('typescript').StringLiteral} */ (it.moduleSpecifier), it);
+  const specifiers = [];
+  const clause = it.importClause;
+  if (clause?.name) {
+    takesLocal(c, clause.name, 'default', clause.name);
+    specifiers.push(c.node('ImportDefault', clause.name, { local: c.ident(clause.name) }));
+  }
+  const bindings = clause?.namedBindings;
+  if (bindings && ts.isNamespaceImport(bindings)) {
+    takesLocal(c, bindings.name, '*', bindings);
+    specifiers.push(c.declares('namespace', c.node('ImportNamespace', bindings, { local: c.ident(bindings.name) }), bindings.name));
+  } else if (bindings) {
+    for (const part of bindings.elements) {
+      const imported = part.propertyName ? moduleName(c, part.propertyName) : null;
+      takesLocal(c, part.name, imported ?? textOf(part.name), part);
+      specifiers.push(c.node('ImportNamed', part, { local: c.ident(part.name), imported }));
+    }
+  }
+  return c.node('Import', it, { specifiers, src });
+}
+
+/** @param {Converter} c @param {import('typescript').Identifier} name of `export { name }` @returns {[string, number]} */
+function exportedName(c, name) {
+  const text = textOf(name);
+  for (let it = /** @type {import('./scopes.js').Scope | null} */ (c.scope); it; it = it.above) {
+    if (it.values.has(text) || it.types.has(text)) return [text, it.number];
+  }
+  return [text, MODULE_SCOPE];
+}
+
+/** @param {Converter} c @param {import('typescript').ExportSpecifier} it @param {boolean} hasSource */
+function exportSpecifier(c, it, hasSource) {
+  const name = /** @type {import('typescript').Node} */ (it.propertyName ?? it.name);
+  const text = moduleName(c, name);
+  if (hasSource) c.takes(text, moduleName(c, it.name), 0, it);
+  let orig;
+  if (!ts.isIdentifier(name) || c.stringAt(name) !== undefined) orig = c.node('Str', name, { value: text });
+  else orig = c.node('Ident', name, { sym: hasSource ? [text, MODULE_SCOPE] : exportedName(c, name) });
+  return c.node('ExportSpecifier', it, { orig, exported: it.propertyName ? moduleName(c, it.name) : null });
+}
+
+/** @param {Converter} c @param {import('typescript').ExportDeclaration} it */
+function exportNode(c, it) {
+  const from = /** @type {import('typescript').StringLiteral | undefined} */ (it.moduleSpecifier);
+  const clause = it.exportClause;
+  const src = from ? c.refers(clause ? 'export' : 'export *', from, it) : null;
+  if (!clause) return c.node('ExportAll', it, { src });
+  if (ts.isNamespaceExport(clause)) {
+    const name = moduleName(c, clause.name);
+    c.takes('*', name, 0, clause);
+    return c.node('ExportNamed', it, { specifiers: [c.declares('namespace', c.node('ExportNamespace', clause, { name }), clause.name)], src });
+  }
+  return c.node('ExportNamed', it, { specifiers: clause.elements.map((part) => exportSpecifier(c, part, from !== undefined)), src });
+}
+
+/** @param {Converter} c @param {import('typescript').ExportAssignment} it */
+function exportAssignment(c, it) {
+  const kind = it.isExportEquals ? 'TsExportAssignment' : 'ExportDefaultExpr';
+  return c.declares(it.isExportEquals ? 'export =' : 'default', c.node(kind, it, { expr: expression(c, it.expression) }), undefined);
+}
+
+/** @param {Converter} c @param {import('typescript').ImportEqualsDeclaration} it */
+function importEquals(c, it) {
+  const from = it.moduleReference;
+  const fields = { is_export: hasModifier(it, K.ExportKeyword), id: c.ident(it.name, false) };
+  if (!ts.isExternalModuleReference(from)) return c.node('TsImportEqualsDecl', it, { ...fields, entity: entity(c, from, false) });
+  if (!ts.isStringLiteral(from.expression)) return c.other(it, []);
+  const external = c.refers('require', from.expression, it);
+  takesLocal(c, it.name, '*', it);
+  return c.node('TsImportEqualsDecl', it, { ...fields, external });
+}
+
+/** @param {Converter} c @param {import('typescript').Node} it @returns {[number, number]} where `export` stands, and where what is exported starts */
+function exportStarts(c, it) {
+  const words = modifiersOf(it).filter((word) => !ts.isDecorator(word));
+  const at = words.findIndex((word) => word.kind === K.ExportKeyword);
+  const behind = words.slice(at + 1).filter((word, i) => i > 0 || word.kind !== K.DefaultKeyword);
+  const start = behind.length > 0 ? c.start(behind[0]) : skipSpace(c, words[words.length - 1].end);
+  return [c.start(words[at]), start];
+}
+
+/** @param {Converter} c @param {any} it a class, a function or an interface behind `export default` @param {number} start */
+function defaultDeclaration(c, it, start) {
+  if (ts.isFunctionDeclaration(it)) {
+    const ident = it.name ? c.ident(it.name, false) : null;
+    return c.declares('function', c.at('FnExpr', start, it.end, { ident, function: functionNode(c, it, start, it.end) }), it.name);
+  }
+  if (ts.isClassDeclaration(it)) return c.declares('class', c.at('ClassExpr', start, it.end, classParts(c, it, start, it.end)), it.name);
+  return c.declares('interface', interfaceNode(c, it, start), it.name);
+}
+
+/** @param {Converter} c @param {import('typescript').Statement} it behind `export` */
+function exported(c, it) {
+  const [start, inner] = exportStarts(c, it);
+  const isDefault = hasModifier(it, K.DefaultKeyword);
+  const canBeDefault = ts.isFunctionDeclaration(it) || ts.isClassDeclaration(it) || ts.isInterfaceDeclaration(it);
+  const before = c.declarations.length;
+  const decl = isDefault && canBeDefault ? defaultDeclaration(c, it, inner) : declaration(c, it, inner);
+  if (!decl || decl.kind === 'UsingDecl') return c.other(it, []);
+  const made = c.at(isDefault && canBeDefault ? 'ExportDefaultDecl' : 'ExportDecl', start, it.end, { decl });
+  if (c.declarations.length > before && !ts.isVariableStatement(it)) declaresAgain(c, made);
+  return made;
+}
+
+/** @param {Converter} c @param {TreeNode} made has with its `export` the kind and the name that were noted last */
+function declaresAgain(c, made) {
+  c.declarations.push(made.start, made.end, ...c.declarations.slice(-3));
+}
+
+/** @type {Record<number, (c: Converter, it: any) => TreeNode>} */
+const ITEMS = {
+  [K.ImportDeclaration]: importNode,
+  [K.ExportDeclaration]: exportNode,
+  [K.ExportAssignment]: exportAssignment,
+  [K.ImportEqualsDeclaration]: importEquals,
+  [K.NamespaceExportDeclaration]: (c, it) => c.other(it, []),
+};
+
+/** @param {import('typescript').Statement} it @returns {boolean} whether it declares a name that may stand behind `export` */
+function isAmbientExport(it) {
+  if (ts.isModuleDeclaration(it)) return ts.isIdentifier(it.name) && (it.flags & ts.NodeFlags.GlobalAugmentation) === 0;
+  return ts.isVariableStatement(it) || ts.isFunctionDeclaration(it) || ts.isClassDeclaration(it) || ts.isInterfaceDeclaration(it)
+    || ts.isTypeAliasDeclaration(it) || ts.isEnumDeclaration(it);
+}
+
+/** @param {Converter} c @param {import('typescript').Statement} it @param {boolean} isAmbient whether declarations are exported without a word @returns {TreeNode} */
+export function item(c, it, isAmbient) {
+  const make = ITEMS[it.kind];
+  if (make) return make(c, it);
+  if (hasModifier(it, K.ExportKeyword)) return exported(c, it);
+  const made = statement(c, it);
+  if (!isAmbient || !isAmbientExport(it) || made.kind === 'Other') return made;
+  return c.node('ExportDecl', it, { decl: made });
+}

@@ -1,0 +1,134 @@
+// Scopes: which numbers names get, so that two names are one variable where name and number are equal.
+import { K, ts } from './typescript.js';
+import { wellFormed } from './offsets.js';
+
+/** The scope of the module's own names, and of names that no scope declares. */
+export const MODULE_SCOPE = 1;
+
+export class Scope {
+  /** @param {number} number @param {Scope | null} above */
+  constructor(number, above) {
+    this.number = number;
+    this.above = above;
+    /** @type {Set<string>} */
+    this.values = new Set();
+    /** @type {Set<string>} */
+    this.types = new Set();
+  }
+
+  /** @param {string} name a name that is value and type */
+  add(name) {
+    this.values.add(name);
+    this.types.add(name);
+  }
+}
+
+/** @param {import('typescript').Identifier | import('typescript').PrivateIdentifier} name @returns {string} */
+export function textOf(name) {
+  return wellFormed(ts.idText(name));
+}
+
+/**
+ * Puts the names that a pattern binds into the set.
+ * @param {import('typescript').BindingName | undefined} name
+ * @param {Set<string>} set
+ */
+export function bindNames(name, set) {
+  if (!name) return;
+  if (ts.isIdentifier(name)) set.add(textOf(name));
+  else for (const element of name.elements) if (ts.isBindingElement(element)) bindNames(element.name, set);
+}
+
+/** @param {import('typescript').VariableDeclarationList} list @param {Scope} scope */
+export function bindList(list, scope) {
+  for (const it of list.declarations) bindNames(it.name, scope.values);
+}
+
+/** @param {import('typescript').VariableDeclarationList} list */
+export function isBlockScoped(list) {
+  return (list.flags & ts.NodeFlags.BlockScoped) !== 0;
+}
+
+/** @param {import('typescript').ImportDeclaration} statement @param {Scope} scope */
+function hoistImport(statement, scope) {
+  const clause = statement.importClause;
+  if (!clause) return;
+  if (clause.name) scope.add(textOf(clause.name));
+  const bindings = clause.namedBindings;
+  if (!bindings) return;
+  if (ts.isNamespaceImport(bindings)) scope.add(textOf(bindings.name));
+  else for (const it of bindings.elements) scope.add(textOf(it.name));
+}
+
+/** @type {Record<number, (statement: any, scope: Scope) => void>} */
+const HOISTING = {
+  [K.VariableStatement]: (it, scope) => {
+    if (isBlockScoped(it.declarationList)) bindList(it.declarationList, scope);
+  },
+  [K.FunctionDeclaration]: (it, scope) => {
+    if (it.name) scope.values.add(textOf(it.name));
+  },
+  [K.ClassDeclaration]: (it, scope) => {
+    if (it.name) scope.add(textOf(it.name));
+  },
+  [K.EnumDeclaration]: (it, scope) => scope.add(textOf(it.name)),
+  [K.ModuleDeclaration]: (it, scope) => {
+    if (ts.isIdentifier(it.name)) scope.add(textOf(it.name));
+  },
+  [K.InterfaceDeclaration]: (it, scope) => scope.types.add(textOf(it.name)),
+  [K.TypeAliasDeclaration]: (it, scope) => scope.types.add(textOf(it.name)),
+  [K.ImportEqualsDeclaration]: (it, scope) => scope.add(textOf(it.name)),
+  [K.ImportDeclaration]: hoistImport,
+};
+
+/**
+ * Puts what the statements of a block declare into its scope, `var` apart.
+ * @param {readonly import('typescript').Statement[]} statements
+ * @param {Scope} scope
+ */
+export function hoist(statements, scope) {
+  for (let it of statements) {
+    while (ts.isLabeledStatement(it)) it = it.statement;
+    HOISTING[it.kind]?.(it, scope);
+  }
+}
+
+const HOLDS_STATEMENTS = new Set([K.CaseBlock, K.CaseClause, K.DefaultClause, K.CatchClause]);
+
+/** @param {import('typescript').Node} node @returns {boolean} whether a `var` in it is none of the scope around it */
+function isClosed(node) {
+  return ts.isFunctionLike(node) || ts.isClassLike(node) || ts.isModuleDeclaration(node) || ts.isExpressionStatement(node);
+}
+
+/**
+ * Puts what `var` declares in a statement, however deep in blocks, into the scope of the function or module.
+ * @param {import('typescript').Node} node
+ * @param {Scope} scope
+ */
+export function hoistVars(node, scope) {
+  if (isClosed(node)) return;
+  if (ts.isVariableDeclarationList(node)) {
+    if (!isBlockScoped(node)) bindList(node, scope);
+  } else if (ts.isBlock(node) || ts.isStatement(node) || HOLDS_STATEMENTS.has(node.kind)) {
+    ts.forEachChild(node, (it) => hoistVars(it, scope));
+  }
+}
+
+/**
+ * Puts what a function or a signature binds into its scope.
+ * @param {import('typescript').SignatureDeclaration & { body?: import('typescript').Node }} node
+ * @param {Scope} scope
+ */
+export function hoistFunction(node, scope) {
+  hoistTypeParameters(node, scope);
+  for (const it of node.parameters ?? []) bindNames(it.name, scope.values);
+  if (node.body && ts.isBlock(node.body)) {
+    hoist(node.body.statements, scope);
+    hoistVars(node.body, scope);
+  }
+}
+
+/** @param {{ typeParameters?: readonly import('typescript').TypeParameterDeclaration[] }} node @param {Scope} scope */
+export function hoistTypeParameters(node, scope) {
+  for (const it of node.typeParameters ?? []) scope.types.add(textOf(it.name));
+}

@@ -1,0 +1,202 @@
+// Statements that are no items of a module: declarations, blocks, loops.
+import { K, hasModifier, ts } from './converter.js';
+import { bindList, bindNames, hoist, hoistTypeParameters, hoistVars, isBlockScoped, textOf } from './scopes.js';
+import { string } from './names.js';
+import { binding, target } from './patterns.js';
+import { element, heritage, type, typeParameters } from './types.js';
+import { classParts, functionNode } from './functions.js';
+import { expression } from './expressions.js';
+import { item } from './items.js';
+
+/** @typedef {import('./converter.js').Converter} Converter */
+/** @typedef {import('./node.js').TreeNode} TreeNode */
+
+/** @param {Converter} c @param {import('typescript').VariableDeclarationList} list @returns {'using' | 'const' | 'let' | 'var'} */
+function keyword(c, list) {
+  const using = 4; // NodeFlags.Using of TypeScript 5.2, where Const and Let stand together say `await using`
+  if (c.marks?.using.has(c.start(list)) || (list.flags & using) !== 0) return 'using';
+  if (list.flags & ts.NodeFlags.Const) return 'const';
+  return list.flags & ts.NodeFlags.Let ? 'let' : 'var';
+}
+
+/** @param {Converter} c @param {import('typescript').VariableDeclarationList} list @param {number} start @param {number} end */
+export function variables(c, list, start, end) {
+  const word = keyword(c, list);
+  const decls = list.declarations.map((it) => c.declares(word, c.node('VarDeclarator', it, {
+    name: binding(c, it.name, it.type), init: it.initializer ? expression(c, it.initializer) : null,
+  }), it.name));
+  return c.at(word === 'using' ? 'UsingDecl' : 'VarDecl', start, end, { decls });
+}
+
+/** @param {Converter} c @param {import('typescript').InterfaceDeclaration} it @param {number} start */
+export function interfaceNode(c, it, start) {
+  const id = c.ident(it.name, true);
+  return c.within((scope) => hoistTypeParameters(it, scope), () => c.at('TsInterfaceDecl', start, it.end, {
+    id,
+    type_params: c.typed(true, () => typeParameters(c, it.typeParameters)),
+    extends: c.typed(true, () => (it.heritageClauses ?? []).flatMap((clause) => clause.types.map((above) => heritage(c, above)))),
+    body: it.members.map((member) => element(c, member)),
+  }));
+}
+
+/** @param {Converter} c @param {import('typescript').TypeAliasDeclaration} it @param {number} start */
+function alias(c, it, start) {
+  const id = c.ident(it.name, true);
+  return c.within((scope) => hoistTypeParameters(it, scope), () => c.at('TsTypeAliasDecl', start, it.end, {
+    id, type_params: c.typed(true, () => typeParameters(c, it.typeParameters)), type_ann: type(c, it.type),
+  }));
+}
+
+/** @param {Converter} c @param {import('typescript').EnumDeclaration} it @param {number} start */
+function enumNode(c, it, start) {
+  const id = c.ident(it.name, false);
+  return c.within((scope) => {
+    for (const { name } of it.members) {
+      if (ts.isIdentifier(name)) scope.values.add(textOf(name));
+      else if (ts.isStringLiteral(name)) scope.values.add(name.text);
+    }
+  }, () => c.at('TsEnumDecl', start, it.end, {
+    id, members: it.members.map((m) => c.node('TsEnumMember', m, { init: m.initializer ? expression(c, m.initializer) : null })),
+  }));
+}
+
+/** @param {Converter} c @param {import('typescript').ModuleDeclaration} it @param {number} start */
+function namespace(c, it, start) {
+  const id = ts.isStringLiteral(it.name) ? string(c, it.name) : c.ident(it.name, false);
+  return c.at('TsModuleDecl', start, it.end, {
+    id, declare: hasModifier(it, K.DeclareKeyword), body: it.body ? namespaceBody(c, /** @type {any} */ (it.body)) : null,
+  });
+}
+
+/** @param {Converter} c @param {import('typescript').ModuleBlock | import('typescript').ModuleDeclaration} body one scope for `B.C` of `A.B.C` and the block */
+function namespaceBody(c, body) {
+  return c.within((scope) => {
+    /** @type {any} */
+    let it = body;
+    for (; ts.isModuleDeclaration(it); it = it.body) scope.add(textOf(/** @type {any} */ (it.name)));
+    hoist(it.statements, scope);
+    for (const statement of it.statements) hoistVars(statement, scope);
+  }, () => namespacePart(c, body));
+}
+
+/** @param {Converter} c @param {import('typescript').ModuleBlock | import('typescript').ModuleDeclaration} body @returns {TreeNode} */
+function namespacePart(c, body) {
+  if (ts.isModuleBlock(body)) return c.node('TsModuleBlock', body, { body: body.statements.map((it) => item(c, it, false)) });
+  return c.declares('namespace', c.at('TsNamespaceDecl', c.start(body.name), body.end, {
+    id: c.ident(/** @type {any} */ (body.name), false), body: namespacePart(c, /** @type {any} */ (body.body)),
+  }), body.name);
+}
+
+/** @type {Record<number, [string, (c: Converter, it: any, start: number) => TreeNode | null]>} */
+const DECLARATIONS = {
+  [K.VariableStatement]: ['', (c, it, start) => variables(c, it.declarationList, start, it.end)],
+  [K.FunctionDeclaration]: ['function', (c, it, start) => {
+    const ident = it.name ? c.ident(it.name, false) : null;
+    const made = functionNode(c, it, start, it.end);
+    return ident && c.at('FnDecl', start, it.end, { ident, function: made });
+  }],
+  [K.ClassDeclaration]: ['class', (c, it, start) => {
+    const parts = classParts(c, it, start, it.end);
+    return parts.ident && c.at('ClassDecl', start, it.end, parts);
+  }],
+  [K.InterfaceDeclaration]: ['interface', interfaceNode],
+  [K.TypeAliasDeclaration]: ['type', alias],
+  [K.EnumDeclaration]: ['enum', enumNode],
+  [K.ModuleDeclaration]: ['namespace', namespace],
+};
+
+/**
+ * A declaration without its `export`.
+ * @param {Converter} c
+ * @param {import('typescript').Statement} it
+ * @param {number} start
+ * @returns {TreeNode | null} null where it is none
+ */
+export function declaration(c, it, start) {
+  const [kind, make] = DECLARATIONS[it.kind] ?? [];
+  const made = make ? make(c, it, start) : null;
+  return made && kind ? c.declares(kind, made, /** @type {any} */ (it).name) : made;
+}
+
+/** @param {Converter} c @param {readonly import('typescript').Statement[]} list whose declarations stand in the open scope */
+export function statements(c, list) {
+  return list.map((it) => statement(c, it));
+}
+
+/** @param {Converter} c @param {import('typescript').Node} node @param {readonly import('typescript').Statement[]} list */
+export function block(c, node, list) {
+  return c.within((scope) => hoist(list, scope), () => c.other(node, statements(c, list)));
+}
+
+/** @param {Converter} c @param {import('typescript').ForInitializer | undefined} it @param {boolean} isPlain of `for (;;)` */
+function initializer(c, it, isPlain) {
+  if (!it) return null;
+  if (ts.isVariableDeclarationList(it)) return variables(c, it, c.start(it), it.end);
+  const isPattern = ts.isIdentifier(it) || ts.isObjectLiteralExpression(it) || ts.isArrayLiteralExpression(it);
+  return isPattern && !isPlain ? target(c, it) : expression(c, it);
+}
+
+/** @param {Converter} c @param {any} it a loop by `for` */
+function forLoop(c, it) {
+  const list = it.initializer && ts.isVariableDeclarationList(it.initializer) && isBlockScoped(it.initializer) ? it.initializer : null;
+  return c.within((scope) => list && bindList(list, scope), () => c.other(it, [
+    initializer(c, it.initializer, ts.isForStatement(it)),
+    it.condition && expression(c, it.condition),
+    it.incrementor && expression(c, it.incrementor),
+    it.expression && expression(c, it.expression),
+    statement(c, it.statement),
+  ]));
+}
+
+/** @param {Converter} c @param {import('typescript').SwitchStatement} it */
+function switchNode(c, it) {
+  const { clauses } = it.caseBlock;
+  const parts = c.within((scope) => clauses.forEach((clause) => hoist(clause.statements, scope)), () => clauses.map((clause) => c.other(clause, [
+    ts.isCaseClause(clause) && expression(c, clause.expression), ...statements(c, clause.statements)])));
+  return c.other(it, [expression(c, it.expression), ...parts]);
+}
+
+/** @param {Converter} c @param {import('typescript').CatchClause} clause */
+function catchNode(c, clause) {
+  const name = clause.variableDeclaration;
+  return c.within((scope) => bindNames(name?.name, scope.values), () => c.other(clause, [
+    name && binding(c, name.name, name.type), statement(c, clause.block)]));
+}
+
+/** @param {Converter} c @param {import('typescript').TryStatement} it */
+function tryNode(c, it) {
+  return c.other(it, [
+    statement(c, it.tryBlock), it.catchClause && catchNode(c, it.catchClause), it.finallyBlock && statement(c, it.finallyBlock)]);
+}
+
+/** @param {Converter} c @param {any} it with an expression and a statement, in the order of the text */
+function guarded(c, it) {
+  if (ts.isDoStatement(it)) return c.other(it, [statement(c, it.statement), expression(c, it.expression)]);
+  return c.other(it, [expression(c, it.expression), statement(c, it.statement)]);
+}
+
+/** @type {Record<number, (c: Converter, it: any) => TreeNode>} */
+const STATEMENTS = {
+  [K.ExpressionStatement]: (c, it) => c.node('ExprStmt', it, { expr: expression(c, it.expression) }),
+  [K.Block]: (c, it) => block(c, it, it.statements),
+  [K.IfStatement]: (c, it) => c.other(it, [
+    expression(c, it.expression), statement(c, it.thenStatement), it.elseStatement && statement(c, it.elseStatement)]),
+  [K.ReturnStatement]: (c, it) => c.other(it, [it.expression && expression(c, it.expression)]),
+  [K.ThrowStatement]: (c, it) => c.other(it, [it.expression && expression(c, it.expression)]),
+  [K.WhileStatement]: guarded,
+  [K.DoStatement]: guarded,
+  [K.WithStatement]: guarded,
+  [K.LabeledStatement]: (c, it) => c.other(it, [statement(c, it.statement)]),
+  [K.ForStatement]: forLoop,
+  [K.ForInStatement]: forLoop,
+  [K.ForOfStatement]: forLoop,
+  [K.SwitchStatement]: switchNode,
+  [K.TryStatement]: tryNode,
+};
+
+/** @param {Converter} c @param {import('typescript').Statement} it @returns {TreeNode} */
+export function statement(c, it) {
+  if (DECLARATIONS[it.kind]) return declaration(c, it, c.start(it)) ?? c.other(it, []);
+  const make = STATEMENTS[it.kind];
+  return make ? make(c, it) : c.other(it, []);
+}

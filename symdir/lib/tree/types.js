@@ -1,0 +1,182 @@
+// Types, and the members of interfaces.
+import { K, hasModifier, ts } from './converter.js';
+import { hoistFunction, textOf } from './scopes.js';
+import { elementKey, entity } from './names.js';
+import { parameter, parameters } from './patterns.js';
+import { expression } from './expressions.js';
+
+/** @typedef {import('./converter.js').Converter} Converter */
+/** @typedef {import('./node.js').TreeNode} TreeNode */
+
+/** @param {Converter} c @param {import('typescript').TypeNode | undefined} node from the colon, or the arrow, on */
+export function annotation(c, node) {
+  if (!node) return null;
+  let start = c.start(node);
+  if (c.source.startsWith('=>', node.pos - 2)) start = node.pos - 2;
+  else if (c.source[node.pos - 1] === ':') start = node.pos - 1;
+  return c.at('TsTypeAnn', start, node.end, { ty: type(c, node) });
+}
+
+/** @param {Converter} c @param {import('typescript').NodeArray<import('typescript').Node>} list @returns {[number, number]} with its brackets */
+function bracketed(c, list) {
+  return [list.pos - 1, skipSpace(c, list.end) + 1];
+}
+
+/** @param {Converter} c @param {number} at @returns {number} behind spaces and comments */
+export function skipSpace(c, at) {
+  return /** @type {any} */ (ts).skipTrivia(c.source, at);
+}
+
+/** @param {Converter} c @param {import('typescript').NodeArray<import('typescript').TypeParameterDeclaration> | undefined} list */
+export function typeParameters(c, list) {
+  if (!list) return null;
+  return c.at('TsTypeParamDecl', ...bracketed(c, list), { params: list.map((it) => typeParameter(c, it)) });
+}
+
+/** @param {Converter} c @param {import('typescript').TypeParameterDeclaration} it */
+function typeParameter(c, it) {
+  return c.node('TsTypeParam', it, { constraint: it.constraint ? type(c, it.constraint) : null, default: it.default ? type(c, it.default) : null });
+}
+
+/** @param {Converter} c @param {import('typescript').NodeArray<import('typescript').TypeNode> | undefined} list */
+export function typeArguments(c, list) {
+  if (!list) return null;
+  return c.at('TsTypeParamInstantiation', ...bracketed(c, list), { params: list.map((it) => type(c, it)) });
+}
+
+/** @param {Converter} c @param {import('typescript').ExpressionWithTypeArguments} it */
+export function heritage(c, it) {
+  return c.node('TsExprWithTypeArgs', it, { expr: expression(c, it.expression), type_args: typeArguments(c, it.typeArguments) });
+}
+
+/** @param {Converter} c @param {import('typescript').ImportTypeNode} node */
+function importType(c, node) {
+  const literal = ts.isLiteralTypeNode(node.argument) && ts.isStringLiteral(node.argument.literal) ? node.argument.literal : null;
+  if (!literal) return c.type(node, [type(c, node.argument)]);
+  const arg = c.refers('import type', literal, node);
+  const first = node.qualifier && firstName(node.qualifier);
+  if (first) c.takes(textOf(first), '', 0, first);
+  const start = node.isTypeOf ? skipSpace(c, c.start(node) + 'typeof'.length) : c.start(node);
+  const made = c.at('TsImportType', start, node.end, {
+    arg, qualifier: node.qualifier ? qualifier(c, node.qualifier) : null, type_args: typeArguments(c, node.typeArguments),
+  });
+  return node.isTypeOf ? c.node('TsTypeQuery', node, { expr_name: made }) : made;
+}
+
+/** @param {import('typescript').EntityName} name @returns {import('typescript').Identifier} */
+function firstName(name) {
+  return ts.isIdentifier(name) ? name : firstName(name.left);
+}
+
+/** @param {Converter} c @param {import('typescript').EntityName} name @returns {TreeNode} names of another module, which no scope here declares */
+function qualifier(c, name) {
+  if (ts.isIdentifier(name)) return c.node('Ident', name, { sym: [textOf(name), 1] });
+  return c.node('TsQualifiedName', name, { left: qualifier(c, name.left), right: textOf(name.right) });
+}
+
+/** @param {Converter} c @param {import('typescript').TypeNode | import('typescript').NamedTupleMember} it */
+function tupleElement(c, it) {
+  if (!ts.isNamedTupleMember(it)) return c.node('TsTupleElement', it, { ty: type(c, it) });
+  const name = c.node('BindingIdent', it.name, { sym: [textOf(it.name), 1] });
+  const label = it.dotDotDotToken ? c.at('RestPat', c.start(it.dotDotDotToken), it.name.end, { arg: name }) : name;
+  return c.node('TsTupleElement', it, { label, ty: type(c, it.type) });
+}
+
+/** @param {import('typescript').Node} node @param {Set<string>} names what `infer` names in it, nested conditions' `extends` apart */
+function inferred(node, names) {
+  if (ts.isInferTypeNode(node)) names.add(textOf(node.typeParameter.name));
+  if (ts.isConditionalTypeNode(node)) for (const it of [node.checkType, node.trueType, node.falseType]) inferred(it, names);
+  else ts.forEachChild(node, (it) => inferred(it, names));
+}
+
+/** @param {Converter} c @param {import('typescript').ConditionalTypeNode} node */
+function conditional(c, node) {
+  const check = type(c, node.checkType);
+  /** @type {Set<string>} */
+  const names = new Set();
+  inferred(node.extendsType, names);
+  const [bound, yes] = c.within((scope) => names.forEach((it) => scope.types.add(it)), () => [type(c, node.extendsType), type(c, node.trueType)]);
+  return c.type(node, [check, bound, yes, type(c, node.falseType)]);
+}
+
+/** @param {Converter} c @param {import('typescript').MappedTypeNode} node */
+function mapped(c, node) {
+  return c.within((scope) => scope.types.add(textOf(node.typeParameter.name)), () => c.type(node, [
+    typeParameter(c, node.typeParameter), node.nameType && type(c, node.nameType), node.type && type(c, node.type)]));
+}
+
+/** @param {Converter} c @param {import('typescript').TypePredicateNode} node */
+function predicate(c, node) {
+  const { parameterName: name, type: of } = node;
+  return c.type(node, [ts.isIdentifier(name) && c.ident(name), of && c.at('TsTypeAnn', c.start(of), of.end, { ty: type(c, of) })]);
+}
+
+/** @param {Converter} c @param {import('typescript').Node} node any other type @returns {TreeNode} with the types in it */
+function plain(c, node) {
+  /** @type {TreeNode[]} */
+  const parts = [];
+  ts.forEachChild(node, (it) => void (ts.isTypeNode(it) && parts.push(type(c, it))));
+  return c.type(node, parts);
+}
+
+/** @type {Record<number, (c: Converter, node: any) => TreeNode>} */
+const TYPES = {
+  [K.TypeReference]: (c, node) => c.type(node, [entity(c, node.typeName), typeArguments(c, node.typeArguments)]),
+  [K.ExpressionWithTypeArguments]: (c, node) => c.type(node, [expression(c, node.expression), typeArguments(c, node.typeArguments)]),
+  [K.TypeQuery]: (c, node) => (ts.isImportTypeNode(node.exprName) ? c.node('TsTypeQuery', node, { expr_name: importType(c, node.exprName) })
+    : c.node('TsTypeQuery', node, { expr_name: c.typed(false, () => entity(c, node.exprName)), type_args: typeArguments(c, node.typeArguments) })),
+  [K.ImportType]: importType,
+  [K.TypeLiteral]: (c, node) => c.type(node, node.members.map((/** @type {any} */ it) => element(c, it))),
+  [K.FunctionType]: functionType,
+  [K.ConstructorType]: functionType,
+  [K.TupleType]: (c, node) => c.type(node, node.elements.map((/** @type {any} */ it) => tupleElement(c, it))),
+  [K.NamedTupleMember]: (c, node) => type(c, node.type),
+  [K.MappedType]: mapped,
+  [K.ConditionalType]: conditional,
+  [K.InferType]: (c, node) => c.type(node, [typeParameter(c, node.typeParameter)]),
+  [K.TypePredicate]: predicate,
+  [K.LiteralType]: (c, node) => c.type(node, []),
+  [K.TemplateLiteralType]: (c, node) => c.type(node, node.templateSpans.map((/** @type {any} */ it) => type(c, it.type))),
+};
+
+/** @param {Converter} c @param {import('typescript').FunctionOrConstructorTypeNode} node */
+function functionType(c, node) {
+  return c.within((scope) => hoistFunction(node, scope), () => c.type(node, [
+    ...parameters(c, node.parameters, true), typeParameters(c, node.typeParameters), annotation(c, node.type)]));
+}
+
+/** @param {Converter} c @param {import('typescript').Node} node @returns {TreeNode} */
+export function type(c, node) {
+  return c.typed(true, () => (TYPES[node.kind] ?? plain)(c, node));
+}
+
+/** @param {Converter} c @param {import('typescript').SetAccessorDeclaration} m */
+function setter(c, m) {
+  const name = elementKey(c, m.name);
+  if (m.parameters.length > 0) return c.node('TsSetterSignature', m, { ...name, param: parameter(c, m.parameters[0], true) });
+  return c.node('TsMethodSignature', m, name);
+}
+
+/** @param {Converter} c @param {import('typescript').SignatureDeclaration} m @returns {Record<string, import('./node.js').Field>} */
+function signature(c, m) {
+  return { type_params: typeParameters(c, m.typeParameters), params: parameters(c, m.parameters, true), type_ann: annotation(c, m.type) };
+}
+
+/** @type {Record<number, [string, (c: Converter, member: any) => TreeNode]>} */
+const ELEMENTS = {
+  [K.CallSignature]: ['call', (c, m) => c.node('TsCallSignatureDecl', m, signature(c, m))],
+  [K.ConstructSignature]: ['construct', (c, m) => c.node('TsConstructSignatureDecl', m, signature(c, m))],
+  [K.PropertySignature]: ['property', (c, m) => c.node('TsPropertySignature', m, { ...elementKey(c, m.name), type_ann: annotation(c, m.type) })],
+  [K.MethodSignature]: ['method', (c, m) => c.node('TsMethodSignature', m, { ...elementKey(c, m.name), ...signature(c, m) })],
+  [K.GetAccessor]: ['getter', (c, m) => c.node('TsGetterSignature', m, { ...elementKey(c, m.name), type_ann: annotation(c, m.type) })],
+  [K.SetAccessor]: ['setter', setter],
+  [K.IndexSignature]: ['index', (c, m) => c.node('TsIndexSignature', m, {
+    params: parameters(c, m.parameters, true), type_ann: annotation(c, m.type), is_static: hasModifier(m, K.StaticKeyword),
+  })],
+};
+
+/** @param {Converter} c @param {import('typescript').TypeElement | import('typescript').IndexSignatureDeclaration} m @returns {TreeNode} */
+export function element(c, m) {
+  const [kind, make] = ELEMENTS[m.kind];
+  return c.typed(true, () => c.within((scope) => hoistFunction(/** @type {any} */ (m), scope), () => c.declares(kind, make(c, m), m.name)));
+}
