@@ -6,7 +6,7 @@ import { isCode, isJavaScript } from '../language.js';
 import { findTypeScript } from '../typescript.js';
 import { Configs } from './configs.js';
 import { sourcesOf } from './endings.js';
-import { Files, withSlashes } from './files.js';
+import { Files } from './files.js';
 import { Kept, hashOf } from './kept.js';
 import { packageFile } from './packages.js';
 import { Pool } from './pool.js';
@@ -69,8 +69,8 @@ export class Sources {
   hasTypes(file) {
     if (sourcesOf(file).some((it) => this.files.has(it))) return true;
     const own = this.configs.packageAt(path.posix.dirname(file));
-    const types = own && (own.value.types ?? own.value.typings);
-    return typeof types === 'string' && this.files.has(path.posix.join(own.folder, types));
+    const types = own?.value.types ?? own?.value.typings;
+    return own !== null && typeof types === 'string' && this.files.has(path.posix.join(own.folder, types));
   }
 
   /** Reads the modules of the folder, and then what they lead to. */
@@ -190,12 +190,10 @@ export class Sources {
     const beside = sourcesOf(file).find((it) => /\.d\.[mc]?ts$/.test(it) && this.modules.has(this.specifierOf(it)));
     if (beside) return this.specifierOf(beside);
     const own = this.configs.packageAt(path.posix.dirname(file));
-    const types = own && (own.value.types ?? own.value.typings);
-    if (typeof types !== 'string') return null;
+    const types = own?.value.types ?? own?.value.typings;
+    if (own === null || typeof types !== 'string') return null;
     const main = packageFile(this.files, own.folder, { ...own.value, types: undefined, typings: undefined }, '', true);
     const at = this.specifierOf(path.posix.join(own.folder, types));
     return main === file && this.modules.has(at) ? at : null;
   }
 }
-
-export { withSlashes };

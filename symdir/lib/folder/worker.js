@@ -5,13 +5,9 @@ import { parentPort, workerData } from 'node:worker_threads';
 import { languageOf } from '../language.js';
 import { convert } from '../tree/convert.js';
 import { hashOf } from './kept.js';
+import { decoded } from './text.js';
 
 const port = /** @type {import('node:worker_threads').MessagePort} */ (parentPort);
-
-/** @param {Buffer} bytes @returns {string} of UTF-8, or of UTF-16 where its mark says so */
-function decoded(bytes) {
-  return bytes[0] === 0xff && bytes[1] === 0xfe ? bytes.toString('utf16le') : bytes.toString('utf8');
-}
 
 /** @param {string} file @param {string} specifier @param {Buffer} bytes */
 function parse(file, specifier, bytes) {
@@ -19,7 +15,7 @@ function parse(file, specifier, bytes) {
   const isJson = file.endsWith('.json');
   const start = `{"specifier":${JSON.stringify(specifier)},"kind":"${isJson ? 'json' : 'esm'}","text":`;
   if (isJson) {
-    const text = Buffer.from(start + JSON.stringify(decoded(bytes).replace(/^\ufeff/, '')));
+    const text = Buffer.from(start + JSON.stringify(decoded(bytes)));
     return { text, fault: null, references: [], declarations: [], nodes: 0 };
   }
   const how = languageOf(file);

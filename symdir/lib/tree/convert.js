@@ -17,7 +17,7 @@ import { wellFormed } from './offsets.js';
 
 /**
  * @typedef {object} Converted
- * @property {string} text without a byte order mark
+ * @property {string} text well formed
  * @property {string | null} nodes the JSON text of the tree's nodes; null where there is none
  * @property {Fault | null} fault why there is none
  * @property {import('./converter.js').Reference[]} references
@@ -72,11 +72,11 @@ function faultAt(file, at, text) {
 /**
  * The nodes of a text, for whoever looks at them.
  * @param {string} name of the file, which TypeScript is told
- * @param {string} source
+ * @param {string} source without a byte order mark
  * @param {Options} options
  */
 export function nodesOf(name, source, options) {
-  const text = wellFormed(source.charCodeAt(0) === 0xfeff ? source.slice(1) : source);
+  const text = wellFormed(source);
   const { file, marks } = parsedAnyhow(name, text, options);
   const [first] = faultsOf(file);
   if (first) {
@@ -92,7 +92,7 @@ export function nodesOf(name, source, options) {
 /**
  * The tree of a text, as it is written.
  * @param {string} name of the file, which TypeScript is told
- * @param {string} source
+ * @param {string} source without a byte order mark
  * @param {Options} options
  * @returns {Converted}
  */

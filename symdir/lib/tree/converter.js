@@ -2,6 +2,7 @@
 import { K, ts } from './typescript.js';
 import { byteOffsets } from './offsets.js';
 import { TreeNode } from './node.js';
+import { KINDS } from '../kinds.js';
 import { MODULE_SCOPE, Scope, textOf } from './scopes.js';
 
 /** @typedef {import('typescript').Node} Node */
@@ -24,11 +25,6 @@ import { MODULE_SCOPE, Scope, textOf } from './scopes.js';
  * @property {[name: string, local: string, scope: number, start: number][]} names what it takes from there; `*` is all
  */
 
-/** What a declaration is, by number. */
-export const KINDS = [
-  'class', 'function', 'interface', 'type', 'enum', 'namespace', 'const', 'let', 'var', 'using', 'default', 'export =',
-  'method', 'property', 'getter', 'setter', 'constructor', 'accessor', 'parameter', 'index', 'call', 'construct', 'import',
-];
 const NUMBER_OF = new Map(KINDS.map((it, i) => [it, i]));
 
 export class Converter {

@@ -199,8 +199,9 @@ const EXPRESSIONS = {
   [K.JsxFragment]: jsx,
   [K.JsxSelfClosingElement]: (c, node) => c.other(node, jsxTag(c, node)),
 };
-if (K.SatisfiesExpression !== undefined) {
-  EXPRESSIONS[K.SatisfiesExpression] = (c, node) => c.other(node, [expression(c, node.expression), type(c, node.type)]);
+const { SatisfiesExpression } = /** @type {Record<string, any>} */ (K); // of TypeScript 4.9 and newer ones
+if (SatisfiesExpression !== undefined) {
+  EXPRESSIONS[SatisfiesExpression] = (c, node) => c.other(node, [expression(c, node.expression), type(c, node.type)]);
 }
 
 /** @param {Converter} c @param {Expression} node @returns {TreeNode} `this`, `null`, regular expressions and their like hold nothing */

@@ -86,7 +86,7 @@ function memberWithDecorators(c, member) {
   const parts = decorators(c, member);
   const { parameters: list } = /** @type {{ parameters?: readonly import('typescript').Node[] }} */ (/** @type {unknown} */ (member));
   for (const it of list ?? []) parts.push(...decorators(c, it));
-  parts.push(member_(c, member));
+  parts.push(classMember(c, member));
   return parts;
 }
 
@@ -144,10 +144,13 @@ function method(c, m) {
   }), m.name, access === 'private');
 }
 
+/** Of TypeScript 4.9 and newer ones; no modifier has the kind -1. */
+const ACCESSOR_KEYWORD = /** @type {Record<string, any>} */ (K).AccessorKeyword ?? -1;
+
 /** @param {Converter} c @param {import('typescript').PropertyDeclaration} m */
 function propertyNode(c, m) {
   const marked = modifiersOf(m).some((it) => c.marks?.accessor.has(c.start(it)));
-  const isAccessor = marked || (K.AccessorKeyword !== undefined && hasModifier(m, K.AccessorKeyword));
+  const isAccessor = marked || hasModifier(m, ACCESSOR_KEYWORD);
   const name = key(c, m.name);
   const type_ann = c.typed(true, () => annotation(c, m.type));
   const value = m.initializer ? expression(c, m.initializer) : null;
@@ -177,7 +180,7 @@ function staticBlock(c, member) {
 }
 
 /** @param {Converter} c @param {import('typescript').ClassElement} member */
-function member_(c, member) {
+function classMember(c, member) {
   const make = MEMBERS[member.kind];
   return c.typed(false, () => (make ? make(c, member) : c.other(member, [])));
 }

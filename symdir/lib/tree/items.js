@@ -53,9 +53,10 @@ function exportSpecifier(c, it, hasSource) {
   const name = /** @type {import('typescript').Node} */ (it.propertyName ?? it.name);
   const text = moduleName(c, name);
   if (hasSource) c.takes(text, moduleName(c, it.name), 0, it);
-  let orig;
-  if (!ts.isIdentifier(name) || c.stringAt(name) !== undefined) orig = c.node('Str', name, { value: text });
-  else orig = c.node('Ident', name, { sym: hasSource ? [text, MODULE_SCOPE] : exportedName(c, name) });
+  const isString = !ts.isIdentifier(name) || c.stringAt(name) !== undefined;
+  /** @type {[string, number]} */
+  const sym = hasSource || isString ? [text, MODULE_SCOPE] : exportedName(c, name);
+  const orig = isString ? c.node('Str', name, { value: text }) : c.node('Ident', name, { sym });
   return c.node('ExportSpecifier', it, { orig, exported: it.propertyName ? moduleName(c, it.name) : null });
 }
 

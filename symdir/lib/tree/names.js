@@ -38,7 +38,7 @@ export function key(c, name) {
   if (ts.isPrivateIdentifier(name)) return privateName(c, name);
   if (ts.isNumericLiteral(name)) return number(c, name);
   if (ts.isComputedPropertyName(name)) return c.node('Computed', name, { expr: c.typed(false, () => expression(c, name.expression)) });
-  if (name.kind === K.BigIntLiteral) return bigint(c, /** @type {any} */ (name));
+  if (/** @type {number} */ (name.kind) === K.BigIntLiteral) return bigint(c, /** @type {any} */ (name));
   return string(c, name);
 }
 

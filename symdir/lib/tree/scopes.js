@@ -93,6 +93,8 @@ export function hoist(statements, scope) {
   }
 }
 
+/** @type {(node: import('typescript').Node) => boolean} */
+const isStatement = /** @type {any} */ (ts).isStatement;
 const HOLDS_STATEMENTS = new Set([K.CaseBlock, K.CaseClause, K.DefaultClause, K.CatchClause]);
 
 /** @param {import('typescript').Node} node @returns {boolean} whether a `var` in it is none of the scope around it */
@@ -109,7 +111,7 @@ export function hoistVars(node, scope) {
   if (isClosed(node)) return;
   if (ts.isVariableDeclarationList(node)) {
     if (!isBlockScoped(node)) bindList(node, scope);
-  } else if (ts.isBlock(node) || ts.isStatement(node) || HOLDS_STATEMENTS.has(node.kind)) {
+  } else if (ts.isBlock(node) || isStatement(node) || HOLDS_STATEMENTS.has(node.kind)) {
     ts.forEachChild(node, (it) => hoistVars(it, scope));
   }
 }

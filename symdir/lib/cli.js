@@ -1,0 +1,148 @@
+// The words of the command, and what each of them does.
+import path from 'node:path';
+import { parseArgs } from 'node:util';
+
+import { Failure } from './failure.js';
+import { Folder } from './folder/folder.js';
+import { withSlashes } from './folder/files.js';
+import { Paint, Progress } from './output.js';
+import { api } from './commands/api.js';
+import { faultsOf, graph } from './commands/graph.js';
+import { leaks } from './commands/leaks.js';
+import { missing } from './commands/missing.js';
+import { where } from './commands/where.js';
+import { web } from './commands/web.js';
+import { checkGraph } from './commands/check.js';
+import { help } from './help.js';
+
+/**
+ * @typedef {object} Run
+ * @property {string[]} words behind the command's name
+ * @property {Record<string, any>} options
+ * @property {Paint} paint
+ * @property {(line: string) => void} print a line on standard output
+ * @property {(line: string) => void} warn a line on standard error
+ */
+
+/** @type {import('node:util').ParseArgsConfig['options']} */
+const COMMON = {
+  help: { type: 'boolean', short: 'h' },
+  skip: { type: 'string', multiple: true },
+  js: { type: 'boolean' },
+  packages: { type: 'boolean' },
+  'ambient-exports': { type: 'boolean' },
+  'no-cache': { type: 'boolean' },
+};
+/** @type {import('node:util').ParseArgsConfig['options']} */
+const ASKING = {
+  ...COMMON,
+  entry: { type: 'string', multiple: true },
+  json: { type: 'boolean' },
+  all: { type: 'boolean' },
+  symq: { type: 'string' },
+  unproved: { type: 'boolean' },
+  strict: { type: 'boolean' },
+};
+const OUT = /** @type {const} */ ({ type: 'string', short: 'o' });
+
+/**
+ * @typedef {object} Command
+ * @property {NonNullable<import('node:util').ParseArgsConfig['options']>} options
+ * @property {number} words how many it takes at most
+ * @property {(run: Run, folder: Folder) => Promise<number>} [ask]
+ * @property {(run: Run) => Promise<number>} [act]
+ */
+
+/** @type {Record<string, Command>} */
+const COMMANDS = {
+  graph: { options: { ...COMMON, out: OUT, bodies: { type: 'boolean' }, check: { type: 'string' }, symq: { type: 'string' } }, words: 1,
+    act: (run) => (run.options.check ? checkGraph(run) : graph(run, reading(run))) },
+  api: { options: { ...ASKING, save: { type: 'string' }, check: { type: 'string' } }, words: 1, ask: api },
+  leaks: { options: ASKING, words: 1, ask: leaks },
+  missing: { options: ASKING, words: 1, ask: missing },
+  where: { options: ASKING, words: 3, ask: where },
+  web: { options: { ...ASKING, out: OUT }, words: 1, ask: web },
+};
+
+/** @param {string} text @returns {RegExp} */
+function pattern(text) {
+  try {
+    return new RegExp(text);
+  } catch (error) {
+    throw new Failure(`--skip ${text}: ${/** @type {Error} */ (error).message}`, 2);
+  }
+}
+
+/** @param {Run} run @param {Progress} [progress] @returns {import('./folder/sources.js').Reading} */
+function reading({ words, options }, progress = new Progress()) {
+  if (words.length === 0) throw new Failure('which folder? `symdir --help` shows how it is called', 2);
+  return {
+    folder: withSlashes(path.resolve(words[0])),
+    skip: (options.skip ?? []).map(pattern),
+    bodies: options.bodies ?? false,
+    ambient: options['ambient-exports'] ?? false,
+    javascript: options.js ?? false,
+    packages: options.packages ?? false,
+    cache: !options['no-cache'],
+    progress: (done, all) => progress.tell(done, all),
+  };
+}
+
+/** @param {Run} run @param {Command} command @param {string} name @returns {Promise<number>} */
+async function asked(run, command, name) {
+  const progress = new Progress();
+  const how = { ...reading(run, progress), bodies: name === 'where' };
+  if (name === 'missing') how.ambient = true;
+  const folder = await Folder.read(how, { entry: run.options.entry ?? [] });
+  progress.end();
+  try {
+    if (name !== 'missing') faultsOf(folder.sources).forEach(run.warn);
+    folder.open(run.options);
+    return await /** @type {NonNullable<Command['ask']>} */ (command.ask)(run, folder);
+  } finally {
+    await folder.close();
+  }
+}
+
+/** @param {string} name @param {Command} command @param {string[]} args @returns {{ words: string[], options: Record<string, any> }} */
+function parsed(name, command, args) {
+  try {
+    const { values, positionals } = parseArgs({ args, options: command.options, allowPositionals: true });
+    if (positionals.length > command.words) throw new Failure(`${name} takes ${command.words === 1 ? 'one folder' : 'a folder, FILE:LINE and a name'}, and not ${positionals.join(' ')}`, 2);
+    return { words: positionals, options: values };
+  } catch (error) {
+    if (error instanceof Failure) throw error;
+    const text = /** @type {Error} */ (error).message.split('. To specify')[0].replace(/\.$/, '');
+    throw new Failure(`${text}; \`symdir ${name} --help\` lists what it takes`, 2);
+  }
+}
+
+/**
+ * Runs the command.
+ * @param {string[]} args behind its name
+ * @returns {Promise<number>} the status: 0 nothing found, 1 findings, 2 wrong words, 3 it couldn't be done
+ */
+export async function main(args) {
+  const print = (/** @type {string} */ line) => void process.stdout.write(`${line}\n`);
+  const warn = (/** @type {string} */ line) => void process.stderr.write(`symdir: ${line}\n`);
+  try {
+    const [name, ...rest] = args;
+    if (name === undefined || name === '--help' || name === '-h' || name === 'help') {
+      (name === undefined ? (/** @type {string} */ it) => process.stderr.write(`${it}\n`) : print)(help(rest[0]));
+      return name === undefined ? 2 : 0;
+    }
+    const command = COMMANDS[name];
+    if (!command) throw new Failure(`no command ${name}; there are ${Object.keys(COMMANDS).join(', ')}`, 2);
+    const { words, options } = parsed(name, command, rest);
+    const run = { words, options, paint: new Paint(), print, warn };
+    if (options.help) {
+      print(help(name));
+      return 0;
+    }
+    return await (command.act ? command.act(run) : asked(run, command, name));
+  } catch (error) {
+    if (!(error instanceof Failure)) throw error;
+    warn(error.message);
+    return error.status;
+  }
+}

@@ -1,0 +1,1 @@
+export async function checkGraph(/** @type {any} */ run) { return 0; }

@@ -1,0 +1,41 @@
+// `symdir graph`: the graph of a folder, as a file that symq reads.
+import { closeSync, openSync } from 'node:fs';
+
+import { Failure } from '../failure.js';
+import { Sources } from '../folder/sources.js';
+import { writeGraph } from '../folder/graph.js';
+import { counted } from '../output.js';
+
+/** @typedef {import('../cli.js').Run} Run */
+
+/** @param {Sources} sources @returns {string[]} what isn't in the graph, a line each */
+export function faultsOf(sources) {
+  const unread = sources.unread.map(({ file, error }) => `${file}: can't be read (${error})`);
+  const faulty = [...sources.modules.values()].filter((it) => it.parsed.fault).map(({ specifier, parsed: { fault } }) => (
+    `${sources.short(specifier)}:${fault?.line}:${fault?.column}: ${fault?.text}`));
+  return [...unread, ...faulty];
+}
+
+/** @param {string} file a path that can't be written is told before all is read */
+function tryToWrite(file) {
+  try {
+    closeSync(openSync(file, 'a'));
+  } catch (error) {
+    throw new Failure(`${file} can't be written (${/** @type {any} */ (error).code})`);
+  }
+}
+
+/** @param {Run} run @param {import('../folder/sources.js').Reading} reading @returns {Promise<number>} the status */
+export async function graph({ options, print, warn }, reading) {
+  if (options.out) tryToWrite(options.out);
+  const sources = new Sources(reading);
+  await sources.read();
+  if (sources.modules.size === 0) throw new Failure(`no module in ${reading.folder}: files that end in .ts .tsx .mts .cts .js .jsx .mjs .cjs are looked for`);
+  writeGraph(sources, options.out ?? 1);
+  const faults = faultsOf(sources);
+  faults.forEach(warn);
+  const rows = [...sources.resolutions.values()].reduce((sum, it) => sum + it.size, 0);
+  const trees = [...sources.modules.values()].filter((it) => !it.parsed.fault).length;
+  if (options.out) print(`${options.out}: ${counted(trees, 'module')}, ${counted(sources.external.size, 'module')} that ${sources.external.size === 1 ? 'isn\'t' : 'aren\'t'} read, ${counted(rows, 'resolution')}`);
+  return faults.length > 0 ? 1 : 0;
+}

@@ -1,0 +1,147 @@
+// `symdir where`: go to definition, with the whole path.
+import { readFileSync } from 'node:fs';
+import path from 'node:path';
+
+import { Failure } from '../failure.js';
+import { isDefinition } from '../folder/folder.js';
+import { endOf, endText } from '../folder/ends.js';
+import { Places, decoded } from '../folder/text.js';
+import { languageOf } from '../language.js';
+import { columns, placeText } from '../output.js';
+
+/** @typedef {import('../folder/folder.js').Folder} Folder */
+/** @typedef {import('../cli.js').Run} Run */
+/** @typedef {import('../tree/node.js').TreeNode} TreeNode */
+
+/** @typedef {{ file: string, line: number, column: number | null }} Spot */
+
+/** @param {string | undefined} word as `FILE:LINE` or `FILE:LINE:COLUMN` @returns {Spot} */
+export function spotOf(word) {
+  const found = /^(.+?):(\d+)(?::(\d+))?$/.exec(word ?? '');
+  if (!found) throw new Failure('where is asked of FILE:LINE or FILE:LINE:COLUMN, as `symdir where . src/a.ts:3:14`', 2);
+  return { file: found[1], line: Number(found[2]), column: found[3] ? Number(found[3]) : null };
+}
+
+/** @param {Folder} folder @param {string} file @returns {import('../folder/sources.js').Module} */
+function moduleOf(folder, file) {
+  for (const base of [folder.sources.folder, process.cwd()]) {
+    const found = folder.sources.modules.get(folder.sources.specifierOf(path.resolve(base, file)));
+    if (found) return found;
+  }
+  throw new Failure(`no module ${file} in ${folder.sources.folder}`, 2);
+}
+
+/**
+ * A name in a text, and what is asked of it.
+ * @typedef {object} Hit
+ * @property {number} start in bytes
+ * @property {number} end
+ * @property {string} name with the parts behind it, as `a.b`
+ * @property {unknown[]} reference as `symq` takes it
+ */
+
+/** @param {TreeNode[]} nodes @returns {Hit[]} each name that is a variable or a type, and each dotted name */
+function namesIn(nodes) {
+  /** @type {Hit[]} */
+  const hits = [];
+  /** @type {Map<TreeNode, { base: TreeNode, parts: string[] } | null>} */
+  const dotted = new Map();
+  for (const node of nodes) {
+    if (node.kind === 'Ident' || node.kind === 'BindingIdent') {
+      const [name, scope] = /** @type {[string, number]} */ (node.fields.sym);
+      hits.push({ start: node.start, end: node.start + Buffer.byteLength(name), name, reference: ['id', name, scope] });
+    }
+    const whole = dottedName(node, dotted);
+    if (!whole || whole.parts.length === 0) continue;
+    const [name, scope] = /** @type {[string, number]} */ (whole.base.fields.sym);
+    const last = /** @type {string} */ (whole.parts[whole.parts.length - 1]);
+    hits.push({ start: node.end - Buffer.byteLength(last), end: node.end, name: [name, ...whole.parts].join('.'),
+      reference: ['qualified', name, scope, whole.parts] });
+  }
+  return hits;
+}
+
+/** @param {TreeNode} node @param {Map<TreeNode, any>} known @returns {{ base: TreeNode, parts: string[] } | null} */
+function dottedName(node, known) {
+  if (known.has(node)) return known.get(node);
+  let found = null;
+  const { left, right, obj, prop } = node.fields;
+  if (node.kind === 'Ident') found = { base: node, parts: [] };
+  else if (node.kind === 'TsQualifiedName' || node.kind === 'Member') {
+    const before = dottedName(/** @type {TreeNode} */ (left ?? obj), known);
+    const name = node.kind === 'Member' ? /** @type {TreeNode} */ (prop).fields.name : right;
+    found = before && typeof name === 'string' ? { base: before.base, parts: [...before.parts, name] } : null;
+  }
+  known.set(node, found);
+  return found;
+}
+
+/** @param {import('../tree/converter.js').Reference[]} references @returns {Hit[]} the names that are imported or exported from elsewhere */
+function importedNames(references) {
+  return references.flatMap(({ text, names }) => names.filter(([name]) => name !== '*').map(([name, , , start]) => ({
+    start, end: start + Buffer.byteLength(name), name, reference: ['import', text, [name]] })));
+}
+
+/** @param {Hit[]} hits @param {Spot} spot @param {Places} places @param {string | undefined} name @returns {Hit[]} each name once; those of other modules go first */
+function hitsAt(hits, spot, places, name) {
+  const line = places.line(spot.line);
+  if (!line) throw new Failure(`${spot.file} has ${places.starts.length} lines`, 2);
+  const at = spot.column === null ? null : /** @type {number} */ (places.offset(spot.line, spot.column));
+  const isAt = (/** @type {Hit} */ it) => (at === null ? it.start >= line[0] && it.start < line[1] : it.start <= at && at < it.end);
+  /** @type {Map<string, Hit>} */
+  const found = new Map();
+  for (const it of hits) if (isAt(it) && (!name || it.name === name) && !found.has(it.name)) found.set(it.name, it);
+  return [...found.values()].sort((a, b) => a.start - b.start);
+}
+
+/**
+ * @typedef {object} Way
+ * @property {string[]} through the modules on the way
+ * @property {{ kind: string, file: string, line: number, column: number } | null} defined
+ * @property {import('../folder/ends.js').End | null} unresolved
+ */
+
+/** @param {Folder} folder @param {any} entry of a path @param {string[]} through @returns {Way[]} */
+function waysOf(folder, entry, through) {
+  const here = folder.short(entry.module);
+  if (isDefinition(entry)) return [{ through, defined: folder.defined(entry), unresolved: null }];
+  const path = through[through.length - 1] === here ? through : [...through, here];
+  if ('next' in entry) return /** @type {any} */ (entry).next.flatMap((/** @type {any} */ it) => waysOf(folder, it, path));
+  return [{ through, defined: null, unresolved: endOf(folder, entry) }];
+}
+
+/** @param {Run} run @param {Folder} folder @param {{ hit: Hit, ways: Way[] }[]} found @param {import('../folder/sources.js').Module} module */
+function printWays({ print, paint }, folder, found, module) {
+  for (const { hit, ways } of found) {
+    print(`${paint.bold(hit.name)}  at ${placeText(folder.place(module.specifier, hit.start))}`);
+    const rows = ways.map(({ through, defined, unresolved }) => [
+      `  ${defined ? defined.kind : ''}`.trimEnd() || '  ',
+      defined ? placeText(defined) : unresolved ? endText(unresolved) : '',
+      through.length > 0 ? `through ${through.join(' > ')}` : '',
+    ]);
+    columns(rows, ([kind, where, through]) => [kind, /^nowhere/.test(where) ? paint.red(where) : where, paint.dim(through)]).forEach(print);
+    if (ways.length === 0) print('  no definition in the modules that are read: a local name, or a global');
+  }
+}
+
+/** @param {Run} run @param {Folder} folder @returns {Promise<number>} the status */
+export async function where(run, folder) {
+  const spot = spotOf(run.words[1]);
+  const name = run.words[2];
+  const module = moduleOf(folder, spot.file);
+  const text = decoded(readFileSync(module.file));
+  const { nodesOf } = await import('../tree/convert.js');
+  const made = nodesOf(module.file, text, { ...languageOf(module.file), bodies: true, ambient: false });
+  if (!made.nodes) throw new Failure(`${spot.file}:${made.fault?.line}:${made.fault?.column}: ${made.fault?.text}`);
+  const hits = hitsAt([...importedNames(made.references), ...namesIn(made.nodes)], spot, new Places(made.text), name);
+  if (hits.length === 0) {
+    run.print(run.options.json ? '[]' : `no ${name ? `name ${name}` : 'name of a variable or a type'} at ${run.words[1]}`);
+    return 1;
+  }
+  const answers = await folder.ask(hits.map((it) => ['resolve', module.specifier, it.reference]));
+  const found = hits.map((hit, i) => ({ hit, ways: (answers[i]?.entries ?? []).flatMap((/** @type {any} */ entry) => waysOf(folder, entry, [])) }));
+  if (run.options.json) {
+    run.print(JSON.stringify(found.map(({ hit, ways }) => ({ name: hit.name, at: folder.place(module.specifier, hit.start), ways })), null, 1));
+  } else printWays(run, folder, found, module);
+  return found.some(({ ways }) => ways.some((it) => it.defined)) ? 0 : 1;
+}

@@ -1,0 +1,116 @@
+#!/usr/bin/env python3
+"""Checks the types of the command over folders, symdir/, and runs its tests.
+
+    python3 tools/run_symdir.py            the types, and the tests on the proved program crates/symq/out/symq
+    python3 tools/run_symdir.py SYMQ       the tests on the program at this path
+    python3 tools/run_symdir.py --packages [SYMQ]    holds `symdir api` to TypeScript's own checker on packages of Debian
+
+Where TypeScript, Graphviz or the types of Node aren't there, and this is root on Debian, they are put in place, the types in
+symdir/node_modules. The last line is 'N passed, M failed'.
+"""
+import os
+import re
+import shutil
+import subprocess
+import sys
+import tempfile
+
+ROOT = os.path.realpath(os.path.join(os.path.dirname(os.path.abspath(__file__)), '..'))
+PACKAGE = os.path.join(ROOT, 'symdir')
+COMMANDS = {'tsc': 'node-typescript', 'dot': 'graphviz'}
+
+
+def quiet(words, **how):
+    return subprocess.run(words, stdout=subprocess.PIPE, stderr=subprocess.STDOUT, text=True, **how)
+
+
+def may_install():
+    return os.geteuid() == 0 and shutil.which('apt-get') is not None
+
+
+def install(packages):
+    """Installs packages of Debian, or says what to install."""
+    if not may_install():
+        sys.exit('install these first: ' + ' '.join(packages))
+    words = ['apt-get', 'install', '-y', '--no-install-recommends', *packages]
+    if quiet(words).returncode != 0:
+        quiet(['apt-get', 'update'])
+        done = quiet(words)
+        if done.returncode != 0:
+            sys.exit(done.stdout[-2000:])
+
+
+def node_types(folder):
+    """Puts the types of Node under the folder, out of Debian's package of Node, which needn't be the one that runs."""
+    shown = quiet(['apt-cache', 'showpkg', 'node-types-node']).stdout
+    found = re.search(r'^nodejs (\S+)', shown.partition('Reverse Provides:')[2].strip(), re.M)
+    if not found or not may_install():
+        return False
+    with tempfile.TemporaryDirectory() as made:
+        os.chmod(made, 0o777)
+        quiet(['apt-get', 'download', 'nodejs=' + found[1]], cwd=made)
+        files = [os.path.join(made, it) for it in os.listdir(made) if it.endswith('.deb')]
+        if not files or quiet(['dpkg', '-x', files[0], made]).returncode != 0:
+            return False
+        shutil.copytree(os.path.join(made, 'usr/share/nodejs/@types/node'), folder, symlinks=False)
+    return True
+
+
+def set_up():
+    """Returns whether the types can be checked: TypeScript and Graphviz are there then in any case."""
+    lacking = sorted({package for command, package in COMMANDS.items() if shutil.which(command) is None})
+    if lacking:
+        install(lacking)
+    modules = os.path.join(PACKAGE, 'node_modules')
+    os.makedirs(os.path.join(modules, '@types'), exist_ok=True)
+    typescript = os.path.join(modules, 'typescript')
+    if not os.path.exists(typescript):
+        os.symlink(os.path.dirname(os.path.dirname(os.path.realpath(shutil.which('tsc')))), typescript)
+    types = os.path.join(modules, '@types', 'node')
+    return os.path.isdir(types) or node_types(types)
+
+
+def check_types():
+    done = quiet(['node', os.path.join(PACKAGE, 'node_modules/typescript/lib/tsc.js'), '-p', PACKAGE])
+    if done.returncode != 0:
+        print(done.stdout[-6000:])
+    return done.returncode == 0
+
+
+def run_tests(files, environment):
+    """Returns how many passed and failed."""
+    done = quiet(['node', '--test', '--test-reporter=tap', *files], cwd=PACKAGE, env=environment)
+    counts = {word: int(found[1]) for word in ('pass', 'fail', 'cancelled')
+              for found in [re.search(rf'^# {word} (\d+)$', done.stdout, re.M)] if found}
+    passed, failed = counts.get('pass', 0), counts.get('fail', 0) + counts.get('cancelled', 0)
+    if done.returncode != 0 or failed or not passed:
+        print('\n'.join(line for line in done.stdout.splitlines() if not re.match(r'\s*(ok|duration_ms|---|\.\.\.)', line))[-8000:])
+        failed = max(failed, 1)
+    return passed, failed
+
+
+def main():
+    words = sys.argv[1:]
+    packages = '--packages' in words
+    named = [it for it in words if it != '--packages']
+    symq = os.path.abspath(named[0]) if named else os.path.join(ROOT, 'crates/symq/out/symq')
+    if not os.path.exists(symq):
+        sys.exit(f'no program {symq}')
+    can_check = set_up()
+    folder = os.path.join(PACKAGE, 'packages' if packages else 'tests')
+    files = sorted(os.path.join(folder, it) for it in os.listdir(folder) if it.endswith('.test.js'))
+    passed, failed = 0, 0
+    if not packages:
+        if can_check and check_types():
+            passed += 1
+        else:
+            print('the types of symdir are not right' if can_check else 'the types of Node are not there: install @types/node in symdir')
+            failed += 1
+    with tempfile.TemporaryDirectory() as cache:
+        ran = run_tests(files, {**os.environ, 'SYMQ': symq, 'XDG_CACHE_HOME': cache, 'NO_COLOR': '1'})
+    print(f'{passed + ran[0]} passed, {failed + ran[1]} failed')
+    return 1 if failed + ran[1] else 0
+
+
+if __name__ == '__main__':
+    sys.exit(main())
