@@ -1,25 +1,42 @@
-# make run    answers the first example by a build whose proofs were not checked, in about a minute
-# make symq   proves and builds the program, and puts it here as ./symq
-# make test   the whole gate, and the stored cases
+# What there is to make: `make help` prints it.
 
 SHELL := /bin/sh
+FOLDER ?= examples/first
 
-.PHONY: run test symq setup
+.PHONY: help run try test symq packages clean setup
+
+help:
+	@echo 'make run [FOLDER=src]            the public names of a folder, by a build that waits for no proof: a minute'
+	@echo 'make try GRAPH=g.json QUERIES=q  the answers to the lines of q on a graph of your own, by that build: a minute'
+	@echo 'make symq                        proves and builds the program, as ./symq: 45 minutes on four processors'
+	@echo 'make test                        the whole gate; the last line is N passed, M failed: over an hour'
+	@echo 'make packages                    holds symdir to the checker of TypeScript on packages of Debian: minutes'
+	@echo 'make clean                       removes what these made'
 
 setup:
 	@command -v rt > /dev/null || { echo 'the Rattle kit is needed: its command rt was not found'; exit 1; }
-	@command -v python3 > /dev/null || { echo 'python3 is needed for the stored cases'; exit 1; }
+	@command -v python3 > /dev/null || { echo 'python3 is needed'; exit 1; }
 
 run: setup
+	@python3 tools/set_up.py node tsc
 	@echo 'symq is compiled without waiting for its proofs, which takes about a minute.' >&2
-	@cd crates/symq && rt try --data graph.json=../../examples/first/graph.json -- graph.json \
-		< ../../examples/first/queries
-	@echo 'proved=no: this build is not the proved one, is far slower, and is not kept.' >&2
-	@echo '`make symq` proves and builds ./symq, which takes about 45 minutes on four processors.' >&2
+	@node symdir/bin/symdir.js api --unproved $(FOLDER)
+	@echo 'By a build that is not the proved one, is far slower, and is not kept. `make symq` proves and builds ./symq.' >&2
+
+try: setup
+	@test -n '$(GRAPH)' && test -n '$(QUERIES)' || { echo 'make try GRAPH=graph.json QUERIES=file: a line of the file is a query'; exit 2; }
+	@echo 'symq is compiled without waiting for its proofs, which takes about a minute.' >&2
+	@tools/unproved_symq.sh '$(GRAPH)' < '$(QUERIES)'
 
 test: setup
 	@python3 tools/gate.py
 
+packages:
+	@python3 tools/run_symdir.py --packages
+
 symq: setup
 	@cd crates/symq && rt run -- ../../examples/first/graph.json < /dev/null
 	@cp crates/symq/out/symq symq
+
+clean:
+	@rm -rf symq crates/*/out symdir/node_modules

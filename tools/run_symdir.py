@@ -11,33 +11,13 @@ symdir/node_modules. The last line is 'N passed, M failed'.
 import os
 import re
 import shutil
-import subprocess
 import sys
 import tempfile
 
+from set_up import ensure, may_install, quiet
+
 ROOT = os.path.realpath(os.path.join(os.path.dirname(os.path.abspath(__file__)), '..'))
 PACKAGE = os.path.join(ROOT, 'symdir')
-COMMANDS = {'tsc': 'node-typescript', 'dot': 'graphviz'}
-
-
-def quiet(words, **how):
-    return subprocess.run(words, stdout=subprocess.PIPE, stderr=subprocess.STDOUT, text=True, **how)
-
-
-def may_install():
-    return os.geteuid() == 0 and shutil.which('apt-get') is not None
-
-
-def install(packages):
-    """Installs packages of Debian, or says what to install."""
-    if not may_install():
-        sys.exit('install these first: ' + ' '.join(packages))
-    words = ['apt-get', 'install', '-y', '--no-install-recommends', *packages]
-    if quiet(words).returncode != 0:
-        quiet(['apt-get', 'update'])
-        done = quiet(words)
-        if done.returncode != 0:
-            sys.exit(done.stdout[-2000:])
 
 
 def node_types(folder):
@@ -58,9 +38,7 @@ def node_types(folder):
 
 def set_up():
     """Returns whether the types can be checked: TypeScript and Graphviz are there then in any case."""
-    lacking = sorted({package for command, package in COMMANDS.items() if shutil.which(command) is None})
-    if lacking:
-        install(lacking)
+    ensure(['node', 'tsc', 'dot'])
     modules = os.path.join(PACKAGE, 'node_modules')
     os.makedirs(os.path.join(modules, '@types'), exist_ok=True)
     typescript = os.path.join(modules, 'typescript')

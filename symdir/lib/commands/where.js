@@ -139,6 +139,7 @@ export async function where(run, folder) {
     return 1;
   }
   const answers = await folder.ask(hits.map((it) => ['resolve', module.specifier, it.reference]));
+  /** @type {{ hit: Hit, ways: Way[] }[]} */
   const found = hits.map((hit, i) => ({ hit, ways: (answers[i]?.entries ?? []).flatMap((/** @type {any} */ entry) => waysOf(folder, entry, [])) }));
   if (run.options.json) {
     run.print(JSON.stringify(found.map(({ hit, ways }) => ({ name: hit.name, at: folder.place(module.specifier, hit.start), ways })), null, 1));

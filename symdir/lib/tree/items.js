@@ -39,7 +39,7 @@ function importNode(c, it) {
   return c.node('Import', it, { specifiers, src });
 }
 
-/** @param {Converter} c @param {import('typescript').Identifier} name of `export { name }` @returns {[string, number]} */
+/** @param {Converter} c @param {import('typescript').Identifier} name that is exported @returns {[string, number]} */
 function exportedName(c, name) {
   const text = textOf(name);
   for (let it = /** @type {import('./scopes.js').Scope | null} */ (c.scope); it; it = it.above) {
@@ -55,7 +55,7 @@ function exportSpecifier(c, it, hasSource) {
   if (hasSource) c.takes(text, moduleName(c, it.name), 0, it);
   const isString = !ts.isIdentifier(name) || c.stringAt(name) !== undefined;
   /** @type {[string, number]} */
-  const sym = hasSource || isString ? [text, MODULE_SCOPE] : exportedName(c, name);
+  const sym = hasSource || isString ? /** @type {[string, number]} */ ([text, MODULE_SCOPE]) : exportedName(c, name);
   const orig = isString ? c.node('Str', name, { value: text }) : c.node('Ident', name, { sym });
   return c.node('ExportSpecifier', it, { orig, exported: it.propertyName ? moduleName(c, it.name) : null });
 }
