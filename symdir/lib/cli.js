@@ -91,9 +91,7 @@ function reading({ words, options }, progress = new Progress()) {
 /** @param {Run} run @param {Command} command @param {string} name @returns {Promise<number>} */
 async function asked(run, command, name) {
   const progress = new Progress();
-  const how = { ...reading(run, progress), bodies: name === 'where' };
-  if (name === 'missing') how.ambient = true;
-  const folder = await Folder.read(how, { entry: run.options.entry ?? [] });
+  const folder = await Folder.read(reading(run, progress), { entry: run.options.entry ?? [] });
   progress.end();
   try {
     if (name !== 'missing') faultsOf(folder.sources).forEach(run.warn);

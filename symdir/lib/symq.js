@@ -2,7 +2,6 @@
 import { spawn } from 'node:child_process';
 import { existsSync } from 'node:fs';
 import path from 'node:path';
-import { createInterface } from 'node:readline';
 import { fileURLToPath } from 'node:url';
 
 import { Failure } from './failure.js';
@@ -99,7 +98,7 @@ export class Symq extends Asked {
     this.process.stdin.on('error', () => {});
     this.process.on('error', (error) => this.fail(new Failure(`${program} doesn't start: ${error.message}`)));
     this.process.on('close', (status) => this.fail(ended(status, this.said)));
-    createInterface({ input: this.process.stdout, crlfDelay: Infinity }).on('line', (line) => this.take(line));
+    this.process.stdout.on('data', (it) => this.receive(it));
   }
 
   /** @param {Failure} failure */
@@ -107,6 +106,21 @@ export class Symq extends Asked {
     this.failure ??= failure;
     this.waiting?.reject(this.failure);
     this.waiting = null;
+  }
+
+  /** @type {Buffer[]} the beginning of a line whose end isn't there yet */
+  part = [];
+
+  /** @param {Buffer} bytes of lines, which end at line feeds alone */
+  receive(bytes) {
+    let from = 0;
+    for (let at = bytes.indexOf(10); at >= 0; at = bytes.indexOf(10, from)) {
+      this.part.push(bytes.subarray(from, at));
+      this.take(Buffer.concat(this.part).toString());
+      this.part = [];
+      from = at + 1;
+    }
+    if (from < bytes.length) this.part.push(bytes.subarray(from));
   }
 
   /** @param {string} line */
@@ -126,11 +140,18 @@ export class Symq extends Asked {
    * @param {unknown[][]} queries
    * @returns {Promise<any[]>} the answers, in order
    */
-  async ask(queries) {
-    const lines = this.missing(queries);
-    if (lines.length > 0) await this.round(lines);
-    return this.answers(queries);
+  ask(queries) {
+    const asked = this.turn.then(async () => {
+      const lines = this.missing(queries);
+      if (lines.length > 0) await this.round(lines);
+      return this.answers(queries);
+    });
+    this.turn = asked.then(() => {}, () => {});
+    return asked;
   }
+
+  /** Ends with the round before: one is under way at a time. @type {Promise<unknown>} */
+  turn = Promise.resolve();
 
   /** @param {string[]} lines @returns {Promise<void>} */
   async round(lines) {

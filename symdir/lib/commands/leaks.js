@@ -85,7 +85,8 @@ function nextPart(name, from) {
 /** @param {string} name of a member, in full @returns {string} as people read it */
 function readable(name) {
   const special = /** @type {Record<string, string>} */ ({ ctor: ' constructor', index: ' index', call: ' call', construct: ' new' });
-  return name.replace('.prototype.', '.').replace('.prototype[', '[').replace(/\.%%dg_(\w+?)%%$/, (_, what) => special[what]);
+  return name.replace('.prototype.', '.').replace('.prototype[', '[').replace(/\.%%dg_(\w+?)%%$/, (_, what) => special[what])
+    .replace(/\["([\p{ID_Start}$_][\p{ID_Continue}$]*)"\]/gu, '.$1');
 }
 
 /** @typedef {{ module: string, symbol: number, name: string }} Shown */
@@ -167,20 +168,20 @@ async function findLeaks(folder) {
   const found = [...(await needed(folder, await withMembers(folder, names, shown))).values()];
   const modules = [...new Set(found.map((it) => it.at.module))];
   await names.read(modules);
-  const own = new Map((await folder.exports(modules)).map((it, i) => [modules[i], it.exports]));
-  const exported = await Promise.all(found.map(({ at }) => isExported(folder, own.get(at.module) ?? [], at)));
-  const leaks = found.map(({ at, by }, i) => ({
-    name: readable(names.of(at.module)[at.symbol] ?? '?'), ...folder.defined(at), exported: exported[i], neededBy: [...by] }));
+  const exported = await ownExports(folder, modules);
+  const leaks = found.map(({ at, by }) => ({
+    name: readable(names.of(at.module)[at.symbol] ?? '?'), ...folder.defined(at), exported: exported.has(`${at.symbol} ${at.module}`), neededBy: [...by] }));
   const count = new Set((await folder.exports(folder.entries)).flatMap((it, i) => it.exports.map((row) => `${i} ${row.name}`))).size;
-  return { count, leaks: leaks.sort((a, b) => b.neededBy.length - a.neededBy.length || (a.name < b.name ? -1 : 1)) };
+  const above = new Set(leaks.map((it) => `${it.file} ${it.name}`));
+  const outer = leaks.filter((it) => !it.name.split('.').some((_, i, parts) => i > 0 && above.has(`${it.file} ${parts.slice(0, i).join('.')}`)));
+  return { count, leaks: outer.sort((a, b) => b.neededBy.length - a.neededBy.length || (a.name < b.name ? -1 : 1)) };
 }
 
-/** @param {Folder} folder @param {import('../folder/folder.js').Export[]} exports of its module @param {Definition} at @returns {Promise<boolean>} */
-async function isExported(folder, exports, at) {
-  const own = exports.filter((it) => it.module === at.module);
-  if (own.some((it) => it.symbol === at.symbol)) return true;
-  const leaves = await folder.leaves(own.map((it) => [it.module, it.symbol]));
-  return leaves.flat().some((it) => isDefinition(it) && it.module === at.module && it.symbol === at.symbol);
+/** @param {Folder} folder @param {string[]} modules @returns {Promise<Set<string>>} the symbols, by number and module, that each exports itself */
+async function ownExports(folder, modules) {
+  const rows = (await folder.exports(modules)).flatMap((it, i) => it.exports.filter((row) => row.module === modules[i]));
+  const leaves = await folder.leaves(rows.map((it) => [it.module, it.symbol]));
+  return new Set(rows.flatMap((it, i) => [it, ...leaves[i].filter(isDefinition)].map(({ symbol, module }) => `${symbol} ${module}`)));
 }
 
 /** How many are named of those that need a type. */
@@ -202,6 +203,6 @@ export async function leaks(run, folder) {
     wrapped(`needed by ${shown.join(', ')}${more > 0 ? ` and ${more} more` : ''}`, 92).forEach((line, i) => print(`    ${i > 0 ? '  ' : ''}${line}`));
   }
   const entries = folder.entries.length > 3 ? counted(folder.entries.length, 'entry') : folder.entries.map((it) => folder.short(it)).join(', ');
-  print(`${counted(count, 'public name')} of ${entries}: ${found.length === 0 ? 'all types that they need are public' : `${counted(found.length, 'type')} that they need can't be imported`}`);
+  print(`${counted(count, 'public name')} of ${entries}: ${found.length === 0 ? 'all that they need is public' : `${counted(found.length, 'declaration')} that they need can't be imported`}`);
   return found.length > 0 ? 1 : 0;
 }

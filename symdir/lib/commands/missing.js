@@ -68,8 +68,24 @@ async function lostNames(folder) {
   const found = answers.flatMap((answer, i) => lackOf(folder, answer?.entries ?? []).map((lack) => ({ ...asked[i], lack })));
   const modules = [...new Set(found.map((it) => it.lack.module))];
   const exports = new Map((await folder.exports(modules)).map((it, i) => [modules[i], it]));
-  return found.filter(({ lack }) => exports.get(lack.module)?.unresolved.length === 0 && !isOpen(folder, lack.module)).map(({ specifier, start, lack }) => ({
+  const isSure = (/** @type {{ module: string, name: string }} */ { module, name }) => exports.get(module)?.unresolved.length === 0
+    && !isOpen(folder, module) && !isImplicit(folder, module, name);
+  return found.filter(({ lack }) => isSure(lack)).map(({ specifier, start, lack }) => ({
     what: 'name', ...folder.place(specifier, start), text: lack.name, how: folder.short(lack.module) }));
+}
+
+/** @param {Folder} folder @param {string} module @param {string} name @returns {boolean} whether TypeScript exports it without a word, there or along `export *` */
+function isImplicit(folder, module, name) {
+  const met = new Set([module]);
+  for (const at of met) {
+    const found = folder.sources.modules.get(at);
+    if (found?.parsed.implicit.includes(name)) return true;
+    for (const { how, text } of found?.parsed.references ?? []) {
+      const to = how === 'export *' ? folder.sources.resolutions.get(at)?.get(text) : undefined;
+      if (to !== undefined) met.add(to);
+    }
+  }
+  return false;
 }
 
 /** @param {Folder} folder @param {any[]} entries of paths @returns {{ module: string, name: string }[]} names that a module of the graph lacks, where nothing is found */

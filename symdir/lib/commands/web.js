@@ -1,1 +1,43 @@
-export async function web(/** @type {any} */ run, /** @type {any} */ folder) { return 0; }
+// `symdir web`: who passes names on to whom, as a picture.
+import { spawnSync } from 'node:child_process';
+import { writeFileSync } from 'node:fs';
+import path from 'node:path';
+
+import { Failure } from '../failure.js';
+import { counted } from '../output.js';
+import { Drawing } from '../web/draw.js';
+import { gather } from '../web/gather.js';
+
+/** @typedef {import('../cli.js').Run} Run */
+/** @typedef {import('../folder/folder.js').Folder} Folder */
+
+/** What Graphviz writes here, by the ending of the file. */
+const FORMS = ['svg', 'png', 'pdf'];
+
+/** @param {string} out @param {string} text for Graphviz */
+function drawn(out, text) {
+  const form = path.extname(out).slice(1).toLowerCase();
+  if (form === 'dot' || form === 'gv') return writeFileSync(out, text);
+  if (!FORMS.includes(form)) throw new Failure(`-o ${out}: a picture ends in ${FORMS.map((it) => `.${it}`).join(', ')} or .dot`, 2);
+  const done = spawnSync('dot', [`-T${form}`, '-o', out], { input: text, encoding: 'utf8' });
+  if (done.error) throw new Failure('Graphviz isn\'t there: install its command dot (`apt-get install graphviz`), or take -o web.dot');
+  if (done.status !== 0) throw new Failure(`Graphviz ended with the status ${done.status}: ${done.stderr.trim().split('\n').pop()}`);
+}
+
+/** @param {Run} run @param {Folder} folder @returns {Promise<number>} the status: 1 where something leads nowhere */
+export async function web({ options, print }, folder) {
+  const found = await gather(folder);
+  const short = (/** @type {string} */ it) => folder.short(it);
+  const drawing = new Drawing(folder, found);
+  if (options.out) drawn(options.out, drawing.text());
+  if (options.json) {
+    print(JSON.stringify({
+      entries: found.entries.map(short),
+      modules: drawing.modules.map((it) => ({ file: short(it), names: drawing.names(it) })),
+      edges: found.edges.map(({ from, to, isStar, names }) => ({ from: short(from), to: short(to), star: isStar, names: [...names] })),
+      lost: found.lost.map(({ module, text, isStar }) => ({ file: short(module), text, star: isStar })),
+    }, null, 1));
+  } else if (!options.out) process.stdout.write(drawing.text());
+  else print(`${options.out}: ${counted(drawing.modules.length, 'module')} in ${counted(drawing.boxes.length, 'box')}, ${counted(drawing.edgeLines().length, 'edge')}, ${found.lost.length} that lead nowhere`);
+  return found.lost.length > 0 ? 1 : 0;
+}

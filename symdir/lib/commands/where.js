@@ -8,10 +8,10 @@ import { endOf, endText } from '../folder/ends.js';
 import { Places, decoded } from '../folder/text.js';
 import { languageOf } from '../language.js';
 import { columns, placeText } from '../output.js';
+import { TreeNode } from '../tree/node.js';
 
 /** @typedef {import('../folder/folder.js').Folder} Folder */
 /** @typedef {import('../cli.js').Run} Run */
-/** @typedef {import('../tree/node.js').TreeNode} TreeNode */
 
 /** @typedef {{ file: string, line: number, column: number | null }} Spot */
 
@@ -88,10 +88,14 @@ function hitsAt(hits, spot, places, name) {
   if (!line) throw new Failure(`${spot.file} has ${places.starts.length} lines`, 2);
   const at = spot.column === null ? null : /** @type {number} */ (places.offset(spot.line, spot.column));
   const isAt = (/** @type {Hit} */ it) => (at === null ? it.start >= line[0] && it.start < line[1] : it.start <= at && at < it.end);
-  /** @type {Map<string, Hit>} */
-  const found = new Map();
-  for (const it of hits) if (isAt(it) && (!name || it.name === name) && !found.has(it.name)) found.set(it.name, it);
-  return [...found.values()].sort((a, b) => a.start - b.start);
+  const met = new Set();
+  const found = [];
+  for (const it of hits.filter((hit) => isAt(hit) && (!name || hit.name === name))) {
+    const keys = [`${it.start}`, JSON.stringify(it.reference)];
+    if (!keys.some((key) => met.has(key))) found.push(it);
+    keys.forEach((key) => met.add(key));
+  }
+  return found.sort((a, b) => a.start - b.start);
 }
 
 /**
@@ -110,18 +114,44 @@ function waysOf(folder, entry, through) {
   return [{ through, defined: null, unresolved: endOf(folder, entry) }];
 }
 
+/** @param {TreeNode} node @returns {TreeNode[]} the names that it declares by a field */
+function declaredBy(node) {
+  const { ident, id } = node.fields;
+  const names = [node, ident, id].filter((it) => it instanceof TreeNode && /^(Ident|BindingIdent)$/.test(it.kind) && (it !== node || it.kind === 'BindingIdent'));
+  return /** @type {TreeNode[]} */ (names);
+}
+
+/**
+ * Where a name that is no symbol of the module is declared, as a variable in the body of a function.
+ * @param {Folder} folder
+ * @param {string} specifier
+ * @param {TreeNode[]} nodes
+ * @param {Hit} hit
+ * @returns {Way[]}
+ */
+function localWays(folder, specifier, nodes, { reference: [how, name, scope] }) {
+  if (how !== 'id' || scope === 1) return [];
+  const found = nodes.flatMap(declaredBy).find(({ fields: { sym } }) => Array.isArray(sym) && sym[0] === name && /** @type {any} */ (sym)[1] === scope);
+  return found ? [{ through: [], defined: { kind: 'local', ...folder.place(specifier, found.start) }, unresolved: null }] : [];
+}
+
 /** @param {Run} run @param {Folder} folder @param {{ hit: Hit, ways: Way[] }[]} found @param {import('../folder/sources.js').Module} module */
 function printWays({ print, paint }, folder, found, module) {
   for (const { hit, ways } of found) {
     print(`${paint.bold(hit.name)}  at ${placeText(folder.place(module.specifier, hit.start))}`);
     const rows = ways.map(({ through, defined, unresolved }) => [
-      `  ${defined ? defined.kind : ''}`.trimEnd() || '  ',
-      defined ? placeText(defined) : unresolved ? endText(unresolved) : '',
+      `  ${defined ? defined.kind : unresolved ? endText(unresolved) : ''}`,
+      defined ? placeText(defined) : '',
       through.length > 0 ? `through ${through.join(' > ')}` : '',
     ]);
-    columns(rows, ([kind, where, through]) => [kind, /^nowhere/.test(where) ? paint.red(where) : where, paint.dim(through)]).forEach(print);
+    columns(rows, ([kind, where, through]) => [/^ *nowhere/.test(kind) ? paint.red(kind) : kind, where, paint.dim(through)]).forEach(print);
     if (ways.length === 0) print('  no definition in the modules that are read: a local name, or a global');
   }
+}
+
+/** @param {Way[]} ways @param {Way[]} local @returns {Way[]} */
+function orOwn(ways, local) {
+  return local.length > 0 ? local : ways;
 }
 
 /** @param {Run} run @param {Folder} folder @returns {Promise<number>} the status */
@@ -141,6 +171,7 @@ export async function where(run, folder) {
   const answers = await folder.ask(hits.map((it) => ['resolve', module.specifier, it.reference]));
   /** @type {{ hit: Hit, ways: Way[] }[]} */
   const found = hits.map((hit, i) => ({ hit, ways: (answers[i]?.entries ?? []).flatMap((/** @type {any} */ entry) => waysOf(folder, entry, [])) }));
+  for (const it of found) if (!it.ways.some((way) => way.defined)) it.ways = orOwn(it.ways, localWays(folder, module.specifier, made.nodes, it.hit));
   if (run.options.json) {
     run.print(JSON.stringify(found.map(({ hit, ways }) => ({ name: hit.name, at: folder.place(module.specifier, hit.start), ways })), null, 1));
   } else printWays(run, folder, found, module);

@@ -81,7 +81,9 @@ export function entriesOf(sources, words) {
   if (own.length > 0) return [...new Set(own)];
   const found = usual(sources, sources.folder);
   if (found.length > 0) return found;
-  const inner = innerPackages(sources).flatMap((it) => {
+  const all = innerPackages(sources);
+  const open = all.filter((it) => sources.configs.value(path.posix.join(it, 'package.json'))?.private !== true);
+  const inner = (open.length > 0 ? open : all).flatMap((it) => {
     const said = saidBy(sources, it);
     return said.length > 0 ? said : usual(sources, it);
   });

@@ -3,6 +3,7 @@ import { createHash } from 'node:crypto';
 import { mkdirSync, readFileSync, readdirSync, renameSync, rmSync, statSync, writeFileSync } from 'node:fs';
 import os from 'node:os';
 import path from 'node:path';
+import { fileURLToPath } from 'node:url';
 
 /** What is kept of a module, by what its file is. */
 /**
@@ -12,11 +13,10 @@ import path from 'node:path';
  * @property {import('../tree/convert.js').Fault | null} fault why it has no tree
  * @property {import('../tree/converter.js').Reference[]} references
  * @property {number[]} declarations
+ * @property {string[]} implicit names that TypeScript exports of a declaration file without a word
  * @property {number} nodes how many the tree has
  */
 
-/** Changes with what is kept of a module. */
-const FORM = 1;
 /** What nobody asked for in so many days goes. */
 const DAYS = 30;
 
@@ -33,6 +33,13 @@ function cacheFolder() {
   return path.join(os.homedir(), platform === 'darwin' ? 'Library/Caches' : '.cache', 'symdir');
 }
 
+/** @returns {string} changes with what makes of a text what is kept */
+function maker() {
+  const folder = fileURLToPath(new URL('../tree/', import.meta.url));
+  const files = [...readdirSync(folder).sort().map((it) => path.join(folder, it)), fileURLToPath(new URL('./worker.js', import.meta.url))];
+  return hashOf(files.map((it) => readFileSync(it, 'utf8')).join(''));
+}
+
 /** @param {string} folder removes what is old there */
 function prune(folder) {
   const oldest = Date.now() - DAYS * 24 * 3600 * 1000;
@@ -45,7 +52,7 @@ function prune(folder) {
 export class Kept {
   /** @param {string} key all that what is kept depends on, besides the files */
   constructor(key) {
-    this.file = path.join(cacheFolder(), `${hashOf(`${FORM} ${key}`)}.trees`);
+    this.file = path.join(cacheFolder(), `${hashOf(`${maker()} ${key}`)}.trees`);
     /** @type {Map<string, Parsed>} by the path of the file */
     this.modules = new Map();
     try {

@@ -16,13 +16,13 @@ function parse(file, specifier, bytes) {
   const start = `{"specifier":${JSON.stringify(specifier)},"kind":"${isJson ? 'json' : 'esm'}","text":`;
   if (isJson) {
     const text = Buffer.from(start + JSON.stringify(decoded(bytes)));
-    return { text, fault: null, references: [], declarations: [], nodes: 0 };
+    return { text, fault: null, references: [], declarations: [], implicit: [], nodes: 0 };
   }
   const how = languageOf(file);
-  const { text, nodes, fault, references, declarations } = convert(file, decoded(bytes), { ...how, bodies, ambient });
+  const { text, nodes, ...rest } = convert(file, decoded(bytes), { ...how, bodies, ambient });
   const tree = nodes === null ? '' : `,"tree":{${how.declaration ? '"declaration":true,' : ''}"nodes":${nodes}}`;
   const count = nodes === null ? 0 : nodes.split('{"kind"').length - 1;
-  return { text: Buffer.from(start + JSON.stringify(text) + tree), fault, references, declarations, nodes: count };
+  return { text: Buffer.from(start + JSON.stringify(text) + tree), ...rest, nodes: count };
 }
 
 port.on('message', ({ file, specifier }) => {

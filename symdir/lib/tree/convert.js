@@ -1,6 +1,6 @@
 // One text to one tree.
 import { Converter, K, hasModifier, ts } from './converter.js';
-import { hoist, hoistVars } from './scopes.js';
+import { Scope, hoist, hoistVars } from './scopes.js';
 import { nodesText, numbered } from './node.js';
 import { overNewer } from './newer.js';
 import { item } from './items.js';
@@ -22,6 +22,7 @@ import { wellFormed } from './offsets.js';
  * @property {Fault | null} fault why there is none
  * @property {import('./converter.js').Reference[]} references
  * @property {number[]} declarations
+ * @property {string[]} implicit names that TypeScript exports of a declaration file without a word
  */
 
 /** @param {string} name @param {string} text @param {Options} options @returns {import('typescript').SourceFile} */
@@ -52,12 +53,22 @@ function exportsAll(file) {
   return isModule && !file.statements.some((it) => ts.isExportDeclaration(it) || ts.isExportAssignment(it));
 }
 
+/** @param {import('typescript').Statement} it @returns {string[]} the names that it declares and doesn't export */
+function declaredNames(it) {
+  if (hasModifier(it, K.ExportKeyword)) return [];
+  const scope = new Scope(0, null);
+  hoist([it], scope);
+  hoistVars(it, scope);
+  return ts.isImportDeclaration(it) ? [] : [...new Set([...scope.values, ...scope.types])];
+}
+
 /** @param {Converter} c @returns {import('./node.js').TreeNode} */
 function program(c) {
   const list = c.file.statements;
   hoist(list, c.scope);
   for (const it of list) hoistVars(it, c.scope);
   const isAmbient = c.options.ambient && c.options.declaration && exportsAll(c.file);
+  if (!c.options.ambient && c.options.declaration && exportsAll(c.file)) c.implicit = list.flatMap(declaredNames);
   const body = list.map((it) => item(c, it, isAmbient));
   if (list.length === 0) return c.at('Program', 0, 0);
   return c.at('Program', c.start(list[0]), list[list.length - 1].end, { body });
@@ -81,12 +92,12 @@ export function nodesOf(name, source, options) {
   const [first] = faultsOf(file);
   if (first) {
     const fault = faultAt(file, first.start, ts.flattenDiagnosticMessageText(first.messageText, ' '));
-    return { text, nodes: null, fault, references: [], declarations: [] };
+    return { text, nodes: null, fault, references: [], declarations: [], implicit: [] };
   }
   const c = new Converter(file, marks, text, options);
   const nodes = numbered(program(c));
   const fault = nodes ? null : { line: 1, column: 1, text: 'it is nested more than 4,096 deep' };
-  return { text, nodes, fault, references: c.references, declarations: c.declarations };
+  return { text, nodes, fault, references: c.references, declarations: c.declarations, implicit: c.implicit };
 }
 
 /**
@@ -103,6 +114,6 @@ export function convert(name, source, options) {
   } catch (error) {
     if (!(error instanceof RangeError)) throw error;
     const fault = { line: 1, column: 1, text: 'it is nested too deep for the parser' };
-    return { text: wellFormed(source), nodes: null, fault, references: [], declarations: [] };
+    return { text: wellFormed(source), nodes: null, fault, references: [], declarations: [], implicit: [] };
   }
 }

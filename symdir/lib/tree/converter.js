@@ -27,6 +27,9 @@ import { MODULE_SCOPE, Scope, textOf } from './scopes.js';
 
 const NUMBER_OF = new Map(KINDS.map((it, i) => [it, i]));
 
+/** Scopes in the bodies of functions are counted from here on, so that the others have their numbers with bodies and without. */
+const BODY_SCOPES = 2 ** 31;
+
 export class Converter {
   /**
    * @param {import('typescript').SourceFile} file
@@ -42,11 +45,14 @@ export class Converter {
     this.byte = byteOffsets(text);
     this.scope = new Scope(MODULE_SCOPE, null);
     this.scopes = MODULE_SCOPE;
+    this.bodyScopes = BODY_SCOPES;
     this.inType = false;
     /** @type {Reference[]} */
     this.references = [];
     /** @type {number[]} five for each: start, end, number of the kind, start of the name, 1 where it is private */
     this.declarations = [];
+    /** @type {string[]} names that TypeScript exports of a declaration file without a word, where they aren't exported here */
+    this.implicit = [];
   }
 
   /** @param {Node} node @returns {number} in UTF-16 units, behind comments */
@@ -86,6 +92,22 @@ export class Converter {
     fill(this.scope);
     const made = body();
     this.scope = /** @type {Scope} */ (this.scope.above);
+    return made;
+  }
+
+  /**
+   * Does what is to be done in the body of a function.
+   * @template T
+   * @param {() => T} make
+   * @returns {T}
+   */
+  inBody(make) {
+    if (this.scopes >= BODY_SCOPES) return make();
+    const before = this.scopes;
+    this.scopes = this.bodyScopes;
+    const made = make();
+    this.bodyScopes = this.scopes;
+    this.scopes = before;
     return made;
   }
 

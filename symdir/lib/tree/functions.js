@@ -1,6 +1,6 @@
 // Functions and classes.
 import { K, decoratorsOf, hasModifier, modifiersOf, ts } from './converter.js';
-import { hoist, hoistFunction, hoistTypeParameters, textOf } from './scopes.js';
+import { hoistFunction, hoistTypeParameters, textOf } from './scopes.js';
 import { key } from './names.js';
 import { parameter, parameters } from './patterns.js';
 import { annotation, element, heritage, typeArguments, typeParameters } from './types.js';
@@ -13,7 +13,7 @@ import { referencesIn } from './references.js';
 
 /** @param {Converter} c @param {import('typescript').Block} node of a function, whose scope is open */
 export function body(c, node) {
-  if (c.options.bodies) return c.other(node, statements(c, node.statements));
+  if (c.options.bodies) return c.inBody(() => c.other(node, statements(c, node.statements)));
   referencesIn(c, node);
   return c.other(node, []);
 }
@@ -174,9 +174,9 @@ const MEMBERS = {
 
 /** @param {Converter} c @param {import('typescript').ClassStaticBlockDeclaration} member */
 function staticBlock(c, member) {
-  if (c.options.bodies) return block(c, member, member.body.statements);
+  if (c.options.bodies) return c.inBody(() => block(c, member, member.body.statements));
   referencesIn(c, member);
-  return c.within((scope) => hoist(member.body.statements, scope), () => c.other(member, []));
+  return c.other(member, []);
 }
 
 /** @param {Converter} c @param {import('typescript').ClassElement} member */
