@@ -1,6 +1,8 @@
 //! The tables of the modules, one after the other, on standard output.
 
 use crate::names::push_names;
+use crate::objects::{fault_line, module_line};
+use crate::start::Form;
 use crate::tables::push_symbols;
 use std::alloc::{AllocError, Global};
 use std::io;
@@ -48,6 +50,27 @@ fn module_text(alloc: Global, module: &GraphModule) -> Result<String, AllocError
     Ok(text)
 }
 
+/// What is told of a module as a JSON object: nothing where it has no symbols.
+fn module_object(alloc: Global, module: &GraphModule) -> Result<Vec<u8>, AllocError> {
+    match analyze(alloc, ModuleId::from_number(0), module, u32::MAX) {
+        Ok(Some(info)) => module_line(alloc, info.as_ref()),
+        Ok(None) => Ok(Vec::new(alloc)),
+        Err(SymbolsFault::OutOfMemory) => Err(AllocError),
+        Err(fault) => {
+            let text = format!(in alloc; "{fault}")?;
+            fault_line(alloc, module.specifier(), text.as_str())
+        }
+    }
+}
+
+/// The bytes that tell of a module.
+fn module_bytes(alloc: Global, module: &GraphModule, form: Form) -> Result<Vec<u8>, AllocError> {
+    match form {
+        Form::Lines => Ok(module_text(alloc, module)?.into_bytes()),
+        Form::Json => module_object(alloc, module),
+    }
+}
+
 /// The module of a specifier. A module that a redirect hides is none: no look-up reaches it.
 fn own_module<'a>(graph: &'a ModuleGraph, specifier: &str) -> Option<&'a GraphModule> {
     let module = graph.get(specifier)?;
@@ -58,17 +81,18 @@ fn own_module<'a>(graph: &'a ModuleGraph, specifier: &str) -> Option<&'a GraphMo
     }
 }
 
-/// Prints the tables of the modules of these specifiers, in this order.
+/// Prints the tables of the modules of these specifiers, in this order and in the form.
 pub(crate) fn print_tables<R: AllocGlobal + Print>(
     rt: &R,
     graph: &ModuleGraph,
     specifiers: &[String],
+    form: Form,
 ) -> Result<(), EngineFault> {
     let mut output = io::writer(rt);
     for specifier in specifiers {
         if let Some(module) = own_module(graph, specifier.as_str()) {
-            let text = module_text(rt.alloc(), module)?;
-            let written = output.write_all(text.as_bytes());
+            let text = module_bytes(rt.alloc(), module, form)?;
+            let written = output.write_all(text.as_slice());
             written.map_err(|_| EngineFault::OutputFailed)?;
         }
     }

@@ -55,7 +55,7 @@ function exportsAll(file) {
 
 /** @param {import('typescript').Statement} it @returns {string[]} the names that it declares and doesn't export */
 function declaredNames(it) {
-  if (hasModifier(it, K.ExportKeyword)) return [];
+  if (hasModifier(it, K.ExportKeyword) || (it.flags & ts.NodeFlags.GlobalAugmentation) !== 0) return [];
   const scope = new Scope(0, null);
   hoist([it], scope);
   hoistVars(it, scope);

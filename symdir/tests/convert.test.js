@@ -1,0 +1,151 @@
+import assert from 'node:assert/strict';
+import { readFileSync } from 'node:fs';
+import test from 'node:test';
+
+import { convert, nodesOf } from '../lib/tree/convert.js';
+import { languageOf } from '../lib/language.js';
+
+const PLAIN = { bodies: false, ambient: false };
+
+/** @param {string} text @param {string} [name] @param {object} [how] */
+function nodes(text, name = 'a.ts', how = {}) {
+  const made = convert(name, text, { ...languageOf(name), ...PLAIN, ...how });
+  assert.equal(made.fault, null);
+  return JSON.parse(/** @type {string} */ (made.nodes));
+}
+
+/** @param {any[]} list @param {string} name @returns {number[]} the scopes of the names, in order */
+function scopes(list, name) {
+  return list.filter((it) => it.sym?.[0] === name).map((it) => it.sym[1]);
+}
+
+test('the graphs of docs/GRAPH.md are those of their texts', () => {
+  const blocks = readFileSync(new URL('../../docs/GRAPH.md', import.meta.url), 'utf8').split('```json\n').slice(1).map((it) => it.split('```')[0]);
+  const graphs = blocks.filter((it) => it.startsWith('{')).map((it) => JSON.parse(it));
+  assert.equal(graphs.length, 2);
+  for (const { text, tree } of graphs.flatMap((it) => it.modules).filter((it) => it.tree)) assert.deepEqual(nodes(text), tree.nodes);
+});
+
+test('the graph of examples/first is that of its folder', () => {
+  const graph = JSON.parse(readFileSync(new URL('../../examples/first/graph.json', import.meta.url), 'utf8'));
+  for (const { specifier, text, tree } of graph.modules) {
+    const file = new URL(`../../examples/first/${specifier.slice('file:///'.length)}`, import.meta.url);
+    assert.equal(readFileSync(file, 'utf8'), text);
+    assert.deepEqual(nodes(text), tree.nodes);
+  }
+});
+
+test('ranges count bytes', () => {
+  const [program, , , declarator, name] = nodes('export const é = "€";');
+  assert.deepEqual(program.range, [0, 24]);
+  assert.deepEqual(declarator.range, [13, 23]);
+  assert.deepEqual(name.range, [13, 15]);
+  assert.deepEqual(nodes('"😀"; x').find((it) => it.kind === 'Ident').range, [8, 9]);
+});
+
+test('a lone surrogate is written as U+FFFD', () => {
+  const made = convert('a.ts', 'const a = "\ud800";', { ...languageOf('a.ts'), ...PLAIN });
+  assert.equal(made.text, 'const a = "\ufffd";');
+  assert.doesNotThrow(() => JSON.parse(/** @type {string} */ (made.nodes)));
+});
+
+test('a name has the scope that declares it', () => {
+  const list = nodes('const a = 1; function f(a: string) { return a; } namespace N { const a = 2; a; } a;', 'a.ts', { bodies: true });
+  const [module, parameter, used, inNamespace, inNamespaceToo, last] = scopes(list, 'a');
+  assert.equal(module, 1);
+  assert.equal(last, 1);
+  assert.notEqual(parameter, 1);
+  assert.equal(used, parameter);
+  assert.notEqual(inNamespace, parameter);
+  assert.equal(inNamespaceToo, inNamespace);
+});
+
+test('`var` in a block is the function\'s, `let` the block\'s', () => {
+  const list = nodes('function f() { { var a = 1; let b = 2; b; } a; b; }', 'a.ts', { bodies: true });
+  const [inBlock, outside] = scopes(list, 'a');
+  assert.equal(inBlock, outside);
+  const [declared, used, other] = scopes(list, 'b');
+  assert.equal(declared, used);
+  assert.equal(other, 1);
+});
+
+test('a type parameter hides a type, and not a value', () => {
+  const list = nodes('type T = 1; declare const T: T; interface I<T> { a: T; b: typeof T }');
+  const [alias, value, annotation, own, queried] = scopes(list, 'T');
+  assert.deepEqual([alias, value, annotation, queried], [1, 1, 1, 1]);
+  assert.notEqual(own, 1);
+});
+
+test('what `infer` names holds in the true branch', () => {
+  const list = nodes('type U = 1; type A<T> = T extends (infer U)[] ? U : U;');
+  const [, yes, no] = scopes(list, 'U');
+  assert.notEqual(yes, 1);
+  assert.equal(no, 1);
+});
+
+test('scopes outside of bodies have their numbers with bodies and without', () => {
+  const text = 'function f() { { let a; } } namespace N { export const b = 1; }';
+  assert.deepEqual(scopes(nodes(text), 'b'), scopes(nodes(text, 'a.ts', { bodies: true }), 'b'));
+});
+
+test('what stands in bodies is left out, and what it imports is noted', () => {
+  const made = nodesOf('a.ts', 'function f() { import("./b"); let x: import("./c").X; }', { ...languageOf('a.ts'), ...PLAIN });
+  assert.deepEqual(made.references.map((it) => [it.how, it.text]), [['import()', './b'], ['import type', './c']]);
+  assert.equal(made.nodes?.some((it) => it.kind === 'TsImportType'), false);
+});
+
+test('what refers to other modules is told with the names that it takes', () => {
+  const text = 'import d, { a as b } from "./x";\nimport * as ns from "./x";\nexport * from "./y";\nexport { p as q } from "./y";\nexport * as all from "./y";\nimport r = require("./z");\nlet t: import("./t").T;';
+  const { references } = nodesOf('a.ts', text, { ...languageOf('a.ts'), ...PLAIN });
+  assert.deepEqual(references.map((it) => [it.how, it.text, it.names.map(([name, local]) => [name, local])]), [
+    ['import', './x', [['default', 'd'], ['a', 'b']]],
+    ['import', './x', [['*', 'ns']]],
+    ['export *', './y', []],
+    ['export', './y', [['p', 'q']]],
+    ['export', './y', [['*', 'all']]],
+    ['require', './z', [['*', 'r']]],
+    ['import type', './t', [['T', '']]],
+  ]);
+});
+
+test('newer syntax than TypeScript 4.8 knows', () => {
+  const kinds = (/** @type {string} */ text) => nodes(text).map((/** @type {any} */ it) => it.kind);
+  assert.ok(kinds('using a = b;').includes('UsingDecl'));
+  assert.ok(kinds('await using a = b;').includes('UsingDecl'));
+  assert.ok(kinds('class C { accessor a = 1; }').includes('AutoAccessor'));
+  assert.deepEqual(kinds('const a = b satisfies C;').filter((it) => it === 'TsAsExpr' || it === 'Other'), ['Other']);
+  assert.ok(kinds('export type * from "./a";').includes('ExportAll'));
+  assert.ok(kinds('import a from "./a.json" with { type: "json" };').includes('Import'));
+  assert.ok(kinds('function f<const T>(a: T) {}').includes('TsTypeParam'));
+  const [specifier] = nodes('export { "a b" as c } from "./a";').filter((/** @type {any} */ it) => it.kind === 'Str');
+  assert.equal(specifier.value, 'a b');
+});
+
+test('a syntax error is told with its place', () => {
+  const made = convert('a.ts', 'const a = 1;\nconst b = ;\n', { ...languageOf('a.ts'), ...PLAIN });
+  assert.equal(made.nodes, null);
+  assert.deepEqual(made.fault, { line: 2, column: 11, text: 'Expression expected.' });
+});
+
+test('declarations of a declaration file without exports are exported where that is asked for', () => {
+  const text = 'import { a } from "./a"; declare const b: number; interface C {} declare global { const d: 1 }';
+  const count = (/** @type {object} */ how, /** @type {string} */ more = '') => (
+    nodes(text + more, 'a.d.ts', how).filter((/** @type {any} */ it) => it.kind === 'ExportDecl').length);
+  assert.equal(count({}), 0);
+  assert.equal(count({ ambient: true }), 2);
+  assert.equal(count({ ambient: true }, 'export {};'), 0);
+  assert.equal(nodes('declare const b: number;', 'a.d.ts', { ambient: true }).filter((/** @type {any} */ it) => it.kind === 'ExportDecl').length, 0);
+  assert.deepEqual(nodesOf('a.d.ts', text, { ...languageOf('a.d.ts'), ...PLAIN }).implicit, ['b', 'C']);
+});
+
+test('a long chain of operators and a deep nest keep within the depth', () => {
+  const list = nodes(`const a = ${Array.from({ length: 5000 }, () => '1').join(' + ')};`);
+  assert.equal(list.filter((/** @type {any} */ it) => it.kind === 'Num').length, 5000);
+});
+
+test('what a file\'s name says', () => {
+  assert.deepEqual(languageOf('a.d.mts'), { language: 'ts', declaration: true });
+  assert.deepEqual(languageOf('a.tsx'), { language: 'tsx', declaration: false });
+  assert.deepEqual(languageOf('a.cjs'), { language: 'js', declaration: false });
+  assert.deepEqual(languageOf('d.ts'), { language: 'ts', declaration: false });
+});

@@ -1,0 +1,44 @@
+// Folders that are made for a test, and runs of the command on them.
+import { spawnSync } from 'node:child_process';
+import { mkdirSync, mkdtempSync, realpathSync, rmSync, writeFileSync } from 'node:fs';
+import os from 'node:os';
+import path from 'node:path';
+import { after } from 'node:test';
+import { fileURLToPath } from 'node:url';
+
+const BIN = fileURLToPath(new URL('../bin/symdir.js', import.meta.url));
+/** @type {string[]} */
+const made = [];
+after(() => made.forEach((it) => rmSync(it, { recursive: true, force: true })));
+
+/** @param {Record<string, string | Buffer>} files by their paths @returns {string} the folder that has them */
+export function folderOf(files) {
+  const folder = realpathSync(mkdtempSync(path.join(os.tmpdir(), 'symdir-test-')));
+  made.push(folder);
+  for (const [name, text] of Object.entries(files)) {
+    mkdirSync(path.dirname(path.join(folder, name)), { recursive: true });
+    writeFileSync(path.join(folder, name), text);
+  }
+  return folder;
+}
+
+/** @param {string[]} words @param {{ cwd?: string, env?: Record<string, string> }} [how] */
+export function symdir(words, { cwd, env } = {}) {
+  const { status, stdout, stderr } = spawnSync(process.execPath, [BIN, ...words], { cwd, env: { ...process.env, ...env }, encoding: 'utf8' });
+  return { status, stdout, stderr };
+}
+
+/** @param {string[]} words with `--json` @returns {any} the answer; a failure of the run is one of the test */
+export function answer(words) {
+  const { status, stdout, stderr } = symdir([...words, '--json']);
+  if (status === null || status > 1) throw new Error(`status ${status}: ${stderr}`);
+  return JSON.parse(stdout);
+}
+
+/** @param {Record<string, string>} files @param {string} name @param {string} text of a program @returns {string} its path */
+export function program(files, name, text) {
+  const folder = folderOf({ ...files, [name]: text });
+  const file = path.join(folder, name);
+  spawnSync('chmod', ['+x', file]);
+  return file;
+}
