@@ -54,7 +54,7 @@ function started(program, words) {
 /** @param {number | null} status @param {string} said on standard error @returns {Failure} */
 function ended(status, said) {
   const last = said.trim().split('\n').pop() ?? '';
-  const text = /^symq: (not a graph|graph refused)/.test(last) ? `${last} (write the graph by \`symdir graph\`, and \`symdir graph --check FILE\` says more)` : last;
+  const text = /^symq: (not a graph|graph refused)/.test(last) ? `${last} (\`symdir graph FOLDER -o graph.json\` and \`symdir graph --check graph.json\` say more)` : last;
   return new Failure(text || `symq ended with the status ${status}`);
 }
 

@@ -34,7 +34,8 @@ export class Files {
     this.all = new Set();
     /** @type {string[]} what can't be listed */
     this.unread = [];
-    if (!isFolder(folder)) throw new Failure(`no folder ${folder}`, isFile(folder) ? 2 : 3);
+    if (isFile(folder)) throw new Failure(`${folder} is a file: name the folder, and --entry ${path.basename(folder)}`, 2);
+    if (!isFolder(folder)) throw new Failure(`no folder ${folder}`);
     this.list(folder);
   }
 

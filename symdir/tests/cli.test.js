@@ -1,0 +1,97 @@
+import assert from 'node:assert/strict';
+import { readdirSync, readFileSync, utimesSync, writeFileSync } from 'node:fs';
+import path from 'node:path';
+import test from 'node:test';
+
+import { folderOf, program, symdir } from './helper.js';
+
+const FILES = { 'a.ts': 'export * from "./b.ts";\n', 'b.ts': 'export const n = 1;\n' };
+
+test('help', () => {
+  assert.equal(symdir([]).status, 2);
+  assert.match(symdir([]).stderr, /^symdir: what a folder of TypeScript/);
+  for (const words of [['--help'], ['-h'], ['help']]) assert.match(symdir(words).stdout, /symdir leaks FOLDER/);
+  for (const it of ['api', 'leaks', 'missing', 'where', 'web', 'graph']) {
+    const { status, stdout } = symdir([it, '--help']);
+    assert.equal(status, 0);
+    assert.match(stdout, new RegExp(`^symdir ${it} `));
+    assert.match(stdout, /--skip REGEX/);
+    assert.match(stdout, /Status: 0 nothing found, 1 findings, 2 wrong words, 3 it couldn't be done\.\n$/);
+    assert.ok(stdout.split('\n').every((line) => line.length <= 100));
+  }
+});
+
+test('wrong words', () => {
+  const said = (/** @type {string[]} */ ...words) => {
+    const { status, stdout, stderr } = symdir(words);
+    assert.deepEqual([status, stdout], [2, '']);
+    return stderr;
+  };
+  assert.equal(said('what'), 'symdir: no command what; there are graph, api, leaks, missing, where, web\n');
+  assert.equal(said('api'), 'symdir: which folder? `symdir --help` shows how it is called\n');
+  assert.equal(said('api', 'a', 'b'), 'symdir: api takes one folder, and not a b\n');
+  assert.equal(said('api', '.', '--none'), 'symdir: Unknown option \'--none\'; `symdir api --help` lists what it takes\n');
+  assert.match(said('api', '.', '--entry'), /^symdir: Option '--entry <value>' argument missing; `symdir api --help` lists what it takes\n$/);
+  assert.match(said('api', '.', '--skip', '('), /^symdir: --skip \(: Invalid regular expression/);
+  const folder = folderOf(FILES);
+  assert.equal(said('api', folder, '--entry', 'c.ts'), `symdir: no module c.ts below ${folder}\n`);
+  assert.equal(said('web', folder, '-o', 'x.bmp'), 'symdir: -o x.bmp: a picture ends in .svg, .png, .pdf or .dot\n');
+  assert.equal(said('api', folder, '--symq', '/none/symq'), 'symdir: no program /none/symq\n');
+});
+
+test('a program that refuses, and one that dies', () => {
+  const folder = folderOf(FILES);
+  const refuses = program({}, 'symq', '#!/bin/sh\necho "symq: graph refused: 7 file:///a.ts 6 1" >&2\nexit 5\n');
+  const refused = symdir(['api', folder, '--symq', refuses]);
+  assert.deepEqual([refused.status, refused.stderr], [3, 'symdir: symq: graph refused: 7 file:///a.ts 6 1 (`symdir graph FOLDER -o graph.json` and `symdir graph --check graph.json` say more)\n']);
+  const dies = program({}, 'symq', '#!/bin/sh\nread line\nexit 9\n');
+  assert.equal(symdir(['api', folder, '--symq', dies]).stderr, 'symdir: symq ended with the status 9\n');
+  const isNone = program({}, 'symq', 'no program');
+  assert.equal(symdir(['api', folder, '--symq', path.dirname(isNone)]).status, 3);
+});
+
+test('--strict is passed on', () => {
+  const file = program({}, 'symq', '#!/bin/sh\necho "symq: words $1" >&2\nexit 2\n');
+  assert.equal(symdir(['api', folderOf(FILES), '--symq', file, '--strict']).stderr, 'symdir: symq: words --strict\n');
+});
+
+test('the program of SYMQ, and none', () => {
+  const env = { SYMQ: '/none/symq' };
+  assert.deepEqual(symdir(['api', folderOf(FILES)], { env }), { status: 3, stdout: '', stderr: 'symdir: no program /none/symq\n' });
+});
+
+test('a closed output is no fault', () => {
+  const many = Object.fromEntries(Array.from({ length: 40 }, (_, i) => [`m${i}.ts`, `export const n${i} = 1;\n`]));
+  assert.equal(symdir(['api', folderOf({ ...many, ...FILES })]).status, 0);
+});
+
+test('trees are kept, and a changed file alone is parsed again', () => {
+  const cache = folderOf({});
+  const folder = folderOf(FILES);
+  const env = { XDG_CACHE_HOME: cache };
+  const names = () => JSON.parse(symdir(['api', folder, '--json'], { env }).stdout).names.map((/** @type {any} */ it) => it.name);
+  assert.deepEqual(names(), ['n']);
+  const [file] = readdirSync(path.join(cache, 'symdir'));
+  const kept = path.join(cache, 'symdir', file);
+  const before = readFileSync(kept);
+  assert.deepEqual(names(), ['n']);
+  assert.deepEqual(readFileSync(kept), before);
+  writeFileSync(path.join(folder, 'b.ts'), 'export const m = 1;\n');
+  assert.deepEqual(names(), ['m']);
+  // what is kept goes by what a file has, and not by when it was written
+  utimesSync(path.join(folder, 'b.ts'), 1, 1);
+  writeFileSync(path.join(folder, 'b.ts'), 'export const k = 1;\n');
+  utimesSync(path.join(folder, 'b.ts'), 1, 1);
+  assert.deepEqual(names(), ['k']);
+  writeFileSync(kept, 'no trees');
+  assert.deepEqual(names(), ['k']);
+  assert.notDeepEqual(readFileSync(kept), Buffer.from('no trees'));
+});
+
+test('--no-cache keeps nothing, and a cache folder that can\'t be written does no harm', () => {
+  const cache = folderOf({ file: '' });
+  const folder = folderOf(FILES);
+  assert.equal(symdir(['api', folder, '--no-cache'], { env: { XDG_CACHE_HOME: cache } }).status, 0);
+  assert.deepEqual(readdirSync(cache), ['file']);
+  assert.equal(symdir(['api', folder], { env: { XDG_CACHE_HOME: path.join(cache, 'file') } }).status, 0);
+});

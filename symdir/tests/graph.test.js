@@ -1,0 +1,76 @@
+import assert from 'node:assert/strict';
+import { readFileSync } from 'node:fs';
+import path from 'node:path';
+import test from 'node:test';
+
+import { folderOf, symdir } from './helper.js';
+
+/** @param {Record<string, string | Buffer>} files @param {string[]} words @returns {any} the graph on standard output */
+function graph(files, ...words) {
+  return JSON.parse(symdir(['graph', folderOf(files), ...words]).stdout);
+}
+
+test('modules, what isn\'t read, and resolutions', () => {
+  const out = graph({ 'a.ts': 'import "./b"; import "node:fs"; import "./d.json"; import "./none";', 'x/b.ts': '', 'b.js': 'let a', 'd.json': '{"a":1}', 'e.json': '{}', 'readme.md': '' });
+  assert.deepEqual(out.modules.map((/** @type {any} */ it) => [it.specifier, it.kind]), [
+    ['file:///a.ts', 'esm'], ['file:///b.js', 'esm'], ['file:///d.json', 'json'], ['file:///x/b.ts', 'esm'], ['node:fs', 'external']]);
+  assert.deepEqual(out.resolutions, [
+    ['file:///a.ts', './b', 'file:///b.js'], ['file:///a.ts', 'node:fs', 'node:fs'], ['file:///a.ts', './d.json', 'file:///d.json']]);
+  assert.equal(out.modules[2].text, '{"a":1}');
+});
+
+test('a byte order mark isn\'t taken, UTF-16 is read, and a declaration file is told', () => {
+  const out = graph({ 'a.ts': '\ufefflet a;', 'b.d.ts': 'declare let b: 1;', 'c.ts': Buffer.from('\ufefflet c;', 'utf16le') });
+  assert.deepEqual(out.modules.map((/** @type {any} */ it) => it.text), ['let a;', 'declare let b: 1;', 'let c;']);
+  assert.deepEqual(out.modules.map((/** @type {any} */ it) => it.tree.declaration ?? false), [false, true, false]);
+  assert.deepEqual(out.modules[0].tree.nodes[0].range, [0, 6]);
+});
+
+test('--js: a module of JavaScript has the types that stand beside it', () => {
+  const out = graph({ 'a.js': 'export const a = 1;', 'a.d.ts': 'export declare const a: number;' }, '--js');
+  assert.deepEqual(out.modules.map((/** @type {any} */ it) => it.types ?? null), [null, 'file:///a.d.ts']);
+});
+
+test('--bodies keeps what stands in the bodies of functions', () => {
+  const count = (/** @type {any} */ it) => it.modules[0].tree.nodes.filter((/** @type {any} */ node) => node.kind === 'VarDecl').length;
+  const files = { 'a.ts': 'function f() { const a = 1; }' };
+  assert.equal(count(graph(files)), 0);
+  assert.equal(count(graph(files, '--bodies')), 1);
+});
+
+test('node_modules and hidden folders aren\'t read', () => {
+  const out = graph({ 'a.ts': '', 'node_modules/p/index.ts': '', '.git/b.ts': '', 'x/node_modules/q.ts': '' });
+  assert.deepEqual(out.modules.map((/** @type {any} */ it) => it.specifier), ['file:///a.ts']);
+});
+
+test('-o writes a file and says what it has', () => {
+  const folder = folderOf({ 'a.ts': 'import "node:fs";' });
+  const file = path.join(folder, 'g.json');
+  assert.deepEqual(symdir(['graph', folder, '-o', file]), { status: 0, stdout: `${file}: 1 module, 1 module that isn't read, 1 resolution\n`, stderr: '' });
+  assert.equal(JSON.parse(readFileSync(file, 'utf8')).modules.length, 2);
+});
+
+test('a syntax error is told in one line, and the graph has the rest', () => {
+  const folder = folderOf({ 'a.ts': 'export const a = 1;', 'x/b.ts': 'let a;\n  let = = 1;\n' });
+  const { status, stdout, stderr } = symdir(['graph', folder]);
+  assert.equal(status, 1);
+  assert.match(stderr, /^symdir: x\/b\.ts:2:\d+: .+\n$/);
+  const { modules } = JSON.parse(stdout);
+  assert.deepEqual(modules.map((/** @type {any} */ it) => it.tree !== undefined), [true, false]);
+});
+
+test('a text that is nested too deep for the parser is told, and the others are there', () => {
+  const folder = folderOf({ 'a.ts': 'export const a = 1;', 'b.ts': `let b = ${'['.repeat(200000)}` });
+  const { status, stdout, stderr } = symdir(['graph', folder]);
+  assert.equal(status, 1);
+  assert.match(stderr, /^symdir: b\.ts:1:1: it is nested too deep for the parser\n$/);
+  assert.equal(JSON.parse(stdout).modules.length, 2);
+});
+
+test('no folder, no module, a file that can\'t be written', () => {
+  const folder = folderOf({ 'readme.md': '', 'a.ts': '' });
+  assert.deepEqual(symdir(['graph', path.join(folder, 'none')]), { status: 3, stdout: '', stderr: `symdir: no folder ${folder}/none\n` });
+  assert.deepEqual(symdir(['graph', path.join(folder, 'a.ts')]), { status: 2, stdout: '', stderr: `symdir: ${folder}/a.ts is a file: name the folder, and --entry a.ts\n` });
+  assert.match(symdir(['graph', folderOf({ 'readme.md': '' })]).stderr, /^symdir: no module in .*: files that end in \.ts \.tsx /);
+  assert.deepEqual(symdir(['graph', folder, '-o', '/none/g.json']), { status: 3, stdout: '', stderr: 'symdir: /none/g.json can\'t be written (ENOENT)\n' });
+});

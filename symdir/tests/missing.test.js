@@ -1,0 +1,60 @@
+import assert from 'node:assert/strict';
+import test from 'node:test';
+
+import { answer, folderOf, symdir } from './helper.js';
+
+/** @param {Record<string, string>} files @param {string[]} words @returns {string[]} */
+function missing(files, ...words) {
+  const out = answer(['missing', folderOf(files), ...words]);
+  return out.missing.map((/** @type {any} */ it) => `${it.what} ${it.file}:${it.line}:${it.column} ${it.how} ${it.text}`);
+}
+
+test('imports that lead to no file, by each form', () => {
+  const text = 'import "./a1";\nexport * from "./a2";\nexport { x } from "./a3";\nimport r = require("./a4");\nlet t: import("./a5").T;\nfunction f() { return import("./a6"); }\n';
+  assert.deepEqual(missing({ 'index.ts': text }), [
+    'file index.ts:1:1 import ./a1', 'file index.ts:2:1 export * ./a2', 'file index.ts:3:1 export ./a3',
+    'file index.ts:4:1 require ./a4', 'file index.ts:5:8 import type ./a5', 'file index.ts:6:23 import() ./a6']);
+});
+
+test('packages that nobody knows, and what is outside', () => {
+  const files = { 'index.ts': 'import "lodash";\nimport "known";\nimport "node:fs";\nimport "https://x.org/a.ts";\nimport "jsr:@a/b";\n', 'package.json': '{"dependencies":{"known":"1"}}' };
+  assert.deepEqual(missing(files), ['package index.ts:1:1 import lodash']);
+  assert.deepEqual(answer(['missing', folderOf(files)]).external, ['https://x.org/a.ts', 'jsr:@a/b', 'node:fs', 'npm:known']);
+});
+
+test('imported names that aren\'t there', () => {
+  assert.deepEqual(missing({
+    'index.ts': 'import d, { a, b as c } from "./m";\nexport { e } from "./m";\nlet t: import("./m").T;\n',
+    'm.ts': 'export const a = 1;\n',
+  }), ['name index.ts:1:8 m.ts default', 'name index.ts:1:16 m.ts b', 'name index.ts:2:10 m.ts e', 'name index.ts:3:22 m.ts T']);
+});
+
+test('a name that comes along `export *` is there; `default` doesn\'t come along it', () => {
+  const files = { 'index.ts': 'import { a } from "./m";\nimport d from "./m";\n', 'm.ts': 'export * from "./n";\n', 'n.ts': 'export const a = 1;\nexport default 1;\n' };
+  assert.deepEqual(missing(files), ['name index.ts:2:8 m.ts default']);
+});
+
+test('nothing is said of names that may come from what isn\'t read, or that no `export` tells', () => {
+  assert.deepEqual(missing({ 'index.ts': 'import { a } from "./m";\n', 'm.ts': 'export * from "npm:far";\n' }), []);
+  assert.deepEqual(missing({ 'index.ts': 'import { a } from "./m";\n', 'm.ts': 'export * from "./gone";\n' }), ['file m.ts:1:1 export * ./gone']);
+  assert.deepEqual(missing({ 'index.ts': 'import a, { b } from "./m.cjs";\n', 'm.cjs': 'module.exports = { b: 1 };\n' }), []);
+  assert.deepEqual(missing({ 'index.ts': 'import a, { b } from "./m";\n', 'm.d.ts': 'declare namespace m { const b: number }\nexport = m;\n' }), []);
+  assert.deepEqual(missing({ 'index.ts': 'import a, { b } from "./m.json";\n', 'm.json': '{"b":1}' }), []);
+  assert.deepEqual(missing({ 'index.ts': 'import { b } from "./m";\n', 'm.d.ts': 'import "./n";\ndeclare const b: number;\n', 'n.ts': '' }), []);
+  assert.deepEqual(missing({ 'index.ts': 'import { b } from "./l";\n', 'l.ts': 'export * from "./m";\n', 'm.d.ts': 'import "./n";\ndeclare const b: number;\n', 'n.ts': '' }), []);
+});
+
+test('syntax errors, and the status', () => {
+  const folder = folderOf({ 'index.ts': 'import { a } from "./b";\n', 'b.ts': 'export const a = ;\n' });
+  const { status, stdout } = symdir(['missing', folder]);
+  assert.equal(status, 1);
+  assert.equal(stdout, `files with a syntax error, of which nothing is known: 1
+  Expression expected.  b.ts:1:18
+1 import in 2 modules: 1 missing
+`);
+});
+
+test('nothing is missing', () => {
+  const { status, stdout } = symdir(['missing', folderOf({ 'index.ts': 'import "./a";\nimport "node:fs";\n', 'a.ts': '' })]);
+  assert.deepEqual([status, stdout], [0, '2 imports in 2 modules: nothing is missing; 1 module outside of the folder isn\'t asked\n']);
+});

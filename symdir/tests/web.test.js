@@ -1,0 +1,51 @@
+import assert from 'node:assert/strict';
+import { readFileSync } from 'node:fs';
+import path from 'node:path';
+import test from 'node:test';
+
+import { answer, folderOf, symdir } from './helper.js';
+
+const FILES = {
+  'index.ts': 'export * from "./all.ts";\nexport { one as two } from "./one.ts";\nexport * from "./gone.ts";\nexport { lost } from "./one.ts";\n',
+  'all.ts': 'export * from "./x/a.ts";\nexport * from "./x/b.ts";\nexport * from "./x/c.ts";\n',
+  'one.ts': 'export const one = 1;\n',
+  'x/a.ts': 'export const a = 1;\n', 'x/b.ts': 'export const b = 1, bb = 2;\n', 'x/c.ts': 'export const c = 1;\n',
+};
+
+test('who passes which names on to whom', () => {
+  const { entries, modules, edges, lost } = answer(['web', folderOf(FILES)]);
+  assert.deepEqual(entries, ['index.ts']);
+  assert.deepEqual(Object.fromEntries(modules.map((/** @type {any} */ it) => [it.file, it.names])), {
+    'index.ts': [], 'all.ts': [], 'one.ts': ['two'], 'x/a.ts': ['a'], 'x/b.ts': ['b', 'bb'], 'x/c.ts': ['c'] });
+  assert.deepEqual(edges.map((/** @type {any} */ it) => [it.from, it.to, it.star, it.names]).sort(), [
+    ['all.ts', 'x/a.ts', true, ['a']], ['all.ts', 'x/b.ts', true, ['b', 'bb']], ['all.ts', 'x/c.ts', true, ['c']],
+    ['index.ts', 'all.ts', true, ['a', 'b', 'bb', 'c']], ['index.ts', 'one.ts', false, ['two', 'lost']]].sort());
+  assert.deepEqual(lost, [{ file: 'index.ts', text: './gone.ts', star: true }, { file: 'one.ts', text: 'no lost', star: false }]);
+});
+
+test('a name that passes through `export *` behind a named export', () => {
+  const { edges } = answer(['web', folderOf({ 'index.ts': 'export { a } from "./b.ts";\n', 'b.ts': 'export * from "./c.ts";\n', 'c.ts': 'export const a = 1;\n' })]);
+  assert.deepEqual(edges.map((/** @type {any} */ it) => [it.from, it.to, it.star]), [['index.ts', 'b.ts', false], ['b.ts', 'c.ts', true]]);
+});
+
+test('the text for Graphviz: one box for modules of a folder with the same way in', () => {
+  const { stdout, status } = symdir(['web', folderOf(FILES)]);
+  assert.equal(status, 1);
+  assert.match(stdout, /^digraph exports \{/);
+  assert.match(stdout, /<B>x\/ {2}3 modules<\/B>/);
+  assert.match(stdout, /label="3 x 4"/);
+  assert.equal(stdout.match(/color=red, fontcolor=red/g)?.length, 2);
+});
+
+test('a picture', () => {
+  const folder = folderOf(FILES);
+  const file = path.join(folder, 'web.svg');
+  const { stdout, status } = symdir(['web', folder, '-o', file]);
+  assert.deepEqual([status, stdout], [1, `${file}: 6 modules in 4 boxes, 3 edges, 2 that lead nowhere\n`]);
+  assert.match(readFileSync(file, 'utf8'), /<svg/);
+});
+
+test('without Graphviz it says what to do', () => {
+  const { status, stderr } = symdir(['web', folderOf(FILES), '-o', 'x.svg'], { env: { PATH: '/none' } });
+  assert.deepEqual([status, stderr.includes('apt-get install graphviz')], [3, true]);
+});
