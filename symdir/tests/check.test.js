@@ -1,0 +1,84 @@
+import assert from 'node:assert/strict';
+import { readFileSync, readdirSync } from 'node:fs';
+import path from 'node:path';
+import test from 'node:test';
+
+import { CATEGORIES, FIELDS } from '../lib/check/kinds.js';
+import { kindsOf } from '../lib/check/faults.js';
+import { wordsOf } from '../lib/commands/check.js';
+import { folderOf, symdir } from './helper.js';
+
+const GRAPH = readFileSync(new URL('../../docs/GRAPH.md', import.meta.url), 'utf8');
+const FORMS = new URL('../../tests/forms/', import.meta.url);
+
+/** @param {string} from @param {string} to @param {RegExp} row @returns {RegExpMatchArray[]} the rows of tables between two headings */
+function rows(from, to, row) {
+  return [...GRAPH.slice(GRAPH.indexOf(from), GRAPH.indexOf(to)).matchAll(row)];
+}
+
+test('the kinds and their fields are those of docs/GRAPH.md', () => {
+  const found = rows('## Kinds', '## Categories', /^\| `(\w+)` \|.*\| (.*?) \|$/gm);
+  assert.deepEqual(FIELDS, Object.fromEntries(found.map(([, kind, fields]) => [kind, fields.replaceAll('`', '')])));
+  assert.equal(found.length, 75);
+});
+
+test('the categories are those of docs/GRAPH.md', () => {
+  const found = rows('## Categories', '## Rules of shape', /^\| (\w+) \| (.*?) \|$/gm).filter(([, it]) => it !== 'category');
+  /** @param {string} category @returns {Set<string>} */
+  const wanted = (category) => {
+    const [, , text] = found.find(([, it]) => it === category) ?? [];
+    if (text === undefined) return new Set([category]);
+    const [words, but] = text.split(' but for ');
+    const kinds = new Set(words.split(', ').flatMap((it) => (it.startsWith('`') ? [it.slice(1, -1)] : [...wanted(it)])));
+    if (but) kinds.delete(but.slice(1, -1));
+    return kinds;
+  };
+  for (const [, category] of found.filter(([, it]) => it !== 'Any')) assert.deepEqual([...kindsOf(category)].sort(), [...wanted(category)].sort(), category);
+  assert.equal(kindsOf('Any').size, 75 - 1 - 8);
+  assert.deepEqual(kindsOf('VarDeclarator'), new Set(['VarDeclarator']));
+  assert.ok(Object.keys(CATEGORIES).length > 25);
+});
+
+test('of each stored form words are told where symq refuses it, and none where it reads it', () => {
+  let count = 0;
+  for (const name of readdirSync(FORMS)) {
+    for (const line of readFileSync(new URL(name, FORMS), 'latin1').split('\n').filter((it) => it !== '' && !it.startsWith('#'))) {
+      const [status, said, ...graph] = line.split('\t');
+      const words = wordsOf(Buffer.from(graph.join('\t'), 'latin1'));
+      assert.equal(words.length > 0, status === '4' || status === '5', `${name}: ${line}\n${words.join('\n')}`);
+      const named = /^symq: graph refused: 7 (\S+) [3-7] (\d+)$/.exec(said);
+      if (named) assert.ok(words.some((it) => it.startsWith(`module ${named[1]}, node ${named[2]} (`)), `${line}\n${words.join('\n')}`);
+      count++;
+    }
+  }
+  assert.ok(count > 300);
+});
+
+test('words for each fault', () => {
+  const words = (/** @type {unknown} */ it) => wordsOf(Buffer.from(typeof it === 'string' ? it : JSON.stringify(it)));
+  const tree = (/** @type {unknown[]} */ ...nodes) => words({ modules: [{ specifier: 'm', kind: 'esm', text: 'é', tree: { nodes } }] });
+  const program = { kind: 'Program', range: [0, 2] };
+  assert.match(words('{"modules":[}')[0], /^1:13: it is no JSON: Unexpected token '}'$/);
+  assert.deepEqual(words('\ufeff{}'), ['1:1: it begins with a byte order mark, which isn\'t taken: write the file without']);
+  assert.deepEqual(words('{\n"x": 1.5}'), ['2:6: 1.5 is no whole number of 64 bits, written in digits alone']);
+  assert.deepEqual(words('[]'), ['a graph is an object, and this is []']);
+  assert.deepEqual(words({ modules: [{ kind: 'esm' }] }), ['module 0 of the list: "specifier" has to be there, a text', 'module 0 of the list: "text" has to be there, a text']);
+  assert.deepEqual(tree({ kind: 'Ident', range: [0, 1] }), ['module m, node 0 (Ident): "sym" has to be there']);
+  assert.deepEqual(tree({ kind: 'Idnt', range: [0, 1] }), ['module m, node 0 (Idnt): there is no kind "Idnt"']);
+  assert.deepEqual(tree({ ...program, body: [1] }, { kind: 'Ident', range: [0, 2], sym: ['a', 1] }), ['module m, node 0 (Program): "body" takes an Item, and node 1 is of the kind Ident']);
+  assert.deepEqual(tree({ ...program, body: [4] }), ['module m, node 0 (Program): "body" names node 4, and there are 1']);
+  assert.deepEqual(tree({ ...program, range: [0, 1] }), ['module m, node 0 (Program): the range [0, 1] cuts a character: ranges count bytes of UTF-8, and 1 is within one']);
+  assert.deepEqual(tree({ ...program, range: [0, 5] }), ['module m, node 0 (Program): the range [0, 5] ends after the text, which has 2 bytes']);
+  assert.deepEqual(words({ redirects: [['a', 'b'], ['b', 'c']] }), ['the redirect from a leads to b, which is redirected: name the last target']);
+});
+
+test('the command: what symq says, and the words', () => {
+  const folder = folderOf({
+    'good.json': '{}', 'bad.json': '{"modules":[{"specifier":"m","kind":"esm","text":"","tree":{"nodes":[{"kind":"Program","range":[0,9]}]}}]}' });
+  const check = (/** @type {string} */ name) => symdir(['graph', '--check', name], { cwd: folder });
+  assert.deepEqual(check('good.json'), { status: 0, stdout: 'good.json: symq reads it\n', stderr: '' });
+  assert.deepEqual(check('bad.json'), { status: 1, stderr: '', stdout: `symq: graph refused: 7 m 5 0
+bad.json: module m, node 0 (Program): the range [0, 9] ends after the text, which has 0 bytes
+` });
+  assert.deepEqual(check(path.join('none', 'x.json')), { status: 3, stdout: '', stderr: 'symdir: none/x.json can\'t be read (ENOENT)\n' });
+});
