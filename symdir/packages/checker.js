@@ -1,0 +1,34 @@
+// What TypeScript's own checker says that modules export: a process of its own, since it takes memory.
+//   node checker.js FILE..    a line of JSON for each file: { file, names: { name: [[file, line, column] of each declaration's name] } }
+import { createRequire } from 'node:module';
+import path from 'node:path';
+
+import { findTypeScript } from '../lib/typescript.js';
+
+const require = createRequire(import.meta.url);
+/** @type {typeof import('typescript')} */
+const ts = require(findTypeScript(process.cwd()).file);
+const files = process.argv.slice(2).map((it) => path.resolve(it));
+const program = ts.createProgram(files, {
+  allowJs: true, noEmit: true, skipLibCheck: true, noLib: true, types: [], moduleResolution: ts.ModuleResolutionKind.NodeJs,
+  target: ts.ScriptTarget.ESNext, module: ts.ModuleKind.ESNext, baseUrl: process.env.BASE, paths: process.env.BASE ? { '*': ['*'] } : undefined,
+});
+const checker = program.getTypeChecker();
+
+/** @param {import('typescript').Declaration} declaration @returns {[string, number, number]} */
+function placeOf(declaration) {
+  const name = ts.getNameOfDeclaration(declaration) ?? declaration;
+  const file = declaration.getSourceFile();
+  const { line, character } = file.getLineAndCharacterOfPosition(name.getStart());
+  return [file.fileName, line + 1, character + 1];
+}
+
+for (const file of files) {
+  const source = program.getSourceFile(file);
+  const symbol = source && checker.getSymbolAtLocation(source);
+  const names = Object.fromEntries((symbol ? checker.getExportsOfModule(symbol) : []).map((it) => {
+    const target = it.flags & ts.SymbolFlags.Alias ? checker.getAliasedSymbol(it) : it;
+    return [it.name, (target.declarations ?? []).map(placeOf)];
+  }));
+  process.stdout.write(`${JSON.stringify({ file, names })}\n`);
+}
