@@ -25,8 +25,12 @@ import { wellFormed } from './offsets.js';
  * @property {string[]} implicit names that TypeScript exports of a declaration file without a word
  */
 
-/** @param {string} name @param {string} text @param {Options} options @returns {import('typescript').SourceFile} */
-function parsed(name, text, options) {
+/** A comment that TypeScript parses for its tags, at the beginning of a line, where nothing of a tree is a string. */
+const DOCUMENTATION = /^([ \t]*\/\*)\*(?!\/)/gm;
+
+/** @param {string} name @param {string} source @param {Options} options @returns {import('typescript').SourceFile} without what comments say, which takes long and isn't needed */
+function parsed(name, source, options) {
+  const text = source.replace(DOCUMENTATION, '$1 ');
   const kind = { ts: ts.ScriptKind.TS, tsx: ts.ScriptKind.TSX, js: ts.ScriptKind.JS, jsx: ts.ScriptKind.JSX }[options.language];
   const how = { languageVersion: ts.ScriptTarget.Latest, jsDocParsingMode: 1 };
   return ts.createSourceFile(name, text, /** @type {any} */ (how), false, kind);

@@ -1,0 +1,116 @@
+// From sources to answers, beside TypeScript's own checker: what each module of a folder exports, where each exported name is
+// defined, and where each imported one.
+//
+//   node bench/sources.mjs [--rounds N] [--symq FILE] FOLDER..
+//
+// In each round three processes run one after the other: the checker, symdir with no trees kept, and symdir with the trees of
+// the run before. Times are medians on the clock, in seconds; the ratios are to the checker's. Both read the same files, the
+// modules of TypeScript below the folder, and both say how many names they found.
+import { spawnSync } from 'node:child_process';
+import { mkdtempSync, rmSync } from 'node:fs';
+import { createRequire } from 'node:module';
+import os from 'node:os';
+import path from 'node:path';
+import { fileURLToPath } from 'node:url';
+import { parseArgs } from 'node:util';
+
+import { isDefinition, Folder } from '../symdir/lib/folder/folder.js';
+import { Files } from '../symdir/lib/folder/files.js';
+import { isJavaScript } from '../symdir/lib/language.js';
+import { findTypeScript } from '../symdir/lib/typescript.js';
+
+const SELF = fileURLToPath(import.meta.url);
+
+/** @param {string} folder @returns {string[]} the modules of TypeScript in it */
+function modules(folder) {
+  return new Files(folder, []).code().filter((it) => !isJavaScript(it));
+}
+
+/** @param {string} folder what the checker finds */
+function askChecker(folder) {
+  const ts = createRequire(import.meta.url)(findTypeScript(folder).file);
+  const program = ts.createProgram(modules(folder), {
+    noEmit: true, skipLibCheck: true, noLib: true, types: [], moduleResolution: ts.ModuleResolutionKind.NodeJs,
+    target: ts.ScriptTarget.ESNext, module: ts.ModuleKind.ESNext, noResolve: false, maxNodeModuleJsDepth: 0,
+  });
+  const checker = program.getTypeChecker();
+  const wanted = new Set(modules(folder));
+  const count = { exports: 0, imports: 0 };
+  const define = (symbol) => (symbol.flags & ts.SymbolFlags.Alias ? checker.getAliasedSymbol(symbol) : symbol).declarations?.map((it) => it.getStart());
+  for (const file of program.getSourceFiles().filter((it) => wanted.has(it.fileName))) {
+    const module = checker.getSymbolAtLocation(file);
+    for (const it of module ? checker.getExportsOfModule(module) : []) {
+      define(it);
+      count.exports++;
+    }
+    for (const statement of file.statements) {
+      const clause = ts.isImportDeclaration(statement) ? statement.importClause : undefined;
+      const bindings = clause?.namedBindings;
+      const names = [...(clause?.name ? [clause.name] : []), ...(bindings && ts.isNamedImports(bindings) ? bindings.elements.map((it) => it.name) : [])];
+      for (const name of names) {
+        const symbol = checker.getSymbolAtLocation(name);
+        if (symbol) define(symbol);
+        count.imports++;
+      }
+    }
+  }
+  return count;
+}
+
+/** @param {string} folder @param {string} symq what symdir finds */
+async function askSymdir(folder, symq) {
+  const opened = await Folder.read({
+    folder, skip: [/\.[mc]?jsx?$/], bodies: false, ambient: true, javascript: true, packages: false, cache: true, progress: () => {},
+  }, { entry: [] });
+  opened.open({ symq });
+  const specifiers = [...opened.sources.modules.keys()];
+  const exports = (await opened.exports(specifiers)).flatMap((it) => it.exports);
+  const imports = specifiers.flatMap((specifier) => opened.sources.modules.get(specifier).parsed.references
+    .filter((it) => it.how === 'import').flatMap(({ text, names }) => names.filter(([name]) => name !== '*').map(([name]) => ['resolve', specifier, ['import', text, [name]]])));
+  const [leaves] = await Promise.all([opened.leaves(exports.map((it) => [it.module, it.symbol])), opened.ask(imports)]);
+  for (const it of leaves.flat()) if (isDefinition(it)) opened.declaration(it.module, it.start, it.end);
+  await opened.close();
+  return { exports: exports.length, imports: imports.length };
+}
+
+/** @param {string[]} words @param {string} cache @returns {{ seconds: number, count: string }} */
+function timed(words, cache) {
+  const began = performance.now();
+  const { status, stdout, stderr } = spawnSync(process.execPath, [SELF, ...words], { encoding: 'utf8', env: { ...process.env, XDG_CACHE_HOME: cache } });
+  const seconds = (performance.now() - began) / 1000;
+  if (status !== 0) throw new Error(stderr);
+  return { seconds, count: stdout.trim() };
+}
+
+/** @param {number[]} numbers */
+function median(numbers) {
+  return [...numbers].sort((a, b) => a - b)[numbers.length >> 1];
+}
+
+/** @param {string} folder @param {number} rounds @param {string} symq */
+function compare(folder, rounds, symq) {
+  const runs = { checker: [], cold: [], kept: [] };
+  const counts = new Set();
+  for (let i = 0; i < rounds; i++) {
+    const cache = mkdtempSync(path.join(os.tmpdir(), 'sources-'));
+    const once = (/** @type {string} */ name, /** @type {string[]} */ words) => {
+      const { seconds, count } = timed(words, cache);
+      runs[name].push(seconds);
+      counts.add(`${name === 'checker' ? 'checker' : 'symdir'} ${count}`);
+    };
+    once('checker', ['--ask', 'checker', folder]);
+    once('cold', ['--ask', 'symdir', '--symq', symq, folder]);
+    once('kept', ['--ask', 'symdir', '--symq', symq, folder]);
+    rmSync(cache, { recursive: true });
+  }
+  const [checker, cold, kept] = [runs.checker, runs.cold, runs.kept].map(median);
+  console.log(`${folder}: ${modules(folder).length} modules; checker ${checker.toFixed(2)} s, symdir ${cold.toFixed(2)} s (${(cold / checker).toFixed(2)}), trees kept ${kept.toFixed(2)} s (${(kept / checker).toFixed(2)})`);
+  for (const it of counts) console.log(`  ${it}`);
+}
+
+const { values, positionals } = parseArgs({ allowPositionals: true, options: {
+  rounds: { type: 'string', default: '5' }, symq: { type: 'string', default: fileURLToPath(new URL('../crates/symq/out/symq', import.meta.url)) }, ask: { type: 'string' } } });
+const folders = positionals.map((it) => path.resolve(it));
+if (values.ask === 'checker') console.log(JSON.stringify(askChecker(folders[0])));
+else if (values.ask) console.log(JSON.stringify(await askSymdir(folders[0], values.symq)));
+else for (const it of folders) compare(it, Number(values.rounds), values.symq);
