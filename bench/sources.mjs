@@ -3,11 +3,12 @@
 //
 //   node bench/sources.mjs [--rounds N] [--symq FILE] FOLDER..
 //
-// In each round three processes run one after the other: the checker, symdir with no trees kept, and symdir with the trees of
-// the run before. Times are medians on the clock, in seconds; the ratios are to the checker's. Both read the same files, the
-// modules of TypeScript below the folder, and both say how many names they found.
+// In each round four processes run one after the other: the checker; symdir with an empty cache; symdir with no trees kept, but
+// with TypeScript's compiled form, as any earlier run on any folder keeps it; and symdir with the trees of the run before.
+// Times are medians on the clock, in seconds; the ratios are to the checker's. Both read the same files, the modules of
+// TypeScript below the folder, and both say how many names they found.
 import { spawnSync } from 'node:child_process';
-import { mkdtempSync, rmSync } from 'node:fs';
+import { mkdtempSync, readdirSync, rmSync } from 'node:fs';
 import { createRequire } from 'node:module';
 import os from 'node:os';
 import path from 'node:path';
@@ -87,9 +88,14 @@ function median(numbers) {
   return [...numbers].sort((a, b) => a - b)[numbers.length >> 1];
 }
 
+/** @param {string} folder a cache, whose trees go */
+function forgetTrees(folder) {
+  for (const it of readdirSync(folder)) if (it.endsWith('.trees')) rmSync(path.join(folder, it));
+}
+
 /** @param {string} folder @param {number} rounds @param {string} symq */
 function compare(folder, rounds, symq) {
-  const runs = { checker: [], cold: [], kept: [] };
+  const runs = { checker: [], empty: [], cold: [], kept: [] };
   const counts = new Set();
   for (let i = 0; i < rounds; i++) {
     const cache = mkdtempSync(path.join(os.tmpdir(), 'sources-'));
@@ -99,12 +105,16 @@ function compare(folder, rounds, symq) {
       counts.add(`${name === 'checker' ? 'checker' : 'symdir'} ${count}`);
     };
     once('checker', ['--ask', 'checker', folder]);
+    once('empty', ['--ask', 'symdir', '--symq', symq, folder]);
+    forgetTrees(path.join(cache, 'symdir'));
     once('cold', ['--ask', 'symdir', '--symq', symq, folder]);
     once('kept', ['--ask', 'symdir', '--symq', symq, folder]);
     rmSync(cache, { recursive: true });
   }
-  const [checker, cold, kept] = [runs.checker, runs.cold, runs.kept].map(median);
-  console.log(`${folder}: ${modules(folder).length} modules; checker ${checker.toFixed(2)} s, symdir ${cold.toFixed(2)} s (${(cold / checker).toFixed(2)}), trees kept ${kept.toFixed(2)} s (${(kept / checker).toFixed(2)})`);
+  const checker = median(runs.checker);
+  const told = [['empty cache', runs.empty], ['no trees kept', runs.cold], ['trees kept', runs.kept]].map(([name, times]) => (
+    `${name} ${median(times).toFixed(2)} s (${(median(times) / checker).toFixed(2)})`));
+  console.log(`${folder}: ${modules(folder).length} modules; checker ${checker.toFixed(2)} s; symdir: ${told.join(', ')}`);
   for (const it of counts) console.log(`  ${it}`);
 }
 

@@ -71,7 +71,7 @@ test('trees are kept, and a changed file alone is parsed again', () => {
   const env = { XDG_CACHE_HOME: cache };
   const names = () => JSON.parse(symdir(['api', folder, '--json'], { env }).stdout).names.map((/** @type {any} */ it) => it.name);
   assert.deepEqual(names(), ['n']);
-  const [file] = readdirSync(path.join(cache, 'symdir'));
+  const [file] = readdirSync(path.join(cache, 'symdir')).filter((it) => it.endsWith('.trees'));
   const kept = path.join(cache, 'symdir', file);
   const before = readFileSync(kept);
   assert.deepEqual(names(), ['n']);

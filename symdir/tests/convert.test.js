@@ -11,7 +11,7 @@ const PLAIN = { bodies: false, ambient: false };
 function nodes(text, name = 'a.ts', how = {}) {
   const made = convert(name, text, { ...languageOf(name), ...PLAIN, ...how });
   assert.equal(made.fault, null);
-  return JSON.parse(/** @type {string} */ (made.nodes));
+  return JSON.parse(/** @type {string} */ (made.tree));
 }
 
 /** @param {any[]} list @param {string} name @returns {number[]} the scopes of the names, in order */
@@ -46,7 +46,7 @@ test('ranges count bytes', () => {
 test('a lone surrogate is written as U+FFFD', () => {
   const made = convert('a.ts', 'const a = "\ud800";', { ...languageOf('a.ts'), ...PLAIN });
   assert.equal(made.text, 'const a = "\ufffd";');
-  assert.doesNotThrow(() => JSON.parse(/** @type {string} */ (made.nodes)));
+  assert.doesNotThrow(() => JSON.parse(/** @type {string} */ (made.tree)));
 });
 
 test('a name has the scope that declares it', () => {
@@ -123,7 +123,7 @@ test('newer syntax than TypeScript 4.8 knows', () => {
 
 test('a syntax error is told with its place', () => {
   const made = convert('a.ts', 'const a = 1;\nconst b = ;\n', { ...languageOf('a.ts'), ...PLAIN });
-  assert.equal(made.nodes, null);
+  assert.equal(made.tree, null);
   assert.deepEqual(made.fault, { line: 2, column: 11, text: 'Expression expected.' });
 });
 

@@ -41,7 +41,7 @@ test('a picture', () => {
   const folder = folderOf(FILES);
   const file = path.join(folder, 'web.svg');
   const { stdout, status } = symdir(['web', folder, '-o', file]);
-  assert.deepEqual([status, stdout], [1, `${file}: 6 modules in 4 boxes, 3 edges, 2 that lead nowhere\n`]);
+  assert.deepEqual([status, stdout], [1, `${file}: 6 modules in 4 boxes, 3 edges; 2 lead nowhere\n`]);
   assert.match(readFileSync(file, 'utf8'), /<svg/);
 });
 

@@ -24,6 +24,11 @@ function drawn(out, text) {
   if (done.status !== 0) throw new Failure(`Graphviz ended with the status ${done.status}: ${done.stderr.trim().split('\n').pop()}`);
 }
 
+/** @param {number} count @returns {string} */
+function lostText(count) {
+  return count === 0 ? 'all leads somewhere' : count === 1 ? '1 leads nowhere' : `${count} lead nowhere`;
+}
+
 /** @param {Run} run @param {Folder} folder @returns {Promise<number>} the status: 1 where something leads nowhere */
 export async function web({ options, print }, folder) {
   const found = await gather(folder);
@@ -38,6 +43,6 @@ export async function web({ options, print }, folder) {
       lost: found.lost.map(({ module, text, isStar }) => ({ file: short(module), text, star: isStar })),
     }, null, 1));
   } else if (!options.out) process.stdout.write(drawing.text());
-  else print(`${options.out}: ${counted(drawing.modules.length, 'module')} in ${counted(drawing.boxes.length, 'box')}, ${counted(drawing.edgeLines().length, 'edge')}, ${found.lost.length} that lead nowhere`);
+  else print(`${options.out}: ${counted(drawing.modules.length, 'module')} in ${counted(drawing.boxes.length, 'box')}, ${counted(drawing.edgeLines().length, 'edge')}; ${lostText(found.lost.length)}`);
   return found.lost.length > 0 ? 1 : 0;
 }

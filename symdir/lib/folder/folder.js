@@ -71,7 +71,7 @@ export class Folder {
   }
 
   async close() {
-    await this.symq?.close();
+    await Promise.all([this.symq?.close(), this.sources.keeping]);
     if (this.folder) rmSync(this.folder, { recursive: true, force: true });
   }
 

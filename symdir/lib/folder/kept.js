@@ -1,6 +1,7 @@
 // Trees that are kept from run to run, under the user's cache folder: one file for a folder of sources and how it is read.
 import { createHash } from 'node:crypto';
-import { mkdirSync, readFileSync, readdirSync, renameSync, rmSync, statSync, writeFileSync } from 'node:fs';
+import { readFileSync, readdirSync, rmSync, statSync } from 'node:fs';
+import { mkdir, open, rename } from 'node:fs/promises';
 import os from 'node:os';
 import path from 'node:path';
 import { fileURLToPath } from 'node:url';
@@ -31,6 +32,11 @@ function cacheFolder() {
   if (env.XDG_CACHE_HOME) return path.join(env.XDG_CACHE_HOME, 'symdir');
   if (platform === 'win32' && env.LOCALAPPDATA) return path.join(env.LOCALAPPDATA, 'symdir', 'cache');
   return path.join(os.homedir(), platform === 'darwin' ? 'Library/Caches' : '.cache', 'symdir');
+}
+
+/** @param {string} version of TypeScript @returns {string} where its compiled form is kept, for this version of Node */
+export function compiledFile(version) {
+  return path.join(cacheFolder(), `typescript-${version}-${process.version}.compiled`);
 }
 
 /** @returns {string} changes with what makes of a text what is kept */
@@ -79,17 +85,22 @@ export class Kept {
     return found?.hash === hash ? found : null;
   }
 
-  /** @param {Map<string, Parsed>} modules what to keep; that it can't be kept is no failure */
-  write(modules) {
+  /** @param {Map<string, Parsed>} modules what to keep; that it can't be kept is no failure @returns {Promise<void>} */
+  async write(modules) {
     const rows = [...modules].map(([file, { text, ...rest }]) => [file, text.length, rest]);
     const header = Buffer.from(JSON.stringify(rows));
     const length = Buffer.alloc(4);
     length.writeUInt32LE(header.length);
     try {
-      mkdirSync(path.dirname(this.file), { recursive: true });
+      await mkdir(path.dirname(this.file), { recursive: true });
       const part = `${this.file}.${process.pid}`;
-      writeFileSync(part, Buffer.concat([length, header, ...[...modules.values()].map((it) => it.text)]));
-      renameSync(part, this.file);
+      const file = await open(part, 'w');
+      try {
+        for (const it of [length, header, ...[...modules.values()].map(({ text }) => text)]) await file.write(it);
+      } finally {
+        await file.close();
+      }
+      await rename(part, this.file);
       prune(path.dirname(this.file));
     } catch {
       // a cache folder that can't be written costs time alone

@@ -3,24 +3,27 @@ import { statSync } from 'node:fs';
 import os from 'node:os';
 import { Worker } from 'node:worker_threads';
 
+import { Failure } from '../failure.js';
+
 /** @typedef {import('./kept.js').Parsed} Parsed */
 
 /** A file, and the specifier of its module. */
 /** @typedef {{ file: string, specifier: string }} Job */
 
-/** A thread takes a moment to start, so one has at least so many bytes to parse. */
-const BYTES_FOR_A_THREAD = 100_000;
+/** A thread loads TypeScript and warms up for itself, so one has at least so many bytes to parse. */
+const BYTES_FOR_A_THREAD = 2_000_000;
 /** How many files a thread is given ahead. */
 const AHEAD = 3;
 /** Trees are deep, and walked by recursion. */
 const STACK_MEGABYTES = 64;
 
 export class Pool {
-  /** @param {{ typescript: string, bodies: boolean, ambient: boolean }} how */
+  /** @param {{ typescript: string, compiled: string | undefined, bodies: boolean, ambient: boolean }} how `compiled`: where TypeScript's compiled form is kept */
   constructor(how) {
     this.how = how;
     /** @type {Worker[]} */
     this.workers = [];
+    this.hasFailed = false;
   }
 
   /** @param {number} count starts threads until there are so many */
@@ -45,12 +48,22 @@ export class Pool {
     const bytes = sized.reduce((sum, it) => sum + it.size, 0);
     this.start(Math.max(1, Math.min(os.cpus().length, jobs.length, Math.ceil(bytes / BYTES_FOR_A_THREAD))));
     const waiting = sized.map((it) => it.job).reverse();
-    await Promise.all(this.workers.map((it) => serve(it, waiting, done)));
+    try {
+      await Promise.all(this.workers.map((it) => serve(it, waiting, done)));
+    } catch (error) {
+      this.hasFailed = true;
+      throw new Failure(`a thread that parses ended: ${/** @type {Error} */ (error).message}`);
+    }
   }
 
-  /** @returns {Promise<unknown>} */
-  close() {
-    return Promise.all(this.workers.map((it) => it.terminate()));
+  /** Has the compiled form of TypeScript kept, and ends the threads. */
+  async close() {
+    const [first] = this.workers;
+    if (first && !this.hasFailed) {
+      first.postMessage({ file: null });
+      await new Promise((resolve) => first.once('message', resolve).once('exit', resolve));
+    }
+    for (const it of this.workers) it.terminate();
   }
 }
 

@@ -29,6 +29,8 @@ export class Resolver {
     this.paths = new Map();
     /** @type {Map<string, any>} */
     this.maps = new Map();
+    /** @type {Map<string, Target | null>} by the folder that asks, or by the module where an import map has scopes, and the text */
+    this.known = new Map();
   }
 
   /**
@@ -39,8 +41,8 @@ export class Resolver {
   resolve(from, text) {
     const folder = path.posix.dirname(from);
     const map = kept(this.maps, folder, () => importMap(this.configs, folder));
-    const mapped = map && mappedText(map, text, from);
-    return this.plain(from, folder, mapped ?? text);
+    const asks = map && Object.keys(map.scopes).length > 0 ? from : `${folder}${isJavaScript(from) ? '/*.js' : ''}`;
+    return kept(this.known, `${asks}\n${text}`, () => this.plain(from, folder, (map && mappedText(map, text, from)) ?? text));
   }
 
   /** @param {string} from @param {string} folder @param {string} text behind the import map @returns {Target | null} */

@@ -7,7 +7,7 @@ import { findTypeScript } from '../typescript.js';
 import { Configs } from './configs.js';
 import { sourcesOf } from './endings.js';
 import { Files } from './files.js';
-import { Kept, hashOf } from './kept.js';
+import { Kept, compiledFile, hashOf } from './kept.js';
 import { packageFile } from './packages.js';
 import { Pool } from './pool.js';
 import { Resolver } from './resolve.js';
@@ -46,6 +46,8 @@ export class Sources {
     this.modules = new Map();
     /** @type {Map<string, Map<string, string>>} by specifier and text */
     this.resolutions = new Map();
+    /** @type {Promise<void> | undefined} ends when the trees are kept, which goes on beside what is asked of them */
+    this.keeping = undefined;
     /** @type {Set<string>} specifiers of modules that aren't read */
     this.external = new Set();
     /** @type {{ file: string, error: string }[]} */
@@ -75,8 +77,8 @@ export class Sources {
 
   /** Reads the modules of the folder, and then what they lead to. */
   async read() {
-    const { typescript, kept } = this.start();
-    const pool = new Pool({ typescript, bodies: this.reading.bodies, ambient: this.reading.ambient });
+    const { typescript, compiled, kept } = this.start();
+    const pool = new Pool({ typescript, compiled, bodies: this.reading.bodies, ambient: this.reading.ambient });
     let isNew = false;
     try {
       let wanted = this.files.code().filter((it) => this.reading.javascript || !isJavaScript(it) || !this.hasTypes(it));
@@ -89,15 +91,16 @@ export class Sources {
       await pool.close();
     }
     if (this.reading.cache && (isNew || kept?.modules.size !== this.modules.size)) {
-      kept?.write(new Map([...this.modules.values()].map((it) => [it.file, it.parsed])));
+      this.keeping = kept?.write(new Map([...this.modules.values()].map((it) => [it.file, it.parsed])));
     }
   }
 
-  /** @returns {{ typescript: string, kept: Kept | null }} */
+  /** @returns {{ typescript: string, compiled: string | undefined, kept: Kept | null }} */
   start() {
     const { file: typescript, version } = findTypeScript(this.folder);
     const { bodies, ambient, cache } = this.reading;
-    return { typescript, kept: cache ? new Kept(JSON.stringify([this.folder, version, bodies, ambient])) : null };
+    if (!cache) return { typescript, compiled: undefined, kept: null };
+    return { typescript, compiled: compiledFile(version), kept: new Kept(JSON.stringify([this.folder, version, bodies, ambient])) };
   }
 
   /**
@@ -120,6 +123,8 @@ export class Sources {
       this.reading.progress(++done, jobs.length);
       if (made) found.set(file, made);
       else this.unread.push({ file: this.files.below(file), error: error ?? '' });
+      // looked up while other files are parsed, so that it is known when all are
+      for (const { text } of made?.references ?? []) this.resolver.resolve(file, text);
     });
     for (const file of wanted) {
       const parsed = found.get(file);

@@ -1,9 +1,10 @@
-// A thread that parses: a file's path in, what is known of its module out.
+// A thread that parses: a file's path in, what is known of its module out. In place of a file `null` says that there are no more.
 import { readFileSync } from 'node:fs';
 import { parentPort, workerData } from 'node:worker_threads';
 
 import { languageOf } from '../language.js';
 import { convert } from '../tree/convert.js';
+import { keepCompiled } from '../tree/typescript.js';
 import { hashOf } from './kept.js';
 import { decoded } from './text.js';
 
@@ -19,17 +20,23 @@ function parse(file, specifier, bytes) {
     return { text, fault: null, references: [], declarations: [], implicit: [], nodes: 0 };
   }
   const how = languageOf(file);
-  const { text, nodes, ...rest } = convert(file, decoded(bytes), { ...how, bodies, ambient });
+  const { text, tree: nodes, ...rest } = convert(file, decoded(bytes), { ...how, bodies, ambient });
   const tree = nodes === null ? '' : `,"tree":{${how.declaration ? '"declaration":true,' : ''}"nodes":${nodes}}`;
-  const count = nodes === null ? 0 : nodes.split('{"kind"').length - 1;
-  return { text: Buffer.from(start + JSON.stringify(text) + tree), ...rest, nodes: count };
+  return { text: Buffer.from(start + JSON.stringify(text) + tree), ...rest };
 }
 
 port.on('message', ({ file, specifier }) => {
+  if (file === null) {
+    keepCompiled();
+    port.postMessage({ file, error: '' });
+    return;
+  }
   try {
     const bytes = readFileSync(file);
     const made = { hash: hashOf(bytes), ...parse(file, specifier, bytes) };
-    port.postMessage({ file, made }, [/** @type {ArrayBuffer} */ (made.text.buffer)]);
+    const { buffer } = made.text;
+    // a small text stands in memory that Node shares with others, and is copied
+    port.postMessage({ file, made }, buffer.byteLength === made.text.byteLength ? [/** @type {ArrayBuffer} */ (buffer)] : []);
   } catch (error) {
     port.postMessage({ file, error: /** @type {any} */ (error).code ?? String(/** @type {Error} */ (error).stack) });
   }

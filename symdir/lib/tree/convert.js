@@ -18,7 +18,8 @@ import { wellFormed } from './offsets.js';
 /**
  * @typedef {object} Converted
  * @property {string} text well formed
- * @property {string | null} nodes the JSON text of the tree's nodes; null where there is none
+ * @property {string | null} tree the JSON text of the tree's nodes; null where there is none
+ * @property {number} nodes how many there are
  * @property {Fault | null} fault why there is none
  * @property {import('./converter.js').Reference[]} references
  * @property {number[]} declarations
@@ -114,10 +115,10 @@ export function nodesOf(name, source, options) {
 export function convert(name, source, options) {
   try {
     const made = nodesOf(name, source, options);
-    return { ...made, nodes: made.nodes && nodesText(made.nodes) };
+    return { ...made, tree: made.nodes && nodesText(made.nodes), nodes: made.nodes?.length ?? 0 };
   } catch (error) {
     if (!(error instanceof RangeError)) throw error;
     const fault = { line: 1, column: 1, text: 'it is nested too deep for the parser' };
-    return { text: wellFormed(source), nodes: null, fault, references: [], declarations: [], implicit: [] };
+    return { text: wellFormed(source), tree: null, nodes: 0, fault, references: [], declarations: [], implicit: [] };
   }
 }

@@ -6,9 +6,9 @@
  */
 export function byteOffsets(text) {
   const length = text.length;
+  if (Buffer.byteLength(text) === length) return (at) => at;
   let first = 0;
-  while (first < length && text.charCodeAt(first) < 128) first++;
-  if (first === length) return (at) => at;
+  while (text.charCodeAt(first) < 128) first++;
   const map = new Uint32Array(length + 1 - first);
   let bytes = first;
   for (let i = first; i < length; i++) {
