@@ -106,7 +106,10 @@ async function asked(run, command, name) {
 function parsed(name, command, args) {
   try {
     const { values, positionals } = parseArgs({ args, options: command.options, allowPositionals: true });
-    if (positionals.length > command.words) throw new Failure(`${name} takes ${command.words === 1 ? 'one folder' : 'a folder, FILE:LINE and a name'}, and not ${positionals.join(' ')}`, 2);
+    if (positionals.length > command.words) {
+      const taken = command.words === 1 ? 'one folder' : 'a folder, FILE:LINE and a name';
+      throw new Failure(`${name} takes ${taken}, and not ${positionals.join(' ')}`, 2);
+    }
     return { words: positionals, options: values };
   } catch (error) {
     if (error instanceof Failure) throw error;

@@ -27,7 +27,9 @@ export function readSnapshot(text, file) {
   text.split(/\r?\n/).forEach((it, i) => {
     if (it === '' || it.startsWith('#')) return;
     const parts = /^(.+?): (\S+) (\S+) (.+)$/.exec(it);
-    if (!parts) throw new Failure(`${file}:${i + 1}:1: no line of a snapshot, which are \`ENTRY: NAME KIND FILES\`; \`--save ${file}\` writes it anew`);
+    if (!parts) {
+      throw new Failure(`${file}:${i + 1}:1: no line of a snapshot, which are \`ENTRY: NAME KIND FILES\`; \`--save ${file}\` writes it anew`);
+    }
     found.set(`${parts[1]}: ${parts[2]}`, it);
   });
   return found;

@@ -54,7 +54,9 @@ function started(program, words) {
 /** @param {number | null} status @param {string} said on standard error @returns {Failure} */
 function ended(status, said) {
   const last = said.trim().split('\n').pop() ?? '';
-  const text = /^symq: (not a graph|graph refused)/.test(last) ? `${last} (\`symdir graph FOLDER -o graph.json\` and \`symdir graph --check graph.json\` say more)` : last;
+  const isRefused = /^symq: (not a graph|graph refused)/.test(last);
+  const more = ' (`symdir graph FOLDER -o graph.json` and `symdir graph --check graph.json` say more)';
+  const text = isRefused ? last + more : last;
   return new Failure(text || `symq ended with the status ${status}`);
 }
 

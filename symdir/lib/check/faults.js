@@ -4,7 +4,10 @@ import { fieldsOf, moduleName } from './form.js';
 
 /** The deepest that a node may lie. */
 const MAX_DEPTH = 4096;
-const STATEMENT_LACKS = ['Import', 'ExportDecl', 'ExportNamed', 'ExportDefaultDecl', 'ExportDefaultExpr', 'ExportAll', 'TsImportEqualsDecl', 'TsExportAssignment'];
+/** What an item may be and a statement not. */
+const STATEMENT_LACKS = [
+  'Import', 'ExportDecl', 'ExportNamed', 'ExportDefaultDecl', 'ExportDefaultExpr', 'ExportAll', 'TsImportEqualsDecl', 'TsExportAssignment',
+];
 
 /** @type {Map<string, Set<string>>} */
 const KINDS_OF = new Map();
@@ -33,10 +36,11 @@ function childrenOf(node) {
 function shapeFault(node, nodes) {
   if (node.kind === 'ExportDefaultSpecifier') return 'no tree may have it';
   if (node.kind === 'ExportNamed' && (node.src ?? null) === null) {
-    const odd = (node.specifiers ?? []).map((/** @type {number} */ it) => nodes[it]).find((/** @type {any} */ it) => it?.kind === 'ExportNamespace' || nodes[it?.orig]?.kind === 'Str');
-    if (odd) return 'without "src" it has names alone: no `* as`, and no string';
+    const isOdd = (/** @type {any} */ it) => it?.kind === 'ExportNamespace' || nodes[it?.orig]?.kind === 'Str';
+    if ((node.specifiers ?? []).some((/** @type {number} */ it) => isOdd(nodes[it]))) return 'without "src" it has names alone: no `* as`, and no string';
   }
-  if (node.kind === 'TsImportEqualsDecl' && ((node.entity ?? null) === null) === ((node.external ?? null) === null)) return 'it has either "entity" or "external"';
+  const hasOne = ((node.entity ?? null) === null) !== ((node.external ?? null) === null);
+  if (node.kind === 'TsImportEqualsDecl' && !hasOne) return 'it has either "entity" or "external"';
   const param = node.kind === 'TsParamProp' ? nodes[node.param] : null;
   if (param?.kind === 'AssignPat' && nodes[param.left]?.kind !== 'BindingIdent') return 'the "left" of its AssignPat has to be a BindingIdent';
   return null;
@@ -72,7 +76,9 @@ function treeFaults(module) {
     }
     for (const it of [rangeFault(text, node.range), shapeFault(node, nodes)]) if (it) add(it);
     for (const { key, category, child } of children) {
-      if (nodes[child] && !kindsOf(category).has(nodes[child].kind)) add(`"${key}" takes ${/^[AEIOU]/.test(category) ? 'an' : 'a'} ${category}, and node ${child} is of the kind ${nodes[child].kind}`);
+      const article = /^[AEIOU]/.test(category) ? 'an' : 'a';
+      const kind = nodes[child]?.kind;
+      if (kind && !kindsOf(category).has(kind)) add(`"${key}" takes ${article} ${category}, and node ${child} is of the kind ${kind}`);
     }
     if (depths[i] > MAX_DEPTH) add(`it lies more than ${MAX_DEPTH} deep`);
   });
@@ -94,7 +100,9 @@ export function graphFaults(value) {
   const from = twice((redirects ?? []).map((/** @type {any} */ it) => it[0]));
   if (from !== undefined) found.push(`two redirects have the "from" ${from}`);
   const sources = new Set((redirects ?? []).map((/** @type {any} */ it) => it[0]));
-  for (const [source, to] of redirects ?? []) if (sources.has(to)) found.push(`the redirect from ${source} leads to ${to}, which is redirected: name the last target`);
+  for (const [source, to] of redirects ?? []) {
+    if (sources.has(to)) found.push(`the redirect from ${source} leads to ${to}, which is redirected: name the last target`);
+  }
   const pair = twice((resolutions ?? []).map((/** @type {any} */ it) => JSON.stringify(it.slice(0, 2))));
   if (pair !== undefined) found.push(`two resolutions have the referrer and the text ${JSON.parse(pair).join(' ')}`);
   const trees = (modules ?? []).flatMap((/** @type {any} */ it, /** @type {number} */ i) => (it.kind !== 'esm' ? []

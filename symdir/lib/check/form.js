@@ -81,7 +81,9 @@ function faultIn(text) {
 
 /** @param {Buffer} bytes @returns {{ value?: any, words: string[] }} */
 export function readJson(bytes) {
-  if (bytes[0] === 0xef && bytes[1] === 0xbb && bytes[2] === 0xbf) return { words: ['1:1: it begins with a byte order mark, which isn\'t taken: write the file without'] };
+  if (bytes[0] === 0xef && bytes[1] === 0xbb && bytes[2] === 0xbf) {
+    return { words: ['1:1: it begins with a byte order mark, which isn\'t taken: write the file without'] };
+  }
   const text = bytes.toString('utf8');
   if (!Buffer.from(text).equals(bytes)) return { words: ['it is no UTF-8'] };
   try {
@@ -89,7 +91,8 @@ export function readJson(bytes) {
     return { value, words: oddParts(text, value) };
   } catch (error) {
     const message = /** @type {Error} */ (error).message;
-    return { words: [`${placeIn(text, faultIn(text))}: it is no JSON: ${message.replace(/ in JSON at position.*| \(line.*|, .* is not valid JSON/s, '')}`] };
+    const why = message.replace(/ in JSON at position.*| \(line.*|, .* is not valid JSON/s, '');
+    return { words: [`${placeIn(text, faultIn(text))}: it is no JSON: ${why}`] };
   }
 }
 
@@ -157,7 +160,10 @@ function treeFaults(tree, name) {
   const own = typeof flag === 'boolean' ? [] : [`${name}: "declaration" has to be true or false, and is ${shown(flag)}`];
   const nodes = tree.nodes ?? [];
   if (!Array.isArray(nodes)) return [...own, `${name}: "nodes" has to be a list, and is ${shown(nodes)}`];
-  return [...own, ...nodes.flatMap((node, i) => nodeFaults(node).map((it) => `${name}, node ${i}${isText(node?.kind) ? ` (${node.kind})` : ''}: ${it}`))];
+  return [...own, ...nodes.flatMap((node, i) => {
+    const kind = isText(node?.kind) ? ` (${node.kind})` : '';
+    return nodeFaults(node).map((it) => `${name}, node ${i}${kind}: ${it}`);
+  })];
 }
 
 /** @param {any} module @param {number} i @returns {string[]} */
@@ -165,7 +171,9 @@ function moduleFaults(module, i) {
   const name = moduleName(module, i);
   if (!isObject(module)) return [`${name}: it has to be an object, and is ${shown(module)}`];
   const found = isText(module.specifier) ? [] : [`${name}: "specifier" has to be there, a text`];
-  if (!['esm', 'json', 'external'].includes(module.kind)) return [...found, `${name}: "kind" has to be "esm", "json" or "external", and is ${shown(module.kind)}`];
+  if (!['esm', 'json', 'external'].includes(module.kind)) {
+    return [...found, `${name}: "kind" has to be "esm", "json" or "external", and is ${shown(module.kind)}`];
+  }
   if (module.kind === 'external') return found;
   if (!isText(module.text)) found.push(`${name}: "text" has to be there, a text`);
   if (module.kind === 'json') return found;
@@ -186,5 +194,9 @@ export function formFaults(value) {
   if (!isObject(value)) return [`a graph is an object, and this is ${shown(value)}`];
   const modules = value.modules ?? [];
   const own = Array.isArray(modules) ? modules.flatMap(moduleFaults) : [`"modules" has to be a list, and is ${shown(modules)}`];
-  return [...own, ...rowFaults(value, 'redirects', 2, '[from, to], two texts'), ...rowFaults(value, 'resolutions', 3, '[referrer, text, to], three texts')];
+  return [
+    ...own,
+    ...rowFaults(value, 'redirects', 2, '[from, to], two texts'),
+    ...rowFaults(value, 'resolutions', 3, '[referrer, text, to], three texts'),
+  ];
 }

@@ -37,6 +37,8 @@ export async function graph({ options, print, warn }, reading) {
   faults.forEach(warn);
   const rows = [...sources.resolutions.values()].reduce((sum, it) => sum + it.size, 0);
   const trees = [...sources.modules.values()].filter((it) => !it.parsed.fault).length;
-  if (options.out) print(`${options.out}: ${counted(trees, 'module')}, ${counted(sources.external.size, 'module')} that ${sources.external.size === 1 ? 'isn\'t' : 'aren\'t'} read, ${counted(rows, 'resolution')}`);
+  const { size } = sources.external;
+  const unread = `${counted(size, 'module')} that ${size === 1 ? 'isn\'t' : 'aren\'t'} read`;
+  if (options.out) print(`${options.out}: ${counted(trees, 'module')}, ${unread}, ${counted(rows, 'resolution')}`);
   return faults.length > 0 ? 1 : 0;
 }

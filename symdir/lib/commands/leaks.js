@@ -203,6 +203,7 @@ export async function leaks(run, folder) {
     wrapped(`needed by ${shown.join(', ')}${more > 0 ? ` and ${more} more` : ''}`, 92).forEach((line, i) => print(`    ${i > 0 ? '  ' : ''}${line}`));
   }
   const entries = folder.entries.length > 3 ? counted(folder.entries.length, 'entry') : folder.entries.map((it) => folder.short(it)).join(', ');
-  print(`${counted(count, 'public name')} of ${entries}: ${found.length === 0 ? 'all that they need is public' : `${counted(found.length, 'declaration')} that they need can't be imported`}`);
+  const told = found.length === 0 ? 'all that they need is public' : `${counted(found.length, 'declaration')} that they need can't be imported`;
+  print(`${counted(count, 'public name')} of ${entries}: ${told}`);
   return found.length > 0 ? 1 : 0;
 }

@@ -35,7 +35,9 @@ function unparsed(folder) {
 
 /** @param {Folder} folder @returns {Finding[]} */
 function lostImports(folder) {
-  return references(folder).filter(({ specifier, reference }) => !folder.sources.resolutions.get(specifier)?.has(reference.text)).map(({ specifier, reference }) => ({
+  const { resolutions } = folder.sources;
+  const lost = references(folder).filter(({ specifier, reference }) => !resolutions.get(specifier)?.has(reference.text));
+  return lost.map(({ specifier, reference }) => ({
     what: /^(\.{0,2}\/|\.{1,2}$)/.test(reference.text) ? 'file' : 'package',
     ...folder.place(specifier, reference.start), text: reference.text, how: reference.how,
   }));
@@ -138,12 +140,15 @@ function print({ print: line, paint, options }, found) {
 export async function missing(run, folder) {
   const found = [...unparsed(folder), ...lostImports(folder), ...(await lostNames(folder))];
   const all = references(folder);
-  const outside = new Set(all.map(({ specifier, reference }) => folder.sources.resolutions.get(specifier)?.get(reference.text)).filter((it) => it && folder.sources.external.has(it)));
+  const { resolutions, external } = folder.sources;
+  const targets = all.map(({ specifier, reference }) => resolutions.get(specifier)?.get(reference.text));
+  const outside = new Set(targets.filter((it) => it !== undefined && external.has(it)));
   if (run.options.json) run.print(JSON.stringify({ missing: found, external: [...outside].sort() }, null, 1));
   else {
     print(run, found);
     const rest = outside.size > 0 ? `; ${counted(outside.size, 'module')} outside of the folder ${outside.size === 1 ? 'is' : 'are'}n't asked` : '';
-    run.print(`${counted(all.length, 'import')} in ${counted(folder.sources.modules.size, 'module')}: ${found.length === 0 ? 'nothing is missing' : `${found.length} missing`}${rest}`);
+    const told = found.length === 0 ? 'nothing is missing' : `${found.length} missing`;
+    run.print(`${counted(all.length, 'import')} in ${counted(folder.sources.modules.size, 'module')}: ${told}${rest}`);
   }
   return found.length > 0 ? 1 : 0;
 }

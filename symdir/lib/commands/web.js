@@ -43,6 +43,9 @@ export async function web({ options, print }, folder) {
       lost: found.lost.map(({ module, text, isStar }) => ({ file: short(module), text, star: isStar })),
     }, null, 1));
   } else if (!options.out) process.stdout.write(drawing.text());
-  else print(`${options.out}: ${counted(drawing.modules.length, 'module')} in ${counted(drawing.boxes.length, 'box')}, ${counted(drawing.edgeLines().length, 'edge')}; ${lostText(found.lost.length)}`);
+  else {
+    const drawn = `${counted(drawing.modules.length, 'module')} in ${counted(drawing.boxes.length, 'box')}, ${counted(drawing.edgeLines().length, 'edge')}`;
+    print(`${options.out}: ${drawn}; ${lostText(found.lost.length)}`);
+  }
   return found.lost.length > 0 ? 1 : 0;
 }

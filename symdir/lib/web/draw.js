@@ -109,7 +109,8 @@ export class Drawing {
       rest = rest.slice(count);
     }
     const body = lines.length > 0 ? `<TR><TD ALIGN="LEFT" BALIGN="LEFT"><FONT POINT-SIZE="9">${lines.map(escaped).join('<BR/>')}</FONT></TD></TR>` : '';
-    return `<TABLE BORDER="0" CELLBORDER="1" CELLSPACING="0" CELLPADDING="3"><TR><TD ALIGN="LEFT" BGCOLOR="${this.color(module)}"><B>${escaped(this.title(module))}</B></TD></TR>${body}</TABLE>`;
+    const head = `<TR><TD ALIGN="LEFT" BGCOLOR="${this.color(module)}"><B>${escaped(this.title(module))}</B></TD></TR>`;
+    return `<TABLE BORDER="0" CELLBORDER="1" CELLSPACING="0" CELLPADDING="3">${head}${body}</TABLE>`;
   }
 
   /** @param {Box} box @returns {string} a table with a row for each module */
@@ -122,7 +123,9 @@ export class Drawing {
     const rest = modules.slice(ROWS);
     const count = rest.reduce((sum, it) => sum + this.names(it).length, 0);
     if (rest.length > 0) rows.push(`<TR><TD ALIGN="LEFT" COLSPAN="2"><FONT POINT-SIZE="9">+ ${rest.length} modules with ${count} names</FONT></TD></TR>`);
-    return `<TABLE BORDER="0" CELLBORDER="1" CELLSPACING="0" CELLPADDING="2"><TR><TD ALIGN="LEFT" COLSPAN="2" BGCOLOR="${this.color(modules[0])}"><B>${escaped(folder || '.')}/  ${modules.length} modules</B></TD></TR>${rows.join('')}</TABLE>`;
+    const title = `<B>${escaped(folder || '.')}/  ${modules.length} modules</B>`;
+    const head = `<TR><TD ALIGN="LEFT" COLSPAN="2" BGCOLOR="${this.color(modules[0])}">${title}</TD></TR>`;
+    return `<TABLE BORDER="0" CELLBORDER="1" CELLSPACING="0" CELLPADDING="2">${head}${rows.join('')}</TABLE>`;
   }
 
   /** @param {Box} box @returns {string} */
@@ -141,7 +144,8 @@ export class Drawing {
     return [...folders].flatMap(([folder, boxes], i) => {
       const lines = boxes.map((it) => this.boxLine(it));
       if (folder === '' || boxes.length < 2 || folders.size < 2) return lines;
-      return [`subgraph cluster_${i} { label="${escaped(folder)}/"; style="rounded"; color="#bbbbbb"; fontcolor="#666666"; fontsize=10;`, ...lines, '}'];
+      const look = 'style="rounded"; color="#bbbbbb"; fontcolor="#666666"; fontsize=10;';
+      return [`subgraph cluster_${i} { label="${escaped(folder)}/"; ${look}`, ...lines, '}'];
     });
   }
 
@@ -178,7 +182,8 @@ export class Drawing {
     const name = path.posix.basename(this.folder.sources.folder);
     const title = `${name}: ${this.modules.length} modules that an entry reaches. Yellow: entries. Thick: export *. Thin: one by one. Red: leads nowhere.`;
     return `${['digraph exports {',
-      `graph [rankdir=LR, fontname="Helvetica", fontsize=12, nodesep=${this.isBig ? 0.12 : 0.25}, ranksep=${this.isBig ? 0.9 : 0.7}, label="${escaped(title)}", labelloc=t, tooltip=" "];`,
+      `graph [rankdir=LR, fontname="Helvetica", fontsize=12, label="${escaped(title)}", labelloc=t, tooltip=" "];`,
+      `graph [nodesep=${this.isBig ? 0.12 : 0.25}, ranksep=${this.isBig ? 0.9 : 0.7}];`,
       'node [shape=plain, fontname="Helvetica", fontsize=10];',
       'edge [color="#4466aa", arrowsize=0.6, fontname="Helvetica", fontsize=8];',
       ...this.boxLines(), ...this.edgeLines(), ...this.lostLines(), '}'].join('\n')}\n`;
