@@ -6,6 +6,7 @@ import { Failure } from './failure.js';
 import { Folder } from './folder/folder.js';
 import { withSlashes } from './folder/files.js';
 import { Paint, Progress } from './output.js';
+import { findSymq } from './symq.js';
 import { api } from './commands/api.js';
 import { faultsOf, graph } from './commands/graph.js';
 import { leaks } from './commands/leaks.js';
@@ -91,6 +92,8 @@ function reading({ words, options }, progress = new Progress()) {
 /** @param {Run} run @param {Command} command @param {string} name @returns {Promise<number>} */
 async function asked(run, command, name) {
   const progress = new Progress();
+  // what answers has to be there before time is spent on files
+  if (!run.options.unproved) findSymq(run.options.symq);
   const folder = await Folder.read(reading(run, progress), { entry: run.options.entry ?? [] });
   progress.end();
   try {

@@ -32,7 +32,7 @@ export async function graph({ options, print, warn }, reading) {
   await sources.read();
   if (sources.modules.size === 0) throw new Failure(`no module in ${reading.folder}: files that end in .ts .tsx .mts .cts .js .jsx .mjs .cjs are looked for`);
   writeGraph(sources, options.out ?? 1);
-  await sources.keeping;
+  await sources.keep();
   const faults = faultsOf(sources);
   faults.forEach(warn);
   const rows = [...sources.resolutions.values()].reduce((sum, it) => sum + it.size, 0);

@@ -33,6 +33,8 @@ export class Folder {
     /** @type {Symq | SymqAtOnce | null} */
     this.symq = null;
     this.folder = '';
+    /** @type {Promise<void> | undefined} */
+    this.keeping = undefined;
     /** @type {Map<string, Places>} */
     this.places = new Map();
     /** @type {Map<string, Map<string, Declaration>>} */
@@ -60,6 +62,7 @@ export class Folder {
     writeGraph(this.sources, graph);
     if (unproved) this.symq = new SymqAtOnce(unprovedSymq(), graph, this.ahead());
     else this.symq = new Symq(findSymq(symq), graph, strict ? ['--strict'] : []);
+    this.keeping = this.sources.keep();
   }
 
   /** @returns {unknown[][]} */
@@ -71,7 +74,7 @@ export class Folder {
   }
 
   async close() {
-    await Promise.all([this.symq?.close(), this.sources.keeping]);
+    await Promise.all([this.symq?.close(), this.keeping]);
     if (this.folder) rmSync(this.folder, { recursive: true, force: true });
   }
 

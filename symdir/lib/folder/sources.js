@@ -46,8 +46,8 @@ export class Sources {
     this.modules = new Map();
     /** @type {Map<string, Map<string, string>>} by specifier and text */
     this.resolutions = new Map();
-    /** @type {Promise<void> | undefined} ends when the trees are kept, which goes on beside what is asked of them */
-    this.keeping = undefined;
+    /** @type {() => Promise<void>} keeps the trees, where there are new ones: to be called when nothing waits for this thread */
+    this.keep = async () => {};
     /** @type {Set<string>} specifiers of modules that aren't read */
     this.external = new Set();
     /** @type {{ file: string, error: string }[]} */
@@ -91,7 +91,7 @@ export class Sources {
       await pool.close();
     }
     if (this.reading.cache && (isNew || kept?.modules.size !== this.modules.size)) {
-      this.keeping = kept?.write(new Map([...this.modules.values()].map((it) => [it.file, it.parsed])));
+      this.keep = async () => kept?.write(new Map([...this.modules.values()].map((it) => [it.file, it.parsed])));
     }
   }
 
