@@ -2,8 +2,11 @@
 
 SHELL := /bin/sh
 FOLDER ?= examples/first
+# the program that evidence is about, and the seeds of its random graphs
+SYMQ ?= crates/symq/out/symq
+SEEDS ?= 0..2000
 
-.PHONY: help run try test symq packages clean setup
+.PHONY: help run try test symq packages evidence clean setup
 
 help:
 	@echo 'make run [FOLDER=src]            the public names of a folder, by a build that waits for no proof: a minute'
@@ -11,6 +14,7 @@ help:
 	@echo 'make symq                        proves and builds the program, as ./symq: 45 minutes on four processors'
 	@echo 'make test                        the whole gate; the last line is N passed, M failed: over an hour'
 	@echo 'make packages                    holds symdir to the checker of TypeScript on packages of Debian: minutes'
+	@echo 'make evidence [SEEDS=0..2000]    the program beside a model that was written apart, on random graphs: evidence/README.md'
 	@echo 'make clean                       removes what these made'
 
 setup:
@@ -37,6 +41,10 @@ packages:
 symq: setup
 	@cd crates/symq && rt run -- ../../examples/first/graph.json < /dev/null
 	@cp crates/symq/out/symq symq
+
+evidence:
+	@test -x '$(SYMQ)' || { echo '$(SYMQ) is not there: `make symq` builds it, or say SYMQ=PROGRAM'; exit 1; }
+	@python3 evidence/model/compare.py '$(SYMQ)' --seeds '$(SEEDS)'
 
 clean:
 	@rm -rf symq crates/*/out symdir/node_modules

@@ -1,0 +1,52 @@
+#!/usr/bin/env python3
+"""Compares a program with the model on random graphs: status, standard output and standard error, byte for byte.
+
+    python3 evidence/model/compare.py crates/symq/out/symq --seeds 0..20000
+    python3 evidence/model/compare.py crates/symq/out/symq --every
+    python3 evidence/model/compare.py 'python3 evidence/model/symq.py' --seeds 0..100
+
+PROGRAM is one word of the shell. A seed is one graph with up to 160 queries, in one run: 12 of 20 are accepted, the others
+broken in a tree, a list, a field, a value or the text. The first difference is made small and printed, and the status is 1.
+--every takes, in place of random graphs, each field of each kind with each wrong value, each kind in each place of a child,
+and so on. The last line is `N passed, M failed`.
+"""
+import argparse
+import sys
+
+from differ.comparing import compare
+from differ.running import Program
+from differ.words import command_of, seeds_of
+from graphs.cases import case_of_seed
+from graphs.every import every_case
+from rules.stack import with_big_stack
+
+
+def cases_of(a):
+    if not a.every:
+        return ((seed, case_of_seed(seed, a.accepted)) for seed in a.seeds or range(1000))
+    cases = every_case()
+    return ((at, cases[at]) for at in (a.seeds or range(len(cases))) if at < len(cases))
+
+
+def main() -> int:
+    p = argparse.ArgumentParser(description=__doc__, formatter_class=argparse.RawDescriptionHelpFormatter)
+    p.add_argument('program', type=command_of)
+    p.add_argument('--seeds', type=seeds_of, metavar='A..B', help='0..1000 unless said; of --every a part')
+    p.add_argument('--seconds', type=float, help='stop after so long')
+    p.add_argument('--accepted', action='store_true', help='graphs that are accepted alone')
+    p.add_argument('--every', action='store_true', help='every small case, about 13,700')
+    p.add_argument('--go-on', action='store_true', help='tell each difference in one line, and go on')
+    p.add_argument('--shrink-seconds', type=float, default=30)
+    p.add_argument('--keep', metavar='FOLDER', help='keep the files of a difference')
+    a = p.parse_args()
+    program = Program(a.program)
+    counts = compare(program, cases_of(a), a.seconds, a.go_on, a.shrink_seconds, a.keep,
+                     lambda text: print(text, flush=True))
+    program.close()
+    print(counts.told())
+    print(counts.last_line())
+    return 1 if counts.differ or not counts.graphs else 0
+
+
+if __name__ == '__main__':
+    sys.exit(with_big_stack(main))

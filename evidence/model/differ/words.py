@@ -1,0 +1,20 @@
+"""Words of commands."""
+import argparse
+import os
+import shlex
+
+
+def seeds_of(text: str) -> range:
+    """The seeds from A to before B, of the word `A..B`."""
+    first, mark, last = text.partition('..')
+    if not mark or not first.isdecimal() or not last.isdecimal():
+        raise argparse.ArgumentTypeError('seeds are said as 0..1000')
+    return range(int(first), int(last))
+
+
+def command_of(text: str) -> 'list[str]':
+    """The words of a program, with those that name a file made to stand from any folder."""
+    words = [os.path.abspath(word) if os.path.exists(word) else word for word in shlex.split(text)]
+    if not words:
+        raise argparse.ArgumentTypeError('no program')
+    return words

@@ -1,0 +1,58 @@
+#!/usr/bin/env python3
+"""What the gate runs of the model: the worked rows, the model's self-check, the differ's own test, and random graphs.
+
+    python3 evidence/model/gate.py [PROGRAM]
+
+PROGRAM is `crates/symq/out/symq` unless said. The seeds come from the number of commits, so that each state is tried with
+other graphs: those from 100,000 times that number on, for 60 seconds. The last line is `N passed, M failed`.
+"""
+import argparse
+import os
+import re
+import subprocess
+import sys
+
+from differ.words import command_of
+
+HERE = os.path.dirname(os.path.abspath(__file__))
+TOP = os.path.dirname(os.path.dirname(HERE))
+SEEDS_OF_A_COMMIT = 100000
+
+
+def first_seed() -> int:
+    """The first seed of the state that is checked out; 0 outside of a repository."""
+    count = subprocess.run(['git', 'rev-list', '--count', 'HEAD'], cwd=TOP, stdout=subprocess.PIPE, stderr=subprocess.DEVNULL)
+    return SEEDS_OF_A_COMMIT * int(count.stdout or 0)
+
+
+def part(name, *words) -> 'tuple[int, int]':
+    """Runs a command of this folder, and returns what its last line counts; another last line is a failure."""
+    print('-- %s' % name, flush=True)
+    command = [sys.executable, os.path.join(HERE, words[0]), *words[1:]]
+    done = subprocess.run(command, stdout=subprocess.PIPE, text=True, errors='replace')
+    print(done.stdout, end='', flush=True)
+    found = re.fullmatch(r'(\d+) passed, (\d+) failed', (done.stdout.splitlines() or [''])[-1])
+    passed, failed = (int(found[1]), int(found[2])) if found else (0, 1)
+    return passed, failed or int(done.returncode != 0)
+
+
+def main() -> int:
+    p = argparse.ArgumentParser(description=__doc__, formatter_class=argparse.RawDescriptionHelpFormatter)
+    p.add_argument('program', nargs='?', default=os.path.join(TOP, 'crates', 'symq', 'out', 'symq'))
+    p.add_argument('--seconds', default='60', help='how long random graphs are tried')
+    a = p.parse_args()
+    if not os.path.exists(command_of(a.program)[0]):
+        p.error('there is no program %s' % a.program)
+    seeds = '%d..%d' % (first_seed(), first_seed() + SEEDS_OF_A_COMMIT)
+    parts = [part('worked rows, the model', 'run_rows.py'),
+             part('worked rows, the program', 'run_rows.py', a.program),
+             part('the model by the definitions', 'self_check.py', '--seeds', seeds, '--seconds', '10'),
+             part('planted faults', 'test_differ.py', a.program),
+             part('random graphs', 'compare.py', a.program, '--seeds', seeds, '--seconds', a.seconds)]
+    passed, failed = (sum(counts) for counts in zip(*parts))
+    print('%d passed, %d failed' % (passed, failed))
+    return 1 if failed else 0
+
+
+if __name__ == '__main__':
+    sys.exit(main())

@@ -1,0 +1,52 @@
+"""Exports by all simple chains, enumerated and sorted."""
+from typing import NamedTuple
+
+from rules.root import Module, Root
+
+
+class Chain(NamedTuple):
+    """The places of the statements `export *`, the module at the end, and the statements as (module, text)."""
+    places: 'tuple[int, ...]'
+    end: Module
+    statements: tuple
+
+    def told(self) -> 'list[list[str]]':
+        return [[module.specifier, text] for module, text in self.statements]
+
+
+def simple_chains(root: Root, start: Module) -> 'list[Chain]':
+    """All chains from a module in which no module stands twice, in chain order."""
+    found, waiting = [Chain((), start, ())], [(Chain((), start, ()), (start,))]
+    while waiting:
+        chain, met = waiting.pop()
+        for place, text in enumerate(chain.end.stars):
+            target = root.dependency(text, chain.end)
+            if target is not None and all(target is not it for it in met):
+                longer = Chain(chain.places + (place,), target, chain.statements + ((chain.end, text),))
+                found.append(longer)
+                waiting.append((longer, met + (target,)))
+    return sorted(found, key=lambda it: it.places)
+
+
+def least_chains(chains: 'list[Chain]') -> 'dict[int, Chain]':
+    """By the number of a module that is reached, its least chain."""
+    found = {}
+    for chain in chains:
+        if chain.end.number not in found or chain.places < found[chain.end.number].places:
+            found[chain.end.number] = chain
+    return found
+
+
+def exports_by_chains(root: Root, start: Module):
+    """What a module exports as (name, chain, owner, symbol), in chain order and in the order of the owner's exports; and the
+    statements that lead to no module, in chain order."""
+    chains, owned = simple_chains(root, start), {}
+    for chain in chains:
+        for place, (name, number) in enumerate(chain.end.own_exports().items()):
+            if not chain.places or name != 'default':
+                owned.setdefault(name, []).append((chain.places, place, chain, number))
+    entries = sorted((min(found, key=lambda it: it[0]) + (name,) for name, found in owned.items()), key=lambda it: it[:2])
+    resolved = [(name, chain.told(), chain.end.specifier, number) for _, _, chain, number, name in entries]
+    unresolved = sorted((chain.places + (place,), [chain.end.specifier, text]) for chain in least_chains(chains).values()
+                        for place, text in enumerate(chain.end.stars) if root.dependency(text, chain.end) is None)
+    return resolved, [told for _, told in unresolved]

@@ -1,0 +1,62 @@
+"""What a module exports: its own names, and those along `export *`, each by its least simple chain."""
+from rules.root import Module, Root, Steps
+
+
+class Export:
+    """A name's owner and its symbol there, and the statements that lead to it: a chain is None, or the chain before, the
+    referring module and the text."""
+    __slots__ = ('chain', 'module', 'symbol')
+
+    def __init__(self, chain, module: Module, symbol: int):
+        self.chain, self.module, self.symbol = chain, module, symbol
+
+    def statements(self) -> 'list[list[str]]':
+        found, chain = [], self.chain
+        while chain is not None:
+            chain, referrer, text = chain
+            found.append([referrer.specifier, text])
+        return found[::-1]
+
+
+def reached(root: Root, start: Module, steps: Steps, unresolved: list, wanted=None):
+    """The modules that are reached along `export *`, each with its least chain, in the order of these chains, and the
+    statements that lead to none. At a module behind the first that has the wanted name the walk ends."""
+    met, found = {start.number}, [(None, start)]
+    stack = [[None, start, 0]]
+    while stack:
+        chain, module, place = top = stack[-1]
+        if place == len(module.stars):
+            stack.pop()
+            continue
+        top[2], text = place + 1, module.stars[place]
+        target = root.dependency(text, module, steps)
+        if target is None:
+            unresolved.append((module, text))
+        elif target.number not in met:
+            met.add(target.number)
+            found.append(((chain, module, text), target))
+            if wanted in target.own_exports():
+                return found
+            stack.append([(chain, module, text), target, 0])
+    return found
+
+
+def exports(root: Root, start: Module, steps: 'Steps | None' = None):
+    """The exports by name, and the unresolved statements as (module, text). `default` is owned by the module alone."""
+    resolved, unresolved = {}, []
+    for chain, module in reached(root, start, steps or Steps(), unresolved):
+        for name, number in module.own_exports().items():
+            if name not in resolved and (name != 'default' or module is start):
+                resolved[name] = Export(chain, module, number)
+    return resolved, unresolved
+
+
+def export_of(root: Root, start: Module, name: str, steps: 'Steps | None' = None) -> 'Export | None':
+    """The entry of the exports for one name, for which no more modules are stored than it takes."""
+    if name in start.own_exports():
+        return Export(None, start, start.own_exports()[name])
+    if name == 'default':
+        return None
+    chain, module = reached(root, start, steps or Steps(), [], name)[-1]
+    number = module.own_exports().get(name)
+    return None if number is None else Export(chain, module, number)

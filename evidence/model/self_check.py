@@ -1,0 +1,58 @@
+#!/usr/bin/env python3
+"""Holds the model to the definitions, read word for word (`readings/`), on random small graphs.
+
+    python3 evidence/model/self_check.py --seeds 0..2000
+
+Tables are compared with filters over the events of the tree; exports, what is stored and both counts of steps with all
+simple chains, enumerated and sorted; each list of paths has to be derived, its leaves to stand in the least relations, and
+no leaf to be lost that mustn't be. It stops at the first seed that fails, and ends with a line `N passed, M failed`.
+"""
+import argparse
+import random
+import sys
+import time
+from collections import Counter
+
+from differ.words import seeds_of
+from graphs.cases import case_of_seed
+from readings.checks import PathChecks, check_exports, check_tables
+from rules.checker import check_graph
+from rules.raw_graph import graph_of_value
+from rules.stack import with_big_stack
+
+
+def check_seed(seed: int, counts: Counter) -> None:
+    graph = check_graph(graph_of_value(case_of_seed(seed, accepted_only=True).value))
+    check_tables(graph, counts)
+    check_exports(graph, counts)
+    PathChecks(graph, random.Random(seed), counts).check()
+
+
+def check_seeds(seeds, seconds=None, go_on=False) -> int:
+    """Checks the seeds, until the time is over or one fails, and prints what was seen; returns the status."""
+    counts, began, passed, failed = Counter(), time.monotonic(), 0, 0
+    for seed in seeds:
+        if (seconds is not None and time.monotonic() - began > seconds) or (failed and not go_on):
+            break
+        try:
+            check_seed(seed, counts)
+            passed += 1
+        except AssertionError as fault:
+            failed += 1
+            print('seed %d: %s' % (seed, fault))
+    print('%.1f s; %s' % (time.monotonic() - began, ', '.join('%s: %d' % it for it in sorted(counts.items()))))
+    print('%d passed, %d failed' % (passed, failed))
+    return 1 if failed or not passed else 0
+
+
+def main() -> int:
+    p = argparse.ArgumentParser(description=__doc__, formatter_class=argparse.RawDescriptionHelpFormatter)
+    p.add_argument('--seeds', type=seeds_of, default='0..500', metavar='A..B')
+    p.add_argument('--seconds', type=float, help='stop after so long')
+    p.add_argument('--go-on', action='store_true', help='go on behind a seed that fails')
+    a = p.parse_args()
+    return check_seeds(a.seeds, a.seconds, a.go_on)
+
+
+if __name__ == '__main__':
+    sys.exit(with_big_stack(main))

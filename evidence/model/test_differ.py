@@ -1,0 +1,90 @@
+#!/usr/bin/env python3
+"""The differ's own test: programs with a planted fault are told within 60 seconds each, and right ones aren't.
+
+    python3 evidence/model/test_differ.py [PROGRAM]
+
+Each fault is planted into a copy of the model, which is compared as a program with the model. With PROGRAM there is one more,
+a program around it that gives two unresolved statements in the other order. What is told has to differ still when it is
+small. Of a fault in what the readings of the definitions say, the self-check of the copy has to fail, too. The last line is
+`N passed, M failed`.
+"""
+import argparse
+import itertools
+import os
+import subprocess
+import sys
+import tempfile
+import time
+
+from differ.comparing import compare
+from differ.planted import FAULTS, MODEL, plant, write_wrapper
+from differ.running import Program
+from differ.shrinking import shrink
+from differ.words import command_of
+from graphs.cases import case_of_seed
+from rules.stack import with_big_stack
+
+# how long a fault may stay unseen, and a case be made small, in seconds; the seeds of the self-check of a copy
+LIMIT, SHRINK, SELF_CHECK = 60, 1, '0..1000'
+RIGHT_GRAPHS = 40
+
+
+def found_in(command) -> 'tuple[str, float]':
+    """Compares until a graph differs, and makes it small; returns what was wrong, or nothing, and how long it took to see."""
+    program, began = Program(command), time.monotonic()
+    seed = case = None
+    for seed in itertools.count():
+        case = case_of_seed(seed)
+        if program.difference(case.graph, case.lines) is not None:
+            break
+        if time.monotonic() - began > LIMIT:
+            program.close()
+            return 'no difference in %d graphs' % seed, LIMIT
+    took = time.monotonic() - began
+    graph, lines = shrink(program, case, SHRINK)
+    still = program.difference(graph, lines) is not None and len(graph) <= len(case.graph)
+    program.close()
+    print('  seed %d, %d bytes of %d, %d lines of %d' % (seed, len(graph), len(case.graph), len(lines), len(case.lines)))
+    return '' if still else 'the small case of seed %d is none' % seed, took
+
+
+def self_check_sees(top) -> str:
+    done = subprocess.run([sys.executable, 'self_check.py', '--seeds', SELF_CHECK], cwd=top, stdout=subprocess.DEVNULL,
+                          stderr=subprocess.DEVNULL)
+    return '' if done.returncode == 1 else 'the self-check ended with status %d' % done.returncode
+
+
+def results(folder, program):
+    """The name of each test and what is wrong with it, as they come."""
+    right = [sys.executable, os.path.join(MODEL, 'symq.py')]
+    for name, command in [('the model itself', right)] + ([('the program itself', program)] if program else []):
+        compared = Program(command)
+        counts = compare(compared, ((seed, case_of_seed(seed)) for seed in range(RIGHT_GRAPHS)))
+        compared.close()
+        yield name, '' if counts.differ == 0 and counts.graphs == RIGHT_GRAPHS else counts.told(), counts.seconds()
+    for fault in FAULTS:
+        top = plant(fault, folder)
+        wrong, took = found_in([sys.executable, os.path.join(top, 'symq.py')])
+        yield fault.name, wrong, took
+        if fault.readings:
+            yield fault.name + ', by the readings', self_check_sees(top), 0
+    if program:
+        wrong, took = found_in([sys.executable, write_wrapper(folder), *program])
+        yield 'unresolved_reversed, around the program', wrong, took
+
+
+def main() -> int:
+    p = argparse.ArgumentParser(description=__doc__, formatter_class=argparse.RawDescriptionHelpFormatter)
+    p.add_argument('program', type=command_of, nargs='?')
+    a = p.parse_args()
+    passed = failed = 0
+    with tempfile.TemporaryDirectory(prefix='evidence-') as folder:
+        for name, wrong, took in results(folder, a.program):
+            passed, failed = passed + (not wrong), failed + bool(wrong)
+            print('%s: %s' % (name, wrong or 'as it should be, %.1f s' % took), flush=True)
+    print('%d passed, %d failed' % (passed, failed))
+    return 1 if failed else 0
+
+
+if __name__ == '__main__':
+    sys.exit(with_big_stack(main))
