@@ -6,7 +6,7 @@ FOLDER ?= examples/first
 SYMQ ?= crates/symq/out/symq
 SEEDS ?= 0..2000
 
-.PHONY: help run try test symq packages evidence clean setup
+.PHONY: help run try test symq packages evidence crate clean setup
 
 help:
 	@echo 'make run [FOLDER=src]            the public names of a folder, by a build that waits for no proof: a minute'
@@ -15,6 +15,7 @@ help:
 	@echo 'make test                        the whole gate; the last line is N passed, M failed: over an hour'
 	@echo 'make packages                    holds symdir to the checker of TypeScript on packages of Debian: minutes'
 	@echo 'make evidence [SEEDS=0..2000]    the program beside a model that was written apart, on random graphs: evidence/README.md'
+	@echo 'make crate FROM=FOLDER           the Rust crate as a program with the same lines, to compare with'
 	@echo 'make clean                       removes what these made'
 
 setup:
@@ -46,5 +47,9 @@ evidence:
 	@test -x '$(SYMQ)' || { echo '$(SYMQ) is not there: `make symq` builds it, or say SYMQ=PROGRAM'; exit 1; }
 	@python3 evidence/model/compare.py '$(SYMQ)' --seeds '$(SEEDS)'
 
+crate:
+	@test -n '$(FROM)' || { echo 'make crate FROM=FOLDER, where FOLDER is deno_graph 0.111.1 as cargo unpacks it'; exit 1; }
+	@python3 evidence/crate/build.py '$(FROM)'
+
 clean:
-	@rm -rf symq crates/*/out symdir/node_modules
+	@rm -rf symq crates/*/out symdir/node_modules evidence/crate/out

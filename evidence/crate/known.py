@@ -1,0 +1,68 @@
+"""What is known to differ between the crate and `symq`, and how random graphs are kept apart from it."""
+import copy
+
+from graphs.broken import child_fields
+from rules.identifiers import is_identifier
+from rules.kinds import CATEGORIES, FIELDS
+from rules.symbols import WHITE_SPACE
+
+PANIC = b'{"fault":"panic"}'
+
+# the fields of kinds in which a pattern stands
+PATTERN_FIELDS = {(kind, name) for kind, fields in FIELDS.items() for name, _, allowed in fields
+                  if allowed and 'ExprPat' in allowed and allowed != CATEGORIES['ANY']}
+
+
+def trees(value) -> 'list[list[dict]]':
+    """The lists of nodes of a graph's modules."""
+    return [module['tree']['nodes'] for module in value['modules'] if module.get('tree')]
+
+
+def has_opaque_pattern(value) -> bool:
+    """Whether a pattern is `Other`: the crate has no such pattern, and walks it with expressions alone."""
+    for nodes in trees(value):
+        for node in nodes:
+            for name, form in child_fields(node):
+                children = node[name] if form == 'child*' else [node[name]]
+                if (node['kind'], name) in PATTERN_FIELDS and any(nodes[child]['kind'] == 'Other' for child in children):
+                    return True
+    return False
+
+
+def _older_letters(value):
+    """Letters of identifiers that are newer than the tables of Python 3.11 and of Debian's `unicode-ident` are plain."""
+    if type(value) is list:
+        return [_older_letters(item) for item in value]
+    if type(value) is dict:
+        return {key: _older_letters(item) for key, item in value.items()}
+    if type(value) is not str or value.isascii():
+        return value
+    return ''.join('x' if it > '\x7f' and it not in '\u200c\u200d' and is_identifier('a' + it) != ('a' + it).isidentifier()
+                   else it for it in value)
+
+
+def without_known(value) -> dict:
+    """The graph without JSON texts of white space alone, newer letters, and types dependencies on a redirect's source."""
+    value = copy.deepcopy(value)
+    sources = {source for source, _ in value.get('redirects') or []}
+    for module in value['modules']:
+        if module['kind'] == 'json' and not module['text'].strip(WHITE_SPACE):
+            module['text'] = '{}'
+        if module.get('types') in sources:
+            del module['types']
+        if module.get('tree'):
+            module['tree'] = _older_letters(module['tree'])
+    return value
+
+
+def without_recursion(value) -> dict:
+    """The graph without types dependencies and aliases of names: what the crate is known to recurse on without end."""
+    value = copy.deepcopy(value)
+    for module in value['modules']:
+        module.pop('types', None)
+    for nodes in trees(value):
+        for node in nodes:
+            if type(node.get('body')) is list:
+                node['body'] = [child for child in node['body'] if nodes[child]['kind'] != 'TsImportEqualsDecl'
+                                or nodes[child].get('entity') is None]
+    return value
