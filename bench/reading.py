@@ -1,7 +1,7 @@
 #!/usr/bin/env python3
 """Times and counts reading: whole runs without queries on made graphs, of n and of 2n, and on graphs of files.
 
-    python3 bench/reading.py PROGRAM --beside OTHER                  beside another program, a build of the Rust crate
+    python3 bench/reading.py PROGRAM --beside OTHER                  beside another, as evidence/crate/out/crate-symq
     python3 bench/reading.py PROGRAM --beside OTHER --graph GRAPH .. on graphs of files too
     python3 bench/reading.py PROGRAM --before OLD                    refused graphs beside an earlier program
 
@@ -28,7 +28,8 @@ import sys
 import tempfile
 from functools import partial
 
-from bench import class_of, declarations, instructions, interface_of, write
+from counts import instructions
+from made import class_of, declarations, interface_of, write
 
 RUNS = 11
 
