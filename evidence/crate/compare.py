@@ -169,15 +169,16 @@ def compare_file(program, crate, path) -> 'tuple[int, int]':
 def main() -> int:
     p = argparse.ArgumentParser(description=__doc__, formatter_class=argparse.RawDescriptionHelpFormatter)
     p.add_argument('program', type=command_of, nargs='?', help='with --seeds the model, unless said')
-    p.add_argument('--crate', type=command_of, default=CRATE, metavar='PROGRAM', help='what build.py makes, unless said')
+    p.add_argument('--crate', default=CRATE, metavar='PROGRAM', help='what build.py makes, unless said')
     what = p.add_mutually_exclusive_group(required=True)
     what.add_argument('--seeds', type=seeds_of, metavar='A..B')
     what.add_argument('--graph', nargs='+')
     a = p.parse_args()
     if a.graph and not a.program:
         p.error('a program is needed for graphs of files')
-    if not os.path.exists(a.crate[0]):
-        p.error('%s is not there: make crate FROM=FOLDER builds it' % a.crate[0])
+    if not os.path.exists(a.crate):
+        p.error('%s is not there: make crate FROM=FOLDER builds it' % a.crate)
+    a.crate = command_of(a.crate)
     if a.graph:
         counts = [compare_file(a.program, a.crate, path) for path in a.graph]
         passed, failed = (sum(it) for it in zip(*counts))

@@ -41,8 +41,10 @@ def main() -> int:
     p.add_argument('program', nargs='?', default=os.path.join(TOP, 'crates', 'symq', 'out', 'symq'))
     p.add_argument('--seconds', default='60', help='how long random graphs are tried')
     a = p.parse_args()
-    if not os.path.exists(command_of(a.program)[0]):
-        p.error('there is no program %s' % a.program)
+    try:
+        command_of(a.program)
+    except argparse.ArgumentTypeError as fault:
+        p.error(str(fault))
     seeds = '%d..%d' % (first_seed(), first_seed() + SEEDS_OF_A_COMMIT)
     parts = [part('worked rows, the model', 'run_rows.py'),
              part('worked rows, the program', 'run_rows.py', a.program),

@@ -1,5 +1,5 @@
 #!/usr/bin/env python3
-"""The differ's own test: programs with a planted fault are told within 60 seconds each, and right ones aren't.
+"""The differ's own test: programs with a planted fault are told within 300 graphs each, and right ones aren't.
 
     python3 evidence/model/test_differ.py [PROGRAM]
 
@@ -9,7 +9,6 @@ small. Of a fault in what the readings of the definitions say, the self-check of
 `N passed, M failed`.
 """
 import argparse
-import itertools
 import os
 import subprocess
 import sys
@@ -24,23 +23,21 @@ from differ.words import command_of
 from graphs.cases import case_of_seed
 from rules.stack import with_big_stack
 
-# how long a fault may stay unseen, and a case be made small, in seconds; the seeds of the self-check of a copy
-LIMIT, SHRINK, SELF_CHECK = 60, 1, '0..1000'
+# how many graphs may hide a fault, which take 25 seconds; how long a case is made small, in seconds; the seeds of the
+# self-check of a copy
+LIMIT, SHRINK, SELF_CHECK = 300, 1, '0..1000'
 RIGHT_GRAPHS = 40
 
 
 def found_in(command) -> 'tuple[str, float]':
     """Compares until a graph differs, and makes it small; returns what was wrong, or nothing, and how long it took to see."""
     program, began = Program(command), time.monotonic()
-    seed = case = None
-    for seed in itertools.count():
-        case = case_of_seed(seed)
-        if program.difference(case.graph, case.lines) is not None:
-            break
-        if time.monotonic() - began > LIMIT:
-            program.close()
-            return 'no difference in %d graphs' % seed, LIMIT
+    cases = ((seed, case_of_seed(seed)) for seed in range(LIMIT))
+    seed, case = next(((at, it) for at, it in cases if program.difference(it.graph, it.lines) is not None), (LIMIT, None))
     took = time.monotonic() - began
+    if case is None:
+        program.close()
+        return 'no difference in %d graphs' % LIMIT, took
     graph, lines = shrink(program, case, SHRINK)
     still = program.difference(graph, lines) is not None and len(graph) <= len(case.graph)
     program.close()

@@ -2,6 +2,7 @@
 import argparse
 import os
 import shlex
+import shutil
 
 
 def seeds_of(text: str) -> range:
@@ -15,6 +16,6 @@ def seeds_of(text: str) -> range:
 def command_of(text: str) -> 'list[str]':
     """The words of a program, with those that name a file made to stand from any folder."""
     words = [os.path.abspath(word) if os.path.exists(word) else word for word in shlex.split(text)]
-    if not words:
-        raise argparse.ArgumentTypeError('no program')
+    if not words or not shutil.which(words[0]):
+        raise argparse.ArgumentTypeError('there is no program %s' % text)
     return words
