@@ -1,10 +1,13 @@
 #!/usr/bin/env python3
-"""What the gate runs of the model: the worked rows, the model's self-check, the differ's own test, and random graphs.
+"""What the gate runs of the model.
 
-    python3 evidence/model/gate.py [PROGRAM]
+    python3 evidence/model/gate.py model                  the model's rows and self-check, and the differ's own test
+    python3 evidence/model/gate.py program [PROGRAM]      the program beside the rows, a fault around it, and random graphs
+    python3 evidence/model/gate.py all [PROGRAM]          both
 
-PROGRAM is `crates/symq/out/symq` unless said. The seeds come from the number of commits, so that each state is tried with
-other graphs: those from 100,000 times that number on, for 60 seconds. The last line is `N passed, M failed`.
+PROGRAM is `crates/symq/out/symq` unless said; the first form needs none. The seeds come from the number of commits, so that
+each state is tried with other graphs: those from 100,000 times that number on, for 60 seconds. The last line is
+`N passed, M failed`.
 """
 import argparse
 import os
@@ -36,21 +39,32 @@ def part(name, *words) -> 'tuple[int, int]':
     return passed, failed or int(done.returncode != 0)
 
 
+def of_model(seeds) -> list:
+    return [part('worked rows, the model', 'run_rows.py'),
+            part('the model by the definitions', 'self_check.py', '--seeds', seeds, '--seconds', '10'),
+            part('planted faults', 'test_differ.py')]
+
+
+def of_program(seeds, program, seconds) -> list:
+    return [part('worked rows, the program', 'run_rows.py', program),
+            part('a fault around the program', 'test_differ.py', program),
+            part('random graphs', 'compare.py', program, '--seeds', seeds, '--seconds', seconds)]
+
+
 def main() -> int:
     p = argparse.ArgumentParser(description=__doc__, formatter_class=argparse.RawDescriptionHelpFormatter)
+    p.add_argument('what', choices=['model', 'program', 'all'])
     p.add_argument('program', nargs='?', default=os.path.join(TOP, 'crates', 'symq', 'out', 'symq'))
     p.add_argument('--seconds', default='60', help='how long random graphs are tried')
     a = p.parse_args()
-    try:
-        command_of(a.program)
-    except argparse.ArgumentTypeError as fault:
-        p.error(str(fault))
     seeds = '%d..%d' % (first_seed(), first_seed() + SEEDS_OF_A_COMMIT)
-    parts = [part('worked rows, the model', 'run_rows.py'),
-             part('worked rows, the program', 'run_rows.py', a.program),
-             part('the model by the definitions', 'self_check.py', '--seeds', seeds, '--seconds', '10'),
-             part('planted faults', 'test_differ.py', a.program),
-             part('random graphs', 'compare.py', a.program, '--seeds', seeds, '--seconds', a.seconds)]
+    parts = of_model(seeds) if a.what != 'program' else []
+    if a.what != 'model':
+        try:
+            command_of(a.program)
+        except argparse.ArgumentTypeError as fault:
+            p.error(str(fault))
+        parts += of_program(seeds, a.program, a.seconds)
     passed, failed = (sum(counts) for counts in zip(*parts))
     print('%d passed, %d failed' % (passed, failed))
     return 1 if failed else 0

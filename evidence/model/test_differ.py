@@ -1,10 +1,11 @@
 #!/usr/bin/env python3
 """The differ's own test: programs with a planted fault are told within 300 graphs each, and right ones aren't.
 
-    python3 evidence/model/test_differ.py [PROGRAM]
+    python3 evidence/model/test_differ.py             faults in copies of the model
+    python3 evidence/model/test_differ.py PROGRAM     a fault around a program
 
-Each fault is planted into a copy of the model, which is compared as a program with the model. With PROGRAM there is one more,
-a program around it that gives two unresolved statements in the other order. What is told has to differ still when it is
+Each fault is planted into a copy of the model, which is compared as a program with the model. With PROGRAM it is a program
+around that one, which gives two unresolved statements in the other order. What is told has to differ still when it is
 small. Of a fault in what the readings of the definitions say, the self-check of the copy has to fail, too. The last line is
 `N passed, M failed`.
 """
@@ -51,23 +52,30 @@ def self_check_sees(top) -> str:
     return '' if done.returncode == 1 else 'the self-check ended with status %d' % done.returncode
 
 
-def results(folder, program):
-    """The name of each test and what is wrong with it, as they come."""
-    right = [sys.executable, os.path.join(MODEL, 'symq.py')]
-    for name, command in [('the model itself', right)] + ([('the program itself', program)] if program else []):
-        compared = Program(command)
-        counts = compare(compared, ((seed, case_of_seed(seed)) for seed in range(RIGHT_GRAPHS)))
-        compared.close()
-        yield name, '' if counts.differ == 0 and counts.graphs == RIGHT_GRAPHS else counts.told(), counts.seconds()
+def right(name, command):
+    """That a program without a fault isn't told."""
+    program = Program(command)
+    counts = compare(program, ((seed, case_of_seed(seed)) for seed in range(RIGHT_GRAPHS)))
+    program.close()
+    wrong = '' if counts.differ == 0 and counts.graphs == RIGHT_GRAPHS else counts.told()
+    return name, wrong, counts.seconds()
+
+
+def results(folder):
+    """The name of each test of the model's copies, what is wrong with it, and how long it took, as they come."""
+    yield right('the model itself', [sys.executable, os.path.join(MODEL, 'symq.py')])
     for fault in FAULTS:
         top = plant(fault, folder)
-        wrong, took = found_in([sys.executable, os.path.join(top, 'symq.py')])
-        yield fault.name, wrong, took
+        yield (fault.name, *found_in([sys.executable, os.path.join(top, 'symq.py')]))
         if fault.readings:
-            yield fault.name + ', by the readings', self_check_sees(top), 0
-    if program:
-        wrong, took = found_in([sys.executable, write_wrapper(folder), *program])
-        yield 'unresolved_reversed, around the program', wrong, took
+            began = time.monotonic()
+            yield fault.name + ', by the readings', self_check_sees(top), time.monotonic() - began
+
+
+def results_around(folder, program):
+    """The same of a program, and of one around it."""
+    yield right('the program itself', program)
+    yield ('unresolved_reversed, around the program', *found_in([sys.executable, write_wrapper(folder), *program]))
 
 
 def main() -> int:
@@ -76,7 +84,7 @@ def main() -> int:
     a = p.parse_args()
     passed = failed = 0
     with tempfile.TemporaryDirectory(prefix='evidence-') as folder:
-        for name, wrong, took in results(folder, a.program):
+        for name, wrong, took in results_around(folder, a.program) if a.program else results(folder):
             passed, failed = passed + (not wrong), failed + bool(wrong)
             print('%s: %s' % (name, wrong or 'as it should be, %.1f s' % took), flush=True)
     print('%d passed, %d failed' % (passed, failed))
