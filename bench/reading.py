@@ -23,6 +23,7 @@ grow by more than 2.1, or where a refused graph takes more than 1.5 of the earli
 import argparse
 import json
 import os
+import re
 import subprocess
 import sys
 import tempfile
@@ -144,7 +145,9 @@ def main():
     p.add_argument('--before', metavar='OLD', type=os.path.abspath)
     p.add_argument('--graph', nargs='*', default=[])
     p.add_argument('--uncounted', action='store_true', help='count no instructions')
+    p.add_argument('--made', metavar='REGEX', default='', help='of the made graphs, those with such a name')
     a = p.parse_args()
+    made = [it for it in MADE if re.search(a.made, it[0])]
     bounds = Bounds()
     with tempfile.TemporaryDirectory() as folder:
         def file(n, make):
@@ -155,14 +158,14 @@ def main():
             heads = ['graph', 'MB of text'] + ['ms', 'of other', 'growth', 'MB', 'of other', 'growth']
             heads += [] if a.uncounted else ['million instructions', 'of other', 'growth']
             print('| %s |\n|%s' % (' | '.join(heads), '---|' * len(heads)))
-            for name, n, make in MADE:
+            for name, n, make in made:
                 small = [] if a.uncounted else [file(it, make) for it in (n // 10, n // 5)]
                 row(bounds, '%s, %d' % (name, n), a.program, a.beside, [file(it, make) for it in (n, 2 * n)], small)
             for path in a.graph:
                 row(bounds, os.path.basename(path), a.program, a.beside, [path], [])
         if a.before:
             print('| graph | refused | ms | of the earlier |\n|---|---|---|---|')
-            for name, n, make in MADE:
+            for name, n, make in made:
                 refused_rows(bounds, '%s, %d' % (name, n), a.program, a.before, partial(make, n))
             for path in a.graph:
                 refused_rows(bounds, os.path.basename(path), a.program, a.before, partial(loaded, path))
