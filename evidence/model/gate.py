@@ -24,7 +24,10 @@ SEEDS_OF_A_COMMIT = 100000
 
 def first_seed() -> int:
     """The first seed of the state that is checked out; 0 outside of a repository."""
-    count = subprocess.run(['git', 'rev-list', '--count', 'HEAD'], cwd=TOP, stdout=subprocess.PIPE, stderr=subprocess.DEVNULL)
+    try:
+        count = subprocess.run(['git', 'rev-list', '--count', 'HEAD'], cwd=TOP, stdout=subprocess.PIPE, stderr=subprocess.DEVNULL)
+    except OSError:
+        return 0
     return SEEDS_OF_A_COMMIT * int(count.stdout or 0)
 
 
