@@ -44,6 +44,7 @@ def part(name, *words) -> 'tuple[int, int]':
 
 def of_model(seeds) -> list:
     return [part('worked rows, the model', 'run_rows.py'),
+            part('the page on graphs', 'graph_page.py'),
             part('the model by the definitions', 'self_check.py', '--seeds', seeds, '--seconds', '10'),
             part('planted faults', 'test_differ.py')]
 

@@ -11,7 +11,7 @@ DECLARATION_WEIGHTS = {'ClassDecl': 5, 'FnDecl': 6, 'VarDecl': 5, 'TsInterfaceDe
 EXPRESSION_WEIGHTS = {'Ident': 8, 'Member': 6, 'Str': 2, 'Num': 2, 'BigInt': 1, 'Assign': 2, 'FnExpr': 1, 'ClassExpr': 1,
                       'Arrow': 2, 'TsAsExpr': 3, 'TsTypeAssertion': 2, 'Other': 2}
 PATTERN_WEIGHTS = {'BindingIdent': 10, 'ArrayPat': 2, 'ObjectPat': 3, 'RestPat': 2, 'AssignPat': 3, 'ExprPat': 1, 'Other': 1}
-WEIGHTS = [('ITEM', ITEM_WEIGHTS), ('EXPR', EXPRESSION_WEIGHTS), ('PAT', PATTERN_WEIGHTS)]
+WEIGHTS = [('EXPORTED', DECLARATION_WEIGHTS), ('ITEM', ITEM_WEIGHTS), ('EXPR', EXPRESSION_WEIGHTS), ('PAT', PATTERN_WEIGHTS)]
 
 # by category, the kinds that end a tree which is large enough
 SMALL = {'EXPR': ['Ident', 'Ident', 'Num', 'Str'], 'PAT': ['BindingIdent'], 'SIG': ['BindingIdent'], 'TYPE': ['Type'],
@@ -57,11 +57,9 @@ class Maker:
     def pick(self, weights) -> str:
         return self.rng.choices(list(weights), list(weights.values()))[0]
 
-    def choose(self, allowed, parent) -> str:
+    def choose(self, allowed) -> str:
         """A kind that may stand there."""
         small = self.budget <= 0
-        if allowed == CATEGORIES['DECL'] and parent == 'ExportDecl':
-            return self.pick(DECLARATION_WEIGHTS)
         for category, weights in WEIGHTS:
             if allowed == CATEGORIES[category] and not (small and category in SMALL):
                 return self.pick(weights)
@@ -88,8 +86,8 @@ class Maker:
             return rng.choice([1, 1, 2, 2, 3, 0])
         return rng.choice([0, 0, 1, 1, 2])
 
-    def child(self, allowed, parent, depth) -> dict:
-        return self.make(self.choose(allowed, parent), depth + 1)
+    def child(self, allowed, depth) -> dict:
+        return self.make(self.choose(allowed), depth + 1)
 
     def make(self, kind, depth=0) -> dict:
         self.budget -= 1
@@ -105,11 +103,11 @@ class Maker:
     def value(self, kind, name, form, allowed, depth):
         rng = self.rng
         if form == 'child':
-            return self.child(allowed, kind, depth)
+            return self.child(allowed, depth)
         if form == 'child?':
             return self.optional_child(kind, name, allowed, depth)
         if form == 'child*':
-            return [self.child(allowed, kind, depth) for _ in range(self.count(name, kind, depth))]
+            return [self.child(allowed, depth) for _ in range(self.count(name, kind, depth))]
         if form == 'text' or (form == 'text?' and rng.random() < 0.5):
             return self.text(kind, name)
         if form == 'bool':
@@ -123,7 +121,7 @@ class Maker:
     def optional_child(self, kind, name, allowed, depth):
         likely = {'body': 0.6, 'type_ann': 0.4, 'init': 0.6}.get(name, 0.35)
         if self.budget > 0 and depth < DEPTH and self.rng.random() < likely:
-            return self.child(allowed, kind, depth)
+            return self.child(allowed, depth)
         if name == 'body' and kind in ('Function', 'Constructor') and self.rng.random() < 0.5:
             return {'kind': 'Other'}
         return None
@@ -134,7 +132,7 @@ class Maker:
             key = {'kind': 'IdentName', 'name': self.name()}
         else:
             key = {'kind': 'Computed', 'expr': {'kind': 'Str', 'value': self.name()}}
-        value = self.make(self.choose(CATEGORIES['EXPR'], 'Assign'), 3)
+        value = self.make(self.choose(CATEGORIES['EXPR']), 3)
         return property_of({'kind': 'Ident', 'sym': self.name_and_scope()}, key, rng.random() < 0.9, value)
 
     def keep_exports(self, node, depth) -> None:
@@ -152,7 +150,7 @@ class Maker:
         if self.rng.random() < 0.35:
             node['entity'], node['external'] = None, self.text('TsImportEqualsDecl', 'external')
         else:
-            node['entity'] = node['entity'] or self.child(CATEGORIES['ENTITY'], 'TsImportEqualsDecl', depth)
+            node['entity'] = node['entity'] or self.child(CATEGORIES['ENTITY'], depth)
             node['external'] = None
 
     def keep_binding(self, node, depth) -> None:

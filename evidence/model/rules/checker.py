@@ -37,8 +37,6 @@ def _is(nodes: 'list[Node]', number: int, kind: str) -> bool:
 def _breaks_a_rule(nodes: 'list[Node]', node: Node) -> bool:
     """The rules of form that categories don't say. The children of the node are known to be there."""
     fields = node.fields
-    if node.kind == 'ExportDecl':
-        return nodes[fields['decl']].kind == 'UsingDecl'
     if node.kind == 'ExportDefaultSpecifier':
         return True
     if node.kind == 'ExportNamed' and fields['src'] is None:

@@ -28,7 +28,7 @@ KIND_ROWS = [
     ('ImportNamed', 'local: Ident, imported: text?', ''),
     ('ImportDefault', 'local: Ident', ''),
     ('ImportNamespace', 'local: Ident', ''),
-    ('ExportDecl', 'decl: DECL', ''),
+    ('ExportDecl', 'decl: EXPORTED', ''),
     ('ExportNamed', 'specifiers: ExportSpecifier/ExportNamespace*, src: text?', ''),
     ('ExportSpecifier', 'orig: Ident/Str, exported: text?', ''),
     ('ExportNamespace', 'name: text', ''),
@@ -151,6 +151,7 @@ _SIG = ['BindingIdent', 'ArrayPat', 'ObjectPat', 'RestPat']
 
 CATEGORIES = {
     'DECL': _DECL,
+    'EXPORTED': [kind for kind in _DECL if kind != 'UsingDecl'],
     'STMT': _STMT,
     'ITEM': _ITEM,
     'EXPR': ['Ident', 'Member', 'Str', 'Num', 'BigInt', 'Assign', 'FnExpr',
