@@ -1,6 +1,31 @@
 //! Tests of the library's public calls, where no run of a program shows what they give. A crate with tests is proved twice,
 //! with and without them, so they stand in one of their own.
+//!
+//! Code of a test is proved, so it costs, and a constant text costs next to nothing: a graph is read from its text, but
+//! where a test is about making one by calls. `lending` owns what is let go at an end, and lends it to a check, which returns
+//! the name of the first thing in it that is wrong, as the test then does.
 #![tactic(auto)]
+
+/// Ends a check that doesn't hold with its name.
+#[cfg(test)]
+macro_rules! holds {
+    ($holds:expr, $name:literal) => {
+        if !$holds {
+            return Err(concat!("wrong: ", $name));
+        }
+    };
+}
+
+/// What is there; a check where nothing is ends with its name.
+#[cfg(test)]
+macro_rules! there {
+    ($found:expr, $name:literal) => {
+        match $found {
+            Some(found) => found,
+            None => return Err(concat!("not there: ", $name)),
+        }
+    };
+}
 
 #[cfg(test)]
 mod analysis;
@@ -16,6 +41,8 @@ mod exports;
 mod graphs;
 #[cfg(test)]
 mod ids;
+#[cfg(test)]
+mod lending;
 #[cfg(test)]
 mod modules;
 #[cfg(test)]

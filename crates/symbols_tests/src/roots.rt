@@ -1,42 +1,16 @@
 //! A root by calls, which no run shows: its limits, what is stored, and under which numbers.
 
-use crate::trees::{graph_of, module_of, push};
-use deno_symbols::check::{GraphFault, ModuleGraph, RawModule, RawModuleKind};
+use crate::lending::{Checked, of_limited, of_root};
 use deno_symbols::ids::ModuleId;
 use deno_symbols::info::SymbolsFault;
 use deno_symbols::root::{Limits, RootSymbol};
-use deno_symbols::tree::{Item, Kind, Tree};
-use std::alloc::{AllocError, Global};
-use std::process::Abort;
-use std::test::Fail;
-
-fn empty_tree(alloc: Global) -> Result<Tree, AllocError> {
-    let mut nodes = Vec::new(alloc);
-    let body = Vec::new(alloc);
-    push(&mut nodes, Kind::Item(Item::Program { body }))?;
-    Ok(Tree {
-        declaration: false,
-        nodes,
-    })
-}
-
-fn json(alloc: Global, specifier: &str) -> Result<RawModule, AllocError> {
-    Ok(RawModule {
-        specifier: String::from_str(alloc, specifier)?,
-        kind: RawModuleKind::Json {
-            text: String::new(alloc),
-        },
-    })
-}
 
 /// The modules `a` and `b`, with a symbol each, and the JSON module `j`, which has two.
-fn graph(alloc: Global) -> Result<ModuleGraph, GraphFault> {
-    let mut modules = Vec::new(alloc);
-    modules.push(module_of(alloc, "a", empty_tree(alloc)?)?)?;
-    modules.push(module_of(alloc, "b", empty_tree(alloc)?)?)?;
-    modules.push(json(alloc, "j")?)?;
-    graph_of(alloc, modules)
-}
+const GRAPH: &str = r#"{"modules": [
+{"specifier": "a", "kind": "esm", "text": "", "tree": {"nodes": [{"kind": "Program", "range": [0, 0]}]}},
+{"specifier": "b", "kind": "esm", "text": "", "tree": {"nodes": [{"kind": "Program", "range": [0, 0]}]}},
+{"specifier": "j", "kind": "json", "text": ""}
+]}"#;
 
 /// The number of the module that a specifier stands for, or why there is none.
 fn number(root: &mut RootSymbol<'_>, specifier: &str) -> Result<Option<u32>, &'static str> {
@@ -50,40 +24,75 @@ fn number(root: &mut RootSymbol<'_>, specifier: &str) -> Result<Option<u32>, &'s
 }
 
 /// Modules are stored in the order in which they are asked for, each once.
-fn stores_in_order(rt: &impl Abort, root: &mut RootSymbol<'_>) {
-    assert!(rt; !root.has_analyzed("b"));
-    assert_eq!(rt; number(root, "b"), Ok(Some(0)));
-    assert_eq!(rt; number(root, "j"), Ok(Some(1)));
-    assert_eq!(rt; number(root, "absent"), Ok(None));
-    assert_eq!(rt; number(root, "b"), Ok(Some(0)));
-    assert!(rt; root.has_analyzed("b") && !root.has_analyzed("a"));
-    assert!(rt; root.module_from_id(ModuleId::from_number(1)).is_some());
-    assert!(rt; root.module_from_id(ModuleId::from_number(2)).is_none());
-}
-
-/// What is stored stays where a limit is met.
-fn refuses_a_second(rt: &impl Abort, root: &mut RootSymbol<'_>) {
-    assert_eq!(rt; number(root, "a"), Ok(Some(0)));
-    assert_eq!(rt; number(root, "b"), Err("too many modules"));
-    assert_eq!(rt; number(root, "a"), Ok(Some(0)));
-}
-
-/// A module with too many symbols takes no number.
-fn refuses_two_symbols(rt: &impl Abort, root: &mut RootSymbol<'_>) {
-    assert_eq!(rt; number(root, "j"), Err("too many symbols"));
-    assert!(rt; !root.has_analyzed("j"));
-    assert_eq!(rt; number(root, "a"), Ok(Some(0)));
-}
-
-fn limited(alloc: Global, graph: &ModuleGraph, modules: u32, symbols: u32) -> RootSymbol<'_> {
-    RootSymbol::with_limits(alloc, graph, Limits { modules, symbols })
+fn stores_in_order(root: &mut RootSymbol<'_>) -> Checked {
+    holds!(!root.has_analyzed("b"), "b isn't stored yet");
+    holds!(number(root, "b") == Ok(Some(0)), "the number of b");
+    holds!(number(root, "j") == Ok(Some(1)), "the number of j");
+    holds!(
+        number(root, "absent") == Ok(None),
+        "an absent module has no number"
+    );
+    holds!(
+        number(root, "b") == Ok(Some(0)),
+        "the number of b, asked for again"
+    );
+    holds!(root.has_analyzed("b"), "b is stored");
+    holds!(!root.has_analyzed("a"), "a isn't stored");
+    holds!(
+        root.module_from_id(ModuleId::from_number(1)).is_some(),
+        "there is a module 1"
+    );
+    holds!(
+        root.module_from_id(ModuleId::from_number(2)).is_none(),
+        "there is no module 2"
+    );
+    Ok(())
 }
 
 #[test]
-fn stores_what_is_asked_for(rt: HostRuntime) -> Result<(), Fail> {
-    let graph = graph(rt.alloc())?;
-    stores_in_order(&rt, &mut RootSymbol::new(rt.alloc(), &graph));
-    refuses_a_second(&rt, &mut limited(rt.alloc(), &graph, 1, 9));
-    refuses_two_symbols(&rt, &mut limited(rt.alloc(), &graph, 9, 1));
+fn stores_what_is_asked_for(rt: HostRuntime) -> Checked {
+    of_root(rt.alloc(), GRAPH, stores_in_order)?
+}
+
+/// What is stored stays where a limit is met.
+fn refuses_a_second(root: &mut RootSymbol<'_>) -> Checked {
+    holds!(number(root, "a") == Ok(Some(0)), "the number of a");
+    holds!(
+        number(root, "b") == Err("too many modules"),
+        "b is one module too many"
+    );
+    holds!(
+        number(root, "a") == Ok(Some(0)),
+        "the number of a, asked for again"
+    );
     Ok(())
+}
+
+#[test]
+fn keeps_to_a_limit_of_modules(rt: HostRuntime) -> Checked {
+    let limits = Limits {
+        modules: 1,
+        symbols: 9,
+    };
+    of_limited(rt.alloc(), GRAPH, limits, refuses_a_second)?
+}
+
+/// A module with too many symbols takes no number.
+fn refuses_two_symbols(root: &mut RootSymbol<'_>) -> Checked {
+    holds!(
+        number(root, "j") == Err("too many symbols"),
+        "j has one symbol too many"
+    );
+    holds!(!root.has_analyzed("j"), "j isn't stored");
+    holds!(number(root, "a") == Ok(Some(0)), "the number of a");
+    Ok(())
+}
+
+#[test]
+fn keeps_to_a_limit_of_symbols(rt: HostRuntime) -> Checked {
+    let limits = Limits {
+        modules: 9,
+        symbols: 1,
+    };
+    of_limited(rt.alloc(), GRAPH, limits, refuses_two_symbols)?
 }

@@ -1,0 +1,107 @@
+//! What owns a graph, a root or a table, and lends it to a check. That a value is let go is proved anew for each way out
+//! of the function that owns it: so these own them, each once for all tests.
+
+use deno_symbols::analyze;
+use deno_symbols::check::ModuleGraph;
+use deno_symbols::ids::ModuleId;
+use deno_symbols::info::ModuleInfoRef;
+use deno_symbols::root::{Limits, RootSymbol};
+use std::alloc::Global;
+use symq_reader::read_graph;
+
+/// Nothing, or the name of the first check that doesn't hold.
+pub(crate) type Checked = Result<(), &'static str>;
+
+/// The graph of a text.
+pub(crate) fn graph_of(alloc: Global, text: &str) -> Option<ModuleGraph> {
+    let raw = read_graph(alloc, text.as_bytes()).ok()?;
+    ModuleGraph::new(alloc, raw).ok()
+}
+
+/// What is told of a graph.
+pub(crate) fn of_graph<R, F: FnOnce(&ModuleGraph) -> R + Drop>(
+    graph: Option<ModuleGraph>,
+    told: F,
+) -> Result<R, &'static str>
+    requires { F.IsAlwaysCallable told }
+{
+    let Some(graph) = graph else {
+        return Err("no graph");
+    };
+    Ok(told(&graph))
+}
+
+/// What is told of the symbols of a module of a graph. The module gets this number, and has at most so many symbols.
+fn of_analysed<R, F: FnOnce(ModuleInfoRef<'_, '_>) -> R + Drop>(
+    alloc: Global,
+    graph: &ModuleGraph,
+    specifier: &str,
+    numbers: (u32, u32),
+    told: F,
+) -> Result<R, &'static str>
+    requires { F.IsAlwaysCallable told }
+{
+    let (number, limit) = numbers;
+    let Some(module) = graph.get(specifier) else {
+        return Err("no module");
+    };
+    let Ok(Some(info)) = analyze(alloc, ModuleId::from_number(number), module, limit) else {
+        return Err("no symbols");
+    };
+    Ok(told(info.as_ref()))
+}
+
+/// What is told of the symbols of a module of a text's graph.
+pub(crate) fn of_module<R, F: FnOnce(ModuleInfoRef<'_, '_>) -> R + Drop>(
+    alloc: Global,
+    text: &str,
+    specifier: &str,
+    numbers: (u32, u32),
+    told: F,
+) -> Result<R, &'static str>
+    requires { F.IsAlwaysCallable told }
+{
+    let Some(graph) = graph_of(alloc, text) else {
+        return Err("no graph");
+    };
+    of_analysed(alloc, &graph, specifier, numbers, told)
+}
+
+/// The number of the module that a specifier stands for.
+pub(crate) fn module_id_of(root: &mut RootSymbol<'_>, specifier: &str) -> Option<ModuleId> {
+    match root.module_from_specifier(specifier) {
+        Ok(module_id) => module_id,
+        Err(_) => None,
+    }
+}
+
+/// What is told of a root.
+pub(crate) fn of_root<R, F: FnOnce(&mut RootSymbol<'_>) -> R + Drop>(
+    alloc: Global,
+    text: &str,
+    told: F,
+) -> Result<R, &'static str>
+    requires { F.IsAlwaysCallable told }
+{
+    let Some(graph) = graph_of(alloc, text) else {
+        return Err("no graph");
+    };
+    let mut root = RootSymbol::new(alloc, &graph);
+    Ok(told(&mut root))
+}
+
+/// What is told of a root with limits.
+pub(crate) fn of_limited<R, F: FnOnce(&mut RootSymbol<'_>) -> R + Drop>(
+    alloc: Global,
+    text: &str,
+    limits: Limits,
+    told: F,
+) -> Result<R, &'static str>
+    requires { F.IsAlwaysCallable told }
+{
+    let Some(graph) = graph_of(alloc, text) else {
+        return Err("no graph");
+    };
+    let mut root = RootSymbol::with_limits(alloc, &graph, limits);
+    Ok(told(&mut root))
+}
