@@ -1,47 +1,62 @@
 //! Symbols without a module.
 
+use crate::lending::Checked;
 use deno_symbols::decl::{FileDepName, Symbol};
 use deno_symbols::ids::{ModuleId, SymbolId, UniqueSymbolId};
-use std::process::Abort;
-use std::test::Fail;
 
 /// What a symbol 3 of the module 4, in the symbol 2, is called by.
-fn tells_its_ids(rt: &impl Abort, symbol: &Symbol<'_>) {
+fn tells_its_ids(symbol: &Symbol<'_>) -> Checked {
     let module = ModuleId::from_number(4);
     let number = SymbolId::from_number(3);
     let parent = SymbolId::from_number(2);
-    assert_eq!(rt; symbol.unique_id(), UniqueSymbolId::new(module, number));
-    assert_eq!(rt; symbol.module_id(), module);
-    assert_eq!(rt; symbol.symbol_id(), number);
-    assert_eq!(rt; symbol.parent_id(), Some(parent));
-    let parent_id = symbol.parent_unique_id();
-    assert_eq!(rt; parent_id, Some(UniqueSymbolId::new(module, parent)));
+    holds!(
+        symbol.unique_id() == UniqueSymbolId::new(module, number),
+        "the unique number"
+    );
+    holds!(symbol.module_id() == module, "the number of the module");
+    holds!(symbol.symbol_id() == number, "the number of the symbol");
+    holds!(
+        symbol.parent_id() == Some(parent),
+        "the number of the parent"
+    );
+    let unique_parent = Some(UniqueSymbolId::new(module, parent));
+    holds!(
+        symbol.parent_unique_id() == unique_parent,
+        "the unique number of the parent"
+    );
+    Ok(())
 }
 
 /// A symbol of which nothing is known yet.
-fn is_empty(rt: &impl Abort, symbol: &Symbol<'_>) -> Result<(), Fail> {
-    assert!(rt; symbol.decls().is_empty());
-    assert!(rt; symbol.exports().is_empty());
-    assert_eq!(rt; symbol.child_ids().len(), 0);
-    assert!(rt; symbol.members().is_empty());
-    assert!(rt; symbol.maybe_name()?.is_none());
-    assert!(rt; symbol.file_dep().is_none());
-    assert!(rt; !symbol.is_module() && !symbol.is_decl());
-    assert!(rt; !symbol.is_member() && !symbol.is_private_member());
+fn is_empty(symbol: &Symbol<'_>) -> Checked {
+    holds!(symbol.decls().is_empty(), "no declarations");
+    holds!(symbol.exports().is_empty(), "no exports");
+    holds!(symbol.child_ids().len() == 0, "no children");
+    holds!(symbol.members().is_empty(), "no members");
+    holds!(matches!(symbol.maybe_name(), Ok(None)), "no name");
+    holds!(symbol.file_dep().is_none(), "nothing of another file");
+    holds!(!symbol.is_module(), "it is no module");
+    holds!(!symbol.is_decl(), "it is no declaration");
+    holds!(!symbol.is_member(), "it is no member");
+    holds!(!symbol.is_private_member(), "it is no private member");
     Ok(())
 }
 
 #[test]
-fn starts_a_symbol_empty(rt: HostRuntime) -> Result<(), Fail> {
+fn starts_a_symbol_empty(rt: HostRuntime) -> Checked {
     let parent = Some(SymbolId::from_number(2));
     let module = ModuleId::from_number(4);
     let symbol = Symbol::new(rt.alloc(), module, SymbolId::from_number(3), parent);
-    tells_its_ids(&rt, &symbol);
-    is_empty(&rt, &symbol)
+    tells_its_ids(&symbol)?;
+    is_empty(&symbol)
 }
 
 #[test]
-fn names_what_is_taken(rt: HostRuntime) {
-    assert_eq!(rt; FileDepName::Name("a").maybe_name(), Some("a"));
-    assert_eq!(rt; FileDepName::Star.maybe_name(), None);
+fn names_what_is_taken() -> Checked {
+    holds!(
+        FileDepName::Name("a").maybe_name() == Some("a"),
+        "the name a"
+    );
+    holds!(FileDepName::Star.maybe_name() == None, "a star is no name");
+    Ok(())
 }
