@@ -1,16 +1,31 @@
-//! A small module, analysed.
+//! A small module, read from a text and made by calls, analysed.
 
-use crate::trees::{graph_of, id, list, module_of, push, push_declarator};
+use crate::lending::{Checked, of_graph, of_module};
+use crate::trees::{id, list, push, push_declarator};
 use deno_symbols::analyze;
-use deno_symbols::check::{GraphFault, GraphModule, ModuleGraph};
+use deno_symbols::check::{
+    GraphFault, GraphModule, ModuleGraph, RawGraph, RawModule, RawModuleKind,
+};
 use deno_symbols::ids::{ModuleId, SymbolId};
 use deno_symbols::info::{ModuleInfoRef, SymbolsFault};
 use deno_symbols::tree::{Decl, Item, Kind, NodeId, Tree};
 use std::alloc::{AllocError, Global};
-use std::process::Abort;
-use std::test::Fail;
 
-/// The text `export var a, a, a;`, where each `a` is of a scope of its own.
+/// The module `m` of the text `export var a, a, a;`, where each `a` is of a scope of its own.
+const GRAPH: &str =
+    r#"{"modules": [{"specifier": "m", "kind": "esm", "text": "", "tree": {"nodes": [
+    {"kind": "Program", "range": [0, 0], "body": [1]},
+    {"kind": "ExportDecl", "range": [0, 0], "decl": 2},
+    {"kind": "VarDecl", "range": [0, 0], "decls": [3, 5, 7]},
+    {"kind": "VarDeclarator", "range": [0, 0], "name": 4},
+    {"kind": "BindingIdent", "range": [0, 0], "sym": ["a", 4]},
+    {"kind": "VarDeclarator", "range": [0, 0], "name": 6},
+    {"kind": "BindingIdent", "range": [0, 0], "sym": ["a", 6]},
+    {"kind": "VarDeclarator", "range": [0, 0], "name": 8},
+    {"kind": "BindingIdent", "range": [0, 0], "sym": ["a", 8]}
+]}}]}"#;
+
+/// The same tree by calls.
 fn tree(alloc: Global) -> Result<Tree, AllocError> {
     let mut nodes = Vec::new(alloc);
     let body = list(alloc, &[1])?;
@@ -27,67 +42,82 @@ fn tree(alloc: Global) -> Result<Tree, AllocError> {
     })
 }
 
-/// The graph of the module `m` alone.
-fn graph(alloc: Global) -> Result<ModuleGraph, GraphFault> {
-    let mut modules = Vec::new(alloc);
-    modules.push(module_of(alloc, "m", tree(alloc)?)?)?;
-    graph_of(alloc, modules)
+/// The module `m` of a tree.
+fn module_of(alloc: Global, tree: Tree) -> Result<RawModule, AllocError> {
+    Ok(RawModule {
+        specifier: String::from_str(alloc, "m")?,
+        kind: RawModuleKind::Esm {
+            text: String::new(alloc),
+            tree: Some(tree),
+            types: None,
+        },
+    })
 }
 
-/// Whether the module `m` is refused, by its specifier, for its many symbols.
-fn is_refused(alloc: Global, module: &GraphModule, limit: u32) -> Result<bool, SymbolsFault> {
+/// The same graph by calls.
+fn made(alloc: Global) -> Result<ModuleGraph, GraphFault> {
+    let mut modules = Vec::new(alloc);
+    modules.push(module_of(alloc, tree(alloc)?)?)?;
+    let raw = RawGraph {
+        modules,
+        redirects: Vec::new(alloc),
+        resolutions: Vec::new(alloc),
+    };
+    ModuleGraph::new(alloc, raw)
+}
+
+/// Whether the module `m` is refused, by its specifier, for its many symbols; nothing where it is for something else.
+fn is_refused(alloc: Global, module: &GraphModule, limit: u32) -> Option<bool> {
     match analyze(alloc, ModuleId::from_number(0), module, limit) {
-        Ok(_) => Ok(false),
-        Err(SymbolsFault::TooManySymbols(specifier)) => Ok(specifier.as_str() == "m"),
-        Err(fault) => Err(fault),
+        Ok(_) => Some(false),
+        Err(SymbolsFault::TooManySymbols(specifier)) => Some(specifier.as_str() == "m"),
+        Err(_) => None,
     }
 }
 
 /// The module is refused where it has more symbols than the limit.
-fn limits(rt: &impl Abort, alloc: Global, module: &GraphModule) -> Result<(), Fail> {
-    for (limit, want) in [
-        (0, true),
-        (1, true),
-        (2, true),
-        (3, true),
-        (4, false),
-        (u32::MAX, false),
+fn limits(alloc: Global, graph: &ModuleGraph) -> Checked {
+    let module = there!(graph.get("m"), "the module");
+    for (limit, is_beyond, name) in [
+        (0, true, "no symbol is allowed"),
+        (1, true, "one symbol is allowed"),
+        (2, true, "two symbols are allowed"),
+        (3, true, "three symbols are allowed"),
+        (4, false, "four symbols are allowed"),
+        (u32::MAX, false, "any number of symbols is allowed"),
     ] {
-        assert_eq!(rt; is_refused(alloc, module, limit)?, want, "at {limit}");
+        if is_refused(alloc, module, limit) != Some(is_beyond) {
+            return Err(name);
+        }
     }
     Ok(())
+}
+
+#[test]
+fn refuses_more_symbols_than_the_limit(rt: HostRuntime) -> Checked {
+    let alloc = rt.alloc();
+    of_graph(made(alloc).ok(), |graph| limits(alloc, graph))?
 }
 
 /// What is found is lent.
-fn lends(rt: &impl Abort, info: ModuleInfoRef<'_, '_>) -> Result<(), Fail> {
-    let esm = info.esm().ok_or("no tables")?;
-    assert_eq!(rt; esm.module_id().number(), 7);
-    assert_eq!(rt; esm.source().nodes.len(), 9);
-    assert!(rt; esm.symbol(SymbolId::from_number(4)).is_none());
+fn lends(info: ModuleInfoRef<'_, '_>) -> Checked {
+    let esm = there!(info.esm(), "a tree");
+    holds!(esm.module_id().number() == 7, "the number of the module");
+    holds!(esm.source().nodes.len() == 9, "how many nodes the tree has");
+    holds!(
+        esm.symbol(SymbolId::from_number(4)).is_none(),
+        "there is no symbol 4"
+    );
     let symbol = info.module_symbol();
-    assert_eq!(rt; symbol.export("a"), Some(SymbolId::from_number(3)));
-    assert_eq!(rt; symbol.export("b"), None);
+    holds!(
+        symbol.export("a") == Some(SymbolId::from_number(3)),
+        "the export a"
+    );
+    holds!(symbol.export("b") == None, "there is no export b");
     Ok(())
 }
 
-fn lends_of(rt: &impl Abort, alloc: Global, module: &GraphModule) -> Result<(), Fail> {
-    let found = analyze(alloc, ModuleId::from_number(7), module, 4)?;
-    match &found {
-        Some(info) => lends(rt, info.as_ref()),
-        None => Err("no symbols")?,
-    }
-}
-
-fn analyses(rt: &impl Abort, alloc: Global, module: Option<&GraphModule>) -> Result<(), Fail> {
-    let module = module.ok_or("no module")?;
-    limits(rt, alloc, module)?;
-    lends_of(rt, alloc, module)
-}
-
-// A value that is owned is let go anew on each way out of a function: few ways lead out of one that
-// owns a graph or its symbols.
 #[test]
-fn analyses_within_a_limit(rt: HostRuntime) -> Result<(), Fail> {
-    let graph = graph(rt.alloc())?;
-    analyses(&rt, rt.alloc(), graph.get("m"))
+fn analyses_within_a_limit(rt: HostRuntime) -> Checked {
+    of_module(rt.alloc(), GRAPH, "m", (7, 4), lends)?
 }
