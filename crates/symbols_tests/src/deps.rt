@@ -1,111 +1,89 @@
 //! Dependencies by calls, which no run shows: those of a declaration and of its node are what a run shows, without the
 //! namespaces.
 
-use deno_symbols::analyze;
-use deno_symbols::check::{GraphModule, ModuleGraph};
+use crate::lending::{Checked, of_module};
 use deno_symbols::decl::SymbolDecl;
 use deno_symbols::deps::{ReferenceNamespace, ResolveDepsMode, SymbolNodeDep};
-use deno_symbols::ids::ModuleId;
 use deno_symbols::info::ModuleInfoRef;
-use std::alloc::Global;
-use std::process::Abort;
-use std::test::Fail;
-use symq_reader::read_graph;
+use std::alloc::{AllocError, Global};
 
-/// The nodes of `const v = y as Foo; enum E { A = x.y } type N = import("./m").A<C>;` and
+/// The module `m` of the text `const v = y as Foo; enum E { A = x.y } type N = import("./m").A<C>;` and
 /// `class P { constructor(private a = b as B, c = d) }`.
-const NODES: [&str; 36] = [
-    r#""kind":"Program","body":[1,8,14,22]"#,
-    r#""kind":"VarDecl","decls":[2]"#,
-    r#""kind":"VarDeclarator","name":3,"init":4"#,
-    r#""kind":"BindingIdent","sym":["v",1]"#,
-    r#""kind":"TsAsExpr","expr":5,"ty":6"#,
-    r#""kind":"Ident","sym":["y",1]"#,
-    r#""kind":"Type","children":[7]"#,
-    r#""kind":"Ident","sym":["Foo",1]"#,
-    r#""kind":"TsEnumDecl","id":9,"members":[10]"#,
-    r#""kind":"Ident","sym":["E",1]"#,
-    r#""kind":"TsEnumMember","init":11"#,
-    r#""kind":"Member","obj":12,"prop":13"#,
-    r#""kind":"Ident","sym":["x",1]"#,
-    r#""kind":"IdentName","name":"y""#,
-    r#""kind":"TsTypeAliasDecl","id":15,"type_ann":16"#,
-    r#""kind":"Ident","sym":["N",1]"#,
-    r#""kind":"TsImportType","arg":"./m","qualifier":17,"type_args":18"#,
-    r#""kind":"Ident","sym":["A",1]"#,
-    r#""kind":"TsTypeParamInstantiation","params":[19]"#,
-    r#""kind":"Type","children":[20]"#,
-    r#""kind":"Ident","sym":["C",1]"#,
-    r#""kind":"Other""#,
-    r#""kind":"ClassDecl","ident":23,"class":24"#,
-    r#""kind":"Ident","sym":["P",1]"#,
-    r#""kind":"Class","body":[25]"#,
-    r#""kind":"Constructor","params":[26,33]"#,
-    r#""kind":"TsParamProp","param":27"#,
-    r#""kind":"AssignPat","left":28,"right":29"#,
-    r#""kind":"BindingIdent","sym":["a",1]"#,
-    r#""kind":"TsAsExpr","expr":30,"ty":31"#,
-    r#""kind":"Ident","sym":["b",1]"#,
-    r#""kind":"Type","children":[32]"#,
-    r#""kind":"Ident","sym":["B",1]"#,
-    r#""kind":"AssignPat","left":34,"right":35"#,
-    r#""kind":"BindingIdent","sym":["c",1]"#,
-    r#""kind":"Ident","sym":["d",1]"#,
-];
+const NODES: &str =
+    r#"{"modules": [{"specifier": "m", "kind": "esm", "text": "", "tree": {"nodes": [
+    {"kind": "Program", "range": [0, 0], "body": [1, 8, 14, 22]},
+    {"kind": "VarDecl", "range": [0, 0], "decls": [2]},
+    {"kind": "VarDeclarator", "range": [0, 0], "name": 3, "init": 4},
+    {"kind": "BindingIdent", "range": [0, 0], "sym": ["v", 1]},
+    {"kind": "TsAsExpr", "range": [0, 0], "expr": 5, "ty": 6},
+    {"kind": "Ident", "range": [0, 0], "sym": ["y", 1]},
+    {"kind": "Type", "range": [0, 0], "children": [7]},
+    {"kind": "Ident", "range": [0, 0], "sym": ["Foo", 1]},
+    {"kind": "TsEnumDecl", "range": [0, 0], "id": 9, "members": [10]},
+    {"kind": "Ident", "range": [0, 0], "sym": ["E", 1]},
+    {"kind": "TsEnumMember", "range": [0, 0], "init": 11},
+    {"kind": "Member", "range": [0, 0], "obj": 12, "prop": 13},
+    {"kind": "Ident", "range": [0, 0], "sym": ["x", 1]},
+    {"kind": "IdentName", "range": [0, 0], "name": "y"},
+    {"kind": "TsTypeAliasDecl", "range": [0, 0], "id": 15, "type_ann": 16},
+    {"kind": "Ident", "range": [0, 0], "sym": ["N", 1]},
+    {"kind": "TsImportType", "range": [0, 0], "arg": "./m", "qualifier": 17, "type_args": 18},
+    {"kind": "Ident", "range": [0, 0], "sym": ["A", 1]},
+    {"kind": "TsTypeParamInstantiation", "range": [0, 0], "params": [19]},
+    {"kind": "Type", "range": [0, 0], "children": [20]},
+    {"kind": "Ident", "range": [0, 0], "sym": ["C", 1]},
+    {"kind": "Other", "range": [0, 0]},
+    {"kind": "ClassDecl", "range": [0, 0], "ident": 23, "class": 24},
+    {"kind": "Ident", "range": [0, 0], "sym": ["P", 1]},
+    {"kind": "Class", "range": [0, 0], "body": [25]},
+    {"kind": "Constructor", "range": [0, 0], "params": [26, 33]},
+    {"kind": "TsParamProp", "range": [0, 0], "param": 27},
+    {"kind": "AssignPat", "range": [0, 0], "left": 28, "right": 29},
+    {"kind": "BindingIdent", "range": [0, 0], "sym": ["a", 1]},
+    {"kind": "TsAsExpr", "range": [0, 0], "expr": 30, "ty": 31},
+    {"kind": "Ident", "range": [0, 0], "sym": ["b", 1]},
+    {"kind": "Type", "range": [0, 0], "children": [32]},
+    {"kind": "Ident", "range": [0, 0], "sym": ["B", 1]},
+    {"kind": "AssignPat", "range": [0, 0], "left": 34, "right": 35},
+    {"kind": "BindingIdent", "range": [0, 0], "sym": ["c", 1]},
+    {"kind": "Ident", "range": [0, 0], "sym": ["d", 1]}
+]}}]}"#;
 
-/// The nodes of `const f = (a: A = b) => c; const g = (): R => c;` and
+/// The module `m` of the text `const f = (a: A = b) => c; const g = (): R => c;` and
 /// `type T = { [s]: never }; import { q } from "./m";`.
-const ARROWS: [&str; 30] = [
-    r#""kind":"Program","body":[1,12,20,27]"#,
-    r#""kind":"VarDecl","decls":[2]"#,
-    r#""kind":"VarDeclarator","name":3,"init":4"#,
-    r#""kind":"BindingIdent","sym":["f",1]"#,
-    r#""kind":"Arrow","params":[5],"body":11"#,
-    r#""kind":"AssignPat","left":6,"right":10"#,
-    r#""kind":"BindingIdent","sym":["a",1],"type_ann":7"#,
-    r#""kind":"TsTypeAnn","ty":8"#,
-    r#""kind":"Type","children":[9]"#,
-    r#""kind":"Ident","sym":["A",1]"#,
-    r#""kind":"Ident","sym":["b",1]"#,
-    r#""kind":"Ident","sym":["c",1]"#,
-    r#""kind":"VarDecl","decls":[13]"#,
-    r#""kind":"VarDeclarator","name":14,"init":15"#,
-    r#""kind":"BindingIdent","sym":["g",1]"#,
-    r#""kind":"Arrow","return_type":16,"body":19"#,
-    r#""kind":"TsTypeAnn","ty":17"#,
-    r#""kind":"Type","children":[18]"#,
-    r#""kind":"Ident","sym":["R",1]"#,
-    r#""kind":"Ident","sym":["c",1]"#,
-    r#""kind":"TsTypeAliasDecl","id":21,"type_ann":22"#,
-    r#""kind":"Ident","sym":["T",1]"#,
-    r#""kind":"Type","children":[23]"#,
-    r#""kind":"TsPropertySignature","key":24,"computed":true,"type_ann":25"#,
-    r#""kind":"Ident","sym":["s",1]"#,
-    r#""kind":"TsTypeAnn","ty":26"#,
-    r#""kind":"Type""#,
-    r#""kind":"Import","specifiers":[28],"src":"./m""#,
-    r#""kind":"ImportNamed","local":29"#,
-    r#""kind":"Ident","sym":["q",1]"#,
-];
-
-/// The graph of the module `m` of these nodes, each in the empty range.
-fn graph(alloc: Global, nodes: &[&str]) -> Result<ModuleGraph, Fail> {
-    let mut text = String::from_str(
-        alloc,
-        r#"{"modules":[{"specifier":"m","kind":"esm","text":"","tree":{"nodes":["#,
-    )?;
-    let mut before = "";
-    for node in nodes {
-        text.push_str(before)?;
-        text.push_str(r#"{"range":[0,0],"#)?;
-        text.push_str(node)?;
-        text.push('}')?;
-        before = ",";
-    }
-    text.push_str("]}}]}")?;
-    let raw = read_graph(alloc, text.as_bytes())?;
-    Ok(ModuleGraph::new(alloc, raw)?)
-}
+const ARROWS: &str =
+    r#"{"modules": [{"specifier": "m", "kind": "esm", "text": "", "tree": {"nodes": [
+    {"kind": "Program", "range": [0, 0], "body": [1, 12, 20, 27]},
+    {"kind": "VarDecl", "range": [0, 0], "decls": [2]},
+    {"kind": "VarDeclarator", "range": [0, 0], "name": 3, "init": 4},
+    {"kind": "BindingIdent", "range": [0, 0], "sym": ["f", 1]},
+    {"kind": "Arrow", "range": [0, 0], "params": [5], "body": 11},
+    {"kind": "AssignPat", "range": [0, 0], "left": 6, "right": 10},
+    {"kind": "BindingIdent", "range": [0, 0], "sym": ["a", 1], "type_ann": 7},
+    {"kind": "TsTypeAnn", "range": [0, 0], "ty": 8},
+    {"kind": "Type", "range": [0, 0], "children": [9]},
+    {"kind": "Ident", "range": [0, 0], "sym": ["A", 1]},
+    {"kind": "Ident", "range": [0, 0], "sym": ["b", 1]},
+    {"kind": "Ident", "range": [0, 0], "sym": ["c", 1]},
+    {"kind": "VarDecl", "range": [0, 0], "decls": [13]},
+    {"kind": "VarDeclarator", "range": [0, 0], "name": 14, "init": 15},
+    {"kind": "BindingIdent", "range": [0, 0], "sym": ["g", 1]},
+    {"kind": "Arrow", "range": [0, 0], "return_type": 16, "body": 19},
+    {"kind": "TsTypeAnn", "range": [0, 0], "ty": 17},
+    {"kind": "Type", "range": [0, 0], "children": [18]},
+    {"kind": "Ident", "range": [0, 0], "sym": ["R", 1]},
+    {"kind": "Ident", "range": [0, 0], "sym": ["c", 1]},
+    {"kind": "TsTypeAliasDecl", "range": [0, 0], "id": 21, "type_ann": 22},
+    {"kind": "Ident", "range": [0, 0], "sym": ["T", 1]},
+    {"kind": "Type", "range": [0, 0], "children": [23]},
+    {"kind": "TsPropertySignature", "range": [0, 0], "key": 24, "computed": true, "type_ann": 25},
+    {"kind": "Ident", "range": [0, 0], "sym": ["s", 1]},
+    {"kind": "TsTypeAnn", "range": [0, 0], "ty": 26},
+    {"kind": "Type", "range": [0, 0]},
+    {"kind": "Import", "range": [0, 0], "specifiers": [28], "src": "./m"},
+    {"kind": "ImportNamed", "range": [0, 0], "local": 29},
+    {"kind": "Ident", "range": [0, 0], "sym": ["q", 1]}
+]}}]}"#;
 
 /// Whether a list has the first parts of another.
 fn are_first_parts(
@@ -122,86 +100,140 @@ fn are_first_parts(
     firsts.next().is_none()
 }
 
+/// Whether a declaration, or its node, gives the first parts of these.
+fn gives_first_parts(
+    list: Result<Vec<SymbolNodeDep<'_>>, AllocError>,
+    all: &[(SymbolNodeDep<'_>, ReferenceNamespace)],
+) -> bool {
+    match list {
+        Ok(list) => are_first_parts(&list, all),
+        Err(_) => false,
+    }
+}
+
 /// How much a declaration depends on, where the declaration and its node say the same; nothing where
 /// it has no node.
 fn count_of(
-    rt: &impl Abort,
     alloc: Global,
     decl: &SymbolDecl<'_>,
     mode: ResolveDepsMode,
-) -> Result<usize, Fail> {
+) -> Result<usize, &'static str> {
     let Some(node) = decl.maybe_node() else {
-        assert!(rt; decl.deps(alloc, mode)?.is_empty());
+        holds!(
+            gives_first_parts(decl.deps(alloc, mode), &[]),
+            "a declaration without a node"
+        );
         return Ok(0);
     };
-    let all = node.deps_with_namespace(alloc, mode)?;
-    assert!(rt; are_first_parts(&node.deps(alloc, mode)?, &all));
-    assert!(rt; are_first_parts(&decl.deps(alloc, mode)?, &all));
+    let Ok(all) = node.deps_with_namespace(alloc, mode) else {
+        return Err("no memory");
+    };
+    holds!(
+        gives_first_parts(node.deps(alloc, mode), &all),
+        "what a node depends on"
+    );
+    holds!(
+        gives_first_parts(decl.deps(alloc, mode), &all),
+        "what a declaration depends on"
+    );
     Ok(all.len())
 }
 
-/// How much the declarations of a module depend on: each at its place, in the order of the symbols.
+/// The declarations of a module depend on so much: each at its place, in the order of the symbols.
 fn counts(
-    rt: &impl Abort,
     alloc: Global,
     info: ModuleInfoRef<'_, '_>,
     mode: ResolveDepsMode,
-) -> Result<Vec<usize>, Fail> {
-    let mut counts = Vec::new(alloc);
+    wanted: &[usize],
+) -> Checked {
+    let mut left = wanted.iter();
     for symbol in info.symbols() {
         for decl in symbol.decls() {
-            counts.push(count_of(rt, alloc, decl, mode)?)?;
+            let wanted = there!(left.next(), "as many declarations as are wanted");
+            let count = count_of(alloc, decl, mode)?;
+            holds!(count == *wanted, "how much a declaration depends on");
         }
     }
-    Ok(counts)
-}
-
-/// Whether the declarations of a module depend on so much, without expressions and with them.
-fn agrees(
-    rt: &impl Abort,
-    alloc: Global,
-    module: Option<&GraphModule>,
-    types: &[usize],
-    all: &[usize],
-) -> Result<(), Fail> {
-    let module = module.ok_or("no module")?;
-    let found = analyze(alloc, ModuleId::from_number(0), module, u32::MAX)?;
-    let info = found.as_ref().ok_or("no symbols")?.as_ref();
-    let counted = counts(rt, alloc, info, ResolveDepsMode::TypesOnly)?;
-    assert!(rt; counted.as_slice() == types);
-    let counted = counts(rt, alloc, info, ResolveDepsMode::TypesAndExpressions)?;
-    assert!(rt; counted.as_slice() == all);
+    holds!(
+        left.next().is_none(),
+        "no fewer declarations than are wanted"
+    );
     Ok(())
 }
 
 /// The module, `v`, `E`, `N`, `P`, the constructor and the property `a`.
-#[test]
-fn gives_what_is_referred_to(rt: HostRuntime) -> Result<(), Fail> {
-    let graph = graph(rt.alloc(), &NODES)?;
-    let module = graph.get("m");
-    agrees(
-        &rt,
-        rt.alloc(),
-        module,
+fn counts_of_nodes(alloc: Global, info: ModuleInfoRef<'_, '_>) -> Checked {
+    counts(
+        alloc,
+        info,
+        ResolveDepsMode::TypesOnly,
         &[0, 1, 1, 2, 0, 1, 1],
+    )?;
+    counts(
+        alloc,
+        info,
+        ResolveDepsMode::TypesAndExpressions,
         &[0, 1, 1, 2, 0, 2, 1],
     )
 }
 
-/// The module, `f`, `g`, `T` and `q`, which has no node.
 #[test]
-fn gives_what_arrows_types_and_imports_refer_to(rt: HostRuntime) -> Result<(), Fail> {
-    let graph = graph(rt.alloc(), &ARROWS)?;
-    let module = graph.get("m");
-    agrees(&rt, rt.alloc(), module, &[0, 0, 0, 1, 0], &[0, 2, 1, 1, 0])
+fn gives_what_is_referred_to(rt: HostRuntime) -> Checked {
+    let alloc = rt.alloc();
+    of_module(
+        alloc,
+        NODES,
+        "m",
+        (0, u32::MAX),
+        |info| counts_of_nodes(alloc, info),
+    )?
+}
+
+/// The module, `f`, `g`, `T` and `q`, which has no node.
+fn counts_of_arrows(alloc: Global, info: ModuleInfoRef<'_, '_>) -> Checked {
+    counts(alloc, info, ResolveDepsMode::TypesOnly, &[0, 0, 0, 1, 0])?;
+    counts(
+        alloc,
+        info,
+        ResolveDepsMode::TypesAndExpressions,
+        &[0, 2, 1, 1, 0],
+    )
 }
 
 #[test]
-fn makes_a_reference_of_a_name(rt: HostRuntime) -> Result<(), Fail> {
-    let id = crate::trees::id(rt.alloc(), "a", 1)?;
+fn gives_what_arrows_types_and_imports_refer_to(rt: HostRuntime) -> Checked {
+    let alloc = rt.alloc();
+    of_module(
+        alloc,
+        ARROWS,
+        "m",
+        (0, u32::MAX),
+        |info| counts_of_arrows(alloc, info),
+    )?
+}
+
+#[test]
+fn makes_a_reference_of_a_name(rt: HostRuntime) -> Checked {
+    let Ok(id) = crate::trees::id(rt.alloc(), "a", 1) else {
+        return Err("no memory");
+    };
     let dep = SymbolNodeDep::from(&id);
-    assert!(rt; matches!(&dep, SymbolNodeDep::Id(id) if id.name.as_str() == "a"));
-    assert!(rt; ResolveDepsMode::TypesAndExpressions.visit_exprs());
-    assert!(rt; !ResolveDepsMode::TypesOnly.visit_exprs());
+    holds!(
+        matches!(&dep, SymbolNodeDep::Id(id) if id.name.as_str() == "a"),
+        "the name a"
+    );
+    Ok(())
+}
+
+#[test]
+fn tells_modes_apart() -> Checked {
+    holds!(
+        ResolveDepsMode::TypesAndExpressions.visit_exprs(),
+        "expressions are visited"
+    );
+    holds!(
+        !ResolveDepsMode::TypesOnly.visit_exprs(),
+        "expressions aren't visited"
+    );
     Ok(())
 }
