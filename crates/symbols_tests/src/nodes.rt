@@ -1,13 +1,12 @@
 //! Nodes of declarations, in a tree without kinds, and in one of which no table tells. Most of what they tell is told
 //! by runs of `symq_tables`.
 
+use crate::lending::Checked;
 use crate::trees::push;
 use deno_symbols::nodes::{ExportDeclRef, SymbolNode, SymbolNodeRef};
 use deno_symbols::tree::{Decl, Expr, Kind, NodeId, NodeRef, Pat, Tree};
 use std::alloc::{AllocError, Global};
 use std::borrow::CowStr;
-use std::process::Abort;
-use std::test::Fail;
 
 /// Three nodes of no kind of their own.
 fn tree(alloc: Global) -> Result<Tree, AllocError> {
@@ -20,6 +19,19 @@ fn tree(alloc: Global) -> Result<Tree, AllocError> {
         declaration: false,
         nodes,
     })
+}
+
+/// What is told of a tree.
+fn of_tree<R, F: FnOnce(&Tree) -> R + Drop>(
+    tree: Result<Tree, AllocError>,
+    told: F,
+) -> Result<R, &'static str>
+    requires { F.IsAlwaysCallable told }
+{
+    let Ok(tree) = tree else {
+        return Err("no memory");
+    };
+    Ok(told(&tree))
 }
 
 /// The number of the node of a definition whose node is that of a function.
@@ -35,29 +47,18 @@ fn number_of(tree: &Tree, number: u32) -> Option<NodeId> {
     number_in(SymbolNode { node })
 }
 
-#[test]
-fn shows_the_node_of_a_definition(rt: HostRuntime) -> Result<(), Fail> {
-    let tree = tree(rt.alloc())?;
-    assert_eq!(rt; number_of(&tree, 2), Some(NodeId(2)));
-    assert_eq!(rt; number_of(&tree, 3), None);
+fn shows(tree: &Tree) -> Checked {
+    holds!(
+        number_of(tree, 2) == Some(NodeId(2)),
+        "the number of node 2"
+    );
+    holds!(number_of(tree, 3) == None, "there is no node 3");
     Ok(())
 }
 
-/// What a node tells by its form alone.
-fn tells(rt: &impl Abort, node: NodeRef<'_>) {
-    let class = SymbolNodeRef::ClassDecl(node);
-    assert!(rt; class.is_class() && class.is_decl() && !class.is_member());
-    let interface = SymbolNodeRef::TsInterface(node);
-    assert!(rt; interface.is_interface() && !interface.is_module());
-    assert_eq!(rt; interface.namespaces(), (false, true));
-    let namespace = SymbolNodeRef::ExportDecl(node, ExportDeclRef::TsModule(node));
-    assert!(rt;
-        namespace.is_ts_namespace() && namespace.has_export_keyword() && !namespace.is_var()
-    );
-    let constructor = SymbolNodeRef::Constructor(node);
-    assert!(rt;
-        constructor.is_ctor() && constructor.is_member() && !constructor.is_private_member()
-    );
+#[test]
+fn shows_the_node_of_a_definition(rt: HostRuntime) -> Checked {
+    of_tree(tree(rt.alloc()), shows)?
 }
 
 /// How many nodes the tree has that a definition is of.
@@ -67,23 +68,51 @@ fn nodes_around(node: NodeRef<'_>) -> Option<usize> {
     Some(source.nodes.len())
 }
 
-#[test]
-fn tells_what_a_node_is(rt: HostRuntime) -> Result<(), Fail> {
-    let tree = tree(rt.alloc())?;
-    let node = NodeRef::new(&tree, NodeId(1)).ok_or("no node")?;
-    tells(&rt, node);
-    assert_eq!(rt; nodes_around(node), Some(3));
+/// What a node tells by its form alone.
+fn tells(tree: &Tree) -> Checked {
+    let node = there!(NodeRef::new(tree, NodeId(1)), "node 1");
+    let class = SymbolNodeRef::ClassDecl(node);
+    holds!(class.is_class(), "a class is a class");
+    holds!(class.is_decl(), "a class is a declaration");
+    holds!(!class.is_member(), "a class is no member");
+    let interface = SymbolNodeRef::TsInterface(node);
+    holds!(interface.is_interface(), "an interface is an interface");
+    holds!(!interface.is_module(), "an interface is no module");
+    holds!(
+        interface.namespaces() == (false, true),
+        "an interface is a type alone"
+    );
+    let namespace = SymbolNodeRef::ExportDecl(node, ExportDeclRef::TsModule(node));
+    holds!(namespace.is_ts_namespace(), "a namespace is a namespace");
+    holds!(
+        namespace.has_export_keyword(),
+        "a namespace that is exported has the word"
+    );
+    holds!(!namespace.is_var(), "a namespace is no variable");
+    let constructor = SymbolNodeRef::Constructor(node);
+    holds!(constructor.is_ctor(), "a constructor is a constructor");
+    holds!(constructor.is_member(), "a constructor is a member");
+    holds!(
+        !constructor.is_private_member(),
+        "a constructor is no private member"
+    );
+    holds!(nodes_around(node) == Some(3), "how many nodes the tree has");
     Ok(())
+}
+
+#[test]
+fn tells_what_a_node_is(rt: HostRuntime) -> Checked {
+    of_tree(tree(rt.alloc()), tells)?
 }
 
 /// `declare module "m";`, which no table of a module has.
 fn tree_of_a_named_module(alloc: Global) -> Result<Tree, AllocError> {
+    let value = String::from_str(alloc, "m")?;
     let module = Decl::TsModuleDecl {
         id: NodeId(1),
         declare: true,
         body: None,
     };
-    let value = String::from_str(alloc, "m")?;
     let mut nodes = Vec::new(alloc);
     push(&mut nodes, Kind::Decl(module))?;
     push(&mut nodes, Kind::Expr(Expr::Str { value }))?;
@@ -93,14 +122,25 @@ fn tree_of_a_named_module(alloc: Global) -> Result<Tree, AllocError> {
     })
 }
 
-#[test]
-fn names_a_module_by_its_text(rt: HostRuntime) -> Result<(), Fail> {
-    let tree = tree_of_a_named_module(rt.alloc())?;
-    let node = NodeRef::new(&tree, NodeId(0)).map(SymbolNodeRef::TsNamespace);
-    let definition = SymbolNode { node };
-    let name = definition.maybe_name(rt.alloc())?;
-    assert!(rt; matches!(name, Some(CowStr::Borrowed(text)) if text == "m"));
-    assert!(rt; node.is_some_and(|node| node.is_ts_namespace()));
-    assert!(rt; !node.is_some_and(|node| node.has_body()));
+/// Whether a definition has the name `m`, lent by its tree.
+fn is_named_m(alloc: Global, definition: SymbolNode<'_>) -> bool {
+    let name = definition.maybe_name(alloc);
+    matches!(name, Ok(Some(CowStr::Borrowed(text))) if text == "m")
+}
+
+/// What a module tells that a text names.
+fn is_named(alloc: Global, tree: &Tree) -> Checked {
+    let node = there!(NodeRef::new(tree, NodeId(0)), "node 0");
+    let module = SymbolNodeRef::TsNamespace(node);
+    let definition = SymbolNode { node: Some(module) };
+    holds!(is_named_m(alloc, definition), "the name of the module");
+    holds!(module.is_ts_namespace(), "it is a namespace");
+    holds!(!module.has_body(), "it has no body");
     Ok(())
+}
+
+#[test]
+fn names_a_module_by_its_text(rt: HostRuntime) -> Checked {
+    let alloc = rt.alloc();
+    of_tree(tree_of_a_named_module(alloc), |tree| is_named(alloc, tree))?
 }
