@@ -1,14 +1,13 @@
 //! A root while memory is refused: it gives the same answers then, or says so, and goes on with all that was stored. The
 //! test passes whichever allocation fails, as one does under `--fail-alloc N`.
 
-use deno_symbols::check::ModuleGraph;
+use crate::lending::Checked;
+use deno_symbols::check::{GraphFault, ModuleGraph};
 use deno_symbols::ids::ModuleId;
 use deno_symbols::info::SymbolsFault;
 use deno_symbols::root::RootSymbol;
 use std::alloc::Global;
-use std::process::Abort;
-use std::test::Fail;
-use symq_reader::read_graph;
+use symq_reader::{FormatFault, read_graph};
 
 /// A ring of types dependencies, chains that end before a module without a tree and behind one, one that
 /// names itself, and redirects.
@@ -72,25 +71,39 @@ fn stores(root: &RootSymbol<'_>, specifiers: &[&str]) -> bool {
     root.module_from_id(ModuleId::from_number(behind)).is_none()
 }
 
-fn answers_rows(rt: &impl Abort, root: &mut RootSymbol<'_>) {
+/// Each row's number, named by what is asked.
+fn answers_rows(root: &mut RootSymbol<'_>) -> Checked {
     for (asked, wanted) in ROWS {
         let wanted = wanted.map(|(_, number)| number);
-        assert_eq!(rt; number(root, asked), Ok(wanted));
+        if number(root, asked) != Ok(wanted) {
+            return Err(asked);
+        }
     }
+    Ok(())
+}
+
+fn answers_and_stores(alloc: Global, graph: &ModuleGraph) -> Checked {
+    let mut root = RootSymbol::new(alloc, graph);
+    answers_rows(&mut root)?;
+    answers_rows(&mut root)?;
+    holds!(
+        stores(&root, &["c", "a", "b", "w", "z", "t"]),
+        "what is stored, in order"
+    );
+    Ok(())
 }
 
 #[test]
-fn keeps_its_modules_where_memory_is_refused(rt: HostRuntime) -> Result<(), Fail> {
+fn keeps_its_modules_where_memory_is_refused(rt: HostRuntime) -> Checked {
     let alloc = rt.alloc();
-    let Ok(raw) = read_graph(alloc, GRAPH.as_bytes()) else {
-        return Ok(());
+    let raw = match read_graph(alloc, GRAPH.as_bytes()) {
+        Ok(raw) => raw,
+        Err(FormatFault::OutOfMemory) => return Ok(()),
+        Err(_) => return Err("the text is that of a graph"),
     };
-    let Ok(graph) = ModuleGraph::new(alloc, raw) else {
-        return Ok(());
-    };
-    let mut root = RootSymbol::new(alloc, &graph);
-    answers_rows(&rt, &mut root);
-    answers_rows(&rt, &mut root);
-    assert!(rt; stores(&root, &["c", "a", "b", "w", "z", "t"]));
-    Ok(())
+    match ModuleGraph::new(alloc, raw) {
+        Ok(graph) => answers_and_stores(alloc, &graph),
+        Err(GraphFault::OutOfMemory) => Ok(()),
+        Err(_) => Err("the graph is accepted"),
+    }
 }
