@@ -44,6 +44,8 @@ mod ids;
 #[cfg(test)]
 mod lending;
 #[cfg(test)]
+mod many;
+#[cfg(test)]
 mod modules;
 #[cfg(test)]
 mod nodes;

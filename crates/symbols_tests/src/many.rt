@@ -1,0 +1,125 @@
+//! Texts of graphs of many modules, whose specifiers are numbers, and roots of such graphs.
+
+use crate::lending::of_root;
+use deno_symbols::root::RootSymbol;
+use std::alloc::{AllocError, Global};
+
+/// The nodes of a module that passes on what the text `next` stands for.
+pub(crate) const PASSES_ON: &str = r#"
+    {"kind": "Program", "range": [0, 0], "body": [1]},
+    {"kind": "ExportAll", "range": [0, 0], "src": "next"}"#;
+
+/// The nodes of a module that owns the name `n`.
+pub(crate) const OWNS: &str = r#"
+    {"kind": "Program", "range": [0, 0], "body": [1]},
+    {"kind": "ExportDecl", "range": [0, 0], "decl": 2},
+    {"kind": "VarDecl", "range": [0, 0], "decls": [3]},
+    {"kind": "VarDeclarator", "range": [0, 0], "name": 4},
+    {"kind": "BindingIdent", "range": [0, 0], "sym": ["n", 1]}"#;
+
+/// The nodes of a module that does both.
+pub(crate) const OWNS_AND_PASSES_ON: &str = r#"
+    {"kind": "Program", "range": [0, 0], "body": [1, 5]},
+    {"kind": "ExportDecl", "range": [0, 0], "decl": 2},
+    {"kind": "VarDecl", "range": [0, 0], "decls": [3]},
+    {"kind": "VarDeclarator", "range": [0, 0], "name": 4},
+    {"kind": "BindingIdent", "range": [0, 0], "sym": ["n", 1]},
+    {"kind": "ExportAll", "range": [0, 0], "src": "next"}"#;
+
+/// Adds the module of a number, with these nodes.
+fn push_module(text: &mut String, number: u32, nodes: &str) -> Result<(), AllocError> {
+    write!(
+        text,
+        r#"{{"specifier":"{number}","kind":"esm","text":"","tree":{{"nodes":[{nodes}]}}}}"#
+    )
+}
+
+/// Adds the graph of so many modules, all but the last of the same nodes. In each the text `next` stands for the module
+/// behind it, in the last for the first.
+fn push_row(text: &mut String, count: u32, each: &str, last: &str) -> Result<(), AllocError> {
+    let end = count.saturating_sub(1);
+    text.push_str(r#"{"modules":["#)?;
+    for number in 0..end {
+        push_module(text, number, each)?;
+        text.push_str(",")?;
+    }
+    push_module(text, end, last)?;
+    text.push_str(r#"],"resolutions":["#)?;
+    for number in 0..end {
+        let next = number + 1;
+        write!(text, r#"["{number}","next","{next}"],"#)?;
+    }
+    write!(text, r#"["{end}","next","0"]]}}"#)
+}
+
+/// What is told of a root of these modules.
+pub(crate) fn of_row<R, F: FnOnce(&mut RootSymbol<'_>) -> R + Drop>(
+    alloc: Global,
+    count: u32,
+    nodes: (&str, &str),
+    told: F,
+) -> Result<R, &'static str>
+    requires { F.IsAlwaysCallable told }
+{
+    let (each, last) = nodes;
+    let mut text = String::new(alloc);
+    if push_row(&mut text, count, each, last).is_err() {
+        return Err("no memory");
+    }
+    of_root(alloc, text.as_str(), told)
+}
+
+/// Adds a module that passes on what each of so many modules exports, but itself.
+fn push_node_of_web(text: &mut String, count: u32, own: u32) -> Result<(), AllocError> {
+    write!(
+        text,
+        r#"{{"specifier":"{own}","kind":"esm","text":"","tree":{{"nodes":["#
+    )?;
+    text.push_str(r#"{"kind":"Program","range":[0,0],"body":[1"#)?;
+    for place in 2..count {
+        write!(text, ",{place}")?;
+    }
+    text.push_str("]}")?;
+    for number in 0..count {
+        if number != own {
+            write!(
+                text,
+                r#",{{"kind":"ExportAll","range":[0,0],"src":"{number}"}}"#
+            )?;
+        }
+    }
+    text.push_str("]}}")
+}
+
+/// Adds the graph of so many modules, two at least, each of which passes on what all the others export.
+fn push_web(text: &mut String, count: u32) -> Result<(), AllocError> {
+    let mut before = r#"{"modules":["#;
+    for number in 0..count {
+        text.push_str(before)?;
+        push_node_of_web(text, count, number)?;
+        before = ",";
+    }
+    before = r#"],"resolutions":["#;
+    for referrer in 0..count {
+        for number in 0..count {
+            write!(text, r#"{before}["{referrer}","{number}","{number}"]"#)?;
+            before = ",";
+        }
+    }
+    text.push_str("]}")
+}
+
+/// What is told of a root of a web of so many modules, two at least.
+pub(crate) fn of_web<R, F: FnOnce(&mut RootSymbol<'_>) -> R + Drop>(
+    alloc: Global,
+    count: u32,
+    told: F,
+) -> Result<R, &'static str>
+    requires { F.IsAlwaysCallable told }
+{
+    let mut text = String::new(alloc);
+    if push_web(&mut text, count).is_err() {
+        return Err("no memory");
+    }
+    of_root(alloc, text.as_str(), told)
+}
