@@ -1,146 +1,177 @@
 //! What modules export along `export *`: how often the table of resolutions is asked, and what the parts of a way give.
 
-use crate::modules::{linked, program_of, push_star};
-use crate::trees::module_of;
-use crate::webs::{asks, line, numbered, push_each, statement_count};
-use deno_symbols::check::{ModuleGraph, RawModule};
+use crate::lending::{Checked, module_id_of, of_root};
+use crate::many::{OWNS, PASSES_ON, of_row};
+use crate::webs::{asked_twice, statement_count, takes};
 use deno_symbols::exports::{ResolvedExportOrReExportAllPath, ResolvedReExportAllPath, exports};
 use deno_symbols::ids::{ModuleId, SymbolId};
 use deno_symbols::info::SymbolsFault;
 use deno_symbols::root::RootSymbol;
-use std::alloc::Global;
-use std::process::Abort;
-use std::test::Fail;
 
-/// A statement `export *`: the number of its module, and that of the module that it leads to.
-type Statement = (u32, u32);
+/// Module 0 passes on 1 and 2, and 1 passes on 0.
+const CYCLE: &str = r#"{"modules": [
+{"specifier": "0", "kind": "esm", "text": "", "tree": {"nodes": [
+    {"kind": "Program", "range": [0, 0], "body": [1, 2]},
+    {"kind": "ExportAll", "range": [0, 0], "src": "1"},
+    {"kind": "ExportAll", "range": [0, 0], "src": "2"}
+]}},
+{"specifier": "1", "kind": "esm", "text": "", "tree": {"nodes": [
+    {"kind": "Program", "range": [0, 0], "body": [1]},
+    {"kind": "ExportAll", "range": [0, 0], "src": "0"}
+]}},
+{"specifier": "2", "kind": "esm", "text": "", "tree": {"nodes": [{"kind": "Program", "range": [0, 0]}]}}
+],
+"resolutions": [["0", "1", "1"], ["0", "2", "2"], ["1", "0", "0"]]}"#;
 
-/// The module of a number, with its statements of these, in order.
-fn module_along(alloc: Global, number: u32, statements: &[Statement]) -> Result<RawModule, Fail> {
-    let mut nodes = Vec::new(alloc);
-    let mut body = Vec::new(alloc);
-    for (from, to) in statements {
-        if *from == number {
-            let specifier = numbered(alloc, *to)?;
-            push_star(alloc, &mut nodes, &mut body, specifier.as_str())?;
-        }
-    }
-    let specifier = numbered(alloc, number)?;
-    let tree = program_of(alloc, body, nodes)?;
-    Ok(module_of(alloc, specifier.as_str(), tree)?)
-}
+/// Module 0 passes on 1 and 2, and 1 passes on 2.
+const DIAMOND: &str = r#"{"modules": [
+{"specifier": "0", "kind": "esm", "text": "", "tree": {"nodes": [
+    {"kind": "Program", "range": [0, 0], "body": [1, 2]},
+    {"kind": "ExportAll", "range": [0, 0], "src": "1"},
+    {"kind": "ExportAll", "range": [0, 0], "src": "2"}
+]}},
+{"specifier": "1", "kind": "esm", "text": "", "tree": {"nodes": [
+    {"kind": "Program", "range": [0, 0], "body": [1]},
+    {"kind": "ExportAll", "range": [0, 0], "src": "2"}
+]}},
+{"specifier": "2", "kind": "esm", "text": "", "tree": {"nodes": [{"kind": "Program", "range": [0, 0]}]}}
+],
+"resolutions": [["0", "1", "1"], ["0", "2", "2"], ["1", "2", "2"]]}"#;
 
-/// So many modules with these statements. One to a number beyond leads nowhere.
-fn graph(alloc: Global, count: u32, statements: &[Statement]) -> Result<ModuleGraph, Fail> {
-    let mut modules = Vec::new(alloc);
-    let mut resolutions = Vec::new(alloc);
-    for number in 0..count {
-        modules.push(module_along(alloc, number, statements)?)?;
-        let referrer = numbered(alloc, number)?;
-        push_each(alloc, &mut resolutions, referrer.as_str(), count)?;
-    }
-    Ok(linked(alloc, modules, resolutions)?)
-}
+/// Module 0 passes on 1 twice, and itself.
+const TWICE: &str = r#"{"modules": [
+{"specifier": "0", "kind": "esm", "text": "", "tree": {"nodes": [
+    {"kind": "Program", "range": [0, 0], "body": [1, 2, 3]},
+    {"kind": "ExportAll", "range": [0, 0], "src": "1"},
+    {"kind": "ExportAll", "range": [0, 0], "src": "1"},
+    {"kind": "ExportAll", "range": [0, 0], "src": "0"}
+]}},
+{"specifier": "1", "kind": "esm", "text": "", "tree": {"nodes": [{"kind": "Program", "range": [0, 0]}]}}
+],
+"resolutions": [["0", "0", "0"], ["0", "1", "1"]]}"#;
 
-/// The exports of module 0 take so many steps.
-fn takes(
-    rt: &impl Abort,
-    alloc: Global,
-    count: u32,
-    statements: &[Statement],
-    wanted: u128,
-) -> Result<(), Fail> {
-    let graph = graph(alloc, count, statements)?;
-    asks(rt, alloc, &graph, (wanted, None))
+/// Module 0 passes on 1 and 2, and 1 passes on 0 and 3.
+const BRANCHES: &str = r#"{"modules": [
+{"specifier": "0", "kind": "esm", "text": "", "tree": {"nodes": [
+    {"kind": "Program", "range": [0, 0], "body": [1, 2]},
+    {"kind": "ExportAll", "range": [0, 0], "src": "1"},
+    {"kind": "ExportAll", "range": [0, 0], "src": "2"}
+]}},
+{"specifier": "1", "kind": "esm", "text": "", "tree": {"nodes": [
+    {"kind": "Program", "range": [0, 0], "body": [1, 2]},
+    {"kind": "ExportAll", "range": [0, 0], "src": "0"},
+    {"kind": "ExportAll", "range": [0, 0], "src": "3"}
+]}},
+{"specifier": "2", "kind": "esm", "text": "", "tree": {"nodes": [{"kind": "Program", "range": [0, 0]}]}},
+{"specifier": "3", "kind": "esm", "text": "", "tree": {"nodes": [{"kind": "Program", "range": [0, 0]}]}}
+],
+"resolutions": [["0", "1", "1"], ["0", "2", "2"], ["1", "0", "0"], ["1", "3", "3"]]}"#;
+
+/// Module 0 passes on 1, and the text `2` twice; 1 passes on 0, and the text `3`. Both texts lead nowhere.
+const NOWHERE: &str = r#"{"modules": [
+{"specifier": "0", "kind": "esm", "text": "", "tree": {"nodes": [
+    {"kind": "Program", "range": [0, 0], "body": [1, 2, 3]},
+    {"kind": "ExportAll", "range": [0, 0], "src": "2"},
+    {"kind": "ExportAll", "range": [0, 0], "src": "1"},
+    {"kind": "ExportAll", "range": [0, 0], "src": "2"}
+]}},
+{"specifier": "1", "kind": "esm", "text": "", "tree": {"nodes": [
+    {"kind": "Program", "range": [0, 0], "body": [1, 2]},
+    {"kind": "ExportAll", "range": [0, 0], "src": "3"},
+    {"kind": "ExportAll", "range": [0, 0], "src": "0"}
+]}}
+],
+"resolutions": [["0", "1", "1"], ["1", "0", "0"]]}"#;
+
+#[test]
+fn asks_once_in_a_cycle(rt: HostRuntime) -> Checked {
+    takes(of_root(rt.alloc(), CYCLE, asked_twice)?, (3, None))
 }
 
 #[test]
-fn asks_once_in_a_cycle(rt: HostRuntime) -> Result<(), Fail> {
-    takes(&rt, rt.alloc(), 3, &[(0, 1), (0, 2), (1, 0)], 3)
+fn asks_once_in_a_diamond(rt: HostRuntime) -> Checked {
+    takes(of_root(rt.alloc(), DIAMOND, asked_twice)?, (3, None))
 }
 
 #[test]
-fn asks_once_in_a_diamond(rt: HostRuntime) -> Result<(), Fail> {
-    takes(&rt, rt.alloc(), 3, &[(0, 1), (0, 2), (1, 2)], 3)
+fn asks_for_each_of_two_statements_with_one_text(rt: HostRuntime) -> Checked {
+    takes(of_root(rt.alloc(), TWICE, asked_twice)?, (3, None))
 }
 
 #[test]
-fn asks_for_each_of_two_statements_with_one_text(rt: HostRuntime) -> Result<(), Fail> {
-    takes(&rt, rt.alloc(), 2, &[(0, 1), (0, 1), (0, 0)], 3)
+fn asks_along_every_branch(rt: HostRuntime) -> Checked {
+    takes(of_root(rt.alloc(), BRANCHES, asked_twice)?, (4, None))
 }
 
 #[test]
-fn asks_along_every_branch(rt: HostRuntime) -> Result<(), Fail> {
-    takes(&rt, rt.alloc(), 4, &[(0, 1), (0, 2), (1, 0), (1, 3)], 4)
-}
-
-#[test]
-fn asks_for_statements_that_lead_nowhere(rt: HostRuntime) -> Result<(), Fail> {
-    takes(
-        &rt,
-        rt.alloc(),
-        2,
-        &[(0, 2), (0, 1), (0, 2), (1, 3), (1, 0)],
-        5,
-    )
+fn asks_for_statements_that_lead_nowhere(rt: HostRuntime) -> Checked {
+    takes(of_root(rt.alloc(), NOWHERE, asked_twice)?, (5, None))
 }
 
 /// The statement that a way begins with.
 fn statement<'p, 'a>(
     path: &'p ResolvedExportOrReExportAllPath<'a>,
-) -> Result<&'p ResolvedReExportAllPath<'a>, Fail> {
+) -> Option<&'p ResolvedReExportAllPath<'a>> {
     match path {
-        ResolvedExportOrReExportAllPath::ReExportAllPath(re_export) => Ok(re_export),
-        ResolvedExportOrReExportAllPath::Export(_) => Err("no statement")?,
+        ResolvedExportOrReExportAllPath::ReExportAllPath(re_export) => Some(re_export),
+        ResolvedExportOrReExportAllPath::Export(_) => None,
     }
 }
 
 /// One statement, of module 0, leads to symbol 1 of module 1.
-fn leads(
-    rt: &impl Abort,
-    root: &RootSymbol<'_>,
-    path: &ResolvedExportOrReExportAllPath<'_>,
-) -> Result<(), Fail> {
-    let first = statement(path)?;
-    assert_eq!(rt; first.referrer_module.number(), 0);
-    assert_eq!(rt; first.specifier, "next");
-    assert_eq!(rt; first.resolved_module().number(), 1);
-    assert_eq!(rt; statement_count(path), 1);
+fn leads(root: &RootSymbol<'_>, path: &ResolvedExportOrReExportAllPath<'_>) -> Checked {
+    let first = there!(statement(path), "a statement");
+    holds!(
+        first.referrer_module.number() == 0,
+        "the module of the statement"
+    );
+    holds!(first.specifier == "next", "the text of the statement");
+    holds!(
+        first.resolved_module().number() == 1,
+        "the module that the statement leads to"
+    );
+    holds!(
+        statement_count(path) == 1,
+        "how many statements the way has"
+    );
     let export = path.as_resolved_export();
-    assert_eq!(rt; export.module.number(), 1);
-    assert_eq!(rt; export.symbol_id, SymbolId::from_number(1));
-    assert!(rt; export.symbol(root).is_some());
+    holds!(export.module.number() == 1, "the module of the export");
+    holds!(
+        export.symbol_id == SymbolId::from_number(1),
+        "the symbol of the export"
+    );
+    holds!(export.symbol(root).is_some(), "the export has a symbol");
     Ok(())
 }
 
 /// The answer on module 1 is held while module 0 is stored.
-fn holds(rt: &impl Abort, root: &mut RootSymbol<'_>) -> Result<(), Fail> {
-    let module_id = root.module_from_specifier("1")?.ok_or("no module")?;
-    let answer = exports(root, module_id)?;
-    root.module_from_specifier("0")?;
-    let path = answer.resolved.get("n").ok_or("no name")?;
-    leads(rt, root, path)
-}
-
-#[test]
-fn holds_an_answer_while_more_is_stored(rt: HostRuntime) -> Result<(), Fail> {
-    let graph = line(rt.alloc(), 3)?;
-    let mut root = RootSymbol::new(rt.alloc(), &graph);
-    holds(&rt, &mut root)
-}
-
-/// Nothing is stored yet.
-fn unknown(root: &mut RootSymbol<'_>) -> bool {
-    match exports(root, ModuleId::from_number(0)) {
-        Err(SymbolsFault::UnknownModule) => true,
-        _ => false,
+fn keeps(root: &mut RootSymbol<'_>) -> Checked {
+    let module_id = there!(module_id_of(root, "1"), "module 1");
+    let Ok(answer) = exports(root, module_id) else {
+        return Err("no answer");
+    };
+    let is_stored = module_id_of(root, "0").is_some();
+    match answer.resolved.get("n") {
+        Some(path) if is_stored => leads(root, path),
+        Some(_) => Err("not there: module 0"),
+        None => Err("not there: the name n"),
     }
 }
 
 #[test]
-fn exports_of_an_unknown_module(rt: HostRuntime) -> Result<(), Fail> {
-    let graph = line(rt.alloc(), 1)?;
-    let mut root = RootSymbol::new(rt.alloc(), &graph);
-    assert!(&rt; unknown(&mut root));
-    Ok(())
+fn holds_an_answer_while_more_is_stored(rt: HostRuntime) -> Checked {
+    of_row(rt.alloc(), 3, (PASSES_ON, OWNS), keeps)?
+}
+
+/// Nothing is stored yet.
+fn unknown(root: &mut RootSymbol<'_>) -> Checked {
+    match exports(root, ModuleId::from_number(0)) {
+        Err(SymbolsFault::UnknownModule) => Ok(()),
+        _ => Err("an unknown module is refused"),
+    }
+}
+
+#[test]
+fn exports_of_an_unknown_module(rt: HostRuntime) -> Checked {
+    of_row(rt.alloc(), 1, (PASSES_ON, OWNS), unknown)?
 }
