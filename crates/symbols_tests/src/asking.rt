@@ -1,149 +1,245 @@
 //! Every question by one call, in order, backwards and twice over, and what a fault leaves.
 
-use crate::graphs::{resolutions, text};
-use crate::modules::{linked, module_with};
+use crate::graphs::text;
+use crate::lending::{Checked, of_limited, of_root};
 use crate::trees::id;
-use deno_symbols::check::ModuleGraph;
 use deno_symbols::deps::{ResolveDepsMode, SymbolNodeDep};
 use deno_symbols::ids::SymbolId;
 use deno_symbols::info::SymbolsFault;
-use deno_symbols::queries::{Answer, NamedEnd, NamedEntry, NamedPath, Query, answer, run};
+use deno_symbols::queries::{
+    Answer, NamedEnd, NamedEntry, NamedExports, NamedPath, Query, answer, run,
+};
 use deno_symbols::root::{Limits, RootSymbol};
 use std::alloc::{AllocError, Global};
 use std::borrow::CowStr;
-use std::process::Abort;
-use std::test::Fail;
 
 /// `a` passes on `b`, which owns `n`, its symbol 1.
-fn graph(alloc: Global) -> Result<ModuleGraph, Fail> {
-    let mut modules = Vec::new(alloc);
-    modules.push(module_with(alloc, "a", &[], &["b"])?)?;
-    modules.push(module_with(alloc, "b", &["n"], &[])?)?;
-    let rows = [("a", "b", "b")];
-    Ok(linked(alloc, modules, resolutions(alloc, &rows)?)?)
-}
+const GRAPH: &str = r#"{"modules": [
+{"specifier": "a", "kind": "esm", "text": "", "tree": {"nodes": [
+    {"kind": "Program", "range": [0, 0], "body": [1]},
+    {"kind": "ExportAll", "range": [0, 0], "src": "b"}
+]}},
+{"specifier": "b", "kind": "esm", "text": "", "tree": {"nodes": [
+    {"kind": "Program", "range": [0, 0], "body": [1]},
+    {"kind": "ExportDecl", "range": [0, 0], "decl": 2},
+    {"kind": "VarDecl", "range": [0, 0], "decls": [3]},
+    {"kind": "VarDeclarator", "range": [0, 0], "name": 4},
+    {"kind": "BindingIdent", "range": [0, 0], "sym": ["n", 1]}
+]}}
+],
+"resolutions": [["a", "b", "b"]]}"#;
 
 fn first() -> SymbolId {
     SymbolId::from_number(1)
 }
 
+/// What each query is about: its form, and the module that it is asked of.
+const FORMS: [(&str, &str); 10] = [
+    ("a module", "b"),
+    ("exports", "a"),
+    ("a symbol", "b"),
+    ("a name", "b"),
+    ("what a symbol refers to", "b"),
+    ("paths", "b"),
+    ("definitions", "b"),
+    ("leaves", "b"),
+    ("a reference", "a"),
+    ("no module", "absent"),
+];
+
+/// The reference `import("b").n`.
+fn reference(alloc: Global) -> Result<SymbolNodeDep<'static>, AllocError> {
+    let mut parts = Vec::new(alloc);
+    parts.push(CowStr::Borrowed("n"))?;
+    Ok(SymbolNodeDep::ImportType("b", parts))
+}
+
+/// The query of a form.
+fn query(alloc: Global, place: usize, specifier: String) -> Result<Query<'static>, AllocError> {
+    Ok(match place {
+        1 => Query::Exports(specifier),
+        2 => Query::Symbol(specifier, id(alloc, "n", 1)?),
+        3 => Query::Name(specifier, first()),
+        4 => Query::Deps(specifier, first(), ResolveDepsMode::TypesAndExpressions),
+        5 => Query::Paths(specifier, first()),
+        6 => Query::Definitions(specifier, first()),
+        7 => Query::Leaves(specifier, first()),
+        8 => Query::Resolve(specifier, reference(alloc)?),
+        _ => Query::Module(specifier),
+    })
+}
+
 /// A query of each form, the last on a specifier that stands for no module.
 fn queries(alloc: Global) -> Result<Vec<Query<'static>>, AllocError> {
     let mut queries = Vec::new(alloc);
-    queries.push(Query::Module(text(alloc, "b")?))?;
-    queries.push(Query::Exports(text(alloc, "a")?))?;
-    queries.push(Query::Symbol(text(alloc, "b")?, id(alloc, "n", 1)?))?;
-    queries.push(Query::Name(text(alloc, "b")?, first()))?;
-    queries.push(Query::Deps(
-        text(alloc, "b")?,
-        first(),
-        ResolveDepsMode::TypesAndExpressions,
-    ))?;
-    queries.push(Query::Paths(text(alloc, "b")?, first()))?;
-    queries.push(Query::Definitions(text(alloc, "b")?, first()))?;
-    queries.push(Query::Leaves(text(alloc, "b")?, first()))?;
-    let mut parts = Vec::new(alloc);
-    parts.push(CowStr::Borrowed("n"))?;
-    let reference = SymbolNodeDep::ImportType("b", parts);
-    queries.push(Query::Resolve(text(alloc, "a")?, reference))?;
-    queries.push(Query::Module(text(alloc, "absent")?))?;
+    for (place, (_, specifier)) in FORMS.iter().enumerate() {
+        queries.push(query(alloc, place, text(alloc, *specifier)?)?)?;
+    }
     Ok(queries)
+}
+
+/// The place of the query that has an answer of this form.
+fn place_of(answer: &Answer<'_>) -> usize {
+    match answer {
+        Answer::Module(_) => 0,
+        Answer::Exports(_) => 1,
+        Answer::Symbol(_) => 2,
+        Answer::Name(_) => 3,
+        Answer::Deps(_) => 4,
+        Answer::Paths(_) => 5,
+        Answer::Definitions(_) => 6,
+        Answer::Leaves(_) => 7,
+        Answer::Resolve(_) => 8,
+        Answer::NoModule => 9,
+    }
+}
+
+/// Whether `n` of `b` is all that is exported, by the one statement of `a`.
+fn exports_n(named: &NamedExports<'_>) -> bool {
+    let [export] = named.exports.as_slice() else {
+        return false;
+    };
+    let Some(statement) = export.chain.first() else {
+        return false;
+    };
+    named.unresolved.is_empty()
+        && export.name.as_str() == "n"
+        && export.module == "b"
+        && export.symbol == first()
+        && statement.referrer == "a"
+        && statement.specifier == "b"
+}
+
+/// Whether an answer tells of `n` and its module what it has to.
+fn tells_of_n(answer: &Answer<'_>) -> bool {
+    match answer {
+        Answer::Module(specifier) => *specifier == "b",
+        Answer::Exports(named) => exports_n(named),
+        Answer::Symbol(symbol) => *symbol == Some(first()),
+        Answer::Name(Some(name)) => name.as_str() == "n",
+        Answer::Name(None) => false,
+        Answer::Deps(deps) => deps.len() == 1,
+        Answer::Paths(paths) => match paths.first() {
+            Some(NamedPath::Definition(definition)) => definition.module == "b",
+            _ => false,
+        },
+        Answer::Definitions(definitions) => match definitions.first() {
+            Some(definition) => definition.decl.symbol == first(),
+            None => false,
+        },
+        Answer::Leaves(leaves) => match leaves.first() {
+            Some(NamedEnd::Definition(definition)) => definition.module == "b",
+            _ => false,
+        },
+        Answer::Resolve(entries) => match entries.first() {
+            Some(NamedEntry::Path(NamedPath::Definition(definition))) => definition.module == "b",
+            _ => false,
+        },
+        Answer::NoModule => true,
+    }
 }
 
 /// The answer to the query of this place is what it has to be.
 fn is_right(place: usize, answer: &Answer<'_>) -> bool {
-    match answer {
-        Answer::Module(specifier) => place == 0 && *specifier == "b",
-        Answer::Exports(named) => {
-            let Some(export) = named.exports.first() else {
-                return false;
-            };
-            let Some(statement) = export.chain.first() else {
-                return false;
-            };
-            place == 1
-                && named.exports.len() == 1
-                && named.unresolved.is_empty()
-                && export.name.as_str() == "n"
-                && export.module == "b"
-                && export.symbol == first()
-                && statement.referrer == "a"
-                && statement.specifier == "b"
-        }
-        Answer::Symbol(symbol) => place == 2 && *symbol == Some(first()),
-        Answer::Name(Some(name)) => place == 3 && name.as_str() == "n",
-        Answer::Name(None) => false,
-        Answer::Deps(deps) => place == 4 && deps.len() == 1,
-        Answer::Paths(paths) => match paths.first() {
-            Some(NamedPath::Definition(definition)) => place == 5 && definition.module == "b",
-            _ => false,
-        },
-        Answer::Definitions(definitions) => match definitions.first() {
-            Some(definition) => place == 6 && definition.decl.symbol == first(),
-            None => false,
-        },
-        Answer::Leaves(leaves) => match leaves.first() {
-            Some(NamedEnd::Definition(definition)) => place == 7 && definition.module == "b",
-            _ => false,
-        },
-        Answer::Resolve(entries) => match entries.first() {
-            Some(NamedEntry::Path(NamedPath::Definition(definition))) => {
-                place == 8 && definition.module == "b"
-            }
-            _ => false,
-        },
-        Answer::NoModule => place == 9,
+    place_of(answer) == place && tells_of_n(answer)
+}
+
+/// The form of the query of this place.
+fn form(place: usize) -> &'static str {
+    match FORMS.get(place) {
+        Some((form, _)) => *form,
+        None => "one query more",
+    }
+}
+
+/// Whether the answer to one query, asked for alone, is right.
+fn answers_rightly(root: &mut RootSymbol<'_>, place: usize, query: &Query) -> bool {
+    match answer(root, query) {
+        Ok(given) => is_right(place, &given),
+        Err(_) => false,
     }
 }
 
 /// The answers to the queries from the last to the first, each asked for alone, are right.
-fn are_right_backwards<'a>(
-    root: &mut RootSymbol<'a>,
-    queries: &[Query],
-) -> Result<bool, SymbolsFault> {
+fn answers_backwards(root: &mut RootSymbol<'_>, queries: &[Query]) -> Checked {
     for (place, query) in queries.iter().enumerate().rev() {
-        let given = answer(root, query)?;
-        if !is_right(place, &given) {
-            return Ok(false);
+        if !answers_rightly(root, place, query) {
+            return Err(form(place));
         }
     }
-    Ok(true)
-}
-
-/// There is an answer to each query, and each is right.
-fn are_right(answers: &[Answer<'_>], queries: &[Query]) -> bool {
-    answers.len() == queries.len()
-        && answers
-            .iter()
-            .enumerate()
-            .all(|(place, given)| is_right(place, given))
-}
-
-#[test]
-fn answers_each_form_in_any_order(rt: HostRuntime) -> Result<(), Fail> {
-    let graph = graph(rt.alloc())?;
-    let queries = queries(rt.alloc())?;
-    let mut root = RootSymbol::new(rt.alloc(), &graph);
-    assert!(&rt; are_right_backwards(&mut root, &queries)?);
-    let answers = run(&mut root, &queries)?;
-    assert!(&rt; are_right(&answers, &queries));
     Ok(())
 }
 
+/// There are so many answers, and each is right.
+fn are_right(answers: &[Answer<'_>], count: usize) -> Checked {
+    holds!(answers.len() == count, "how many answers there are");
+    for (place, given) in answers.iter().enumerate() {
+        if !is_right(place, given) {
+            return Err(form(place));
+        }
+    }
+    Ok(())
+}
+
+/// There is an answer to each query once all are asked already, and each is right.
+fn answers_again(root: &mut RootSymbol<'_>, queries: &[Query]) -> Checked {
+    holds!(
+        answers_backwards(root, queries).is_ok(),
+        "the answers backwards"
+    );
+    match run(root, queries) {
+        Ok(answers) => are_right(&answers, queries.len()),
+        Err(_) => Err("no answers"),
+    }
+}
+
+fn each_backwards(root: &mut RootSymbol<'_>) -> Checked {
+    match queries(root.alloc()) {
+        Ok(queries) => answers_backwards(root, &queries),
+        Err(_) => Err("no memory"),
+    }
+}
+
 #[test]
-fn stops_at_the_first_fault(rt: HostRuntime) -> Result<(), Fail> {
-    let graph = graph(rt.alloc())?;
-    let queries = queries(rt.alloc())?;
+fn answers_each_form_backwards(rt: HostRuntime) -> Checked {
+    of_root(rt.alloc(), GRAPH, each_backwards)?
+}
+
+fn each_again(root: &mut RootSymbol<'_>) -> Checked {
+    match queries(root.alloc()) {
+        Ok(queries) => answers_again(root, &queries),
+        Err(_) => Err("no memory"),
+    }
+}
+
+#[test]
+fn answers_each_form_in_any_order(rt: HostRuntime) -> Checked {
+    of_root(rt.alloc(), GRAPH, each_again)?
+}
+
+/// The second module is refused, and the first is stored.
+fn stops(root: &mut RootSymbol<'_>, queries: &[Query]) -> Checked {
+    holds!(
+        matches!(run(root, queries), Err(SymbolsFault::TooManyModules)),
+        "the fault"
+    );
+    holds!(root.has_analyzed("b"), "b is stored");
+    holds!(!root.has_analyzed("a"), "a isn't stored");
+    Ok(())
+}
+
+fn stops_within_a_limit(root: &mut RootSymbol<'_>) -> Checked {
+    match queries(root.alloc()) {
+        Ok(queries) => stops(root, &queries),
+        Err(_) => Err("no memory"),
+    }
+}
+
+#[test]
+fn stops_at_the_first_fault(rt: HostRuntime) -> Checked {
     let limits = Limits {
         modules: 1,
         symbols: u32::MAX,
     };
-    let mut root = RootSymbol::with_limits(rt.alloc(), &graph, limits);
-    match run(&mut root, &queries) {
-        Err(SymbolsFault::TooManyModules) => {}
-        _ => return Err("answered")?,
-    }
-    assert!(&rt; root.has_analyzed("b"));
-    assert!(&rt; !root.has_analyzed("a"));
-    Ok(())
+    of_limited(rt.alloc(), GRAPH, limits, stops_within_a_limit)?
 }
