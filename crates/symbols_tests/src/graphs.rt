@@ -1,19 +1,18 @@
 //! Small graphs: what they hold and what they resolve.
 
+use crate::lending::Checked;
 use deno_symbols::check::{
     GraphFault, GraphModule, ModuleGraph, RawGraph, RawModule, RawModuleKind, RawResolution,
     TreeFault,
 };
 use deno_symbols::tree::{Item, Kind, Node, SourceRange, Tree};
 use std::alloc::{AllocError, Global};
-use std::process::Abort;
-use std::test::Fail;
 
 pub(crate) fn text(alloc: Global, text: &str) -> Result<String, AllocError> {
     String::from_str(alloc, text)
 }
 
-pub(crate) fn resolution(
+fn resolution(
     alloc: Global,
     referrer: &str,
     asked: &str,
@@ -29,54 +28,66 @@ pub(crate) fn resolution(
     })
 }
 
-pub(crate) fn resolutions(
-    alloc: Global,
-    rows: &[(&str, &str, &str)],
-) -> Result<Vec<RawResolution>, AllocError> {
+/// Resolutions: referrer, text, and what the text stands for there.
+const RESOLUTIONS: [(&str, &str, &str); 4] = [
+    ("a", "t", "b"),
+    ("b", "t", "c"),
+    ("a", "u", "gone"),
+    ("absent", "t", "a"),
+];
+
+fn resolutions(alloc: Global) -> Result<Vec<RawResolution>, AllocError> {
     let mut resolutions = Vec::new(alloc);
-    for (referrer, asked, specifier) in rows {
-        resolutions.push(resolution(alloc, *referrer, *asked, *specifier)?)?;
+    for (referrer, asked, specifier) in RESOLUTIONS {
+        resolutions.push(resolution(alloc, referrer, asked, specifier)?)?;
     }
     Ok(resolutions)
 }
 
-/// A graph of these resolutions, where `r` is redirected to `a`.
-fn resolving(alloc: Global, rows: &[(&str, &str, &str)]) -> Result<ModuleGraph, GraphFault> {
+/// `r` is redirected to `a`.
+fn redirects(alloc: Global) -> Result<Vec<(String, String)>, AllocError> {
     let mut redirects = Vec::new(alloc);
     redirects.push((text(alloc, "r")?, text(alloc, "a")?))?;
+    Ok(redirects)
+}
+
+/// A graph of these resolutions and this redirect.
+fn resolving(alloc: Global) -> Result<ModuleGraph, GraphFault> {
+    let redirects = redirects(alloc)?;
+    let resolutions = resolutions(alloc)?;
     let raw = RawGraph {
         modules: Vec::new(alloc),
         redirects,
-        resolutions: resolutions(alloc, rows)?,
+        resolutions,
     };
     ModuleGraph::new(alloc, raw)
 }
 
-fn resolves(rt: &impl Abort, graph: &ModuleGraph) {
-    for (referrer, asked, want) in [
-        ("a", "t", "b"),
-        ("b", "t", "c"),
-        ("a", "u", "gone"),
-        ("absent", "t", "a"),
-        ("b", "u", "none"),
-        ("r", "t", "none"),
-    ] {
-        let found = graph.resolve_dependency(asked, referrer).unwrap_or("none");
-        assert_eq!(rt; found, want, "{referrer} {asked}");
+/// A referrer, a text, and what is found, with a name.
+const ASKED: [(&str, &str, &str, &str); 6] = [
+    ("a", "t", "b", "t in a"),
+    ("b", "t", "c", "t in b"),
+    ("a", "u", "gone", "u in a"),
+    ("absent", "t", "a", "t in absent"),
+    ("b", "u", "none", "u in b"),
+    ("r", "t", "none", "t in r"),
+];
+
+fn resolves(graph: &ModuleGraph) -> Checked {
+    for (referrer, asked, wanted, name) in ASKED {
+        if graph.resolve_dependency(asked, referrer).unwrap_or("none") != wanted {
+            return Err(name);
+        }
     }
+    Ok(())
 }
 
 #[test]
-fn resolves_by_referrer_and_text(rt: HostRuntime) -> Result<(), Fail> {
-    let rows = [
-        ("a", "t", "b"),
-        ("b", "t", "c"),
-        ("a", "u", "gone"),
-        ("absent", "t", "a"),
-    ];
-    let graph = resolving(rt.alloc(), &rows)?;
-    resolves(&rt, &graph);
-    Ok(())
+fn resolves_by_referrer_and_text(rt: HostRuntime) -> Checked {
+    match resolving(rt.alloc()) {
+        Ok(graph) => resolves(&graph),
+        Err(_) => Err("no graph"),
+    }
 }
 
 /// An ECMAScript module of no text, with a tree of an empty program.
@@ -113,7 +124,9 @@ fn graph(alloc: Global, kind: RawModuleKind) -> Result<ModuleGraph, GraphFault> 
 }
 
 /// The text of a module, whether it has a tree, the module of its types, and whether it is JSON.
-fn shown(module: &GraphModule) -> (&str, bool, Option<&str>, bool) {
+type Shown<'a> = (&'a str, bool, Option<&'a str>, bool);
+
+fn shown(module: &GraphModule) -> Shown<'_> {
     (
         module.text(),
         module.tree().is_some(),
@@ -122,48 +135,71 @@ fn shown(module: &GraphModule) -> (&str, bool, Option<&str>, bool) {
     )
 }
 
-fn shows(
-    rt: &impl Abort,
-    alloc: Global,
-    kind: RawModuleKind,
-    want: (&str, bool, Option<&str>, bool),
-) -> Result<(), GraphFault> {
-    let graph = graph(alloc, kind)?;
-    assert_eq!(rt; graph.get("m").map(shown), Some(want));
-    Ok(())
+/// Whether the one module of a graph shows this.
+fn shows(graph: Result<ModuleGraph, GraphFault>, wanted: Shown<'_>) -> bool {
+    match graph {
+        Ok(graph) => graph.get("m").map(shown) == Some(wanted),
+        Err(_) => false,
+    }
 }
 
 #[test]
-fn shows_what_a_module_is(rt: HostRuntime) -> Result<(), Fail> {
+fn shows_what_a_module_is(rt: HostRuntime) -> Checked {
     let alloc = rt.alloc();
-    let external = RawModuleKind::External;
-    shows(&rt, alloc, external, ("", false, None, false))?;
-    shows(&rt, alloc, script(alloc)?, ("", true, Some("types"), false))?;
-    let text = text(alloc, "[]")?;
-    let json = RawModuleKind::Json { text };
-    shows(&rt, alloc, json, ("[]", false, None, true))?;
+    let external = graph(alloc, RawModuleKind::External);
+    holds!(
+        shows(external, ("", false, None, false)),
+        "a module of another kind"
+    );
+    let Ok(script) = script(alloc) else {
+        return Err("no memory");
+    };
+    let script = graph(alloc, script);
+    holds!(
+        shows(script, ("", true, Some("types"), false)),
+        "a module with a tree"
+    );
+    let Ok(text) = text(alloc, "[]") else {
+        return Err("no memory");
+    };
+    let json = graph(alloc, RawModuleKind::Json { text });
+    holds!(shows(json, ("[]", false, None, true)), "a module of JSON");
     Ok(())
 }
 
-fn says(rt: &impl Abort, alloc: Global, fault: GraphFault, want: &str) -> Result<(), AllocError> {
-    let found = fault.to_string(alloc)?;
-    assert_eq!(rt; found.as_str(), want);
-    Ok(())
+/// A fault of each kind that no program says in these words.
+fn fault(alloc: Global, place: usize) -> Result<GraphFault, AllocError> {
+    Ok(match place {
+        0 => GraphFault::DuplicateSpecifier(text(alloc, "b")?),
+        1 => GraphFault::DuplicateRedirect(text(alloc, "s")?),
+        2 => GraphFault::RedirectToRedirect(text(alloc, "t")?),
+        3 => GraphFault::DuplicateResolution(text(alloc, "a")?, text(alloc, "t")?),
+        _ => GraphFault::Tree(text(alloc, "bad")?, TreeFault::NoProgram),
+    })
 }
 
-/// What a fault says. No program says it in these words.
+/// What each fault says.
+const SAID: [&str; 5] = [
+    "duplicate specifier b",
+    "duplicate redirect s",
+    "redirect to redirect t",
+    "duplicate resolution a t",
+    "tree of bad: no program",
+];
+
+/// Whether the fault of this place says this.
+fn says(alloc: Global, place: usize, wanted: &str) -> Result<bool, AllocError> {
+    let fault = fault(alloc, place)?;
+    let said = fault.to_string(alloc)?;
+    Ok(said.as_str() == wanted)
+}
+
 #[test]
-fn says_what_is_refused(rt: HostRuntime) -> Result<(), Fail> {
-    let alloc = rt.alloc();
-    let b = GraphFault::DuplicateSpecifier(text(alloc, "b")?);
-    says(&rt, alloc, b, "duplicate specifier b")?;
-    let s = GraphFault::DuplicateRedirect(text(alloc, "s")?);
-    says(&rt, alloc, s, "duplicate redirect s")?;
-    let t = GraphFault::RedirectToRedirect(text(alloc, "t")?);
-    says(&rt, alloc, t, "redirect to redirect t")?;
-    let a = GraphFault::DuplicateResolution(text(alloc, "a")?, text(alloc, "t")?);
-    says(&rt, alloc, a, "duplicate resolution a t")?;
-    let bad = GraphFault::Tree(text(alloc, "bad")?, TreeFault::NoProgram);
-    says(&rt, alloc, bad, "tree of bad: no program")?;
+fn says_what_is_refused(rt: HostRuntime) -> Checked {
+    for (place, wanted) in SAID.iter().enumerate() {
+        if says(rt.alloc(), place, *wanted) != Ok(true) {
+            return Err(*wanted);
+        }
+    }
     Ok(())
 }

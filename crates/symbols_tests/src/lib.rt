@@ -46,8 +46,6 @@ mod lending;
 #[cfg(test)]
 mod many;
 #[cfg(test)]
-mod modules;
-#[cfg(test)]
 mod nodes;
 #[cfg(test)]
 mod one_name;

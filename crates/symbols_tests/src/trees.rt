@@ -1,7 +1,6 @@
-//! What the tests' graphs are made of.
+//! What trees are made of, by calls.
 
-use deno_symbols::check::{GraphFault, ModuleGraph, RawGraph, RawModule, RawModuleKind};
-use deno_symbols::tree::{Decl, Id, Kind, Node, NodeId, Pat, SourceRange, Tree};
+use deno_symbols::tree::{Decl, Id, Kind, Node, NodeId, Pat, SourceRange};
 use std::alloc::{AllocError, Global};
 
 /// Adds a node that stands in the empty range.
@@ -37,30 +36,4 @@ pub(crate) fn push_declarator(
         type_ann: None,
     };
     push(nodes, Kind::Pat(ident))
-}
-
-/// A module that has the tree, and no text.
-pub(crate) fn module_of(
-    alloc: Global,
-    specifier: &str,
-    tree: Tree,
-) -> Result<RawModule, AllocError> {
-    Ok(RawModule {
-        specifier: String::from_str(alloc, specifier)?,
-        kind: RawModuleKind::Esm {
-            text: String::new(alloc),
-            tree: Some(tree),
-            types: None,
-        },
-    })
-}
-
-/// The graph of these modules alone.
-pub(crate) fn graph_of(alloc: Global, modules: Vec<RawModule>) -> Result<ModuleGraph, GraphFault> {
-    let raw = RawGraph {
-        modules,
-        redirects: Vec::new(alloc),
-        resolutions: Vec::new(alloc),
-    };
-    ModuleGraph::new(alloc, raw)
 }
