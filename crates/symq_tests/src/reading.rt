@@ -1,9 +1,9 @@
 //! Fields that no program tells of.
 
+use crate::Checked;
 use deno_symbols::check::{RawModule, RawModuleKind};
 use deno_symbols::tree::{Accessibility, Kind, Member, MethodKind};
 use std::alloc::{AllocError, Global};
-use std::test::Fail;
 use symq_reader::{FormatFault, read_graph};
 
 /// The text of a graph with one module whose tree has this node alone.
@@ -31,92 +31,117 @@ fn only_kind(modules: &[RawModule]) -> Option<&Kind> {
     }
 }
 
-fn accessibility(alloc: Global, fields: &str) -> Result<Option<Accessibility>, Fail> {
-    let text = graph_text(alloc, "TsParamProp", fields)?;
-    let graph = read_graph(alloc, text.as_bytes())?;
-    match only_kind(graph.modules.as_slice()) {
-        Some(Kind::Member(Member::TsParamProp { accessibility, .. })) => Ok(*accessibility),
-        _ => Err("no property")?,
+/// What the one node of this kind, with these fields, tells.
+fn of_kind<R, F: FnOnce(&Kind) -> Option<R> + Drop>(
+    alloc: Global,
+    kind: &str,
+    fields: &str,
+    told: F,
+) -> Option<R>
+    requires { F.IsAlwaysCallable told }
+{
+    let text = graph_text(alloc, kind, fields).ok()?;
+    let graph = read_graph(alloc, text.as_bytes()).ok()?;
+    told(only_kind(graph.modules.as_slice())?)
+}
+
+/// Fields of a property, and who may reach it.
+const PROPERTIES: [(&str, Option<Accessibility>); 5] = [
+    (r#""param":1"#, None),
+    (r#""param":1,"accessibility":null"#, None),
+    (
+        r#""param":1,"accessibility":"public""#,
+        Some(Accessibility::Public),
+    ),
+    (
+        r#""param":1,"accessibility":"protected""#,
+        Some(Accessibility::Protected),
+    ),
+    (
+        r#""param":1,"accessibility":"private""#,
+        Some(Accessibility::Private),
+    ),
+];
+
+fn accessibility(kind: &Kind) -> Option<Option<Accessibility>> {
+    match kind {
+        Kind::Member(Member::TsParamProp { accessibility, .. }) => Some(*accessibility),
+        _ => None,
     }
 }
 
 #[test]
-fn reads_accessibilities(rt: HostRuntime) -> Result<(), Fail> {
-    for (fields, want) in [
-        (r#""param":1"#, None),
-        (r#""param":1,"accessibility":null"#, None),
-        (
-            r#""param":1,"accessibility":"public""#,
-            Some(Accessibility::Public),
-        ),
-        (
-            r#""param":1,"accessibility":"protected""#,
-            Some(Accessibility::Protected),
-        ),
-        (
-            r#""param":1,"accessibility":"private""#,
-            Some(Accessibility::Private),
-        ),
-    ] {
-        assert_eq!(rt; accessibility(rt.alloc(), fields)?, want, "at {fields}");
+fn reads_accessibilities(rt: HostRuntime) -> Checked {
+    for (fields, wanted) in PROPERTIES {
+        if of_kind(rt.alloc(), "TsParamProp", fields, accessibility) != Some(wanted) {
+            return Err(fields);
+        }
     }
     Ok(())
 }
 
-fn method(alloc: Global, fields: &str) -> Result<(MethodKind, bool), Fail> {
-    let text = graph_text(alloc, "ClassMethod", fields)?;
-    let graph = read_graph(alloc, text.as_bytes())?;
-    match only_kind(graph.modules.as_slice()) {
-        Some(
-            Kind::Member(
-                Member::ClassMethod {
-                    kind,
-                    is_static,
-                    ..
-                },
-            ),
-        ) => Ok((*kind, *is_static)),
-        _ => Err("no method")?,
+/// Fields of a method, its sort, and whether it is static.
+const METHODS: [(&str, MethodKind, bool); 4] = [
+    (
+        r#""key":1,"function":2,"method_kind":"method""#,
+        MethodKind::Method,
+        false,
+    ),
+    (
+        r#""key":1,"function":2,"method_kind":"getter","is_static":null"#,
+        MethodKind::Getter,
+        false,
+    ),
+    (
+        r#""key":1,"function":2,"method_kind":"setter","is_static":false"#,
+        MethodKind::Setter,
+        false,
+    ),
+    (
+        r#""key":1,"function":2,"method_kind":"method","is_static":true"#,
+        MethodKind::Method,
+        true,
+    ),
+];
+
+fn method(kind: &Kind) -> Option<(MethodKind, bool)> {
+    match kind {
+        Kind::Member(
+            Member::ClassMethod {
+                kind,
+                is_static,
+                ..
+            },
+        ) => Some((*kind, *is_static)),
+        _ => None,
     }
 }
 
 #[test]
-fn reads_methods(rt: HostRuntime) -> Result<(), Fail> {
-    for (fields, want) in [
-        (
-            r#""key":1,"function":2,"method_kind":"method""#,
-            (MethodKind::Method, false),
-        ),
-        (
-            r#""key":1,"function":2,"method_kind":"getter","is_static":null"#,
-            (MethodKind::Getter, false),
-        ),
-        (
-            r#""key":1,"function":2,"method_kind":"setter","is_static":false"#,
-            (MethodKind::Setter, false),
-        ),
-        (
-            r#""key":1,"function":2,"method_kind":"method","is_static":true"#,
-            (MethodKind::Method, true),
-        ),
-    ] {
-        assert_eq!(rt; method(rt.alloc(), fields)?, want, "at {fields}");
+fn reads_methods(rt: HostRuntime) -> Checked {
+    for (fields, kind, is_static) in METHODS {
+        if of_kind(rt.alloc(), "ClassMethod", fields, method) != Some((kind, is_static)) {
+            return Err(fields);
+        }
     }
     Ok(())
 }
 
+/// Why a text is no graph, if it is none.
+fn fault_of(alloc: Global, text: &str) -> Option<FormatFault> {
+    read_graph(alloc, text.as_bytes()).err()
+}
+
 #[test]
-fn names_what_is_no_graph(rt: HostRuntime) -> Result<(), Fail> {
-    for (text, want) in [
+fn names_what_is_no_graph(rt: HostRuntime) -> Checked {
+    for (text, wanted) in [
         ("{}", None),
         ("{", Some(FormatFault::NotJson)),
         ("[]", Some(FormatFault::BadForm)),
     ] {
-        assert_eq!(rt;
-            read_graph(rt.alloc(), text.as_bytes()).err(),
-            want,
-            "at {text}"
-        );
+        if fault_of(rt.alloc(), text) != wanted {
+            return Err(text);
+        }
     }
     Ok(())
 }

@@ -4,53 +4,56 @@
 ghost use Rattle.std.specs.Prelude.{◌<◌};
 ghost use Rattle.symq_core.specs.Devices.{COUNT_LIMIT};
 
+use crate::Checked;
 use deno_symbols::check::ModuleGraph;
 use std::alloc::{AllocError, Global};
-use std::process::Abort;
-use std::test::Fail;
 use symq_core::program::{
-    DeviceFault, EngineFault, Input, MemoryInput, MemoryOutput, Output, ReaderInput, Stop,
-    WriterOutput, read_graph, serve,
+    DeviceFault, EngineFault, Input, MemoryInput, MemoryOutput, Output, ReaderInput, WriterOutput,
+    read_graph, serve,
 };
 
 /// The answer to each line that is no query.
 const BAD: &[u8] = b"{\"fault\":\"bad query\"}\n";
 
-fn empty_graph(alloc: Global) -> Result<ModuleGraph, Stop> {
-    let raw = read_graph(alloc, b"{}").map_err(Stop::Format)?;
-    ModuleGraph::new(alloc, raw).map_err(Stop::Graph)
+/// The empty graph.
+fn empty_graph(alloc: Global) -> Option<ModuleGraph> {
+    let raw = read_graph(alloc, b"{}").ok()?;
+    ModuleGraph::new(alloc, raw).ok()
 }
 
-/// This many answers to lines that are no queries.
-fn bad_answers(alloc: Global, count: usize) -> Result<Vec<u8>, AllocError> {
-    let mut text = Vec::new(alloc);
+/// Whether these are so many answers to lines that are no queries, and nothing else.
+fn are_bad_answers(bytes: &[u8], count: usize) -> bool {
+    let mut left = bytes;
     for _ in 0..count {
-        text.extend_from_slice(BAD)?;
+        match left.strip_prefix(BAD) {
+            Some(rest) => left = rest,
+            None => return false,
+        }
     }
-    Ok(text)
+    left.is_empty()
 }
 
 /// Serves over the empty graph, which lives here alone: what a function lets go is proved anew for
-/// each way out of it.
+/// each way out of it. Nothing where memory is refused for the graph.
 fn serve_over<R: Input, W: Output>(
     alloc: Global,
     reader: &mut R,
     writer: &mut W,
-) -> Result<Result<(), EngineFault>, Stop>
+) -> Option<Result<(), EngineFault>>
     requires reads_countable { R.failures reader.old < COUNT_LIMIT }
     requires writes_countable { W.failures writer.old < COUNT_LIMIT }
 {
     let graph = empty_graph(alloc)?;
-    Ok(serve(alloc, &graph, reader, writer))
+    Some(serve(alloc, &graph, reader, writer))
 }
 
 /// The lines of the input are no queries, and so many.
-fn answers_bad(rt: &impl Abort, alloc: Global, input: &[u8], count: usize) -> Result<(), Fail> {
+fn answers_bad(alloc: Global, input: &[u8], count: usize) -> Checked {
     let mut reader = MemoryInput { rest: input };
     let mut writer = MemoryOutput::new(alloc);
-    serve_over(alloc, &mut reader, &mut writer)??;
-    let want = bad_answers(alloc, count)?;
-    assert!(rt; writer.bytes.as_slice() == want.as_slice());
+    let served = serve_over(alloc, &mut reader, &mut writer);
+    holds!(served == Some(Ok(())), "the input is served");
+    holds!(are_bad_answers(&writer.bytes, count), "what is written");
     Ok(())
 }
 
@@ -85,7 +88,7 @@ impl Input for Piecewise<'_> {
 }
 
 /// A read fails behind two lines and the front of a third: the two are answered.
-fn answers_two(rt: &impl Abort, alloc: Global, most: usize) -> Result<(), Fail>
+fn answers_two(alloc: Global, most: usize) -> Checked
     requires { 0 < most }
 {
     let mut reader = Piecewise {
@@ -95,18 +98,21 @@ fn answers_two(rt: &impl Abort, alloc: Global, most: usize) -> Result<(), Fail>
         failed: 0,
     };
     let mut writer = MemoryOutput::new(alloc);
-    let served = serve_over(alloc, &mut reader, &mut writer)?;
-    assert!(rt; served == Err(EngineFault::InputFailed) && reader.failed == 1);
-    let want = bad_answers(alloc, 2)?;
-    assert!(rt; writer.bytes.as_slice() == want.as_slice());
+    let served = serve_over(alloc, &mut reader, &mut writer);
+    holds!(
+        served == Some(Err(EngineFault::InputFailed)),
+        "a failed read ends it"
+    );
+    holds!(reader.failed == 1, "nothing is read after a failed read");
+    holds!(are_bad_answers(&writer.bytes, 2), "what is written");
     Ok(())
 }
 
 #[test]
-fn answers_before_a_failed_read(rt: HostRuntime) -> Result<(), Fail> {
-    answers_two(&rt, rt.alloc(), 1)?;
-    answers_two(&rt, rt.alloc(), 5)?;
-    answers_two(&rt, rt.alloc(), 100)
+fn answers_before_a_failed_read(rt: HostRuntime) -> Checked {
+    answers_two(rt.alloc(), 1)?;
+    answers_two(rt.alloc(), 5)?;
+    answers_two(rt.alloc(), 100)
 }
 
 /// Takes one byte at a time, so many in all, and then fails, or takes nothing.
@@ -135,7 +141,7 @@ impl Output for Full {
 }
 
 /// A write fails behind one answer and three bytes of the next: these are written.
-fn writes_a_beginning(rt: &impl Abort, alloc: Global, fails: bool) -> Result<(), Fail> {
+fn writes_a_beginning(alloc: Global, fails: bool) -> Checked {
     let mut reader = MemoryInput { rest: b"no\nno\n" };
     let mut writer = Full {
         taken: Vec::new(alloc),
@@ -143,16 +149,24 @@ fn writes_a_beginning(rt: &impl Abort, alloc: Global, fails: bool) -> Result<(),
         fails,
         failed: 0,
     };
-    let served = serve_over(alloc, &mut reader, &mut writer)?;
-    assert!(rt; served == Err(EngineFault::OutputFailed) && writer.failed == 1);
-    assert!(rt; writer.taken.as_slice() == b"{\"fault\":\"bad query\"}\n{\"f".as_slice());
+    let served = serve_over(alloc, &mut reader, &mut writer);
+    holds!(
+        served == Some(Err(EngineFault::OutputFailed)),
+        "a failed write ends it"
+    );
+    holds!(
+        writer.failed == 1,
+        "nothing is written after a failed write"
+    );
+    let wanted = b"{\"fault\":\"bad query\"}\n{\"f".as_slice();
+    holds!(writer.taken.as_slice() == wanted, "what is written");
     Ok(())
 }
 
 #[test]
-fn stops_where_a_write_fails(rt: HostRuntime) -> Result<(), Fail> {
-    writes_a_beginning(&rt, rt.alloc(), true)?;
-    writes_a_beginning(&rt, rt.alloc(), false)
+fn stops_where_a_write_fails(rt: HostRuntime) -> Checked {
+    writes_a_beginning(rt.alloc(), true)?;
+    writes_a_beginning(rt.alloc(), false)
 }
 
 /// Lines of 70,000 bytes, of 140,000, of none, and of two without an end.
@@ -165,7 +179,7 @@ fn long_lines(alloc: Global) -> Result<Vec<u8>, AllocError> {
     Ok(text)
 }
 
-fn answers_four(rt: &impl Abort, alloc: Global, text: &[u8], most: usize) -> Result<(), Fail>
+fn answers_four(alloc: Global, text: &[u8], most: usize) -> Checked
     requires { 0 < most }
 {
     let mut reader = Piecewise {
@@ -175,34 +189,43 @@ fn answers_four(rt: &impl Abort, alloc: Global, text: &[u8], most: usize) -> Res
         failed: 0,
     };
     let mut writer = MemoryOutput::new(alloc);
-    serve_over(alloc, &mut reader, &mut writer)??;
-    let want = bad_answers(alloc, 4)?;
-    assert!(rt; writer.bytes.as_slice() == want.as_slice());
+    let served = serve_over(alloc, &mut reader, &mut writer);
+    holds!(served == Some(Ok(())), "the lines are served");
+    holds!(are_bad_answers(&writer.bytes, 4), "what is written");
     Ok(())
 }
 
-#[test]
-fn answers_lines_longer_than_a_block(rt: HostRuntime) -> Result<(), Fail> {
-    let text = long_lines(rt.alloc())?;
-    answers_four(&rt, rt.alloc(), text.as_slice(), 1000)?;
-    answers_four(&rt, rt.alloc(), text.as_slice(), 65535)?;
-    answers_four(&rt, rt.alloc(), text.as_slice(), 1000000)
+/// Blocks of each of three lengths give the same answers.
+fn answers_in_blocks(alloc: Global, text: &[u8]) -> Checked {
+    answers_four(alloc, text, 1000)?;
+    answers_four(alloc, text, 65535)?;
+    answers_four(alloc, text, 1000000)
 }
 
 #[test]
-fn writes_more_answers_than_a_block(rt: HostRuntime) -> Result<(), Fail> {
-    let lines = vec![in rt.alloc(); b'\n'; 100000]?;
-    answers_bad(&rt, rt.alloc(), lines.as_slice(), 100000)
+fn answers_lines_longer_than_a_block(rt: HostRuntime) -> Checked {
+    match long_lines(rt.alloc()) {
+        Ok(text) => answers_in_blocks(rt.alloc(), &text),
+        Err(_) => Err("no memory"),
+    }
 }
 
 #[test]
-fn answers_over_streams(rt: HostRuntime) -> Result<(), Fail> {
+fn writes_more_answers_than_a_block(rt: HostRuntime) -> Checked {
+    match vec![in rt.alloc(); b'\n'; 100000] {
+        Ok(lines) => answers_bad(rt.alloc(), &lines, 100000),
+        Err(_) => Err("no memory"),
+    }
+}
+
+#[test]
+fn answers_over_streams(rt: HostRuntime) -> Checked {
     let mut bytes: Vec<u8> = Vec::new(rt.alloc());
     let mut reader = ReaderInput::new(b"no\nno".as_slice());
     let mut writer = WriterOutput::new(&mut bytes);
-    serve_over(rt.alloc(), &mut reader, &mut writer)??;
+    let served = serve_over(rt.alloc(), &mut reader, &mut writer);
     drop(writer);
-    let want = bad_answers(rt.alloc(), 2)?;
-    assert!(rt; bytes.as_slice() == want.as_slice());
+    holds!(served == Some(Ok(())), "the stream is served");
+    holds!(are_bad_answers(&bytes, 2), "what is written");
     Ok(())
 }
