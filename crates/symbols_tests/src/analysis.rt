@@ -1,11 +1,9 @@
 //! A small module, read from a text and made by calls, analysed.
 
 use crate::lending::{Checked, of_graph, of_module};
-use crate::trees::{id, list, push, push_declarator};
+use crate::trees::{id, list, module_of, push, push_declarator};
 use deno_symbols::analyze;
-use deno_symbols::check::{
-    GraphFault, GraphModule, ModuleGraph, RawGraph, RawModule, RawModuleKind,
-};
+use deno_symbols::check::{GraphFault, GraphModule, ModuleGraph, RawGraph};
 use deno_symbols::ids::{ModuleId, SymbolId};
 use deno_symbols::info::{ModuleInfoRef, SymbolsFault};
 use deno_symbols::tree::{Decl, Item, Kind, NodeId, Tree};
@@ -42,22 +40,11 @@ fn tree(alloc: Global) -> Result<Tree, AllocError> {
     })
 }
 
-/// The module `m` of a tree.
-fn module_of(alloc: Global, tree: Tree) -> Result<RawModule, AllocError> {
-    Ok(RawModule {
-        specifier: String::from_str(alloc, "m")?,
-        kind: RawModuleKind::Esm {
-            text: String::new(alloc),
-            tree: Some(tree),
-            types: None,
-        },
-    })
-}
-
 /// The same graph by calls.
 fn made(alloc: Global) -> Result<ModuleGraph, GraphFault> {
+    let specifier = String::from_str(alloc, "m")?;
     let mut modules = Vec::new(alloc);
-    modules.push(module_of(alloc, tree(alloc)?)?)?;
+    modules.push(module_of(alloc, specifier, tree(alloc)?))?;
     let raw = RawGraph {
         modules,
         redirects: Vec::new(alloc),

@@ -12,7 +12,7 @@ pub(crate) fn text(alloc: Global, text: &str) -> Result<String, AllocError> {
     String::from_str(alloc, text)
 }
 
-fn resolution(
+pub(crate) fn resolution(
     alloc: Global,
     referrer: &str,
     asked: &str,

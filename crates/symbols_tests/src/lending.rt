@@ -75,7 +75,22 @@ pub(crate) fn module_id_of(root: &mut RootSymbol<'_>, specifier: &str) -> Option
     }
 }
 
-/// What is told of a root.
+/// What is told of a root of a graph.
+pub(crate) fn of_root_of<R, F: FnOnce(&mut RootSymbol<'_>) -> R + Drop>(
+    alloc: Global,
+    graph: Option<ModuleGraph>,
+    told: F,
+) -> Result<R, &'static str>
+    requires { F.IsAlwaysCallable told }
+{
+    let Some(graph) = graph else {
+        return Err("no graph");
+    };
+    let mut root = RootSymbol::new(alloc, &graph);
+    Ok(told(&mut root))
+}
+
+/// What is told of a root of a text's graph.
 pub(crate) fn of_root<R, F: FnOnce(&mut RootSymbol<'_>) -> R + Drop>(
     alloc: Global,
     text: &str,
@@ -83,11 +98,7 @@ pub(crate) fn of_root<R, F: FnOnce(&mut RootSymbol<'_>) -> R + Drop>(
 ) -> Result<R, &'static str>
     requires { F.IsAlwaysCallable told }
 {
-    let Some(graph) = graph_of(alloc, text) else {
-        return Err("no graph");
-    };
-    let mut root = RootSymbol::new(alloc, &graph);
-    Ok(told(&mut root))
+    of_root_of(alloc, graph_of(alloc, text), told)
 }
 
 /// What is told of a root with limits.

@@ -1,4 +1,4 @@
-//! Texts of graphs of many modules, whose specifiers are numbers, and roots of such graphs.
+//! Texts of graphs of many modules in a row, whose specifiers are numbers, and roots of such graphs.
 
 use crate::lending::of_root;
 use deno_symbols::root::RootSymbol;
@@ -64,61 +64,6 @@ pub(crate) fn of_row<R, F: FnOnce(&mut RootSymbol<'_>) -> R + Drop>(
     let (each, last) = nodes;
     let mut text = String::new(alloc);
     if push_row(&mut text, count, each, last).is_err() {
-        return Err("no memory");
-    }
-    of_root(alloc, text.as_str(), told)
-}
-
-/// Adds a module that passes on what each of so many modules exports, but itself.
-fn push_node_of_web(text: &mut String, count: u32, own: u32) -> Result<(), AllocError> {
-    write!(
-        text,
-        r#"{{"specifier":"{own}","kind":"esm","text":"","tree":{{"nodes":["#
-    )?;
-    text.push_str(r#"{"kind":"Program","range":[0,0],"body":[1"#)?;
-    for place in 2..count {
-        write!(text, ",{place}")?;
-    }
-    text.push_str("]}")?;
-    for number in 0..count {
-        if number != own {
-            write!(
-                text,
-                r#",{{"kind":"ExportAll","range":[0,0],"src":"{number}"}}"#
-            )?;
-        }
-    }
-    text.push_str("]}}")
-}
-
-/// Adds the graph of so many modules, two at least, each of which passes on what all the others export.
-fn push_web(text: &mut String, count: u32) -> Result<(), AllocError> {
-    let mut before = r#"{"modules":["#;
-    for number in 0..count {
-        text.push_str(before)?;
-        push_node_of_web(text, count, number)?;
-        before = ",";
-    }
-    before = r#"],"resolutions":["#;
-    for referrer in 0..count {
-        for number in 0..count {
-            write!(text, r#"{before}["{referrer}","{number}","{number}"]"#)?;
-            before = ",";
-        }
-    }
-    text.push_str("]}")
-}
-
-/// What is told of a root of a web of so many modules, two at least.
-pub(crate) fn of_web<R, F: FnOnce(&mut RootSymbol<'_>) -> R + Drop>(
-    alloc: Global,
-    count: u32,
-    told: F,
-) -> Result<R, &'static str>
-    requires { F.IsAlwaysCallable told }
-{
-    let mut text = String::new(alloc);
-    if push_web(&mut text, count).is_err() {
         return Err("no memory");
     }
     of_root(alloc, text.as_str(), told)

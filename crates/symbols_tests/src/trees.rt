@@ -1,6 +1,7 @@
 //! What trees are made of, by calls.
 
-use deno_symbols::tree::{Decl, Id, Kind, Node, NodeId, Pat, SourceRange};
+use deno_symbols::check::{RawModule, RawModuleKind};
+use deno_symbols::tree::{Decl, Id, Kind, Node, NodeId, Pat, SourceRange, Tree};
 use std::alloc::{AllocError, Global};
 
 /// Adds a node that stands in the empty range.
@@ -36,4 +37,16 @@ pub(crate) fn push_declarator(
         type_ann: None,
     };
     push(nodes, Kind::Pat(ident))
+}
+
+/// A module that has the tree, and no text.
+pub(crate) fn module_of(alloc: Global, specifier: String, tree: Tree) -> RawModule {
+    RawModule {
+        specifier,
+        kind: RawModuleKind::Esm {
+            text: String::new(alloc),
+            tree: Some(tree),
+            types: None,
+        },
+    }
 }
