@@ -1,9 +1,9 @@
 //! Tests of the library's public calls, where no run of a program shows what they give. A crate with tests is proved twice,
 //! with and without them, so they stand in one of their own.
 //!
-//! Code of a test is proved, so it costs, and a constant text costs next to nothing: a graph is read from its text, but
-//! where a test is about making one by calls. `lending` owns what is let go at an end, and lends it to a check, which returns
-//! the name of the first thing in it that is wrong, as the test then does.
+//! Code of a test is proved, so it costs, and a constant text costs next to nothing: a graph is read from its text, unless
+//! a test is about making one by calls, or the text would be very long. `lending` owns what has to be let go, and lends it
+//! to a check. A check returns the name of the first thing in it that is wrong, and the test returns that, too.
 #![tactic(auto)]
 
 /// Ends a check that doesn't hold with its name.

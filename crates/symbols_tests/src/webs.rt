@@ -114,8 +114,8 @@ fn push_each(
     Ok(())
 }
 
-/// So many modules, each of which passes on what all the others export, by calls: read from a text, the graph would take
-/// the most of the test's time.
+/// So many modules, each of which passes on what all the others export. They are made by calls: reading their text would
+/// take most of the test's time.
 fn web(alloc: Global, count: u32) -> Result<ModuleGraph, GraphFault> {
     let mut modules = Vec::new(alloc);
     let mut resolutions = Vec::new(alloc);
