@@ -83,7 +83,7 @@ fn limits(alloc: Global, graph: &ModuleGraph) -> Checked {
 #[test]
 fn refuses_more_symbols_than_the_limit(rt: HostRuntime) -> Checked {
     let alloc = rt.alloc();
-    of_graph(made(alloc).ok(), |graph| limits(alloc, graph))?
+    of_graph(made(alloc).ok(), |graph| limits(alloc, graph))
 }
 
 /// What is found is lent.
@@ -106,5 +106,5 @@ fn lends(info: ModuleInfoRef<'_, '_>) -> Checked {
 
 #[test]
 fn analyses_within_a_limit(rt: HostRuntime) -> Checked {
-    of_module(rt.alloc(), GRAPH, "m", (7, 4), lends)?
+    of_module(rt.alloc(), GRAPH, "m", (7, 4), lends)
 }

@@ -202,7 +202,7 @@ fn each_backwards(root: &mut RootSymbol<'_>) -> Checked {
 
 #[test]
 fn answers_each_form_backwards(rt: HostRuntime) -> Checked {
-    of_root(rt.alloc(), GRAPH, each_backwards)?
+    of_root(rt.alloc(), GRAPH, each_backwards)
 }
 
 fn each_again(root: &mut RootSymbol<'_>) -> Checked {
@@ -214,7 +214,7 @@ fn each_again(root: &mut RootSymbol<'_>) -> Checked {
 
 #[test]
 fn answers_each_form_in_any_order(rt: HostRuntime) -> Checked {
-    of_root(rt.alloc(), GRAPH, each_again)?
+    of_root(rt.alloc(), GRAPH, each_again)
 }
 
 /// The second module is refused, and the first is stored.
@@ -241,5 +241,5 @@ fn stops_at_the_first_fault(rt: HostRuntime) -> Checked {
         modules: 1,
         symbols: u32::MAX,
     };
-    of_limited(rt.alloc(), GRAPH, limits, stops_within_a_limit)?
+    of_limited(rt.alloc(), GRAPH, limits, stops_within_a_limit)
 }

@@ -64,7 +64,7 @@ fn stores_no_candidate(root: &mut RootSymbol<'_>) -> Checked {
 
 #[test]
 fn stores_no_candidate_behind_the_one_that_is_taken(rt: HostRuntime) -> Checked {
-    of_root(rt.alloc(), TWO_OWNERS, stores_no_candidate)?
+    of_root(rt.alloc(), TWO_OWNERS, stores_no_candidate)
 }
 
 /// The definition that a path is.
@@ -144,7 +144,7 @@ fn leads_and_ends(root: &mut RootSymbol<'_>) -> Checked {
 
 #[test]
 fn tells_a_path_by_its_parts(rt: HostRuntime) -> Checked {
-    of_root(rt.alloc(), TWO_OWNERS, leads_and_ends)?
+    of_root(rt.alloc(), TWO_OWNERS, leads_and_ends)
 }
 
 /// The nodes of a module that passes on `n` of the text `next`.
@@ -171,14 +171,14 @@ fn defining(root: &mut RootSymbol<'_>) -> Result<(usize, Option<u32>), &'static 
 
 #[test]
 fn goes_along_a_row(rt: HostRuntime) -> Checked {
-    let found = of_row(rt.alloc(), 500, (PASSES_ON_N, OWNS), defining)?;
+    let found = of_row(rt.alloc(), 500, (PASSES_ON_N, OWNS), defining);
     holds!(found == Ok((1, Some(499))), "one definition, in module 499");
     Ok(())
 }
 
 #[test]
 fn goes_round_a_ring(rt: HostRuntime) -> Checked {
-    let found = of_row(rt.alloc(), 500, (PASSES_ON_N, PASSES_ON_N), defining)?;
+    let found = of_row(rt.alloc(), 500, (PASSES_ON_N, PASSES_ON_N), defining);
     holds!(found == Ok((0, None)), "no definition");
     Ok(())
 }
@@ -220,5 +220,5 @@ fn ends_open(root: &mut RootSymbol<'_>) -> Checked {
 
 #[test]
 fn ends_where_a_text_leads_nowhere(rt: HostRuntime) -> Checked {
-    of_root(rt.alloc(), NOWHERE, ends_open)?
+    of_root(rt.alloc(), NOWHERE, ends_open)
 }

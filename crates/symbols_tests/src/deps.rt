@@ -186,7 +186,7 @@ fn gives_what_is_referred_to(rt: HostRuntime) -> Checked {
         "m",
         (0, u32::MAX),
         |info| counts_of_nodes(alloc, info),
-    )?
+    )
 }
 
 /// The module, `f`, `g`, `T` and `q`, which has no node.
@@ -209,7 +209,7 @@ fn gives_what_arrows_types_and_imports_refer_to(rt: HostRuntime) -> Checked {
         "m",
         (0, u32::MAX),
         |info| counts_of_arrows(alloc, info),
-    )?
+    )
 }
 
 #[test]

@@ -1,6 +1,6 @@
 //! Small graphs: what they hold and what they resolve.
 
-use crate::lending::Checked;
+use crate::lending::{Checked, of_graph};
 use deno_symbols::check::{
     GraphFault, GraphModule, ModuleGraph, RawGraph, RawModule, RawModuleKind, RawResolution,
     TreeFault,
@@ -84,10 +84,7 @@ fn resolves(graph: &ModuleGraph) -> Checked {
 
 #[test]
 fn resolves_by_referrer_and_text(rt: HostRuntime) -> Checked {
-    match resolving(rt.alloc()) {
-        Ok(graph) => resolves(&graph),
-        Err(_) => Err("no graph"),
-    }
+    of_graph(resolving(rt.alloc()).ok(), resolves)
 }
 
 /// An ECMAScript module of no text, with a tree of an empty program.

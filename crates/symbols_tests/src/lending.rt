@@ -12,6 +12,18 @@ use symq_reader::read_graph;
 /// Nothing, or the name of the first check that doesn't hold.
 pub(crate) type Checked = Result<(), &'static str>;
 
+/// What a check tells.
+pub(crate) trait Told {
+    /// Where there is nothing to tell of: no memory, no graph, or no such module in it.
+    fn nothing() -> Self;
+}
+
+impl<T> Told for Result<T, &'static str> {
+    fn nothing() -> Result<T, &'static str> {
+        Err("nothing to tell of")
+    }
+}
+
 /// The graph of a text.
 pub(crate) fn graph_of(alloc: Global, text: &str) -> Option<ModuleGraph> {
     let raw = read_graph(alloc, text.as_bytes()).ok()?;
@@ -19,50 +31,50 @@ pub(crate) fn graph_of(alloc: Global, text: &str) -> Option<ModuleGraph> {
 }
 
 /// What is told of a graph.
-pub(crate) fn of_graph<R, F: FnOnce(&ModuleGraph) -> R + Drop>(
+pub(crate) fn of_graph<R: Told, F: FnOnce(&ModuleGraph) -> R + Drop>(
     graph: Option<ModuleGraph>,
     told: F,
-) -> Result<R, &'static str>
+) -> R
     requires { F.IsAlwaysCallable told }
 {
     let Some(graph) = graph else {
-        return Err("no graph");
+        return R::nothing();
     };
-    Ok(told(&graph))
+    told(&graph)
 }
 
 /// What is told of the symbols of a module of a graph. The module gets this number, and has at most so many symbols.
-fn of_analysed<R, F: FnOnce(ModuleInfoRef<'_, '_>) -> R + Drop>(
+fn of_analysed<R: Told, F: FnOnce(ModuleInfoRef<'_, '_>) -> R + Drop>(
     alloc: Global,
     graph: &ModuleGraph,
     specifier: &str,
     numbers: (u32, u32),
     told: F,
-) -> Result<R, &'static str>
+) -> R
     requires { F.IsAlwaysCallable told }
 {
     let (number, limit) = numbers;
     let Some(module) = graph.get(specifier) else {
-        return Err("no module");
+        return R::nothing();
     };
     let Ok(Some(info)) = analyze(alloc, ModuleId::from_number(number), module, limit) else {
-        return Err("no symbols");
+        return R::nothing();
     };
-    Ok(told(info.as_ref()))
+    told(info.as_ref())
 }
 
 /// What is told of the symbols of a module of a text's graph.
-pub(crate) fn of_module<R, F: FnOnce(ModuleInfoRef<'_, '_>) -> R + Drop>(
+pub(crate) fn of_module<R: Told, F: FnOnce(ModuleInfoRef<'_, '_>) -> R + Drop>(
     alloc: Global,
     text: &str,
     specifier: &str,
     numbers: (u32, u32),
     told: F,
-) -> Result<R, &'static str>
+) -> R
     requires { F.IsAlwaysCallable told }
 {
     let Some(graph) = graph_of(alloc, text) else {
-        return Err("no graph");
+        return R::nothing();
     };
     of_analysed(alloc, &graph, specifier, numbers, told)
 }
@@ -76,43 +88,43 @@ pub(crate) fn module_id_of(root: &mut RootSymbol<'_>, specifier: &str) -> Option
 }
 
 /// What is told of a root of a graph.
-pub(crate) fn of_root_of<R, F: FnOnce(&mut RootSymbol<'_>) -> R + Drop>(
+pub(crate) fn of_root_of<R: Told, F: FnOnce(&mut RootSymbol<'_>) -> R + Drop>(
     alloc: Global,
     graph: Option<ModuleGraph>,
     told: F,
-) -> Result<R, &'static str>
+) -> R
     requires { F.IsAlwaysCallable told }
 {
     let Some(graph) = graph else {
-        return Err("no graph");
+        return R::nothing();
     };
     let mut root = RootSymbol::new(alloc, &graph);
-    Ok(told(&mut root))
+    told(&mut root)
 }
 
 /// What is told of a root of a text's graph.
-pub(crate) fn of_root<R, F: FnOnce(&mut RootSymbol<'_>) -> R + Drop>(
+pub(crate) fn of_root<R: Told, F: FnOnce(&mut RootSymbol<'_>) -> R + Drop>(
     alloc: Global,
     text: &str,
     told: F,
-) -> Result<R, &'static str>
+) -> R
     requires { F.IsAlwaysCallable told }
 {
     of_root_of(alloc, graph_of(alloc, text), told)
 }
 
 /// What is told of a root with limits.
-pub(crate) fn of_limited<R, F: FnOnce(&mut RootSymbol<'_>) -> R + Drop>(
+pub(crate) fn of_limited<R: Told, F: FnOnce(&mut RootSymbol<'_>) -> R + Drop>(
     alloc: Global,
     text: &str,
     limits: Limits,
     told: F,
-) -> Result<R, &'static str>
+) -> R
     requires { F.IsAlwaysCallable told }
 {
     let Some(graph) = graph_of(alloc, text) else {
-        return Err("no graph");
+        return R::nothing();
     };
     let mut root = RootSymbol::with_limits(alloc, &graph, limits);
-    Ok(told(&mut root))
+    told(&mut root)
 }

@@ -1,6 +1,6 @@
 //! Texts of graphs of many modules in a row, whose specifiers are numbers, and roots of such graphs.
 
-use crate::lending::of_root;
+use crate::lending::{Told, of_root};
 use deno_symbols::root::RootSymbol;
 use std::alloc::{AllocError, Global};
 
@@ -53,18 +53,18 @@ fn push_row(text: &mut String, count: u32, each: &str, last: &str) -> Result<(),
 }
 
 /// What is told of a root of these modules.
-pub(crate) fn of_row<R, F: FnOnce(&mut RootSymbol<'_>) -> R + Drop>(
+pub(crate) fn of_row<R: Told, F: FnOnce(&mut RootSymbol<'_>) -> R + Drop>(
     alloc: Global,
     count: u32,
     nodes: (&str, &str),
     told: F,
-) -> Result<R, &'static str>
+) -> R
     requires { F.IsAlwaysCallable told }
 {
     let (each, last) = nodes;
     let mut text = String::new(alloc);
     if push_row(&mut text, count, each, last).is_err() {
-        return Err("no memory");
+        return R::nothing();
     }
     of_root(alloc, text.as_str(), told)
 }

@@ -1,7 +1,7 @@
 //! Nodes of declarations, in a tree without kinds, and in one of which no table tells. Most of what they tell is told
 //! by runs of `symq_tables`.
 
-use crate::lending::Checked;
+use crate::lending::{Checked, Told};
 use crate::trees::push;
 use deno_symbols::nodes::{ExportDeclRef, SymbolNode, SymbolNodeRef};
 use deno_symbols::tree::{Decl, Expr, Kind, NodeId, NodeRef, Pat, Tree};
@@ -22,16 +22,13 @@ fn tree(alloc: Global) -> Result<Tree, AllocError> {
 }
 
 /// What is told of a tree.
-fn of_tree<R, F: FnOnce(&Tree) -> R + Drop>(
-    tree: Result<Tree, AllocError>,
-    told: F,
-) -> Result<R, &'static str>
+fn of_tree<R: Told, F: FnOnce(&Tree) -> R + Drop>(tree: Result<Tree, AllocError>, told: F) -> R
     requires { F.IsAlwaysCallable told }
 {
     let Ok(tree) = tree else {
-        return Err("no memory");
+        return R::nothing();
     };
-    Ok(told(&tree))
+    told(&tree)
 }
 
 /// The number of the node of a definition whose node is that of a function.
@@ -58,7 +55,7 @@ fn shows(tree: &Tree) -> Checked {
 
 #[test]
 fn shows_the_node_of_a_definition(rt: HostRuntime) -> Checked {
-    of_tree(tree(rt.alloc()), shows)?
+    of_tree(tree(rt.alloc()), shows)
 }
 
 /// How many nodes the tree has that a definition is of.
@@ -102,7 +99,7 @@ fn tells(tree: &Tree) -> Checked {
 
 #[test]
 fn tells_what_a_node_is(rt: HostRuntime) -> Checked {
-    of_tree(tree(rt.alloc()), tells)?
+    of_tree(tree(rt.alloc()), tells)
 }
 
 /// `declare module "m";`, which no table of a module has.
@@ -142,5 +139,5 @@ fn is_named(alloc: Global, tree: &Tree) -> Checked {
 #[test]
 fn names_a_module_by_its_text(rt: HostRuntime) -> Checked {
     let alloc = rt.alloc();
-    of_tree(tree_of_a_named_module(alloc), |tree| is_named(alloc, tree))?
+    of_tree(tree_of_a_named_module(alloc), |tree| is_named(alloc, tree))
 }

@@ -98,7 +98,7 @@ fn finds_each(alloc: Global, graph: &ModuleGraph) -> Checked {
 #[test]
 fn finds_names_of_a_diamond(rt: HostRuntime) -> Checked {
     let alloc = rt.alloc();
-    of_graph(graph_of(alloc, DIAMOND), |graph| finds_each(alloc, graph))?
+    of_graph(graph_of(alloc, DIAMOND), |graph| finds_each(alloc, graph))
 }
 
 /// What is stored for the name `y`.
@@ -111,5 +111,5 @@ fn stores_no_more(root: &mut RootSymbol<'_>) -> Checked {
 
 #[test]
 fn stores_no_module_behind_a_name(rt: HostRuntime) -> Checked {
-    of_root(rt.alloc(), DIAMOND, stores_no_more)?
+    of_root(rt.alloc(), DIAMOND, stores_no_more)
 }

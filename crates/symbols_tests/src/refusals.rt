@@ -93,17 +93,25 @@ fn answers_and_stores(alloc: Global, graph: &ModuleGraph) -> Checked {
     Ok(())
 }
 
-#[test]
-fn keeps_its_modules_where_memory_is_refused(rt: HostRuntime) -> Checked {
-    let alloc = rt.alloc();
+/// The graph, or whether it is memory that is refused.
+fn graph(alloc: Global) -> Result<ModuleGraph, bool> {
     let raw = match read_graph(alloc, GRAPH.as_bytes()) {
         Ok(raw) => raw,
-        Err(FormatFault::OutOfMemory) => return Ok(()),
-        Err(_) => return Err("the text is that of a graph"),
+        Err(fault) => return Err(fault == FormatFault::OutOfMemory),
     };
     match ModuleGraph::new(alloc, raw) {
-        Ok(graph) => answers_and_stores(alloc, &graph),
-        Err(GraphFault::OutOfMemory) => Ok(()),
-        Err(_) => Err("the graph is accepted"),
+        Ok(graph) => Ok(graph),
+        Err(fault) => Err(matches!(fault, GraphFault::OutOfMemory)),
+    }
+}
+
+#[test]
+fn keeps_its_modules_where_memory_is_refused(rt: HostRuntime) -> Checked {
+    match graph(rt.alloc()) {
+        Ok(graph) => answers_and_stores(rt.alloc(), &graph),
+        Err(is_memory) => {
+            holds!(is_memory, "the graph is read and accepted");
+            Ok(())
+        }
     }
 }

@@ -42,13 +42,17 @@ fn is_empty(symbol: &Symbol<'_>) -> Checked {
     Ok(())
 }
 
+fn starts_empty(symbol: &Symbol<'_>) -> Checked {
+    tells_its_ids(symbol)?;
+    is_empty(symbol)
+}
+
 #[test]
 fn starts_a_symbol_empty(rt: HostRuntime) -> Checked {
     let parent = Some(SymbolId::from_number(2));
     let module = ModuleId::from_number(4);
     let symbol = Symbol::new(rt.alloc(), module, SymbolId::from_number(3), parent);
-    tells_its_ids(&symbol)?;
-    is_empty(&symbol)
+    starts_empty(&symbol)
 }
 
 #[test]

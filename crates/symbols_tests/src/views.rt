@@ -74,7 +74,7 @@ fn lends_trees(rt: HostRuntime) -> Checked {
         "m",
         (0, u32::MAX),
         |info| lends_a_tree(alloc, info),
-    )?
+    )
 }
 
 /// A JSON module: its text, without the white space at its ends, is both symbols' declaration.
@@ -102,5 +102,5 @@ fn lends_a_text(info: ModuleInfoRef<'_, '_>) -> Checked {
 
 #[test]
 fn lends_texts(rt: HostRuntime) -> Checked {
-    of_module(rt.alloc(), GRAPH, "j", (0, u32::MAX), lends_a_text)?
+    of_module(rt.alloc(), GRAPH, "j", (0, u32::MAX), lends_a_text)
 }
