@@ -6,13 +6,14 @@ FOLDER ?= examples/first
 SYMQ ?= crates/symq/out/symq
 SEEDS ?= 0..2000
 
-.PHONY: help run try test symq packages evidence crate clean setup
+.PHONY: help run try test symq wrong packages evidence crate clean setup
 
 help:
 	@echo 'make run [FOLDER=src]            the public names of a folder, by a build that waits for no proof: a minute'
 	@echo 'make try GRAPH=g.json QUERIES=q  the answers to the lines of q on a graph of your own, by that build: a minute'
 	@echo 'make symq                        proves and builds the program, as ./symq: 45 minutes on four processors'
 	@echo 'make test                        the whole gate; the last line is N passed, M failed: over an hour'
+	@echo 'make wrong                       tries all wrong bodies, not those alone that are due, and records them: hours'
 	@echo 'make packages                    holds symdir to the checker of TypeScript on packages of Debian: minutes'
 	@echo 'make evidence [SEEDS=0..2000]    the program beside a model that was written apart, on random graphs: evidence/README.md'
 	@echo 'make crate FROM=FOLDER           the Rust crate as a program with the same lines, to compare with'
@@ -35,6 +36,11 @@ try: setup
 
 test: setup
 	@python3 tools/gate.py
+
+# all wrong bodies anew, and the record of how they end
+wrong: setup
+	@cd crates/symq_core && rt check > /dev/null
+	@python3 tools/wrong_bodies.py --base --record
 
 packages:
 	@python3 tools/run_symdir.py --packages

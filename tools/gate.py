@@ -4,10 +4,11 @@ names, and the stored cases on the proved programs.
 
     python3 tools/gate.py
 
-`rt ci` proves the crates from the lowest on, but those that an earlier run of it on this machine proved of the same files.
-The wrong bodies of a crate are tried while it goes on, as soon as the libraries below the crate are proved, over copies of
-what it built of them. The cases come last. Behind all a line for
-each part says what it took, on the clock and of the processors; the last line is 'N passed, M failed'.
+`rt ci` proves the crates from the lowest on. The wrong bodies of a crate are tried while it goes on, as soon as the
+libraries below the crate are proved, over copies of what it built of them: those that are due, as `wrong_bodies.py` says,
+by the number of commits. Beside them the model of `evidence/` is held to what it was read from. What needs the proved
+programs comes last: random graphs, the command over folders, the cases. Behind all a line for each part says what it took,
+on the clock and of the processors; the last line is 'N passed, M failed'.
 """
 import os
 import re
@@ -20,7 +21,7 @@ import time
 from concurrent.futures import ThreadPoolExecutor
 
 from run_borrows import with_borrows
-from wrong_bodies import TOP, Crate, libraries_below, libraries_of
+from wrong.crates import TOP, Crate, libraries_below, libraries_of
 
 HERE = os.path.dirname(os.path.abspath(__file__))
 
@@ -59,8 +60,9 @@ class Proofs:
 class Part:
     """A command of the gate: what its last line counted, and what it took, in minutes."""
 
-    def __init__(self, name):
-        self.name, self.passed, self.failed, self.clock, self.processors = name, 0, 1, 0.0, 0.0
+    def __init__(self, name, may_be_empty=False):
+        self.name, self.may_be_empty, self.passed, self.failed = name, may_be_empty, 0, 1
+        self.clock, self.processors = 0.0, 0.0
 
     def run(self, command, read=None):
         """Runs the command, whose lines are passed on as they come where someone reads them, and else at its end."""
@@ -83,11 +85,11 @@ class Part:
         return self
 
     def count(self, last, status):
-        """Takes the counts of a last line; another last line, or none that passed, is a failure."""
+        """Takes the counts of a last line; another last line is a failure, and where nothing passed, unless nothing may be there."""
         found = re.fullmatch(r'(\d+) passed, (\d+) failed\s*', last)
         if found:
             self.passed, self.failed = int(found[1]), int(found[2])
-            self.failed = self.failed or int(status != 0 or not self.passed)
+            self.failed = self.failed or int(status != 0 or not (self.passed or self.may_be_empty))
 
 
 def tool(name, *words):
@@ -102,12 +104,18 @@ def proofs_part(proofs):
         proofs.end()
 
 
-def wrong_bodies_part(name, libraries, proofs, lanes):
-    """Tries the wrong bodies of a crate, once the libraries below it are proved; the proofs go first."""
-    part = Part('wrong bodies: ' + name)
+def commits():
+    """How many commits there are: which wrong bodies are due goes by it."""
+    return subprocess.run(['git', 'rev-list', '--count', 'HEAD'], cwd=TOP, stdout=subprocess.PIPE, text=True, check=True).stdout.strip()
+
+
+def wrong_bodies_part(name, libraries, proofs, lanes, turn):
+    """Tries the wrong bodies of a crate that are due, once the libraries below it are proved; the proofs go first."""
+    part = Part('wrong bodies: ' + name, may_be_empty=True)
     if not proofs.has(libraries_below(name, libraries)):
         return part
-    return part.run(['nice', '-n', '5', *tool('wrong_bodies.py', '--libraries', proofs.folder, '--lanes', lanes, name)])
+    words = ['--libraries', proofs.folder, '--lanes', lanes, '--turn', turn, name]
+    return part.run(['nice', '-n', '5', *tool('wrong_bodies.py', *words)])
 
 
 def borrows_part(proofs):
@@ -122,6 +130,11 @@ def tests_part(name):
     return Part('tests of tools/' + name).run(tool('test_' + name))
 
 
+def model_part(what):
+    """Holds the model to its rows and readings, or the program to the model."""
+    return Part('evidence: ' + what).run([sys.executable, os.path.join(TOP, 'evidence', 'model', 'gate.py'), what])
+
+
 def laid(folder, name, files=0):
     """A folder in the folder, with so many empty files: one for each check of wrong bodies that may run at once."""
     path = os.path.join(folder, name)
@@ -133,19 +146,21 @@ def laid(folder, name, files=0):
 
 
 def all_parts():
-    """Runs the parts: `rt ci` with half of the processors, and checks of wrong bodies on all but one beside it, since the
-    proofs are for the most part a chain."""
-    processors, libraries = len(os.sched_getaffinity(0)), libraries_of(TOP)
-    os.environ.setdefault('RT_JOBS', str(max(1, processors // 2)))
-    names = [name for name in libraries if Crate(TOP, name, libraries).names()]
-    with tempfile.TemporaryDirectory(prefix='gate-') as folder, ThreadPoolExecutor(len(names) + 4) as pool:
+    """Runs the parts: `rt ci` by at least two proofs at once, and checks of wrong bodies beside it, at lower priority, since
+    the proofs are for the most part a chain."""
+    processors, libraries, turn = len(os.sched_getaffinity(0)), libraries_of(TOP), commits()
+    os.environ.setdefault('RT_JOBS', str(max(2, processors // 2)))
+    edits = {name: len(Crate(TOP, name, libraries).names()) for name in libraries}
+    names = sorted((name for name in libraries if edits[name]), key=lambda it: -edits[it])
+    with tempfile.TemporaryDirectory(prefix='gate-') as folder, ThreadPoolExecutor(len(names) + 5) as pool:
         proofs, lanes = Proofs(laid(folder, 'built')), laid(folder, 'lanes', max(2, processors - 1))
         tasks = [pool.submit(proofs_part, proofs), pool.submit(borrows_part, proofs)]
         tasks += [pool.submit(tests_part, name) for name in ('wrong_bodies.py', 'public_names.py')]
-        tasks += [pool.submit(wrong_bodies_part, name, libraries, proofs, lanes) for name in names]
+        tasks.append(pool.submit(model_part, 'model'))
+        tasks += [pool.submit(wrong_bodies_part, name, libraries, proofs, lanes, turn) for name in names]
         parts = [it.result() for it in tasks]
-    parts.append(Part('public names').run(tool('public_names.py')))
-    parts.append(Part('plain graphs').run(tool('run_plain.py')))
+    parts += [Part('public names').run(tool('public_names.py')), Part('plain graphs').run(tool('run_plain.py'))]
+    parts += [model_part('program'), Part('symdir').run(tool('run_symdir.py'))]
     return parts + [Part('cases').run(tool('run_cases.py', '--proved'))]
 
 

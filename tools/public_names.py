@@ -26,7 +26,7 @@ import re
 import sys
 from dataclasses import dataclass, field
 
-from wrong_bodies import IMPL, TOP, read, write
+from wrong.crates import IMPL, TOP, read, write
 
 NOT_YET, LEFT_OUT = 'not there yet', 'left out'
 

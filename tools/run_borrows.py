@@ -15,7 +15,8 @@ import subprocess
 import sys
 import tempfile
 
-from wrong_bodies import TOP, Crate, kit, libraries_of, words_of
+from wrong.crates import TOP, Crate, kit, libraries_of
+from wrong.rooms import words_of
 
 CASES = os.path.join(TOP, 'tests', 'borrows')
 # what a file may use

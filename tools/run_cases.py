@@ -1,9 +1,11 @@
 #!/usr/bin/env python3
 """Runs the stored cases on the programs: compares status, standard output and standard error.
 
-    python3 tools/run_cases.py                     builds the programs without a proof, and runs them
-    python3 tools/run_cases.py --proved            runs the proved programs, crates/NAME/out/NAME
-    python3 tools/run_cases.py SYMQ SYMQ_TABLES    runs the programs at these paths
+    python3 tools/run_cases.py                                builds the programs without a proof, and runs them
+    python3 tools/run_cases.py --proved                       runs the proved programs, crates/NAME/out/NAME
+    python3 tools/run_cases.py --programs SYMQ SYMQ_TABLES    runs the programs at these paths
+    python3 tools/run_cases.py cases/NAME tables ..           these cases, or sorts of cases, alone
+    python3 tools/run_cases.py --once ..                      each case in its own order alone
 
 There are three sorts of cases, in three folders of tests/:
 
@@ -16,6 +18,7 @@ A folder also has, where they are not 0, nothing and the graph: status, stderr, 
 absent is empty. Since an answer is the same whatever was asked before, a case of cases/ with several queries, each answered,
 is run three times: in order, backwards, and twice over. The last line is 'N passed, M failed', where a sort of which there is no case counts as a failure.
 """
+import argparse
 import os
 import re
 import subprocess
@@ -24,7 +27,7 @@ import tempfile
 from concurrent.futures import ThreadPoolExecutor
 from typing import NamedTuple, Optional
 
-ROOT = os.path.join(os.path.dirname(os.path.abspath(__file__)), '..')
+ROOT = os.path.dirname(os.path.dirname(os.path.abspath(__file__)))
 TESTS = os.path.join(ROOT, 'tests')
 PROGRAMS = ('symq', 'symq_tables')
 SECONDS = 120
@@ -146,7 +149,7 @@ def write_trial(folder, key, case):
     graph = os.path.join(folder, key + '.json')
     if case.graph is not None:
         write(folder, key + '.json', case.graph)
-    words = [graph] if case.words is None else [graph if it == 'graph.json' and case.graph is not None else it for it in case.words]
+    words = [graph] if case.words is None else case.words
     trials = os.path.join(folder, 'trials')
     write(trials, key, case.given)
     write(trials, key + '.args', ''.join(word + '\n' for word in words).encode())
@@ -166,6 +169,8 @@ def trial_outcomes(output, report):
 
 def try_program(program, cases):
     """What is wrong with the runs of an unproved build of a program, case by case."""
+    if not cases:
+        return []
     with tempfile.TemporaryDirectory() as folder:
         trials = os.path.join(folder, 'trials')
         os.mkdir(trials)
@@ -191,17 +196,30 @@ def try_programs(cases):
     return [texts[case.name] for case in cases]
 
 
+def arguments(words):
+    parser = argparse.ArgumentParser(description='Runs the stored cases on the programs.')
+    which = parser.add_mutually_exclusive_group()
+    which.add_argument('--proved', action='store_true', help='the proved programs, crates/NAME/out/NAME')
+    which.add_argument('--programs', nargs=2, metavar=('SYMQ', 'SYMQ_TABLES'), help='the programs at these paths')
+    parser.add_argument('--once', action='store_true', help='each case in its own order alone')
+    parser.add_argument('names', nargs='*', metavar='SORT[/NAME]', help='these cases alone')
+    return parser.parse_args(words)
+
+
 def main(words):
-    cases, wrong = all_cases()
-    if words == ['--proved']:
-        words = [os.path.join(ROOT, 'crates', program, 'out', program) for program in PROGRAMS]
-    if not words:
-        found = try_programs(cases)
-    elif len(words) == len(PROGRAMS):
-        found = run_programs({program: os.path.abspath(word) for program, word in zip(PROGRAMS, words)}, cases)
+    args, (cases, wrong) = arguments(words), all_cases()
+    if args.names:
+        cases = [it for it in cases if it.name.split(',')[0] in args.names or it.name.split('/')[0] in args.names]
+        wrong = {name: 'no case has this name' for name in set(args.names) - {it.name for it in cases} - set(SORTS)}
+    if args.once:
+        cases = [it for it in cases if ',' not in it.name]
+    paths = args.programs
+    if args.proved:
+        paths = [os.path.join(ROOT, 'crates', program, 'out', program) for program in PROGRAMS]
+    if paths:
+        found = run_programs({program: os.path.abspath(path) for program, path in zip(PROGRAMS, paths)}, cases)
     else:
-        print(__doc__)
-        return 2
+        found = try_programs(cases)
     wrong.update({case.name: text for case, text in zip(cases, found) if text})
     for name in sorted(wrong):
         print('%s: %s' % (name, wrong[name]))

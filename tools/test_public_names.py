@@ -12,7 +12,7 @@ import tempfile
 
 from tested import told
 import public_names
-from wrong_bodies import read, write
+from wrong.crates import read, write
 
 FILES = {
     'crates.txt': '# bottom up\nlow: other\nhigh: low\nstart: high\n',

@@ -1,5 +1,5 @@
 #!/usr/bin/env python3
-"""Tests of wrong_bodies.py on a small crate of its own: that it lets pass what is refused, and nothing else.
+"""Tests of wrong_bodies.py on a small crate of its own: that it lets pass what is refused, or shown wrong, and nothing else.
 
     python3 tools/test_wrong_bodies.py
 
@@ -9,14 +9,19 @@ import os
 import sys
 import tempfile
 
-import wrong_bodies
 from tested import told
-from wrong_bodies import Crate, Lanes, libraries_of, try_crate
+from wrong import record
+from wrong.crates import Crate, kit, libraries_of, write
+from wrong.outcomes import try_crate
+from wrong.rooms import Lanes, words_of
+
+HERE = os.path.dirname(os.path.abspath(__file__))
 
 SOURCE = '''//! A small crate.
 #![tactic(auto)]
 
-ghost use Rattle.std.specs.Prelude.{◌+◌, ◌≡◌, ◌≤◌};
+ghost use Rattle.std.specs.Prelude.{◌+◌, ◌≡◌, ◌≤◌, IfErr};
+ghost use Rattle.small.specs.Small.{double, IsRefusal};
 
 /// The next number.
 pub fn next(x: u8) -> u8
@@ -71,9 +76,84 @@ pub fn far_below(y: u8) -> u8
     }
 }
 
+/// Why a number is refused.
+#[derive(Drop)]
+pub enum Fault {
+    /// It is 0.
+    Zero,
+    /// For no reason.
+    Broken,
+}
+
+/// A number that isn't 0.
+pub fn positive(x: u8) -> Result<u8, Fault>
+    ensures refused { IfErr result (IsRefusal x) }
+{
+    if x == 0 {
+        return Err(Fault::Zero);
+    }
+    Ok(x)
+}
+
+/// The same, passed on.
+pub fn passed_on(x: u8) -> Result<u8, Fault>
+    ensures refused { IfErr result (IsRefusal x) }
+{
+    let y = match positive(x) {
+        Ok(y) => y,
+        Err(fault) => return Err(fault),
+    };
+    Ok(y)
+}
+
+/// Twice the number, by a proof that no tactic finds.
+pub fn doubled(x: u8) -> u8
+    requires { x ≤ 9 }
+    ensures { result ≡ double x }
+{
+    x + x
+}
+
 /// Says nothing of its result.
 pub fn any(x: u8) -> u8 {
     x
+}
+'''
+
+SPECS = '''use Rattle.std.specs.Prelude.{ℕ, zero, suc, ◌+◌, ◌≡◌}
+use Rattle.small.specs.declared.Fault.{Fault}
+use Rattle.small.specs.declared.Fault.TheVariants as fault
+
+-- Twice a number, by steps.
+unfoldable pub double : ℕ → ℕ
+double zero = zero
+double (suc n) = 2 + double n
+
+-- Whether a number is refused so.
+abbrev pub IsRefusal : ℕ → Fault → Type 0
+IsRefusal x fault.Zero = x ≡ 0
+IsRefusal x fault.Broken = Unit {0}
+'''
+
+TESTS = '''//! Tests of the small crate.
+#![tactic(auto)]
+
+#[cfg(test)]
+mod numbers {
+    use small::{doubled, next};
+    use std::test::Fail;
+
+    #[test]
+    fn doubles(rt: HostRuntime) -> Result<(), Fail> {
+        assert_eq!(rt; doubled(2), 4);
+        Ok(())
+    }
+
+    #[test]
+    fn counts(rt: HostRuntime) -> Result<(), Fail> {
+        assert_eq!(rt; next(2), 3);
+        Ok(())
+    }
 }
 '''
 
@@ -92,61 +172,151 @@ use Rattle.small.proofs.+down.Goals as goal
 pub below-returns-else-x-eq0 : goal.below-returns-else-x-eq0
 below-returns-else-x-eq0 t c = let lower = c.far_below.ensures in omega arith
 '''
+DOUBLED = '''use Rattle.small.proofs.Doubling.{double-sum}
+use Rattle.small.proofs.doubled.Goals as goal
 
-# a name, what is changed into what, and how the edit has to end
+pub returns : goal.returns
+returns c = double-sum c.args.x
+'''
+DOUBLING = '''use Rattle.std.proofs.Common.{ℕ, zero, suc, ◌+◌, ◌≡◌, refl, ap, arith}
+use Rattle.small.specs.Small.{double}
+
+pub double-sum : (n : ℕ) → n + n ≡ double n
+unfolding double
+double-sum zero = refl
+double-sum (suc n) = let before = double-sum n in omega (arith, before)
+'''
+PASSED_ON = '''use Rattle.small.proofs.passed_on.Goals as goal
+
+pub returns-in-Err : goal.returns-in-Err
+returns-in-Err c = c.in-Err.ensures
+'''
+
+FILES = {
+    'src/lib.rt': SOURCE,
+    'specs/Small.antt': SPECS,
+    'specs/Lib.antt': 'pub mod Small\n',
+    'proofs/Lib.antt': 'mod Doubling\n',
+    'proofs/Doubling.antt': DOUBLING,
+    'proofs/+down/Invariants.antt': MEASURES,
+    'proofs/+down/Answers.antt': ANSWERS,
+    'proofs/doubled/Answers.antt': DOUBLED,
+    'proofs/passed_on/Answers.antt': PASSED_ON,
+}
+
+# the outcomes that are recorded
+RECORDED = ('refused', 'shown', 'unshown')
+# a name, what is changed into what, how the edit has to end, and what it says shows it wrong
 EDITS = [
-    ('one_more', [('    x + 1', '    x + 2')], 'refused'),
-    ('the_same_number', [('    x + 1', '    x')], 'refused'),
-    ('turned_round', [('    x + 1', '    1 + x')], 'let through'),
-    ('once_alone', [('next(next(x))', 'next(x)')], 'refused'),
-    ('in_two_steps', [('next(next(x))', 'next(y)'), ('next(y)', 'let y = x; next(y)')], 'refused'),
-    ('a_name_that_is_not_there', [('next(next(x))', 'next(next(y))')], 'not reached'),
-    ('of_a_function_without_a_promise', [('u8 {', 'u8 { let x = 0;')], 'let through'),
-    ('against_a_law_of_its_type', [('Digit { value: x }', 'Digit { value: 10 }')], 'refused'),
-    ('another_test', [('x == 0', 'x < 1')], 'undecided'),
-    ('a_sum_in_the_cycle', [('below(y - 1)', 'below(y - 1) + 0')], 'let through'),
-    ('more_by_turns', [('below(y - 1)', 'below(y - 1) + 2')], 'refused'),
-    ('more_in_the_cycle', [('far_below(x - 1)', 'far_below(x - 1) + 2')], 'refused'),
-    ('without_an_end', [('far_below(x - 1)', 'far_below(x)')], 'refused'),
-    ('another_text', [('next(next(z))', 'next(z)')], 'not reached'),
-    ('a_text_that_stands_twice', [('requires', 'ensures')], 'not reached'),
-    ('two_functions', [('    x + 1', '    x + 2'), ('next(next(x))', 'next(x)')], 'not reached'),
-    ('no_function', [('#![tactic(auto)]', '')], 'not reached'),
+    ('one_more', [('    x + 1', '    x + 2')], 'refused', ''),
+    ('the_same_number', [('    x + 1', '    x')], 'refused', ''),
+    ('turned_round', [('    x + 1', '    1 + x')], 'let through', ''),
+    ('once_alone', [('next(next(x))', 'next(x)')], 'refused', ''),
+    ('in_two_steps', [('next(next(x))', 'next(y)'), ('next(y)', 'let y = x; next(y)')], 'refused', ''),
+    ('a_name_that_is_not_there', [('next(next(x))', 'next(next(y))')], 'not reached', ''),
+    ('of_a_function_without_a_promise', [('pub fn any(x: u8) -> u8 {', 'pub fn any(x: u8) -> u8 { let x = 0;')], 'let through', ''),
+    ('against_a_law_of_its_type', [('Digit { value: x }', 'Digit { value: 10 }')], 'refused', ''),
+    ('a_sum_in_the_cycle', [('below(y - 1)', 'below(y - 1) + 0')], 'let through', ''),
+    ('more_by_turns', [('below(y - 1)', 'below(y - 1) + 2')], 'refused', ''),
+    ('more_in_the_cycle', [('far_below(x - 1)', 'far_below(x - 1) + 2')], 'refused', ''),
+    ('without_an_end', [('far_below(x - 1)', 'far_below(x)')], 'refused', ''),
+    ('another_text', [('next(next(z))', 'next(z)')], 'not reached', ''),
+    ('a_text_that_stands_twice', [('requires', 'ensures')], 'not reached', ''),
+    ('two_functions', [('    x + 1', '    x + 2'), ('next(next(x))', 'next(x)')], 'not reached', ''),
+    ('no_function', [('#![tactic(auto)]', '')], 'not reached', ''),
+    # these two meet the contract, and their change is no fit to the answer by hand
+    ('another_fault_that_is_allowed', [('return Err(fault)', 'return Err(Fault::Broken)')], 'let through', ''),
+    ('another_fault_by_a_name', [('Err(fault) => return Err(fault)', 'Err(_) => return Err(Fault::Broken)')], 'let through', ''),
+    ('a_fault_that_is_not_allowed', [('return Err(fault)', 'return Err(Fault::Zero)')], 'unshown', ''),
+    # right, but nothing proves it
+    ('twice_in_other_words', [('    x + x', '    2 * x')], 'unshown', ''),
+    ('twice_and_one', [('    x + x', '    x + x + 1')], 'shown', 'small_tests/numbers::doubles'),
+    ('twice_and_two', [('    x + x', '    x + x + 2')], 'shown', ''),
+    ('twice_and_three', [('    x + x', '    x + x + 3')], 'proof broken', 'small_tests/numbers::counts'),
 ]
 
 
 def lay(folder, source):
-    """A repository with the small crate and its edits."""
-    wrong_bodies.write(os.path.join(folder, 'crates.txt'), 'small:\n')
+    """A repository with the small crate, its tests and its edits."""
+    write(os.path.join(folder, 'crates.txt'), 'small:\nsmall_tests: small\n')
+    write(os.path.join(folder, 'HANDLES'), 'Handles allowed: none.\n')
+    write(os.path.join(folder, 'crates', 'small_tests', 'src', 'lib.rt'), TESTS)
     crate = os.path.join(folder, 'crates', 'small')
-    wrong_bodies.write(os.path.join(crate, 'src', 'lib.rt'), source)
-    for name, text in (('Invariants', MEASURES), ('Answers', ANSWERS)):
-        wrong_bodies.write(os.path.join(crate, 'proofs', '+down', name + '.antt'), text)
-    for name, pairs, _ in EDITS:
+    for path, text in FILES.items():
+        write(os.path.join(crate, path), text)
+    write(os.path.join(crate, 'src', 'lib.rt'), source)
+    for name, pairs, _, shown in EDITS:
         text = 'file: src/lib.rt\n' + ''.join('old: %s\nnew: %s\n' % pair for pair in pairs)
-        wrong_bodies.write(os.path.join(crate, 'wrong', name + '.edit'), text)
+        write(os.path.join(crate, 'wrong', name + '.edit'), text + ('shown: %s\n' % shown if shown else ''))
     return Crate(folder, 'small', libraries_of(folder))
 
 
-def verdicts_on(source, names):
-    with tempfile.TemporaryDirectory() as folder:
-        crate = lay(folder, source)
-        words = wrong_bodies.words_of(crate, wrong_bodies.kit(), None)
-        verdicts, wrong, _ = try_crate(crate, names or crate.names(), words, Lanes())
-    return {name: it.how for name, it in verdicts.items()}, wrong
+def tried(crate, names, with_base=False, is_record=False):
+    """How edits of the small crate end, what is wrong without an edit, and how many weren't due."""
+    outcome = try_crate(crate, names or crate.names(), words_of(crate, kit(), None), Lanes(), None, with_base, is_record)
+    return {name: it.how for name, it in outcome.verdicts.items()}, outcome.wrong, outcome.left
+
+
+def tests_of_outcomes(folder):
+    """Each outcome, with a check without edits, and what is recorded then."""
+    crate = lay(folder, SOURCE)
+    found, wrong, left = tried(crate, [], True, True)
+    yield 'nothing is wrong without an edit', (wrong, left), ([], 0)
+    yield 'each edit has one verdict', sorted(found), sorted(name for name, *_ in EDITS)
+    for name, _, how, _ in EDITS:
+        yield name, found.get(name), how
+    yield 'what shows an edit wrong is found, and written into it', crate.edit('twice_and_two').shown, 'small_tests/numbers::doubles'
+    yield 'what fails nothing is recorded', sorted(record.recorded(crate)), sorted(name for name, _, how, _ in EDITS if how in RECORDED)
+
+
+def tests_of_the_record(folder):
+    """What is due, where the record of the test before stands."""
+    crate = Crate(folder, 'small', libraries_of(folder))
+    edits, _ = crate.edits(crate.names())
+    passed = {name for name, _, how, _ in EDITS if how in RECORDED}
+    never = {it.name for it in edits} - passed
+    turns = [{it.name for it in record.due(crate, edits, turn)} for turn in range(record.TURNS)]
+    yield 'an edit that is not recorded is due in each turn', [never - it for it in turns], [set()] * record.TURNS
+    yield 'each edit is due within the turns', set().union(*turns), {it.name for it in edits}
+    yield 'in one turn alone, where it is recorded', sorted(it for turn in turns for it in turn - never), sorted(passed)
+    yield 'a turn comes again', {it.name for it in record.due(crate, edits, record.TURNS)}, turns[0]
+    path = record.path_of(crate)
+    with open(path, encoding='utf-8') as f:
+        lines = f.read()
+    write(path, lines.replace('one_more ', 'one_more 0'))
+    yield 'a record that is false is found by its sum', ['one_more' in {it.name for it in record.due(crate, edits, turn)} for turn in range(record.TURNS)], [True] * record.TURNS
+    write(path, lines)
+    yield 'a contract that changes makes all due', changed_sums(folder, 'ensures { result ≡ x + 2 }', 'ensures { result ≡ 2 + x }', passed), passed
+    yield 'a body that changes makes no edit of another function due', changed_sums(folder, '    x + x\n', '    x + x + 0\n', passed), {'twice_and_one', 'twice_and_two', 'twice_in_other_words'}
+
+
+def changed_sums(folder, old, new, names):
+    """The edits of these names, as they stand in the folder, whose sums aren't the recorded ones where the source has another text."""
+    source = os.path.join(folder, 'crates', 'small', 'src', 'lib.rt')
+    write(source, SOURCE.replace(old, new))
+    crate = Crate(folder, 'small', libraries_of(folder))
+    found, bad = crate.edits(sorted(names))
+    sums, known = record.sums_of(crate, found), record.recorded(crate)
+    write(source, SOURCE)
+    return {it.name for it in found if sums[it.name] != known[it.name]} | set(bad)
+
+
+def tests_of_contracts(folder):
+    """What is called counts by its contract, and what isn't proved without an edit is told."""
+    crate = lay(folder, SOURCE.replace('    x + 1', '    x + 3'))
+    yield 'what is called counts by its contract', tried(crate, ['once_alone'])[:2], ({'once_alone': 'refused'}, [])
+    crate = lay(folder, SOURCE.replace('next(next(x))', 'next(next(x)) + 1'))
+    found, wrong, _ = tried(crate, ['in_two_steps'], True)
+    yield 'a function that is not proved without its edit', (found, len(wrong)), ({}, 1)
 
 
 def tests():
     """Each test's name with what was found and what is wanted."""
-    found, wrong = verdicts_on(SOURCE, [])
-    yield 'nothing is wrong without an edit', wrong, []
-    yield 'each edit has one verdict', sorted(found), sorted(name for name, _, _ in EDITS)
-    for name, _, how in EDITS:
-        yield name, found.get(name), how
-    found, wrong = verdicts_on(SOURCE.replace('    x + 1', '    x + 3'), ['once_alone'])
-    yield 'what is called counts by its contract', (found, wrong), ({'once_alone': 'refused'}, [])
-    found, wrong = verdicts_on(SOURCE.replace('next(next(x))', 'next(next(x)) + 1'), ['in_two_steps'])
-    yield 'a function that is not proved without its edit', (found, len(wrong)), ({}, 1)
+    with tempfile.TemporaryDirectory() as folder:
+        yield from tests_of_outcomes(folder)
+        yield from tests_of_the_record(folder)
+    with tempfile.TemporaryDirectory() as folder:
+        yield from tests_of_contracts(folder)
 
 
 if __name__ == '__main__':

@@ -1,0 +1,203 @@
+"""Crates as texts: their functions, and the edits that make a body wrong."""
+import os
+import re
+import subprocess
+from dataclasses import dataclass
+
+TOP = os.path.dirname(os.path.dirname(os.path.dirname(os.path.abspath(__file__))))
+
+FUNCTION = re.compile(r'( *)(?:pub(?:\([a-z]+\))? )?(?:const )?(?:unsafe )?fn (\w+)')
+TYPE = re.compile(r'^(?:pub(?:\([a-z]+\))? )?(?:struct|enum|union) (\w+)', re.M)
+IMPL = re.compile(r'impl(?:<.*?>)? (?:(?P<trait>\w.*) for )?(?P<type>\w+)')
+CYCLE = re.compile(r' *#\[cycle\((\w+)\)\]')
+CYCLE_OF_TYPE = re.compile(r'#\[cycle\((\w+)\)\]\n(?: *(?:#\[|///).*\n)* *(?:pub(?:\([a-z]+\))? )?(?:struct|enum|union)\b')
+
+
+@dataclass(frozen=True)
+class Function:
+    """A function of the crate's text: its lines, from 0, and its name as a check prints it, below the crate."""
+
+    file: str
+    first: int
+    last: int
+    path: tuple
+    # the cycle of calls that it names, or the trait of its impl
+    cycle: str
+    trait: str
+
+    def name(self):
+        return '::'.join(self.path)
+
+    def proofs(self):
+        return 'proofs/' + '/'.join(self.path)
+
+    def cycle_key(self):
+        """What the functions of one cycle share, and no other; none where it is in no cycle."""
+        return (*self.path[:-1], '+' + self.cycle) if self.cycle else None
+
+
+@dataclass(frozen=True)
+class Edit:
+    """An edit of a crate: the function that it changes, that function's lines as they are with it, and what shows it wrong, if it names that."""
+
+    crate: str
+    name: str
+    function: Function
+    lines: tuple
+    shown: str = ''
+
+
+class BadEdit(Exception):
+    pass
+
+
+def read(path):
+    with open(path, encoding='utf-8') as f:
+        return f.read()
+
+
+def write(path, text):
+    os.makedirs(os.path.dirname(path), exist_ok=True)
+    with open(path, 'w', encoding='utf-8') as f:
+        f.write(text)
+
+
+def files_below(folder, part):
+    """The files of a part of a folder, each with its text."""
+    found = []
+    for at, _, names in os.walk(os.path.join(folder, part)):
+        found += [(os.path.relpath(os.path.join(at, it), folder), read(os.path.join(at, it))) for it in names]
+    return found
+
+
+def module_of(file):
+    """The path of the module that a file of src/ is."""
+    parts = file[len('src/') : -len('.rt')].split('/')
+    return tuple(parts[:-1] if parts[-1] in ('lib', 'main', 'mod') else parts)
+
+
+def functions_of(file, text, types):
+    """The functions of a file in the layout of `rt fmt`: an item ends at the brace below its own indentation."""
+    lines, found, impl, cycle = text.split('\n'), [], None, ''
+    for first, line in enumerate(lines):
+        impl = IMPL.match(line) or (None if line.startswith('}') else impl)
+        # (the types of a cycle name it as functions do)
+        cycle = '' if TYPE.match(line) else (CYCLE.match(line) or [cycle, cycle])[1]
+        head = FUNCTION.match(line)
+        if not head:
+            continue
+        is_whole = line.endswith(('}', ';'))
+        ends = (n for n in range(first, len(lines)) if is_whole or lines[n].startswith(head[1] + '}'))
+        own = impl if head[1] else None
+        path, trait = module_of(file), ''
+        if own:
+            trait = ''.join(re.findall(r'\w+', re.sub(r"'\w+", '', own['trait'] or '')))
+            path = types.get(own['type'], path) + (own['type'] + trait,)
+        found.append(Function(file, first, next(ends, first), path + (head[2],), cycle, trait))
+        cycle = ''
+    return found
+
+
+def edit_parts(text):
+    """The file that an edit names, its pairs of an old and a new text, and what shows it wrong."""
+    named, old, pairs = {'file': '', 'shown': ''}, None, []
+    for line in text.split('\n'):
+        key, _, value = line.partition(':')
+        value = value[1:] if value.startswith(' ') else value
+        if key in named:
+            named[key] = value.strip()
+        elif key == 'old':
+            old = value
+        elif key == 'new' and old:
+            pairs.append((old, value))
+            old = None
+    return named['file'], pairs, named['shown']
+
+
+class Crate:
+    """A crate's text: its files, and its functions."""
+
+    def __init__(self, top, name, libraries):
+        self.top, self.name, self.libraries = top, name, libraries
+        self.folder = os.path.join(top, 'crates', name)
+        self.texts, self.others = dict(files_below(self.folder, 'src')), None
+        types = {word: module_of(file) for file, text in self.texts.items() for word in TYPE.findall(text)}
+        self.functions = [it for file, text in self.texts.items() for it in functions_of(file, text, types)]
+        self.cycles_of_types = {it for text in self.texts.values() for it in CYCLE_OF_TYPE.findall(text)}
+
+    def other_files(self):
+        """The files of specs/ and proofs/, each with its text."""
+        if self.others is None:
+            self.others = dict(files_below(self.folder, 'specs') + files_below(self.folder, 'proofs'))
+        return self.others
+
+    def names(self):
+        """The names of its edits."""
+        folder = os.path.join(self.folder, 'wrong')
+        files = sorted(os.listdir(folder)) if os.path.isdir(folder) else []
+        return [it[: -len('.edit')] for it in files if it.endswith('.edit')]
+
+    def function_at(self, file, offset):
+        line = self.texts[file].count('\n', 0, offset)
+        inside = [it for it in self.functions if it.file == file and it.first <= line <= it.last]
+        return max(inside, key=lambda it: it.first, default=None)
+
+    def edit(self, name):
+        """Reads an edit, or says by BadEdit why it can't be made."""
+        file, pairs, shown = edit_parts(read(os.path.join(self.folder, 'wrong', name + '.edit')))
+        if file not in self.texts or not pairs:
+            raise BadEdit('it names no file of src/, or has no pair of an old and a new text')
+        text = self.texts[file]
+        function = self.function_at(file, text.find(pairs[0][0]))
+        if function is None:
+            raise BadEdit('it changes no function')
+        body = '\n'.join(text.split('\n')[function.first : function.last + 1])
+        for old, new in pairs:
+            if text.count(old) != 1:
+                raise BadEdit('an old text stands %d times in %s: %s' % (text.count(old), file, old))
+            if body.count(old) != 1:
+                raise BadEdit('it changes more than one function')
+            text, body = text.replace(old, new), body.replace(old, new)
+        return Edit(self.name, name, function, tuple(body.split('\n')), shown)
+
+    def edits(self, names):
+        """The edits of these names, and why each of the others can't be made."""
+        edits, bad = [], {}
+        for name in names:
+            try:
+                edits.append(self.edit(name))
+            except (BadEdit, OSError) as error:
+                bad[name] = str(error)
+        return edits, bad
+
+    def edited(self, edits):
+        """The texts of the files that the edits change; no two of them change one function."""
+        texts = {it.function.file: self.texts[it.function.file].split('\n') for it in edits}
+        for edit in sorted(edits, key=lambda it: -it.function.first):
+            texts[edit.function.file][edit.function.first : edit.function.last + 1] = edit.lines
+        return {file: '\n'.join(lines) for file, lines in texts.items()}
+
+
+def libraries_of(top):
+    """Each crate of crates.txt with the libraries that its line names."""
+    found = {}
+    for line in read(os.path.join(top, 'crates.txt')).split('\n'):
+        name, _, libraries = line.partition('#')[0].partition(':')
+        if name.strip():
+            found[name.strip()] = libraries.split()
+    return found
+
+
+def libraries_below(name, libraries):
+    """The repository's libraries below a crate."""
+    found = []
+    for below in libraries[name]:
+        if below in libraries:
+            found += [it for it in [*libraries_below(below, libraries), below] if it not in found]
+    return found
+
+
+def kit():
+    """The kit's folder: that of the page which `rt doc` names."""
+    said = subprocess.run(['rt', 'doc'], stdout=subprocess.PIPE, text=True, check=True).stdout
+    return os.path.dirname(said.strip())

@@ -1,0 +1,203 @@
+"""Copies of a crate in which edits are checked, by contracts alone of what a check doesn't ask for."""
+import fcntl
+import os
+import re
+import shutil
+import subprocess
+import sys
+import threading
+import time
+from contextlib import contextmanager
+
+from .crates import Edit, libraries_below, write
+
+# what a check takes at the most, in bytes, as far as was seen
+MEMORY = 4_000_000_000
+SIGNATURE = re.compile(r'(?:pub |abbrev |unfoldable )*([^\s:=(){}\[\],|]+) :')
+# the files of a function's proof
+OF_FUNCTIONS = ('Answers.antt', 'Invariants.antt', 'Proof.antt')
+
+
+def words_of(crate, kit_folder, built):
+    """The words of a check of the crate, over the built libraries of a folder, or those in their out/."""
+    own = libraries_below(crate.name, crate.libraries)
+    below = [it for it in crate.libraries[crate.name] if it not in crate.libraries]
+    words = [os.path.join(kit_folder, 'bin', 'rattle'), 'check', '--crate-name', crate.name, 'src/lib.rt']
+    for name in ['std', *below]:
+        words += ['--extern', '%s=%s/rlibs/%s.rlib' % (name, kit_folder, name)]
+    words += ['-L', 'dependency=%s/rlibs' % kit_folder]
+    for name in own:
+        folder = built or os.path.join(crate.top, 'crates', name, 'out', 'rlib')
+        if not os.path.isdir(os.path.join(folder, name + '.rlib')):
+            sys.exit('%s: its library %s is not built: run `rt check` in crates/%s first' % (crate.name, name, crate.name))
+        if name in crate.libraries[crate.name]:
+            words += ['--extern', '%s=%s/%s.rlib' % (name, folder, name)]
+        words += ['-L', 'dependency=' + folder]
+    words += ['--antt-project', os.path.join(kit_folder, 'rattle', 'logic', 'antt-project.json')]
+    return words + ['--logic-built', os.path.join(kit_folder, 'logic_built'), '--jobs', '1', '--allow-holes']
+
+
+def lanes_here():
+    """One lane a processor, as far as memory holds."""
+    with open('/proc/meminfo') as f:
+        free = 1024 * int(re.search(r'^MemAvailable:\s+(\d+)', f.read(), re.M)[1])
+    return max(1, min(len(os.sched_getaffinity(0)), free // MEMORY))
+
+
+class Lanes:
+    """How many checks run at once: as many as a folder has files, each the lock of a lane, also with other processes;
+    where no folder is named, one a processor, as far as memory holds."""
+
+    def __init__(self, folder=None):
+        self.locks = [os.path.join(folder, it) for it in sorted(os.listdir(folder))] if folder else []
+        self.own = threading.Semaphore(len(self.locks) or lanes_here())
+
+    @contextmanager
+    def taken(self):
+        with self.own:
+            lock = self.lock()
+            try:
+                yield
+            finally:
+                if lock:
+                    lock.close()
+
+    def lock(self):
+        """A file that is locked until it is closed; none where lanes aren't shared."""
+        while self.locks:
+            for path in self.locks:
+                file = open(path, encoding='utf-8')
+                try:
+                    fcntl.flock(file, fcntl.LOCK_EX | fcntl.LOCK_NB)
+                    return file
+                except OSError:
+                    file.close()
+            time.sleep(0.2)
+        return None
+
+
+def body_of(lines, function):
+    """The lines of a function's body: the one that ends in its opening brace, and the one of its closing brace; none where it has no body
+    on lines of its own, or the compiler computes it."""
+    head = lines[function.first]
+    indent = head[: len(head) - len(head.lstrip())]
+    if re.match(r' *(pub(\([a-z]+\))? )?const ', head) or function.last == function.first or lines[function.last] != indent + '}':
+        return None
+    for at in range(function.first, function.last):
+        line = lines[at]
+        if line == indent + '{' or line.endswith('{') and (at == function.first or line.startswith(indent + ')')):
+            return at, function.last
+    return None
+
+
+def hole(crate, function):
+    """A proof file with a hole."""
+    statement = '.'.join(['Rattle', crate.name, 'proofs', *function.path, 'Statement'])
+    name = function.path[-1] + '_spec'
+    return 'use %s.{statement}\n\npub %s : {M : Type 1} → statement M\n%s = ?\n' % (statement, name, name)
+
+
+def without_answers(text, goals):
+    """A file of answers without those to these goals: an answer goes from its signature, at the line's begin, to the next one."""
+    kept, is_out = [], False
+    for line in text.split('\n'):
+        head = SIGNATURE.match(line)
+        is_out = head[1] in goals if head else is_out
+        if not is_out:
+            kept.append(line)
+    return '\n'.join(kept)
+
+
+def proof_folder(function):
+    """Where a function's proof stands: a cycle of calls has one for all its functions, a recursion its own."""
+    at, name = os.path.split(function.proofs())
+    return ['%s/%s/' % (at, name), '%s/+%s/' % (at, function.cycle or name)]
+
+
+class Room:
+    """A copy of a crate in which edits are tried. What checks keep stays from check to check."""
+
+    def __init__(self, crate, words, folder, lanes):
+        self.crate, self.own_words, self.folder, self.lanes = crate, words, folder, lanes
+        self.words = [*words, '--incremental', os.path.join(folder, 'kept')]
+        self.checks = 0
+
+    def beside(self, name):
+        """A room of its own, with what the checks in this one kept so far."""
+        room = Room(self.crate, self.own_words, os.path.join(self.folder, name), self.lanes)
+        if os.path.isdir(os.path.join(self.folder, 'kept')):
+            shutil.copytree(os.path.join(self.folder, 'kept'), os.path.join(room.folder, 'kept'))
+        return room
+
+    def may_be_stub(self, function, paths):
+        """Whether a stub may stand for the function: not in an impl of a trait, which a caller may name by the trait, and in a cycle of calls
+        only where no function of it is asked for."""
+        if function.trait or (function.cycle and function.cycle in self.crate.cycles_of_types):
+            return False
+        cycle = [it for it in self.crate.functions if function.cycle and it.cycle_key() == function.cycle_key()]
+        return not any(it.path in paths or it.trait for it in cycle)
+
+    def stubbed(self, file, edits, others):
+        """The text of a file with these edits, and with `unreachable!()` for the bodies of the others."""
+        lines = self.crate.texts[file].split('\n')
+        inside = [(it.function.first, it.function.last) for it in edits if it.function.file == file]
+        changes = {it.first: it for it in others if it.file == file and not any(a < it.first <= b for a, b in inside)}
+        changes.update({it.function.first: it for it in edits if it.function.file == file})
+        for first in sorted(changes, reverse=True):
+            if isinstance(changes[first], Edit):
+                lines[first : changes[first].function.last + 1] = changes[first].lines
+            else:
+                self.stub(lines, changes[first])
+        return '\n'.join(lines)
+
+    @staticmethod
+    def stub(lines, function):
+        """Puts a stub in place of the function, which then is in no cycle."""
+        found = body_of(lines, function)
+        if found:
+            lines[found[0] + 1 : found[1]] = [lines[function.last][:-1] + '    unreachable!()']
+        above = function.first - 1
+        while function.cycle and above >= 0 and re.match(r' *(#\[|///)', lines[above]):
+            if re.match(r' *#\[cycle\(%s\)\]' % function.cycle, lines[above]):
+                del lines[above]
+            above -= 1
+
+    def laid(self, edits, asked, dropped=()):
+        """The crate's files with these edits, each with its text. Each function that isn't asked for has `unreachable!()` for its body and a
+        hole for its proof: only its contract is read. Answers that are dropped, each a function and the name of a goal, are left out."""
+        paths = {it.path for it in asked}
+        others = [it for it in self.crate.functions if it.path not in paths and self.may_be_stub(it, paths)]
+        found = {file: self.stubbed(file, edits, others) for file in self.crate.texts}
+        found.update(self.crate.other_files())
+        # (what a body that is gone had: the proof of the function, of its recursion or its cycle, and those of its closures)
+        gone = []
+        for it in others:
+            at, name = os.path.split(it.proofs())
+            gone += [it.proofs() + '/' + file for file in OF_FUNCTIONS]
+            gone += ['%s/+%s/' % (at, name), '%s/+%s/' % (at, it.cycle or name), '%s/fn/%s/' % (at, name), '%s/fn/%s/%s/' % (*os.path.split(at), name)]
+        gone = tuple(gone)
+        found = {path: text for path, text in found.items() if not path.startswith(gone)}
+        for function in {it for it, _ in dropped}:
+            goals = {goal for it, goal in dropped if it == function}
+            for path in [folder + 'Answers.antt' for folder in proof_folder(function)]:
+                if path in found:
+                    found[path] = without_answers(found[path], goals)
+        found.update({it.proofs() + '/Proof.antt': hole(self.crate, it) for it in others})
+        return found
+
+    def lay(self, edits, asked, dropped):
+        """Lays the crate with these edits."""
+        room = os.path.join(self.folder, 'crate')
+        shutil.rmtree(room, ignore_errors=True)
+        for path, text in self.laid(edits, asked, dropped).items():
+            write(os.path.join(room, path), text)
+        return room
+
+    def check(self, edits, asked, dropped=()):
+        """What a check with these edits says of the functions that are asked for."""
+        room = self.lay(edits, asked, dropped)
+        only = [word for it in asked for word in ('--only', it.name())]
+        how = {'cwd': room, 'stdin': subprocess.DEVNULL, 'stdout': subprocess.PIPE, 'stderr': subprocess.STDOUT}
+        self.checks += 1
+        with self.lanes.taken():
+            return subprocess.run([*self.words, *only], text=True, errors='replace', **how).stdout

@@ -1,0 +1,95 @@
+"""Edits tried, many in one check: a check proves function by function, from the contracts of what a function calls."""
+import tempfile
+from concurrent.futures import ThreadPoolExecutor
+
+from .rooms import Room
+from .verdicts import Verdict, first_error, goals_of, is_proved, judged, reached_prover
+
+# how often a check leaves out answers by hand that are no fit: without some, others may show
+ROUNDS = 3
+
+
+def batches_of(edits):
+    """Puts the edits into batches, none with two for one function."""
+    batches = []
+    for edit in edits:
+        path = edit.function.path
+        batch = next((it for it in batches if all(other.function.path != path for other in it)), None)
+        if batch is None:
+            batches.append(batch := [])
+        batch.append(edit)
+    return batches
+
+
+def mates_of(batch, first):
+    """Edits of an earlier batch for the functions that share a cycle of calls with one of this batch, and have no edit in it: a check kept
+    what it made of them, and goals of the others say of them only what their contracts promise."""
+    cycles = {it.function.cycle_key() for it in batch if it.function.cycle}
+    own = {it.function.path for it in batch}
+    return [it for it in first if it.function.cycle_key() in cycles and it.function.path not in own]
+
+
+def tried(room, batch, first=()):
+    """The verdict on each edit of a batch, which is halved where it doesn't compile."""
+    mates = mates_of(batch, first)
+    said = room.check([*batch, *mates], [it.function for it in batch])
+    if reached_prover(said):
+        found = {it: judged(room.crate, said, it) for it in batch}
+        return {**found, **without_misfits(room, found, mates)}
+    if len(batch) == 1:
+        return {batch[0]: Verdict('not reached', first_error(said))}
+    half = len(batch) // 2
+    return {**tried(room, batch[:half], first), **tried(room, batch[half:], first)}
+
+
+def without_misfits(room, found, mates):
+    """The verdicts on those edits of a batch to whose change answers by hand are no fit, by checks without these answers: a goal that the
+    prover closes without them, or shows to be false, is told as such."""
+    dropped, left, verdicts = set(), {it: verdict for it, verdict in found.items() if verdict.misfits}, {}
+    for _ in range(ROUNDS):
+        if not left:
+            break
+        dropped |= {(edit.function, goal) for edit, verdict in left.items() for goal in verdict.misfits}
+        said = room.check([*left, *mates_of(left, [*found, *mates])], [it.function for it in left], dropped)
+        own = {it: frozenset(goal for function, goal in dropped if function == it.function) for it in left}
+        again = {it: judged(room.crate, said, it, own[it]) for it in left} if reached_prover(said) else {}
+        verdicts.update(again)
+        left = {it: verdict for it, verdict in again.items() if verdict.misfits}
+    return verdicts
+
+
+def tried_all(room, edits):
+    """The verdict on each edit: the first batch alone, since the others begin with what it kept, and they side by side, each in a room of its own."""
+    first, *batches = batches_of(edits)
+    found = tried(room, first)
+    rooms = [room.beside('batch-%d' % n) for n in range(len(batches))]
+    with ThreadPoolExecutor(max(1, len(batches))) as pool:
+        for verdicts in pool.map(lambda *it: tried(*it, first), rooms, batches):
+            found.update(verdicts)
+    room.checks += sum(it.checks for it in rooms)
+    for edit, verdict in found.items():
+        if verdict.how == 'undecided':
+            found[edit] = tried(room, [edit])[edit]
+    return found
+
+
+def proved_without(room, functions):
+    """What is wrong with the functions where no edit is made: nothing, in a proved crate."""
+    said = room.check([], functions)
+    if not reached_prover(said):
+        return ['the crate without edits: ' + first_error(said)]
+    wrong = [it for it in functions if not is_proved(said, room.crate.name, it)]
+    whys = [(it.name(), goals_of(said, room.crate.name, it)) for it in wrong]
+    return ['%s is not proved without an edit: %s' % (name, goals[0].line if goals else '?') for name, goals in whys]
+
+
+def try_edits(crate, edits, words, lanes, with_base=False):
+    """Tries edits of a crate by checks of these words: the verdict on each by its name, what is wrong without an edit, and the number of checks."""
+    if not edits:
+        return {}, [], 0
+    with tempfile.TemporaryDirectory(prefix='wrong-bodies-') as folder:
+        room = Room(crate, words, folder, lanes)
+        functions = list({it.function.path: it.function for it in edits}.values())
+        wrong = proved_without(room, functions) if with_base else []
+        verdicts = {} if wrong else {edit.name: it for edit, it in tried_all(room, edits).items()}
+    return verdicts, wrong, room.checks
