@@ -11,6 +11,8 @@ symdir/node_modules. The last line is 'N passed, M failed'.
 import os
 import re
 import shutil
+import signal
+import subprocess
 import sys
 import tempfile
 
@@ -18,6 +20,8 @@ from set_up import ensure, may_install, quiet
 
 ROOT = os.path.realpath(os.path.join(os.path.dirname(os.path.abspath(__file__)), '..'))
 PACKAGE = os.path.join(ROOT, 'symdir')
+# after which tests that hang are ended
+SECONDS = 1200
 
 
 def node_types(folder):
@@ -55,14 +59,24 @@ def check_types():
     return done.returncode == 0
 
 
+def said_within(words, seconds, **how):
+    """What a command says, and its status; one that goes on for longer is ended, with all that it started."""
+    started = subprocess.Popen(words, stdout=subprocess.PIPE, stderr=subprocess.STDOUT, text=True, start_new_session=True, **how)
+    try:
+        return started.communicate(timeout=seconds)[0], started.returncode
+    except subprocess.TimeoutExpired:
+        os.killpg(started.pid, signal.SIGKILL)
+        return started.communicate()[0] + f'\nended after {seconds} seconds', 1
+
+
 def run_tests(files, environment):
     """Returns how many passed and failed."""
-    done = quiet(['node', '--test', '--test-reporter=tap', *files], cwd=PACKAGE, env=environment)
+    said, status = said_within(['node', '--test', '--test-reporter=tap', *files], SECONDS, cwd=PACKAGE, env=environment)
     counts = {word: int(found[1]) for word in ('pass', 'fail', 'cancelled')
-              for found in [re.search(rf'^# {word} (\d+)$', done.stdout, re.M)] if found}
+              for found in [re.search(rf'^# {word} (\d+)$', said, re.M)] if found}
     passed, failed = counts.get('pass', 0), counts.get('fail', 0) + counts.get('cancelled', 0)
-    if done.returncode != 0 or failed or not passed:
-        print('\n'.join(line for line in done.stdout.splitlines() if not re.match(r'\s*(ok|duration_ms|---|\.\.\.)', line))[-8000:])
+    if status != 0 or failed or not passed:
+        print('\n'.join(line for line in said.splitlines() if not re.match(r'\s*(ok|duration_ms|---|\.\.\.)', line))[-8000:])
         failed = max(failed, 1)
     return passed, failed
 
