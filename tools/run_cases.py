@@ -149,7 +149,7 @@ def write_trial(folder, key, case):
     graph = os.path.join(folder, key + '.json')
     if case.graph is not None:
         write(folder, key + '.json', case.graph)
-    words = [graph] if case.words is None else case.words
+    words = [graph] if case.words is None else [graph if it == 'graph.json' and case.graph is not None else it for it in case.words]
     trials = os.path.join(folder, 'trials')
     write(trials, key, case.given)
     write(trials, key + '.args', ''.join(word + '\n' for word in words).encode())
