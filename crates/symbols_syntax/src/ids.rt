@@ -1,6 +1,7 @@
 //! Numbers that name modules and symbols.
 
 ghost use Rattle.std.specs.Prelude.{◌≡◌, decimal, Some};
+ghost use Rattle.std.specs.Bool.{Decides};
 
 use std::fmt;
 
@@ -21,6 +22,13 @@ impl ModuleId {
         ensures { result ≡ self.0 }
     {
         self.0
+    }
+
+    /// Whether these are one number (own rule): what `==` answers, and with it the order and the hash.
+    pub fn is_same(self, other: ModuleId) -> bool
+        ensures { Decides result (self.0 ≡ other.0) }
+    {
+        self == other
     }
 }
 
@@ -52,6 +60,13 @@ impl SymbolId {
     {
         self.0
     }
+
+    /// Whether these are one number (own rule): what `==` answers, and with it the order and the hash.
+    pub fn is_same(self, other: SymbolId) -> bool
+        ensures { Decides result (self.0 ≡ other.0) }
+    {
+        self == other
+    }
 }
 
 impl fmt::Debug for SymbolId {
@@ -80,5 +95,13 @@ impl UniqueSymbolId {
             module_id,
             symbol_id,
         }
+    }
+
+    /// Whether these are one symbol (own rule): what `==` answers, and with it the order and the hash.
+    /// They are where both parts are the same, and only there.
+    pub fn is_same(self, other: UniqueSymbolId) -> bool
+        ensures { Decides result ((self.module_id ≡ other.module_id) × (self.symbol_id ≡ other.symbol_id)) }
+    {
+        self == other
     }
 }

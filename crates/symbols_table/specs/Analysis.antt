@@ -8,7 +8,7 @@ use Rattle.symbols_syntax.specs.Ids.{IdView}
 use Rattle.symbols_table.specs.declared.info.module_info.ModuleInfo.{ModuleInfo}
 use Rattle.symbols_table.specs.declared.info.fault.SymbolsFault.{SymbolsFault}
 use Rattle.symbols_table.specs.declared.info.fault.SymbolsFault.TheVariants as fault
-use Rattle.symbols_table.specs.Changes.{Change, parents_after, stars_after, mapped_after}
+use Rattle.symbols_table.specs.Changes.{Change, parents_after, settings_after, AreExportsBy, exports_after, stars_after, mapped_after}
 use Rattle.symbols_table.specs.Events.{changes_by}
 use Rattle.symbols_table.specs.TreeEvents.{tree_events}
 use Rattle.symbols_table.specs.JsonEvents.{json_events}
@@ -30,9 +30,10 @@ source_changes (json_text text) = json_changes text
 abbrev pub symbol_count : List Change → ℕ
 symbol_count changes = length (parents_after changes)
 
--- the table is that of the changes: its symbols, each with all that it shows, what its names stand for, and its `export *`
+-- the table is that of the changes: its symbols, each with all that it shows, what its names stand for, and its `export *`. What a symbol exports, each name once, stands at the place of the name's first setting with the value of its last
 pub record HasTables (table : Table) (changes : List Change) : Type 0 where
   pub symbols : (s : SymbolId) → symbol_in table s ≡ symbol_after changes s
+  pub exports_by : (s : SymbolId) → AreExportsBy (settings_after changes s) (exports_after changes s)
   pub names : (id : IdView) → mapped_in table id ≡ mapped_after changes id
   pub stars : table.stars ≡ stars_after changes
 

@@ -1,7 +1,8 @@
 //! What a dependency is, and which are asked for.
 
 ghost use Rattle.std.specs.Prelude.{◌≡◌};
-ghost use Rattle.symbols_nodes.specs.References.{visits_expressions};
+ghost use Rattle.std.specs.Bool.{Decides};
+ghost use Rattle.symbols_nodes.specs.References.{visits_expressions, reference_view};
 
 use std::borrow::CowStr;
 use symbols_syntax::tree::Id;
@@ -35,6 +36,15 @@ pub enum ReferenceNamespace {
     Both,
 }
 
+impl ReferenceNamespace {
+    /// Whether these are one namespace (own rule): what `==` answers, and with it the hash.
+    pub fn is_same(self, other: ReferenceNamespace) -> bool
+        ensures { Decides result (self ≡ other) }
+    {
+        self == other
+    }
+}
+
 /// A reference to a symbol (as deno_graph). Its names are lent by the tree that it stands in, but for
 /// a private name, which is told with its `#` and so is a text of its own.
 #[derive(Clone, Debug, Drop, PartialEq, Eq, Hash)]
@@ -45,6 +55,16 @@ pub enum SymbolNodeDep<'a> {
     QualifiedId(&'a Id, Vec<CowStr<'a>>),
     /// The text of an import type, and the parts after it.
     ImportType(&'a str, Vec<CowStr<'a>>),
+}
+
+impl SymbolNodeDep<'_> {
+    /// Whether these refer to a symbol by the same names (own rule): what `==` answers, and with it
+    /// the hash.
+    pub fn is_same(&self, other: &SymbolNodeDep<'_>) -> bool
+        ensures { Decides result (reference_view self.now ≡ reference_view other.now) }
+    {
+        self == other
+    }
 }
 
 impl<'a> From<&'a Id> for SymbolNodeDep<'a> {

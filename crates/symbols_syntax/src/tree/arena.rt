@@ -1,6 +1,8 @@
 //! The arena: nodes in a list, named by their numbers.
 
 ghost use Rattle.std.specs.Prelude.{◌≡◌, decimal, Some};
+ghost use Rattle.std.specs.Bool.{Decides};
+ghost use Rattle.symbols_syntax.specs.Ids.{id_view};
 
 use crate::tree::kinds::Kind;
 use std::fmt;
@@ -44,6 +46,16 @@ impl fmt::Display for NodeId {
 pub struct Id {
     pub name: String,
     pub scope: u32,
+}
+
+impl Id {
+    /// Whether these are one variable (own rule): what `==` answers, and with it the hash. They are
+    /// where both parts are the same, and only there.
+    pub fn is_same(&self, other: &Id) -> bool
+        ensures { Decides result (id_view self.now ≡ id_view other.now) }
+    {
+        self == other
+    }
 }
 
 /// A range of bytes of the module's text: from `start` to before `end`.

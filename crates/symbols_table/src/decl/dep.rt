@@ -1,6 +1,7 @@
 //! What a declaration takes of another module.
 
 ghost use Rattle.std.specs.Prelude.{◌≡◌};
+ghost use Rattle.std.specs.Bool.{Decides};
 ghost use Rattle.std.specs.Option.{option_copied};
 
 /// What is taken of a module: all of it, or a name (as deno_graph).
@@ -22,6 +23,13 @@ impl<'a> FileDepName<'a> {
             FileDepName::Name(name) => Some(*name),
         }
     }
+
+    /// Whether the same is taken (own rule): what `==` answers, and with it the hash.
+    pub fn is_same(&self, other: &FileDepName<'_>) -> bool
+        ensures { Decides result (dep_name_view self.now ≡ dep_name_view other.now) }
+    {
+        self == other
+    }
 }
 
 /// A name of another module, by the text that stands for the module (as deno_graph).
@@ -29,4 +37,16 @@ impl<'a> FileDepName<'a> {
 pub struct FileDep<'a> {
     pub name: FileDepName<'a>,
     pub specifier: &'a str,
+}
+
+impl FileDep<'_> {
+    ghost use Rattle.symbols_table.specs.DeclViews.{dep_view};
+
+    /// Whether the same is taken by the same text (own rule): what `==` answers, and with it the
+    /// hash.
+    pub fn is_same(&self, other: &FileDep<'_>) -> bool
+        ensures { Decides result (dep_view self.now ≡ dep_view other.now) }
+    {
+        self == other
+    }
 }

@@ -11,6 +11,7 @@ use Rattle.symbols_table.specs.Tables.{IsTableOf}
 use Rattle.symbols_table.specs.Laws.{AreLawful}
 use Rattle.symbols_table.proofs.Walks.{first_row}
 use Rattle.symbols_table.proofs.ItemWalks.{list_above}
+use Rattle.symbols_table.proofs.ExportLaws.{are_exports}
 use Rattle.symbols_table.proofs.Lawful.{are_lawful, are_names, are_declared, are_stars, are_few_of}
 use Rattle.symbols_table.proofs.Built.{begun_with, root_decl_is, module_place, tree_read, tree_full, shown, is_within, tree_none_fits, err_if, has_root}
 use Rattle.symbols_table.proofs.builder.analysis.build.Goals as goal
@@ -42,6 +43,7 @@ returns-clause-table c =
       source = refl;
       tables = record {
         symbols = shown built (tree_changes tree) is;
+        exports_by = are_exports (tree_changes tree);
         names = is.ids;
         stars = is.stars;
       };

@@ -8,6 +8,7 @@ use Rattle.symbols_table.specs.Analysis.{json_changes}
 use Rattle.symbols_table.specs.Tables.{IsTableOf}
 use Rattle.symbols_table.specs.Laws.{AreLawful}
 use Rattle.symbols_table.proofs.Walks.{first_row}
+use Rattle.symbols_table.proofs.ExportLaws.{are_exports}
 use Rattle.symbols_table.proofs.Lawful.{are_lawful}
 use Rattle.symbols_table.proofs.Built.{begun_with, json_read, json_full, json_none_fits, json_maps_none, json_has_no_star, shown, is_within, err_if}
 use Rattle.symbols_table.proofs.builder.analysis.build_json.Goals as goal
@@ -43,6 +44,7 @@ returns-clause-table c =
       source = refl;
       tables = record {
         symbols = shown built (json_changes text) is;
+        exports_by = are_exports (json_changes text);
         names = json_maps_none text;
         stars = json_has_no_star text;
       };

@@ -1,4 +1,4 @@
-use Rattle.std.proofs.Common.{◌≡◌, [], ◌∷◌, inl, inr, Some, refl, sym, rules}
+use Rattle.std.proofs.Common.{◌≡◌, [], ◌∷◌, inl, inr, Some, refl, rules}
 use Rattle.symbols_syntax.specs.declared.tree.kinds.Kind.{Kind}
 use Rattle.symbols_syntax.specs.declared.tree.kinds.Expr.{Expr}
 use Rattle.symbols_syntax.specs.declared.tree.kinds.Pat.{Pat}
