@@ -7,7 +7,6 @@ use Rattle.std.proofs.lemmas.Map.Keys.{IsDistinct-push}
 use Rattle.std.proofs.lemmas.Option.{none-some, same_Some, slice_get-map}
 use Rattle.symbols_syntax.specs.Graph.{GraphView, ModuleView}
 use Rattle.symbols_tree.specs.GraphFaults.{specifiers}
-use Rattle.symbols_table.specs.declared.info.fault.SymbolsFault.TheVariants as fault
 use Rattle.symbols_root.specs.declared.root.limits.Limits.{Limits}
 use Rattle.symbols_root.specs.Specifiers.{module_under, is_among}
 use Rattle.symbols_root.specs.Roots.{RootView, widest}

@@ -1,5 +1,5 @@
 -- What a root shows, what is stored of a module, and when a root refuses to store one.
-use Rattle.std.specs.Prelude.{◌≡◌, ℕ, ◌<◌, ◌≤◌, ◌-◌, ◌^◌, ◌++◌, [], ◌∷◌, false, if◌then◌else◌, List, length, Option, Some, None, slice_get, string_bytes}
+use Rattle.std.specs.Prelude.{◌≡◌, ℕ, ◌<◌, ◌≤◌, ◌-◌, ◌^◌, ◌++◌, [], ◌∷◌, false, if◌then◌else◌, List, length, fold, Option, Some, None, slice_get, slice_index_or, string_bytes}
 use Rattle.symbols_syntax.specs.declared.ids.ModuleId.{ModuleId}
 use Rattle.symbols_syntax.specs.Graph.{GraphView, ModuleView}
 use Rattle.symbols_table.specs.declared.info.fault.SymbolsFault.{SymbolsFault}
@@ -28,9 +28,17 @@ abbrev pub with_stored : RootView → Option (List ℕ) → RootView
 with_stored root None = root
 with_stored root (Some specifier) = record root { stored = if is_among root.stored specifier then root.stored else root.stored ++ specifier ∷ [] }
 
+-- the root with each of these modules stored in turn, but those that are stored already
+abbrev pub all_stored : RootView → List (List ℕ) → RootView
+all_stored root specifiers = fold (λ r specifier. with_stored r (Some specifier)) root specifiers
+
 -- the specifier of a stored module
 abbrev pub specifier_under : RootView → ModuleId → Option (List ℕ)
 specifier_under root module_id = slice_get root.stored module_id.0
+
+-- the specifier of the module of this number; empty where none is stored
+abbrev pub specifier_in : RootView → ModuleId → List ℕ
+specifier_in root module_id = slice_index_or root.stored module_id.0 []
 
 -- the table is that of the graph's module of this specifier, whole, under this number
 pub record IsTableUnder (graph : GraphView) (limit : ℕ) (module_id : ModuleId) (specifier : List ℕ) (table : Table) : Type 0 where

@@ -10,6 +10,7 @@ ghost use Rattle.symbols_table.specs.declared.info.fault.SymbolsFault.TheVariant
 ghost use Rattle.symbols_root.specs.Specifiers.{module_under, is_among};
 ghost use Rattle.symbols_root.specs.TypesChains.{is_analyzable, types_chain, standing_module, stands_for, IsOnlyTypesChain};
 ghost use Rattle.symbols_root.specs.Roots.{empty_root, widest, with_stored, specifier_under, IsStoredTable, IsMissing, IsRefusal, IsWithinLimits};
+ghost use Rattle.symbols_root.specs.Growing.{HasGrown};
 
 use crate::root::limits::Limits;
 use crate::root::types_chain::standing_module;
@@ -108,6 +109,7 @@ impl<'a> RootSymbol<'a> {
     fn store(&mut self, graph_module: &'a GraphModule) -> Result<ModuleId, SymbolsFault>
         requires under { module_under self.old.graph graph_module.now.specifier ≡ Some graph_module.now }
         requires analyzable { is_analyzable graph_module.now ≡ true }
+        ensures kept { HasGrown self.old self.new }
         ensures gives { IfOk result (λ id. specifier_under self.new id ≡ Some graph_module.now.specifier) }
         ensures stored { OnOk result (self.new ≡ with_stored self.old (Some graph_module.now.specifier)) }
         ensures allowed { OnOk result ((specifier : List ℕ) → IsMissing self.old (Some graph_module.now.specifier) specifier → IsWithinLimits self.old specifier) }
@@ -147,6 +149,7 @@ impl<'a> RootSymbol<'a> {
         &mut self,
         specifier: &str,
     ) -> Result<Option<ModuleId>, SymbolsFault>
+        ensures kept { HasGrown self.old self.new }
         ensures gives { IfOk result (λ id. option_map (specifier_under self.new) id ≡ option_map (λ s. Some s) (stands_for self.old.graph specifier.now)) }
         ensures stored { OnOk result (self.new ≡ with_stored self.old (stands_for self.old.graph specifier.now)) }
         ensures allowed { OnOk result ((needed : List ℕ) → IsMissing self.old (stands_for self.old.graph specifier.now) needed → IsWithinLimits self.old needed) }

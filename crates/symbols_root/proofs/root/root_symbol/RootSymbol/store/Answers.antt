@@ -11,6 +11,8 @@ use Rattle.symbols_root.specs.Specifiers.{module_under, is_among}
 use Rattle.symbols_root.specs.declared.root.limits.Limits.{Limits}
 use Rattle.symbols_root.specs.Roots.{RootView, widest, with_stored, IsMissing, IsRefusal}
 use Rattle.symbols_root.specs.StoredModules.{StoredModule, stored_specifiers}
+use Rattle.symbols_root.specs.Growing.{HasGrown}
+use Rattle.symbols_root.specs.laws.Growing.{grown_not, grown_by_one}
 use Rattle.symbols_root.proofs.Among.{laws, place_among}
 use Rattle.symbols_root.proofs.Storing.{stored_is, place_stored, length-stored, stored_push, insert_last, get_last, whole_push, with_old, with_new, none_missing, refused_analysis, table_under}
 use Rattle.symbols_root.proofs.Enough.{room_within}
@@ -118,3 +120,17 @@ pub returns-in-Err-clause-enough : goal.returns-in-Err-clause-enough
 returns-in-Err-clause-enough c = λ wide few.
     let limits : c.self.inside.limits ≡ widest = ap (λ (r : RootView). r.limits) c.self.view_is ∙ wide in
     c.in-Err.ensures.enough (ap (λ (l : Limits). l.symbols) limits)
+
+-- ---- it grows by the module alone
+
+pub returns-clause-kept : goal.returns-clause-kept
+returns-clause-kept c = subst (HasGrown c.args.self.now) (sym (returns-clause-stored c)) (grown_by_one c.args.self.now (Some c.args.graph_module.now.specifier))
+
+pub returns-in-Some-clause-kept : goal.returns-in-Some-clause-kept
+returns-in-Some-clause-kept c = grown_not c.args.self.now
+
+pub returns-then-count-modules-clause-kept : goal.returns-then-count-modules-clause-kept
+returns-then-count-modules-clause-kept c = grown_not c.args.self.now
+
+pub returns-in-Err-clause-kept : goal.returns-in-Err-clause-kept
+returns-in-Err-clause-kept c = grown_not c.args.self.now
