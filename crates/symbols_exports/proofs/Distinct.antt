@@ -12,7 +12,8 @@ use Rattle.std.proofs.Math.ListN.{get_or-map}
 use Rattle.symbols_syntax.specs.declared.ids.SymbolId.{SymbolId}
 use Rattle.symbols_syntax.specs.Graph.{GraphView}
 use Rattle.symbols_table.specs.Changes.{exports_after, settings_after}
-use Rattle.symbols_exports.specs.StarStatements.{changes_under, owned_of}
+use Rattle.symbols_root.specs.GraphModules.{changes_under}
+use Rattle.symbols_exports.specs.StarStatements.{owned_of}
 use Rattle.symbols_exports.proofs.Found.{OwnOnce}
 
 -- a text has one place

@@ -11,8 +11,7 @@ use Rattle.std.proofs.lemmas.Slice.Eq.{bytes_eq-Decides}
 use Rattle.std.proofs.Math.ListN.{get_or-map}
 use Rattle.symbols_syntax.specs.declared.ids.ModuleId.{ModuleId}
 use Rattle.symbols_root.specs.Specifiers.{is_among}
-use Rattle.symbols_root.specs.Roots.{RootView, with_stored}
-use Rattle.symbols_exports.specs.Exporting.{specifier_in}
+use Rattle.symbols_root.specs.Roots.{RootView, with_stored, specifier_in}
 use Rattle.symbols_exports.proofs.Places.{Meeting}
 
 -- the modules that were met

@@ -5,10 +5,9 @@ use Rattle.std.specs.Str.{bytes_eq}
 use Rattle.std.proofs.lemmas.List.{map-append, length-map, length_push}
 use Rattle.std.proofs.lemmas.Slice.Eq.{bytes_eq-Decides}
 use Rattle.symbols_syntax.specs.declared.ids.ModuleId.{ModuleId}
-use Rattle.symbols_root.specs.Roots.{RootView}
+use Rattle.symbols_root.specs.Roots.{RootView, specifier_in}
 use Rattle.symbols_exports.specs.declared.exports.path.ResolvedExportOrReExportAllPath.{ResolvedExportOrReExportAllPath}
 use Rattle.symbols_exports.specs.Exports.{Entry}
-use Rattle.symbols_exports.specs.Exporting.{specifier_in}
 use Rattle.symbols_exports.specs.OneName.{IsNameAnswer, export_named, named_way}
 use Rattle.symbols_exports.specs.Taking.{NameView, name_view, names_view}
 use Rattle.symbols_exports.specs.Told.{ToldExport, told_export, told_name}

@@ -10,8 +10,7 @@ use Rattle.std.proofs.lemmas.List.{get_or_append_left, length-append}
 use Rattle.std.proofs.lemmas.Slice.Eq.{bytes_eq-Decides}
 use Rattle.symbols_syntax.specs.declared.ids.ModuleId.{ModuleId}
 use Rattle.symbols_root.specs.Specifiers.{is_among}
-use Rattle.symbols_root.specs.Roots.{RootView, with_stored}
-use Rattle.symbols_exports.specs.Exporting.{specifier_in, all_stored}
+use Rattle.symbols_root.specs.Roots.{RootView, with_stored, specifier_in, all_stored}
 use Rattle.symbols_exports.proofs.Distinct.{same_place}
 
 -- ---- a root that stores more

@@ -9,10 +9,9 @@ use Rattle.std.proofs.lemmas.Slice.Eq.{bytes_eq-Decides}
 use Rattle.symbols_syntax.specs.declared.ids.ModuleId.{ModuleId}
 use Rattle.symbols_syntax.specs.declared.ids.SymbolId.{SymbolId}
 use Rattle.symbols_syntax.specs.Graph.{GraphView}
-use Rattle.symbols_root.specs.Roots.{RootView}
+use Rattle.symbols_root.specs.Roots.{RootView, specifier_in}
 use Rattle.symbols_exports.specs.Chains.{IsBefore}
 use Rattle.symbols_exports.specs.Exports.{Owned, Entry, default_name}
-use Rattle.symbols_exports.specs.Exporting.{specifier_in}
 use Rattle.symbols_exports.specs.Taking.{NameView, has_name, is_way, with_name, with_names}
 use Rattle.symbols_exports.specs.Told.{ToldExport, told_chain, told_export, told_number, told_name}
 use Rattle.symbols_exports.proofs.Places.{Meeting}

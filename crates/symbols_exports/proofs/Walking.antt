@@ -7,13 +7,12 @@ use Rattle.std.proofs.lemmas.Option.{get_or_from_slice_get, slice_get-map, same_
 use Rattle.symbols_syntax.specs.declared.ids.ModuleId.{ModuleId}
 use Rattle.symbols_syntax.specs.Graph.{GraphView, ModuleView, resolution_of}
 use Rattle.symbols_root.specs.Specifiers.{module_under}
-use Rattle.symbols_root.specs.Roots.{RootView, with_stored}
+use Rattle.symbols_root.specs.Roots.{RootView, with_stored, specifier_in, all_stored}
 use Rattle.symbols_root.specs.TypesChains.{standing_module, stands_for}
 use Rattle.symbols_exports.specs.declared.exports.turn.Turn.{Turn}
 use Rattle.symbols_exports.specs.declared.exports.wanted.Wanted.{Wanted}
 use Rattle.symbols_exports.specs.Chains.{Statements, target, IsBefore}
 use Rattle.symbols_exports.specs.Exports.{Entry, Statement}
-use Rattle.symbols_exports.specs.Exporting.{specifier_in, all_stored}
 use Rattle.symbols_exports.specs.StarStatements.{star_texts, text_target, statements_of}
 use Rattle.symbols_exports.specs.Taking.{NameView, turn_told, with_names}
 use Rattle.symbols_exports.specs.Told.{told_statement, told_chain, told_export, told_number, told_name, AreNumbered, AllNumbered}

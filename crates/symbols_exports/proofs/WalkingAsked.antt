@@ -16,10 +16,9 @@ use Rattle.symbols_syntax.specs.Graph.{ModuleView}
 use Rattle.symbols_table.specs.declared.info.fault.SymbolsFault.{SymbolsFault}
 use Rattle.symbols_table.specs.declared.info.fault.SymbolsFault.TheVariants.{OutOfMemory}
 use Rattle.symbols_root.specs.Specifiers.{module_under, is_among}
-use Rattle.symbols_root.specs.Roots.{RootView, with_stored, specifier_under, IsRefusal}
+use Rattle.symbols_root.specs.Roots.{RootView, with_stored, specifier_under, IsRefusal, specifier_in}
 use Rattle.symbols_exports.specs.declared.exports.turn.Turn.{Turn}
 use Rattle.symbols_exports.specs.declared.exports.wanted.Wanted.{Wanted}
-use Rattle.symbols_exports.specs.Exporting.{specifier_in}
 use Rattle.symbols_exports.specs.StarStatements.{star_texts, text_target, statements_of}
 use Rattle.symbols_exports.specs.Taking.{NameView, is_number, turn_told, with_names}
 use Rattle.symbols_exports.specs.Wanted.{owned_for, is_done}

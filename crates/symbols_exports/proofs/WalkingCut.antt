@@ -4,12 +4,11 @@ use Rattle.std.proofs.lemmas.Option.{none-some}
 use Rattle.symbols_syntax.specs.declared.ids.ModuleId.{ModuleId}
 use Rattle.symbols_table.specs.declared.info.fault.SymbolsFault.{SymbolsFault}
 use Rattle.symbols_table.specs.declared.info.fault.SymbolsFault.TheVariants.{OutOfMemory}
-use Rattle.symbols_root.specs.Roots.{RootView, with_stored, IsRefusal}
+use Rattle.symbols_root.specs.Roots.{RootView, with_stored, IsRefusal, specifier_in}
 use Rattle.symbols_exports.specs.declared.exports.turn.Turn.{Turn}
 use Rattle.symbols_exports.specs.declared.exports.wanted.Wanted.{Wanted}
 use Rattle.symbols_exports.specs.declared.exports.wanted.Wanted.TheVariants.{AllNames, OneName}
 use Rattle.symbols_exports.specs.Answers.{IsUnknown, IsBrokenOff}
-use Rattle.symbols_exports.specs.Exporting.{specifier_in}
 use Rattle.symbols_exports.specs.OneName.{IsNameBrokenOff, IsWalked, IsWalkFault}
 use Rattle.symbols_exports.specs.StarStatements.{star_texts, text_target, statements_of}
 use Rattle.symbols_exports.specs.Taking.{NameView}

@@ -7,25 +7,27 @@ use Rattle.symbols_syntax.specs.declared.ids.ModuleId.{ModuleId}
 use Rattle.symbols_syntax.specs.Graph.{GraphView}
 use Rattle.symbols_table.specs.declared.info.fault.SymbolsFault.{SymbolsFault}
 use Rattle.symbols_table.specs.declared.info.fault.SymbolsFault.TheVariants.{OutOfMemory}
-use Rattle.symbols_root.specs.Roots.{RootView, with_stored, IsRefusal}
+use Rattle.symbols_root.specs.Roots.{RootView, with_stored, IsRefusal, specifier_in, all_stored}
 use Rattle.symbols_root.specs.Specifiers.{is_among}
+use Rattle.symbols_root.specs.Growing.{HasGrown}
+use Rattle.symbols_root.specs.laws.Growing.{grown_not, grown_by_all}
 use Rattle.symbols_exports.specs.declared.exports.turn.Turn.{Turn}
 use Rattle.symbols_exports.specs.declared.exports.wanted.Wanted.{Wanted}
-use Rattle.symbols_exports.specs.declared.exports.wanted.Wanted.TheVariants.{AllNames}
+use Rattle.symbols_exports.specs.declared.exports.wanted.Wanted.TheVariants.{AllNames, OneName}
 use Rattle.symbols_exports.specs.Answers.{IsAnswer, IsBrokenOff}
 use Rattle.symbols_exports.specs.Chains.{IsReached}
-use Rattle.symbols_exports.specs.Exporting.{specifier_in, all_stored}
 use Rattle.symbols_exports.specs.StarStatements.{star_texts, text_target, statements_of, owned_of}
 use Rattle.symbols_exports.specs.Taking.{NameView}
 use Rattle.symbols_exports.specs.Told.{told_statement, told_export}
 use Rattle.symbols_exports.specs.Answers.{AreListed, IsFault}
+use Rattle.symbols_exports.specs.OneName.{IsWalkFault}
 use Rattle.symbols_exports.proofs.Distinct.{owns_once}
 use Rattle.symbols_exports.proofs.ExportsListed.{exports_are_listed, exports_are_one}
 use Rattle.symbols_exports.proofs.UnresolvedListed.{unresolved_are_listed, unresolved_are_one}
 use Rattle.symbols_exports.proofs.Found.{are_exports}
 use Rattle.symbols_exports.proofs.Least.{met_are_least}
 use Rattle.symbols_exports.proofs.MetModules.{met_modules, met_is_among, among_is_met, among_stored, stored_already}
-use Rattle.symbols_exports.proofs.Numbers.{stored_one_more, graph_kept}
+use Rattle.symbols_exports.proofs.Numbers.{stored_one_more}
 use Rattle.symbols_exports.proofs.Places.{Meeting}
 use Rattle.symbols_exports.proofs.Walking.{IsWalking, forks_in, count_met}
 use Rattle.symbols_exports.proofs.WalkingOn.{is_one, leads_to}
@@ -132,17 +134,16 @@ are_listed graph start = record {
   only_unresolved = unresolved_are_one graph start;
 }
 
--- the graph and the limits stay
-kept_by : (old : RootView) (specifiers : List (List ℕ)) (new : RootView) → new ≡ all_stored old specifiers → (new.graph ≡ old.graph) × (new.limits ≡ old.limits)
-kept_by old specifiers new stored = let kept = graph_kept old specifiers in (ap (λ (r : RootView). r.graph) stored ∙ kept.0, ap (λ (r : RootView). r.limits) stored ∙ kept.1)
+-- the root grows by what the walk stores
+pub grown_by : (old : RootView) (specifiers : List (List ℕ)) (new : RootView) → new ≡ all_stored old specifiers → HasGrown old new
+grown_by old specifiers new stored = subst (HasGrown old) (sym stored) (grown_by_all old specifiers)
 
-pub answer_keeps : {old new : RootView} {start : ModuleId} {names : List NameView} {unresolved : List (ModuleId × List ℕ)} {asked : ℕ} → IsAnswer old new start names unresolved asked → (new.graph ≡ old.graph) × (new.limits ≡ old.limits)
-answer_keeps {old} {new} answer = kept_by old (met_modules answer.reached) new answer.stored
+pub grown_fault : (wanted : Wanted) (old new : RootView) (start : ModuleId) (fault : SymbolsFault) (asked : ℕ) → IsWalkFault wanted old new start fault asked → HasGrown old new
+grown_fault AllNames old new start fault asked (inl unknown) = subst (HasGrown old) (sym unknown.unchanged) (grown_not old)
+grown_fault AllNames old new start fault asked (inr broken) = grown_by old (met_modules broken.reached) new broken.stored
+grown_fault (OneName name) old new start fault asked (inl unknown) = subst (HasGrown old) (sym unknown.unchanged) (grown_not old)
+grown_fault (OneName name) old new start fault asked (inr broken) = grown_by old (met_modules broken.reached) new broken.stored
 
-pub fault_keeps : {old new : RootView} {start : ModuleId} {fault : SymbolsFault} {asked : ℕ} → IsFault old new start fault asked → (new.graph ≡ old.graph) × (new.limits ≡ old.limits)
-fault_keeps {old} {new} (inl unknown) = (ap (λ (r : RootView). r.graph) unknown.unchanged, ap (λ (r : RootView). r.limits) unknown.unchanged)
-fault_keeps {old} {new} (inr broken) = kept_by old (met_modules broken.reached) new broken.stored
-
-pub all_keep : {A : Type 0} (r : Result A SymbolsFault) (old new : RootView) (start : ModuleId) (before now : ℕ) (names : A → List NameView) (unresolved : A → List (ModuleId × List ℕ)) → IfOk r (λ answer. (asked : ℕ) × (now ≡ before + asked) × IsAnswer old new start (names answer) (unresolved answer) asked) → IfErr r (λ fault. (asked : ℕ) × (now ≡ before + asked) × IsFault old new start fault asked) → (new.graph ≡ old.graph) × (new.limits ≡ old.limits)
-all_keep (Ok answer) old new start before now names unresolved is none = answer_keeps is.2
-all_keep (Err fault) old new start before now names unresolved none is = fault_keeps is.2
+pub all_grown : {A : Type 0} (r : Result A SymbolsFault) (old new : RootView) (start : ModuleId) (before now : ℕ) (names : A → List NameView) (unresolved : A → List (ModuleId × List ℕ)) → IfOk r (λ answer. (asked : ℕ) × (now ≡ before + asked) × IsAnswer old new start (names answer) (unresolved answer) asked) → IfErr r (λ fault. (asked : ℕ) × (now ≡ before + asked) × IsFault old new start fault asked) → HasGrown old new
+all_grown (Ok answer) old new start before now names unresolved is none = grown_by old (met_modules is.2.reached) new is.2.stored
+all_grown (Err fault) old new start before now names unresolved none is = grown_fault AllNames old new start fault is.0 is.2

@@ -6,12 +6,11 @@ use Rattle.std.proofs.lemmas.List.Elements.{Contains-push_cases}
 use Rattle.std.proofs.lemmas.List.Sums.{sum_by_push}
 use Rattle.std.proofs.lemmas.Option.{none-some, slice_get_within, get_or_from_slice_get}
 use Rattle.symbols_syntax.specs.declared.ids.ModuleId.{ModuleId}
-use Rattle.symbols_root.specs.Roots.{RootView, with_stored, specifier_under}
+use Rattle.symbols_root.specs.Roots.{RootView, with_stored, specifier_under, specifier_in, all_stored}
 use Rattle.symbols_exports.specs.declared.exports.turn.Turn.{Turn}
 use Rattle.symbols_exports.specs.declared.exports.wanted.Wanted.{Wanted}
 use Rattle.symbols_exports.specs.Chains.{target}
 use Rattle.symbols_exports.specs.Exports.{Entry}
-use Rattle.symbols_exports.specs.Exporting.{specifier_in, all_stored}
 use Rattle.symbols_exports.specs.StarStatements.{star_texts, text_target, statements_of}
 use Rattle.symbols_exports.specs.Taking.{NameView, turn_told, with_names}
 use Rattle.symbols_exports.specs.Told.{told_statement, told_chain, told_export, told_number, told_name, AreNumbered}

@@ -5,10 +5,9 @@ use Rattle.symbols_syntax.specs.declared.ids.ModuleId.{ModuleId}
 use Rattle.symbols_syntax.specs.Graph.{GraphView}
 use Rattle.symbols_table.specs.declared.info.fault.SymbolsFault.{SymbolsFault}
 use Rattle.symbols_table.specs.declared.info.fault.SymbolsFault.TheVariants.{UnknownModule}
-use Rattle.symbols_root.specs.Roots.{RootView, IsRefusal}
+use Rattle.symbols_root.specs.Roots.{RootView, IsRefusal, specifier_in, all_stored}
 use Rattle.symbols_exports.specs.Chains.{IsBefore, IsLeastChain, IsReached, AreReached}
 use Rattle.symbols_exports.specs.Exports.{Entry, Statement, AreExports, AreUnresolved}
-use Rattle.symbols_exports.specs.Exporting.{specifier_in, all_stored}
 use Rattle.symbols_exports.specs.StarStatements.{statements_of, owned_of}
 use Rattle.symbols_exports.specs.Taking.{NameView}
 use Rattle.symbols_exports.specs.Told.{told_number, told_name, AreNumbered, AllNumbered}

@@ -4,14 +4,13 @@ use Rattle.std.specs.Str.{bytes_eq}
 use Rattle.symbols_syntax.specs.declared.ids.ModuleId.{ModuleId}
 use Rattle.symbols_syntax.specs.Graph.{GraphView}
 use Rattle.symbols_table.specs.declared.info.fault.SymbolsFault.{SymbolsFault}
-use Rattle.symbols_root.specs.Roots.{RootView, IsRefusal}
+use Rattle.symbols_root.specs.Roots.{RootView, IsRefusal, specifier_in, all_stored}
 use Rattle.symbols_exports.specs.declared.exports.path.ResolvedExportOrReExportAllPath.{ResolvedExportOrReExportAllPath}
 use Rattle.symbols_exports.specs.declared.exports.wanted.Wanted.{Wanted}
 use Rattle.symbols_exports.specs.declared.exports.wanted.Wanted.TheVariants.{AllNames, OneName}
 use Rattle.symbols_exports.specs.Answers.{IsAnswer, IsFault, IsUnknown}
 use Rattle.symbols_exports.specs.Chains.{Statements, target, IsBefore, IsUpTo, IsLeastChain}
 use Rattle.symbols_exports.specs.Exports.{Entry, Statement, StatementsInOrder, default_name}
-use Rattle.symbols_exports.specs.Exporting.{specifier_in, all_stored}
 use Rattle.symbols_exports.specs.Paths.{resolved_export, statements_on}
 use Rattle.symbols_exports.specs.StarStatements.{statements_of}
 use Rattle.symbols_exports.specs.Taking.{NameView}

@@ -1,20 +1,14 @@
 -- The statements `export *` of the modules of a graph, where they lead, and the names that a module exports itself: matters of the graph alone.
-use Rattle.std.specs.Prelude.{ℕ, List, [], map, Option}
-use Rattle.std.specs.Option.{option_and_then, option_map_or}
+use Rattle.std.specs.Prelude.{ℕ, List, map, Option}
+use Rattle.std.specs.Option.{option_and_then}
 use Rattle.symbols_syntax.specs.Graph.{GraphView, resolution_of}
-use Rattle.symbols_table.specs.Analysis.{source_changes}
-use Rattle.symbols_table.specs.Changes.{Change, stars_after, exports_after}
-use Rattle.symbols_table.specs.Modules.{source_of}
-use Rattle.symbols_root.specs.Specifiers.{module_under}
+use Rattle.symbols_table.specs.Changes.{stars_after, exports_after}
+use Rattle.symbols_root.specs.GraphModules.{changes_under}
 use Rattle.symbols_root.specs.TypesChains.{stands_for}
 use Rattle.symbols_exports.specs.Chains.{Statements}
 use Rattle.symbols_exports.specs.Exports.{Owned}
 
--- what makes the symbols of the module of this specifier; nothing where it has none
-abbrev pub changes_under : GraphView → List ℕ → List Change
-changes_under graph specifier = option_map_or source_changes (option_and_then (λ m. source_of m.content) (module_under graph specifier)) []
-
--- the texts of its statements `export *`, in order
+-- the texts of the statements `export *` of a module, in order
 abbrev pub star_texts : GraphView → List ℕ → List (List ℕ)
 star_texts graph specifier = map (λ star. star.text) (stars_after (changes_under graph specifier))
 

@@ -2,3 +2,4 @@
 #![tactic(auto)]
 
 pub mod exports;
+pub mod laws;

@@ -8,8 +8,8 @@ ghost use Rattle.symbols_syntax.specs.Graph.{ModuleView};
 ghost use Rattle.symbols_table.specs.DeclViews.{exports_view};
 ghost use Rattle.symbols_table.specs.declared.info.fault.SymbolsFault.TheVariants.{OutOfMemory};
 ghost use Rattle.symbols_root.specs.Specifiers.{module_under};
-ghost use Rattle.symbols_root.specs.Roots.{widest, with_stored, specifier_under, IsRefusal};
-ghost use Rattle.symbols_exports.specs.Exporting.{specifier_in};
+ghost use Rattle.symbols_root.specs.Roots.{widest, with_stored, specifier_under, IsRefusal, specifier_in};
+ghost use Rattle.symbols_root.specs.Growing.{HasGrown};
 ghost use Rattle.symbols_exports.specs.StarStatements.{star_texts, text_target, owned_of};
 
 use crate::exports::steps::Steps;
@@ -74,6 +74,7 @@ pub(crate) fn text_target(
 ) -> Result<Option<ModuleId>, SymbolsFault>
     requires known { referrer.0 < length root.old.stored }
     requires room { steps.old.count + 1 < 2 ^ 128 }
+    ensures kept { HasGrown root.old root.new }
     ensures gives { IfOk result (λ id. option_map (specifier_under root.new) id ≡ option_map (λ s. Some s) (text_target root.old.graph (specifier_in root.old referrer) text.now)) }
     ensures stored { OnOk result (root.new ≡ with_stored root.old (text_target root.old.graph (specifier_in root.old referrer) text.now)) }
     ensures unchanged { OnErr result (root.new ≡ root.old) }

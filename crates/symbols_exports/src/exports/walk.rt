@@ -1,12 +1,12 @@
 //! The walk along `export *`.
 
-ghost use Rattle.std.specs.Prelude.{◌≡◌, ◌<◌, ◌+◌, ◌^◌, ℕ, ◌++◌, ◌∷◌, [], length, map, true, not, if◌then◌else◌, option_map, option_to_list, IfOk, IfErr, OnOk};
+ghost use Rattle.std.specs.Prelude.{◌≡◌, ◌<◌, ◌+◌, ◌^◌, ℕ, List, ◌++◌, ◌∷◌, [], length, map, true, not, if◌then◌else◌, option_map, option_to_list, IfOk, IfErr, OnOk};
 ghost use Rattle.std.specs.List.{list_any};
 ghost use Rattle.indexmap.specs.IndexSet.{insert_key};
 ghost use Rattle.symbols_table.specs.declared.info.fault.SymbolsFault.TheVariants.{OutOfMemory};
-ghost use Rattle.symbols_root.specs.Roots.{widest};
+ghost use Rattle.symbols_root.specs.Roots.{widest, specifier_in};
+ghost use Rattle.symbols_root.specs.Growing.{HasGrown};
 ghost use Rattle.symbols_exports.specs.Answers.{AreListed, IsAnswer, IsFault};
-ghost use Rattle.symbols_exports.specs.Exporting.{specifier_in};
 ghost use Rattle.symbols_exports.specs.OneName.{IsNameAnswer, IsNameFault, IsWalked, IsWalkFault, named_way};
 ghost use Rattle.symbols_exports.specs.Taking.{is_number, turn_told, unresolved_told, names_view, with_names};
 ghost use Rattle.symbols_exports.specs.Wanted.{owned_for};
@@ -117,6 +117,8 @@ pub fn exports_counted<'a>(
     requires room { steps.old.count < 2 ^ 64 }
     ensures answers { IfOk result (λ answer. (asked : ℕ) × (steps.new.count ≡ steps.old.count + asked) × IsAnswer root.old root.new module_id (names_view answer.resolved.entries) (map unresolved_told answer.unresolved_specifiers.items) asked) }
     ensures faults { IfErr result (λ fault. (asked : ℕ) × (steps.new.count ≡ steps.old.count + asked) × IsFault root.old root.new module_id fault asked) }
+    ensures listed { (start : List ℕ) → AreListed root.old.graph start }
+    ensures kept { HasGrown root.old root.new }
     ensures enough { root.old.limits ≡ widest → module_id.0 < length root.old.stored → IfErr result (λ fault. fault ≡ OutOfMemory) }
 {
     walk(root, module_id, Wanted::AllNames, steps)
@@ -135,8 +137,8 @@ pub fn exports<'a>(
 ) -> Result<ModuleExports<'a>, SymbolsFault>
     ensures answers { IfOk result (λ answer. (asked : ℕ) × IsAnswer root.old root.new module_id (names_view answer.resolved.entries) (map unresolved_told answer.unresolved_specifiers.items) asked) }
     ensures faults { IfErr result (λ fault. (asked : ℕ) × IsFault root.old root.new module_id fault asked) }
-    ensures listed { AreListed root.old.graph (specifier_in root.old module_id) }
-    ensures kept { (root.new.graph ≡ root.old.graph) × (root.new.limits ≡ root.old.limits) }
+    ensures listed { (start : List ℕ) → AreListed root.old.graph start }
+    ensures kept { HasGrown root.old root.new }
     ensures enough { root.old.limits ≡ widest → module_id.0 < length root.old.stored → IfErr result (λ fault. fault ≡ OutOfMemory) }
 {
     exports_counted(root, module_id, &mut Steps::new())
@@ -160,6 +162,8 @@ pub fn export_of_counted<'a>(
     requires room { steps.old.count < 2 ^ 64 }
     ensures answers { IfOk result (λ path. (asked : ℕ) × (steps.new.count ≡ steps.old.count + asked) × IsNameAnswer root.old root.new module_id name.now (option_to_list (option_map (named_way name.now) path)) asked) }
     ensures faults { IfErr result (λ fault. (asked : ℕ) × (steps.new.count ≡ steps.old.count + asked) × IsNameFault root.old root.new module_id name.now fault asked) }
+    ensures listed { (start : List ℕ) → AreListed root.old.graph start }
+    ensures kept { HasGrown root.old root.new }
     ensures enough { root.old.limits ≡ widest → module_id.0 < length root.old.stored → IfErr result (λ fault. fault ≡ OutOfMemory) }
 {
     let mut answer = walk(root, module_id, Wanted::OneName(name), steps)?;
@@ -183,6 +187,8 @@ pub fn export_of<'a>(
 ) -> Result<Option<ResolvedExportOrReExportAllPath<'a>>, SymbolsFault>
     ensures answers { IfOk result (λ path. (asked : ℕ) × IsNameAnswer root.old root.new module_id name.now (option_to_list (option_map (named_way name.now) path)) asked) }
     ensures faults { IfErr result (λ fault. (asked : ℕ) × IsNameFault root.old root.new module_id name.now fault asked) }
+    ensures listed { (start : List ℕ) → AreListed root.old.graph start }
+    ensures kept { HasGrown root.old root.new }
     ensures enough { root.old.limits ≡ widest → module_id.0 < length root.old.stored → IfErr result (λ fault. fault ≡ OutOfMemory) }
 {
     export_of_counted(root, module_id, name, &mut Steps::new())

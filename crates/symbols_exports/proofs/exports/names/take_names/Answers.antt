@@ -1,5 +1,5 @@
 use Rattle.std.proofs.Common.{◌≡◌, OnOk, map, sym, subst, ap}
-use Rattle.symbols_exports.specs.Exporting.{specifier_in}
+use Rattle.symbols_root.specs.Roots.{specifier_in}
 use Rattle.symbols_exports.specs.StarStatements.{owned_of}
 use Rattle.symbols_exports.specs.Taking.{turn_told, names_view, with_names}
 use Rattle.symbols_exports.proofs.WantedNames.{one_own, none_own}

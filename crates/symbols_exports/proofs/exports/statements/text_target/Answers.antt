@@ -1,6 +1,6 @@
 use Rattle.std.proofs.Common.{option_copied, sym, ap, ◌∙◌, ◌≡◌, Some}
 use Rattle.symbols_syntax.specs.Graph.{resolution_of}
-use Rattle.symbols_exports.specs.Exporting.{specifier_in}
+use Rattle.symbols_root.specs.Roots.{specifier_in}
 use Rattle.symbols_exports.proofs.Walking.{target_there}
 use Rattle.symbols_exports.proofs.exports.statements.text_target.Goals as goal
 

@@ -6,10 +6,9 @@ use Rattle.std.proofs.lemmas.List.{map-append, length_push, nil_from_length}
 use Rattle.symbols_syntax.specs.declared.ids.ModuleId.{ModuleId}
 use Rattle.symbols_table.specs.declared.info.fault.SymbolsFault.{SymbolsFault}
 use Rattle.symbols_table.specs.declared.info.fault.SymbolsFault.TheVariants.{OutOfMemory}
-use Rattle.symbols_root.specs.Roots.{RootView, specifier_under}
+use Rattle.symbols_root.specs.Roots.{RootView, specifier_under, specifier_in}
 use Rattle.symbols_exports.specs.OneName.{IsWalkFault}
 use Rattle.symbols_exports.specs.Wanted.{owned_for}
-use Rattle.symbols_exports.specs.Exporting.{specifier_in}
 use Rattle.symbols_exports.specs.declared.exports.turn.Turn.{Turn}
 use Rattle.symbols_exports.specs.declared.exports.wanted.Wanted.{Wanted}
 use Rattle.symbols_exports.specs.StarStatements.{text_target}
