@@ -11,8 +11,10 @@ use Rattle.symbols_table.specs.declared.decl.symbol.Symbol.{Symbol}
 use Rattle.symbols_table.specs.declared.info.fault.SymbolsFault.TheVariants.{OutOfMemory}
 use Rattle.symbols_table.specs.Modules.{Table}
 use Rattle.symbols_table.specs.SymbolViews.{symbol_view}
-use Rattle.symbols_root.specs.Roots.{RootView, IsStoredTable}
-use Rattle.symbols_exports.specs.Exporting.{specifier_in}
+use Rattle.symbols_root.specs.Roots.{RootView, IsStoredTable, specifier_in}
+use Rattle.symbols_root.specs.Growing.{HasGrown}
+use Rattle.symbols_root.specs.laws.Growing.{grown_not, same_specifier}
+use Rattle.symbols_root.specs.laws.StoredTables.{stored_symbol}
 use Rattle.symbols_paths.specs.declared.paths.trail.Trail.{Trail}
 use Rattle.symbols_paths.specs.Trees.{NamedSymbol, NamedDecl, Parts, Leaf, Forest, leaves_in}
 use Rattle.symbols_paths.specs.PartWays.{Links, links_of}
@@ -21,11 +23,10 @@ use Rattle.symbols_paths.specs.Searches.{IsFirstLeaf, IsFirstWalk}
 use Rattle.symbols_paths.specs.Searches as searches
 use Rattle.symbols_paths.specs.Choice.{Finds, Walks, no_parts, under, Changes}
 use Rattle.symbols_paths.specs.Computed.{enough, paths_under, paths_of}
-use Rattle.symbols_paths.specs.Growing.{HasGrown}
 use Rattle.symbols_paths.specs.Views.{named, named_in}
 use Rattle.symbols_paths.specs.Trails.{trails_told, modules_of_trails}
 use Rattle.symbols_paths.specs.Searching.{met_told, HasSearched, IsFound, IsWalked}
-use Rattle.symbols_paths.specs.Answers.{ArePathsUnder, ArePaths, symbol_in, IsPathsFault}
+use Rattle.symbols_paths.specs.Answers.{ArePathsUnder, ArePaths, ArePathsFor, symbol_in, IsPathsFault}
 use Rattle.symbols_paths.proofs.Deriving.{finds_derived, walks_derived}
 use Rattle.symbols_paths.proofs.Leaves.{finds_leaf, walks_leaf, changes_gives}
 use Rattle.symbols_paths.proofs.Covers.{near_given}
@@ -33,8 +34,7 @@ use Rattle.symbols_paths.proofs.Repeats.{given_once}
 use Rattle.symbols_paths.proofs.Parts.{part_last}
 use Rattle.symbols_paths.proofs.Computing.{walks_computed}
 use Rattle.symbols_paths.proofs.Lossless.{no_leaf_lost}
-use Rattle.symbols_paths.proofs.Growing.{grown_not, same_specifier}
-use Rattle.symbols_paths.proofs.Reading.{stored_symbol}
+use Rattle.symbols_paths.proofs.Plain.{plain_apart, plain_rest, one_rest_without_parts}
 
 -- what a walk is made of
 found_in : {links : Links} {limit : ℕ} {running : List NamedDecl} {met after : List NamedSymbol} {s : NamedSymbol} {f : Forest} → Walks links limit running met s [] f after → Finds links limit running met s f after
@@ -54,16 +54,17 @@ first_given graph limit s (p ∷ ps) f after x y z near is = by x
     by : Walks (links_of graph) limit [] [] s (p ∷ ps) f after → Contains (leaves_in f) z
     by w = let u = changed_in w in changes_gives (links_of graph) limit u.1.1.1 y z (near_given u.1.1.0 y near) is
 
-pub are_paths_under : (graph : GraphView) (limit : ℕ) (s : NamedSymbol) (ps : Parts) (f : Forest) (after : List NamedSymbol) → Walks (links_of graph) limit [] [] s ps f after → ArePathsUnder graph s ps f
+are_paths_under : (graph : GraphView) (limit : ℕ) (s : NamedSymbol) (ps : Parts) (f : Forest) (after : List NamedSymbol) → Walks (links_of graph) limit [] [] s ps f after → ArePathsUnder graph s ps f
 are_paths_under graph limit s ps f after x = record {
   derived = walks_derived (links_of graph) limit x;
   leaves = (walks_leaf (links_of graph) limit x).each;
   first = first_given graph limit s ps f after x;
   lossless = λ apart rests. no_leaf_lost (links_of graph) limit s ps apart rests f after x;
+  all_without_alias = λ plain rest. no_leaf_lost (links_of graph) limit s ps (plain_apart plain) (plain_rest plain rest) f after x;
   chosen = (limit, after, x);
 }
 
-pub are_paths : (graph : GraphView) (limit : ℕ) (s : NamedSymbol) (f : Forest) (after : List NamedSymbol) → Finds (links_of graph) limit [] [] s f after → ArePaths graph s f
+are_paths : (graph : GraphView) (limit : ℕ) (s : NamedSymbol) (f : Forest) (after : List NamedSymbol) → Finds (links_of graph) limit [] [] s f after → ArePaths graph s f
 are_paths graph limit s f after x = record {
   derived = finds_derived (links_of graph) limit x;
   leaves = (finds_leaf (links_of graph) limit x).each;
@@ -71,13 +72,18 @@ are_paths graph limit s f after x = record {
   once = λ plain. given_once (links_of graph) limit plain x;
   parts = part_last graph limit x;
   lossless = λ apart rests y h. no_leaf_lost (links_of graph) limit s [] apart rests f after (no_parts x) y (first_walk h);
+  all_without_alias = λ plain y h. no_leaf_lost (links_of graph) limit s [] (plain_apart plain) (plain_rest plain (one_rest_without_parts (links_of graph) s)) f after (no_parts x) y (first_walk h);
   chosen = (limit, after, no_parts x);
 }
   where
     first_walk : {y : Leaf} → IsFirstLeaf (links_of graph) s y → IsFirstWalk (links_of graph) s [] y
     first_walk h = searches.no_parts h
 
-pub is_computed : (graph : GraphView) (s : NamedSymbol) (ps : Parts) (f : Forest) (after : List NamedSymbol) → Walks (links_of graph) enough [] [] s ps f after → length after ≤ 2 ^ 64 → f ≡ paths_under graph s ps
+are_paths_for : (graph : GraphView) (limit : ℕ) (s : NamedSymbol) (ps : Parts) (f : Forest) (after : List NamedSymbol) → Walks (links_of graph) limit [] [] s ps f after → ArePathsFor graph s ps f
+are_paths_for graph limit s [] f after x = are_paths graph limit s f after (found_in x)
+are_paths_for graph limit s (p ∷ ps) f after x = are_paths_under graph limit s (p ∷ ps) f after x
+
+is_computed : (graph : GraphView) (s : NamedSymbol) (ps : Parts) (f : Forest) (after : List NamedSymbol) → Walks (links_of graph) enough [] [] s ps f after → length after ≤ 2 ^ 64 → f ≡ paths_under graph s ps
 unfolding paths_under
 is_computed graph s ps f after x few = sym (walks_computed (links_of graph) enough (omega arith) enough enough x (omega arith) (omega (arith, few))).0
 
@@ -103,8 +109,8 @@ module _ {old new : RootView} (u : UniqueSymbolId) (parts : Parts) (trails : Lis
       subst (λ g. Walks (links_of g) enough [] [] (named old u) parts (trails_told new trails) (met_told new after)) grown.graph
       (subst (λ n. Walks (links_of new.graph) enough [] [] n parts (trails_told new trails) (met_told new after)) called (walked_it new (grown_not new)))
 
-  pub walked_found : ArePathsUnder old.graph (named old u) parts (trails_told new trails)
-  walked_found = are_paths_under old.graph enough (named old u) parts (trails_told new trails) (met_told new after) walked_before
+  pub walked_found : ArePathsFor old.graph (named old u) parts (trails_told new trails)
+  walked_found = are_paths_for old.graph enough (named old u) parts (trails_told new trails) (met_told new after) walked_before
 
   pub walked_listed : trails_told new trails ≡ paths_under old.graph (named old u) parts
   walked_listed = is_computed old.graph (named old u) parts (trails_told new trails) (met_told new after) walked_before (omega (arith, length-map after (named new), searched_it.few (omega arith)))

@@ -3,7 +3,7 @@ use Rattle.std.proofs.Common.{◌≡◌, ℕ, zero, suc, ◌+◌, Bool, true, fa
 use Rattle.std.specs.Prelude.{Contains, slice_get}
 use Rattle.std.proofs.lemmas.List.Elements.{Contains-append_left, Contains-append_right}
 use Rattle.symbols_paths.specs.Trees.{NamedSymbol, NamedDecl, Missing, LinkHead, Forest, Leaf, definition, unresolved, leaf, none, one, join, link_to, leaves_in}
-use Rattle.symbols_paths.specs.Leads.{Lead, leads, StandsAt}
+use Rattle.symbols_paths.specs.Leads.{Lead, StandsAt}
 use Rattle.symbols_paths.specs.PartWays.{Links}
 use Rattle.symbols_paths.specs.Derived.{defined_at, head_at}
 use Rattle.symbols_paths.specs.Reach.{LeadsFirst, GivesFirst, IsNear, begun, goes, IsNearLeaf}

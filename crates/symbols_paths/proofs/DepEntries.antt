@@ -1,5 +1,5 @@
 -- Paths as entries, and texts that are lent.
-use Rattle.std.proofs.Common.{◌≡◌, ℕ, zero, suc, ◌<◌, true, false, true≢false, arith, List, [], ◌∷◌, ◌++◌, length, map, Option, None, Some, option_map, refl, sym, ap, subst, ◌∙◌, append_assoc, append-nil}
+use Rattle.std.proofs.Common.{◌≡◌, ℕ, zero, suc, ◌<◌, false, true≢false, arith, List, [], ◌∷◌, ◌++◌, length, map, Option, None, Some, option_map, refl, sym, ap, subst, ◌∙◌, append_assoc, append-nil}
 use Rattle.std.specs.Prelude.{MatchOption, ◌==◌}
 use Rattle.std.specs.Option.{option_map_or}
 use Rattle.std.proofs.lemmas.List.{map-append}
@@ -11,8 +11,9 @@ use Rattle.symbols_syntax.specs.Graph.{GraphView}
 use Rattle.symbols_syntax.specs.Ids.{IdView}
 use Rattle.symbols_nodes.specs.References.{import_type}
 use Rattle.symbols_table.specs.declared.info.fault.SymbolsFault.{SymbolsFault}
-use Rattle.symbols_root.specs.Roots.{RootView, IsRefusal}
-use Rattle.symbols_exports.specs.Exporting.{specifier_in}
+use Rattle.symbols_root.specs.Roots.{RootView, IsRefusal, specifier_in}
+use Rattle.symbols_root.specs.Growing.{HasGrown}
+use Rattle.symbols_root.specs.laws.Growing.{same_specifier}
 use Rattle.symbols_exports.specs.StarStatements.{text_target}
 use Rattle.symbols_paths.specs.declared.paths.node.DefinitionPathNode.{DefinitionPathNode}
 use Rattle.symbols_paths.specs.declared.paths.resolve.ResolvedSymbolDepEntry.{ResolvedSymbolDepEntry}
@@ -21,45 +22,61 @@ use Rattle.symbols_paths.specs.Trees.{NamedSymbol, Parts, Missing, no_module, un
 use Rattle.symbols_paths.specs.Leads.{symbol_of_id}
 use Rattle.symbols_paths.specs.PartWays.{PartWay, to, itself, lacks, text_part}
 use Rattle.symbols_paths.specs.Computed.{paths_under}
-use Rattle.symbols_paths.specs.Growing.{HasGrown}
 use Rattle.symbols_paths.specs.Needed.{IsNeeded, begun, IsRefused}
-use Rattle.symbols_paths.specs.Views.{named, tree_told, forest_told, first_part, later_parts}
-use Rattle.symbols_paths.specs.Answers.{ArePathsUnder}
-use Rattle.symbols_paths.specs.DepAnswers.{EntryView, a_path, a_module, entry_told, entries_in, Asked, asked_by_id, asked_by_way, missing_id, missing_way, module_entry, other_entries, entries_of, ArePathsOf, IsDepAnswer, IsDepRefused, on_the_way, of_import}
-use Rattle.symbols_paths.proofs.Growing.{same_specifier}
+use Rattle.symbols_paths.specs.Views.{named, tree_told, forest_told, joined, modules_of, modules_in, first_part, later_parts}
+use Rattle.symbols_paths.specs.Answers.{ArePathsFor}
+use Rattle.symbols_paths.specs.DepAnswers.{EntryView, a_path, a_module, entry_told, modules_of_entry, modules_of_entries, entries_in, Asked, asked_by_id, asked_by_way, missing_id, missing_way, module_entry, other_entries, entries_of, ArePathsOf, IsDepAnswer, IsDepRefused, on_the_way, of_import}
 use Rattle.symbols_paths.proofs.LeafNeeds.{needed_from, text_part_needed}
 use Rattle.symbols_paths.proofs.Needing.{refused_from}
+use Rattle.symbols_paths.proofs.Trailing.{joined_on}
 use Rattle.symbols_paths.proofs.Walking.{some_parts, no_part_left}
 
 -- the entries so far, and the paths that are left
-abbrev pub AreEntriesSo : List ResolvedSymbolDepEntry → List DefinitionPathNode → List DefinitionPathNode → Type 0
-AreEntriesSo entries rest paths = (root : RootView) → map (entry_told root) entries ++ entries_in (forest_told root rest) ≡ entries_in (forest_told root paths)
+pub record AreEntriesSo (entries : List ResolvedSymbolDepEntry) (rest paths : List DefinitionPathNode) : Type 0 where
+  pub told : (root : RootView) → map (entry_told root) entries ++ entries_in (forest_told root rest) ≡ entries_in (forest_told root paths)
+  pub modules : modules_of_entries entries ++ modules_in rest ≡ modules_in paths
+
+pub entries_first : (paths : List DefinitionPathNode) → AreEntriesSo [] paths paths
+entries_first paths = record { told = λ root. refl; modules = refl }
 
 pub entries_next : (entries more : List ResolvedSymbolDepEntry) (path : DefinitionPathNode) (rest paths : List DefinitionPathNode) → AreEntriesSo entries (path ∷ rest) paths → more ≡ entries ++ entry.Path path ∷ [] → AreEntriesSo more rest paths
-entries_next entries more path rest paths so put = λ root.
-    ap (λ es. map (entry_told root) es ++ entries_in (forest_told root rest)) put
-    ∙ (ap (λ es. es ++ entries_in (forest_told root rest)) (map-append (entry_told root) entries (entry.Path path ∷ []))
-    ∙ (append_assoc (map (entry_told root) entries) (a_path (tree_told root path) ∷ []) (entries_in (forest_told root rest)) ∙ so root))
+entries_next entries more path rest paths so put = record {
+  told = λ root.
+      ap (λ es. map (entry_told root) es ++ entries_in (forest_told root rest)) put
+      ∙ (ap (λ es. es ++ entries_in (forest_told root rest)) (map-append (entry_told root) entries (entry.Path path ∷ []))
+      ∙ (append_assoc (map (entry_told root) entries) (a_path (tree_told root path) ∷ []) (entries_in (forest_told root rest)) ∙ so.told root));
+  modules =
+      ap (λ es. modules_of_entries es ++ modules_in rest) put
+      ∙ (ap (λ ms. ms ++ modules_in rest) (modules_on entries (entry.Path path ∷ []))
+      ∙ (append_assoc (modules_of_entries entries) (modules_of path ++ []) (modules_in rest)
+      ∙ (ap (λ ms. modules_of_entries entries ++ (ms ++ modules_in rest)) (append-nil (modules_of path)) ∙ so.modules)));
+}
+  where
+    modules_on : (xs ys : List ResolvedSymbolDepEntry) → modules_of_entries (xs ++ ys) ≡ modules_of_entries xs ++ modules_of_entries ys
+    modules_on xs ys = ap (λ ms. joined ms) (map-append modules_of_entry xs ys) ∙ joined_on (map modules_of_entry xs) (map modules_of_entry ys)
 
 pub entries_last : (entries : List ResolvedSymbolDepEntry) (rest paths : List DefinitionPathNode) → rest ≡ [] → AreEntriesSo entries rest paths → (root : RootView) → map (entry_told root) entries ≡ entries_in (forest_told root paths)
-entries_last entries rest paths over so root = sym (append-nil (map (entry_told root) entries)) ∙ (ap (λ xs. map (entry_told root) entries ++ entries_in (forest_told root xs)) (sym over) ∙ so root)
+entries_last entries rest paths over so root = sym (append-nil (map (entry_told root) entries)) ∙ (ap (λ xs. map (entry_told root) entries ++ entries_in (forest_told root xs)) (sym over) ∙ so.told root)
+
+pub modules_last : (entries : List ResolvedSymbolDepEntry) (rest paths : List DefinitionPathNode) → rest ≡ [] → AreEntriesSo entries rest paths → modules_of_entries entries ≡ modules_in paths
+modules_last entries rest paths over so = sym (append-nil (modules_of_entries entries)) ∙ (ap (λ xs. modules_of_entries entries ++ modules_in xs) (sym over) ∙ so.modules)
 
 -- ---- what a reference asks for, and what was found of it
 
-pub id_found : (graph : GraphView) (specifier : List ℕ) (name : IdView) (parts : Parts) (t : SymbolId) (paths : Forest) → symbol_of_id graph specifier name ≡ Some t → ArePathsUnder graph (record { specifier = specifier; number = t }) parts paths → paths ≡ paths_under graph (record { specifier = specifier; number = t }) parts → ArePathsOf graph (asked_by_id graph specifier name parts) (missing_id specifier name parts) paths
+pub id_found : (graph : GraphView) (specifier : List ℕ) (name : IdView) (parts : Parts) (t : SymbolId) (paths : Forest) → symbol_of_id graph specifier name ≡ Some t → ArePathsFor graph (record { specifier = specifier; number = t }) parts paths → paths ≡ paths_under graph (record { specifier = specifier; number = t }) parts → ArePathsOf graph (asked_by_id graph specifier name parts) (missing_id specifier name parts) paths
 id_found graph specifier name parts t paths is found listed = subst (λ (o : Option SymbolId). ArePathsOf graph (option_map (λ (u : SymbolId). (record { specifier = specifier; number = u }, parts)) o) (missing_id specifier name parts) paths) (sym is) (found, listed)
 
 pub id_missing : (graph : GraphView) (specifier : List ℕ) (name : IdView) (parts : Parts) (paths : Forest) → symbol_of_id graph specifier name ≡ None → paths ≡ missing_id specifier name parts → ArePathsOf graph (asked_by_id graph specifier name parts) (missing_id specifier name parts) paths
 id_missing graph specifier name parts paths is same = subst (λ (o : Option SymbolId). ArePathsOf graph (option_map (λ (u : SymbolId). (record { specifier = specifier; number = u }, parts)) o) (missing_id specifier name parts) paths) (sym is) same
 
-pub way_found : (graph : GraphView) (rest : Parts) (w : PartWay) (t : NamedSymbol) (paths : Forest) → to t ≡ w → ArePathsUnder graph t rest paths → paths ≡ paths_under graph t rest → ArePathsOf graph (asked_by_way rest w) (missing_way w) paths
+pub way_found : (graph : GraphView) (rest : Parts) (w : PartWay) (t : NamedSymbol) (paths : Forest) → to t ≡ w → ArePathsFor graph t rest paths → paths ≡ paths_under graph t rest → ArePathsOf graph (asked_by_way rest w) (missing_way w) paths
 way_found graph rest w t paths is found listed = subst (λ v. ArePathsOf graph (asked_by_way rest v) (missing_way v) paths) is (found, listed)
 
 pub way_missing : (graph : GraphView) (rest : Parts) (w : PartWay) (m : Missing) (paths : Forest) → lacks m ≡ w → paths ≡ one (leaf (unresolved m)) → ArePathsOf graph (asked_by_way rest w) (missing_way w) paths
 way_missing graph rest w m paths is same = subst (λ v. ArePathsOf graph (asked_by_way rest v) (missing_way v) paths) is same
 
 -- the entries are those of what was found
-pub entries_answer : (graph : GraphView) (asked : Option Asked) (otherwise paths : Forest) (entries others : List EntryView) → ArePathsOf graph asked otherwise paths → entries ≡ entries_in paths → entries_in otherwise ≡ others → MatchOption asked (entries ≡ others) (λ it. (f : Forest) × ArePathsUnder graph it.0 it.1 f × (entries ≡ entries_in f))
+pub entries_answer : (graph : GraphView) (asked : Option Asked) (otherwise paths : Forest) (entries others : List EntryView) → ArePathsOf graph asked otherwise paths → entries ≡ entries_in paths → entries_in otherwise ≡ others → MatchOption asked (entries ≡ others) (λ it. (f : Forest) × ArePathsFor graph it.0 it.1 f × (entries ≡ entries_in f))
 entries_answer graph None otherwise paths entries others same told other = told ∙ (ap entries_in same ∙ other)
 entries_answer graph (Some it) otherwise paths entries others found told other = (paths, found.0, told)
 
@@ -70,10 +87,10 @@ entries_listed graph (Some it) otherwise paths entries others found told other =
 -- ---- parts of a module
 
 -- what the first part leads to is a symbol, and its paths were found under the others, once its module was stored
-pub import_found : (old mid : RootView) (rest : Parts) (w : PartWay) (target : UniqueSymbolId) (texts : Parts) (paths : Forest) → HasGrown old mid → to (named mid target) ≡ w → texts ≡ rest → ArePathsUnder mid.graph (named mid target) texts paths → paths ≡ paths_under mid.graph (named mid target) texts → ArePathsOf old.graph (asked_by_way rest w) (missing_way w) paths
+pub import_found : (old mid : RootView) (rest : Parts) (w : PartWay) (target : UniqueSymbolId) (texts : Parts) (paths : Forest) → HasGrown old mid → to (named mid target) ≡ w → texts ≡ rest → ArePathsFor mid.graph (named mid target) texts paths → paths ≡ paths_under mid.graph (named mid target) texts → ArePathsOf old.graph (asked_by_way rest w) (missing_way w) paths
 import_found old mid rest w target texts paths grown is same found listed =
     let t = named mid target in
-    let found_here : ArePathsUnder old.graph t rest paths = subst (λ g. ArePathsUnder g t rest paths) grown.graph (subst (λ ps. ArePathsUnder mid.graph t ps paths) same found) in
+    let found_here : ArePathsFor old.graph t rest paths = subst (λ g. ArePathsFor g t rest paths) grown.graph (subst (λ ps. ArePathsFor mid.graph t ps paths) same found) in
     let listed_here : paths ≡ paths_under old.graph t rest = subst (λ g. paths ≡ paths_under g t rest) grown.graph (subst (λ ps. paths ≡ paths_under mid.graph t ps) same listed) in
     way_found old.graph rest w t paths is found_here listed_here
 

@@ -1,7 +1,7 @@
 -- What is chosen is derived.
 use Rattle.std.proofs.Common.{◌≡◌, ℕ, suc, ◌+◌, ◌⊎◌, inl, inr, List, [], ◌∷◌, Option, None, Some, refl, subst, arith}
 use Rattle.std.specs.Prelude.{Contains}
-use Rattle.symbols_paths.specs.Trees.{NamedSymbol, NamedDecl, Parts, Missing, LinkHead, Tree, Forest, unresolved, link, none, more, one, join, link_to}
+use Rattle.symbols_paths.specs.Trees.{NamedSymbol, NamedDecl, Parts, Missing, LinkHead, Tree, Forest, link, none, more, join, link_to}
 use Rattle.symbols_paths.specs.Leads.{Ways, Lead, leads}
 use Rattle.symbols_paths.specs.PartWays.{Links}
 use Rattle.symbols_paths.specs.Derived.{head_at, alias_head, part_head, under_parts, IsDerived, IsDerivedFrom, drops, takes, IsPathOf, as_itself, by_candidate, by_missing, IsDerivedUnder, IsChanged, IsChange}

@@ -9,6 +9,8 @@ use Rattle.indexmap.specs.IndexSet.{insert_key}
 use Rattle.symbols_syntax.specs.declared.ids.UniqueSymbolId.{UniqueSymbolId}
 use Rattle.symbols_table.specs.DeclViews.{Declaration}
 use Rattle.symbols_root.specs.Roots.{RootView}
+use Rattle.symbols_root.specs.Growing.{HasGrown}
+use Rattle.symbols_root.specs.laws.Growing.{grown_not, grown_on, same_specifier, still_stored}
 use Rattle.symbols_paths.specs.declared.paths.leads.Lead.{Lead as ReadLead}
 use Rattle.symbols_paths.specs.declared.paths.resolving.AliasDecl.{AliasDecl}
 use Rattle.symbols_paths.specs.declared.paths.trail.Trail.{Trail}
@@ -17,11 +19,10 @@ use Rattle.symbols_paths.specs.Leads.{leads_of, lead_of, declarations_of}
 use Rattle.symbols_paths.specs.PartWays.{links_of}
 use Rattle.symbols_paths.specs.Choice.{is_met, was_met}
 use Rattle.symbols_paths.specs.Computed.{enough}
-use Rattle.symbols_paths.specs.Growing.{HasGrown}
 use Rattle.symbols_paths.specs.Views.{named, AreStored}
 use Rattle.symbols_paths.specs.Trails.{trails_told, trails_of_option, modules_of_trail, modules_of_trails}
 use Rattle.symbols_paths.specs.Searching.{AreNumbered, met_told, running_told, HasSearched, IsFound, IsFollowed, IsRead, lead_told}
-use Rattle.symbols_paths.proofs.Growing.{grown_not, grown_on, same_specifier, still_stored, still_numbered, all_still_stored}
+use Rattle.symbols_paths.proofs.Growing.{still_numbered, all_still_stored}
 use Rattle.symbols_paths.proofs.Told.{stored_both}
 use Rattle.symbols_paths.proofs.Trailing.{told_with_trail, modules_with_trail}
 use Rattle.symbols_paths.proofs.Loops.{join_none, IsExpanding, expanding_first, expanding_next, expanding_last}

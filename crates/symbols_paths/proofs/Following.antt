@@ -9,8 +9,9 @@ use Rattle.symbols_syntax.specs.declared.tree.arena.SourceRange.{SourceRange}
 use Rattle.symbols_syntax.specs.declared.tree.arena.Id.{Id}
 use Rattle.symbols_syntax.specs.Graph.{GraphView}
 use Rattle.symbols_syntax.specs.Ids.{IdView, id_view}
-use Rattle.symbols_root.specs.Roots.{RootView}
-use Rattle.symbols_exports.specs.Exporting.{specifier_in}
+use Rattle.symbols_root.specs.Roots.{RootView, specifier_in}
+use Rattle.symbols_root.specs.Growing.{HasGrown}
+use Rattle.symbols_root.specs.laws.Growing.{grown_on, same_specifier}
 use Rattle.symbols_exports.specs.StarStatements.{text_target}
 use Rattle.symbols_paths.specs.declared.paths.definition.DefinitionKind.{DefinitionKind}
 use Rattle.symbols_paths.specs.declared.paths.leads.Lead.TheVariants as read
@@ -24,11 +25,9 @@ use Rattle.symbols_paths.specs.PartWays.{Links, links_of}
 use Rattle.symbols_paths.specs.Derived.{decl_at, head_at, alias_head}
 use Rattle.symbols_paths.specs.Choice.{Finds, Follows, by_itself, by_ways, by_running, by_alias, Tries, no_more, first_with, passes, missing_in}
 use Rattle.symbols_paths.specs.Computed.{enough}
-use Rattle.symbols_paths.specs.Growing.{HasGrown}
 use Rattle.symbols_paths.specs.Views.{named, named_in, decl_told, star_of, AreStored}
 use Rattle.symbols_paths.specs.Trails.{parts_told, trail_told, trails_told, trails_of_option, modules_of_trail, modules_of_trails}
 use Rattle.symbols_paths.specs.Searching.{met_told, running_told, Resolves, while_running, by_walk, IsFound, IsFollowed, IsTried, IsResolved, ways_of_import, ways_along}
-use Rattle.symbols_paths.proofs.Growing.{grown_on, same_specifier}
 
 -- one candidate alone
 pub tries_one : {links : Links} {limit : ℕ} {running : List NamedDecl} {met after : List NamedSymbol} {c : NamedSymbol} (f : Forest) → Finds links limit running met c f after → Tries links limit running met (c ∷ []) None f after

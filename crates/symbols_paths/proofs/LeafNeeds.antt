@@ -16,13 +16,13 @@ use Rattle.symbols_paths.specs.Leads.{Ways, Lead, defines, leads, alias, StandsA
 use Rattle.symbols_paths.specs.PartWays.{to, itself, lacks, export_of_symbol, own_part, module_part, text_part, defined_part, part_of, is_class_at, prototype_name, Links, links_of}
 use Rattle.symbols_paths.specs.Derived.{defined_at}
 use Rattle.symbols_paths.specs.Reach.{IsLeaf, given, led, by_alias, IsWalk, no_parts, stays, goes, is_itself, lacking}
-use Rattle.symbols_paths.specs.Needed.{IsNeeded, begun, imported, passed_on, owner, IsStarDeclared}
+use Rattle.symbols_paths.specs.Needed.{IsNeeded, begun, imported, passed_on, IsStarDeclared}
+use Rattle.symbols_paths.proofs.Owners.{owner_needed}
 
 pub needed_from : {graph : GraphView} {a b c : List ℕ} → IsNeeded graph a b → IsNeeded graph b c → IsNeeded graph a c
 needed_from x begun = x
 needed_from x (imported s decl name text is has kind leads_on) = imported s decl name text (needed_from x is) has kind leads_on
 needed_from x (passed_on specifier position is leads_on) = passed_on specifier position (needed_from x is) leads_on
-needed_from x (owner specifier name entry is named) = owner specifier name entry (needed_from x is) named
 
 -- ---- a declaration that stands there
 
@@ -107,7 +107,7 @@ along_needed graph m name c has = by (statements_of graph m) (λ k v e. passed_o
   where
     one : (v : List ℕ) → IsNeeded graph m v → (found : Option Entry) → export_named graph v name ≡ found → (rest : List NamedSymbol) → Contains (cons_option (option_map entered found) rest) c → (Contains rest c → IsNeeded graph m c.specifier) → IsNeeded graph m c.specifier
     one v is None e rest h others = others h
-    one v is (Some entry) e rest (zero, lt, q) others = subst (λ (s : NamedSymbol). IsNeeded graph m s.specifier) q (owner v name entry is e)
+    one v is (Some entry) e rest (zero, lt, q) others = subst (λ (s : NamedSymbol). IsNeeded graph m s.specifier) q (owner_needed graph m v name entry is e)
     one v is (Some entry) e rest (suc k, lt, q) others = others (k, omega (arith, lt), q)
 
     by : (statements : List (Option (List ℕ))) → ((k : ℕ) (v : List ℕ) → slice_index_or statements k None ≡ Some v → IsNeeded graph m v) → Contains (filter_map (export_along graph name) statements) c → IsNeeded graph m c.specifier
@@ -184,7 +184,7 @@ itself_to t e = cc
 
 module_part_needed : (graph : GraphView) (m p : List ℕ) (ps : Parts) (found : Option Entry) (t : NamedSymbol) → export_named graph m p ≡ found → module_part m p ps found ≡ to t → IsNeeded graph m t.specifier
 module_part_needed graph m p ps None t named e = absurd (lacks_to _ t e)
-module_part_needed graph m p ps (Some entry) t named e = subst (λ (x : NamedSymbol). IsNeeded graph m x.specifier) (same_to (record { specifier = entry.owner; number = entry.symbol }) t e) (owner m p entry begun named)
+module_part_needed graph m p ps (Some entry) t named e = subst (λ (x : NamedSymbol). IsNeeded graph m x.specifier) (same_to (record { specifier = entry.owner; number = entry.symbol }) t e) (owner_needed graph m m p entry begun named)
 
 pub text_part_needed : (graph : GraphView) (m text p : List ℕ) (ps : Parts) (t : NamedSymbol) → text_part graph m text p ps (text_target graph m text) ≡ to t → (v : List ℕ) × (text_target graph m text ≡ Some v) × IsNeeded graph v t.specifier
 text_part_needed graph m text p ps t e = by (text_target graph m text) refl e

@@ -10,15 +10,16 @@ mod Parts
 mod Reached
 mod Given
 mod Lossless
+mod Plain
 mod Rebuilding
 mod Loops
-pub mod Growing
-pub mod Reading
+mod Growing
+mod Reading
 mod Told
 mod Trailing
 mod SharedParts
 mod Unrolling
-pub mod Targets
+mod Targets
 mod SearchSteps
 mod Computing
 mod Finding
@@ -27,8 +28,9 @@ mod Answering
 mod Following
 mod Trying
 mod LeafNeeds
+mod Owners
 mod Needing
 mod Ends
-pub mod Listing
+mod Listing
 mod Aliases
 mod DepEntries

@@ -2,7 +2,7 @@
 use Rattle.std.proofs.Common.{◌≡◌, ℕ, zero, suc, ◌+◌, inl, inr, Bool, true, false, List, [], ◌∷◌, ◌++◌, Option, Some, refl, sym, ◌∙◌, ap, subst, arith, true≢false}
 use Rattle.std.specs.Prelude.{Contains, slice_get}
 use Rattle.std.proofs.lemmas.List.Elements.{Contains-append_left, Contains-append_right, Contains-append_cases}
-use Rattle.symbols_paths.specs.Trees.{NamedSymbol, NamedDecl, Parts, Defined, Missing, Tree, Forest, Leaf, definition, unresolved, leaf, none, join, leaves_of, leaves_in}
+use Rattle.symbols_paths.specs.Trees.{NamedSymbol, NamedDecl, Parts, Defined, Missing, Tree, Forest, Leaf, definition, unresolved, none, join, leaves_of, leaves_in}
 use Rattle.symbols_paths.specs.Leads.{Ways, Lead, leads, alias, StandsAt}
 use Rattle.symbols_paths.specs.PartWays.{to, Links}
 use Rattle.symbols_paths.specs.Derived.{decl_at, defined_at, head_at, alias_head, part_head, under_parts}

@@ -10,9 +10,10 @@ use Rattle.symbols_exports.specs.OneName.{export_named}
 use Rattle.symbols_exports.specs.StarStatements.{star_texts, text_target}
 use Rattle.symbols_paths.specs.Trees.{NamedSymbol}
 use Rattle.symbols_paths.specs.Leads.{export_along}
-use Rattle.symbols_paths.specs.Needed.{IsNeeded, begun, imported, owner, IsRefused}
+use Rattle.symbols_paths.specs.Needed.{IsNeeded, begun, imported, IsRefused}
 use Rattle.symbols_paths.specs.Searching.{IsImported}
 use Rattle.symbols_paths.proofs.LeafNeeds.{needed_from}
+use Rattle.symbols_paths.proofs.Owners.{owner_needed}
 use Rattle.symbols_paths.proofs.Targets.{needed_there, named_entry}
 
 pub refused_from : (root : RootView) {a b : List ℕ} {fault : SymbolsFault} → IsNeeded root.graph a b → IsRefused root b fault → IsRefused root a fault
@@ -35,7 +36,7 @@ needed_candidate graph m text name position c at is = by (text_target graph m te
   where
     entered : (v : List ℕ) → text_target graph m text ≡ Some v → (found : Option Entry) → export_named graph v name ≡ found → Some c ≡ option_map named_entry found → IsNeeded graph m c.specifier
     entered v leads None e h = absurd cc
-    entered v leads (Some entry) e h = subst (λ (s : NamedSymbol). IsNeeded graph m s.specifier) (sym (same_Some c (named_entry entry) h)) (owner v name entry (needed_there graph m text v position at leads) e)
+    entered v leads (Some entry) e h = subst (λ (s : NamedSymbol). IsNeeded graph m s.specifier) (sym (same_Some c (named_entry entry) h)) (owner_needed graph m v name entry (needed_there graph m text v position at leads) e)
 
     by : (found : Option (List ℕ)) → text_target graph m text ≡ found → Some c ≡ export_along graph name found → IsNeeded graph m c.specifier
     by None leads h = absurd cc

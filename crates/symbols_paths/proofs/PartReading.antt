@@ -9,15 +9,14 @@ use Rattle.symbols_syntax.specs.declared.ids.ModuleId.{ModuleId}
 use Rattle.symbols_syntax.specs.declared.ids.SymbolId.{SymbolId}
 use Rattle.symbols_syntax.specs.Graph.{GraphView}
 use Rattle.symbols_table.specs.declared.info.fault.SymbolsFault.{SymbolsFault}
-use Rattle.symbols_root.specs.Roots.{RootView, IsRefusal}
-use Rattle.symbols_exports.specs.Exporting.{specifier_in}
+use Rattle.symbols_root.specs.Roots.{RootView, IsRefusal, specifier_in}
+use Rattle.symbols_root.specs.Growing.{HasGrown}
+use Rattle.symbols_root.specs.laws.Growing.{grown_on}
 use Rattle.symbols_exports.specs.OneName.{export_named}
 use Rattle.symbols_paths.specs.Trees.{NamedDecl, Parts, no_part}
 use Rattle.symbols_paths.specs.PartWays.{lacks, itself, prototype_name, is_class_at, own_part, module_part, text_part}
 use Rattle.symbols_paths.specs.Views.{texts_of, first_part}
-use Rattle.symbols_paths.specs.Growing.{HasGrown}
 use Rattle.symbols_paths.specs.Needed.{IsNeeded, IsRefused}
-use Rattle.symbols_paths.proofs.Growing.{grown_on}
 use Rattle.symbols_paths.proofs.Needing.{refused_from}
 
 pub first_read : (parts : List (String Global)) (part : String Global) → 0 < length parts → part ≡ get_or parts 0 part → string_bytes part ≡ first_part (texts_of parts)

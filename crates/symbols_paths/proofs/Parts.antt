@@ -1,5 +1,5 @@
 -- An unresolved entry behind no alias stands only where all candidates of its declaration are told.
-use Rattle.std.proofs.Common.{◌≡◌, ℕ, zero, suc, ◌+◌, ◌⊎◌, inl, inr, true, false, List, [], ◌∷◌, ◌++◌, map, Option, None, Some, refl, sym, ◌∙◌, ap, subst, arith, append_assoc, append-nil}
+use Rattle.std.proofs.Common.{◌≡◌, ℕ, zero, suc, ◌⊎◌, inl, inr, true, false, List, [], ◌∷◌, ◌++◌, map, Option, None, Some, refl, sym, ◌∙◌, ap, subst, arith, append_assoc, append-nil}
 use Rattle.std.specs.Prelude.{Contains, slice_get}
 use Rattle.std.specs.Option.{option_map_or}
 use Rattle.std.proofs.lemmas.List.Elements.{Contains-append_cases}
@@ -9,7 +9,7 @@ use Rattle.symbols_syntax.specs.Graph.{GraphView}
 use Rattle.symbols_syntax.specs.Ids.{IdView}
 use Rattle.symbols_table.specs.DeclViews.{DeclKind, target, qualified_target, file_ref, definition as defines_node, all_names, one_name, Declaration}
 use Rattle.symbols_exports.specs.StarStatements.{text_target}
-use Rattle.symbols_paths.specs.Trees.{NamedSymbol, NamedDecl, Defined, Missing, no_symbol, no_module, no_part, LinkHead, Forest, Leaf, definition, unresolved, none, more, one, join, link_to, leaves_in}
+use Rattle.symbols_paths.specs.Trees.{NamedSymbol, NamedDecl, Defined, Missing, no_symbol, no_module, no_part, LinkHead, Forest, Leaf, definition, unresolved, none, more, join, link_to, leaves_in}
 use Rattle.symbols_paths.specs.Leads.{Ways, Lead, Leads, defines, leads, alias, StandsAt, symbol_of_id, own_export, exports_along, to_missing, target_ways, alias_lead, import_ways, ways_into, declarations_of, lead_of}
 use Rattle.symbols_paths.specs.PartWays.{Links, links_of}
 use Rattle.symbols_paths.specs.Derived.{decl_at, defined_at, head_at, alias_head}

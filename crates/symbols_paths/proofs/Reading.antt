@@ -1,46 +1,32 @@
 -- What a stored module has is what the graph's module has.
-use Rattle.std.proofs.Common.{◌≡◌, ℕ, zero, suc, ◌+◌, ◌<◌, ◌≤◌, Bool, true, false, List, [], ◌∷◌, ◌++◌, length, map, fold, Option, None, Some, slice_get, option_and_then, sym, ap, ◌∙◌, arith}
+use Rattle.std.proofs.Common.{◌≡◌, ℕ, zero, suc, ◌+◌, ◌<◌, ◌≤◌, Bool, true, false, List, [], ◌∷◌, ◌++◌, length, map, fold, Option, None, Some, slice_get, sym, ap, ◌∙◌, arith}
 use Rattle.std.specs.Prelude.{if◌then◌else◌}
 use Rattle.std.specs.List.{filter_map, cons_option, sum_by}
 use Rattle.std.specs.Option.{option_map, option_map_or}
 use Rattle.std.proofs.lemmas.List.{length-append, length-map}
 use Rattle.std.proofs.lemmas.List.Sums.{sum_by-cons}
-use Rattle.std.proofs.lemmas.Option.{get_or_from_slice_get, same_Some}
+use Rattle.std.proofs.lemmas.Option.{same_Some}
 use Rattle.symbols_syntax.specs.declared.ids.ModuleId.{ModuleId}
 use Rattle.symbols_syntax.specs.declared.ids.SymbolId.{SymbolId}
 use Rattle.symbols_syntax.specs.declared.ids.UniqueSymbolId.{UniqueSymbolId}
-use Rattle.symbols_syntax.specs.Graph.{ModuleView}
-use Rattle.symbols_syntax.specs.Ids.{IdView}
 use Rattle.symbols_table.specs.declared.decl.symbol.Symbol.{Symbol}
 use Rattle.symbols_table.specs.declared.decl.symbol_decl.SymbolDecl.{SymbolDecl}
 use Rattle.symbols_table.specs.declared.info.es_module.EsModuleInfo.{EsModuleInfo}
 use Rattle.symbols_table.specs.declared.info.json_module.JsonModuleInfo.{JsonModuleInfo}
 use Rattle.symbols_table.specs.Analysis.{source_changes, json_changes}
-use Rattle.symbols_table.specs.Changes.{Change, makes, declares, exports, has_child, exported, parents_after, decls_after, decl_by, mapped_after}
+use Rattle.symbols_table.specs.Changes.{Change, makes, declares, exports, has_child, exported, parents_after, decls_after, decl_by}
 use Rattle.symbols_table.specs.DeclViews.{Declaration, decl_view, with_decl, is_definition}
 use Rattle.symbols_table.specs.Events.{Row, found_or, new_row, next_symbol, default_row, default_text, changes_of, rows_after, symbol_at}
 use Rattle.symbols_table.specs.JsonEvents.{json_decl}
-use Rattle.symbols_table.specs.Modules.{Table, json_table, source_of, symbol_in, mapped_in}
+use Rattle.symbols_table.specs.Modules.{Table, json_table}
 use Rattle.symbols_table.specs.Symbols.{decls_in, exports_in}
 use Rattle.symbols_table.specs.SymbolViews.{SymbolView, symbol_view, symbol_after, symbol_made}
-use Rattle.symbols_root.specs.Roots.{RootView, IsStoredTable}
-use Rattle.symbols_exports.specs.Exporting.{specifier_in}
-use Rattle.symbols_exports.specs.StarStatements.{changes_under, owned_of}
+use Rattle.symbols_root.specs.Roots.{RootView, IsStoredTable, specifier_in}
+use Rattle.symbols_root.specs.GraphModules.{changes_under}
+use Rattle.symbols_root.specs.laws.StoredTables.{stored_symbol}
+use Rattle.symbols_exports.specs.StarStatements.{owned_of}
 use Rattle.symbols_paths.specs.Leads.{declarations_of}
 use Rattle.symbols_paths.specs.Views.{named}
-
--- the changes that made its table
-pub stored_changes : (root : RootView) (module_id : ModuleId) (table : Table) (stored : IsStoredTable root module_id table) → changes_under root.graph (specifier_in root module_id) ≡ source_changes stored.2.source
-stored_changes root module_id table stored =
-    let under = stored.2 in
-    let called : specifier_in root module_id ≡ stored.0 = get_or_from_slice_get root.stored module_id.0 stored.0 [] stored.1 in
-    ap (changes_under root.graph) called ∙ (ap (λ (found : Option ModuleView). option_map_or source_changes (option_and_then (λ m. source_of m.content) found) []) under.under ∙ ap (λ found. option_map_or source_changes found []) under.source_is)
-
-pub stored_symbol : (root : RootView) (module_id : ModuleId) (table : Table) → IsStoredTable root module_id table → (s : SymbolId) → symbol_in table s ≡ symbol_after (changes_under root.graph (specifier_in root module_id)) s
-stored_symbol root module_id table stored s = stored.2.analyzed.tables.symbols s ∙ ap (λ changes. symbol_after changes s) (sym (stored_changes root module_id table stored))
-
-pub stored_names : (root : RootView) (module_id : ModuleId) (table : Table) → IsStoredTable root module_id table → (id : IdView) → mapped_in table id ≡ mapped_after (changes_under root.graph (specifier_in root module_id)) id
-stored_names root module_id table stored id = stored.2.analyzed.tables.names id ∙ ap (λ changes. mapped_after changes id) (sym (stored_changes root module_id table stored))
 
 -- the declarations of a symbol of it
 pub stored_decls : (root : RootView) (s : UniqueSymbolId) (table : Table) (symbol : Symbol) → IsStoredTable root s.module_id table → slice_get table.symbols s.symbol_id.0 ≡ Some symbol → decls_in symbol ≡ declarations_of root.graph (named root s)

@@ -2,7 +2,7 @@
 use Rattle.std.proofs.Common.{◌≡◌, ℕ, zero, suc, ◌+◌, ◌≤◌, ◌⊎◌, inl, inr, Bool, true, false, List, [], ◌∷◌, ◌++◌, Option, None, Some, refl, sym, ◌∙◌, ap, subst, arith, true≢false}
 use Rattle.std.specs.Prelude.{Contains}
 use Rattle.std.proofs.lemmas.List.Elements.{Contains-append_cases}
-use Rattle.symbols_paths.specs.Trees.{NamedSymbol, NamedDecl, Parts, Defined, Missing, LinkHead, Forest, Leaf, definition, unresolved, none, one, join, link_to, leaves_in, IsOnce}
+use Rattle.symbols_paths.specs.Trees.{NamedSymbol, NamedDecl, Parts, Defined, Missing, LinkHead, Forest, Leaf, definition, unresolved, none, join, link_to, leaves_in, IsOnce}
 use Rattle.symbols_paths.specs.Leads.{Ways, Lead, leads, StandsAt}
 use Rattle.symbols_paths.specs.PartWays.{Links}
 use Rattle.symbols_paths.specs.Searches.{IsReached, begun, led, MeetsNoAlias}

@@ -5,12 +5,13 @@ use Rattle.std.specs.Str.{bytes_eq}
 use Rattle.std.proofs.lemmas.List.{map-append}
 use Rattle.symbols_syntax.specs.declared.ids.UniqueSymbolId.{UniqueSymbolId}
 use Rattle.symbols_root.specs.Roots.{RootView}
+use Rattle.symbols_root.specs.Growing.{HasGrown}
+use Rattle.symbols_root.specs.laws.Growing.{still_stored}
 use Rattle.symbols_paths.specs.declared.paths.resolving.AliasDecl.{AliasDecl}
 use Rattle.symbols_paths.specs.Choice.{is_met, is_running}
-use Rattle.symbols_paths.specs.Growing.{HasGrown}
 use Rattle.symbols_paths.specs.Views.{named}
 use Rattle.symbols_paths.specs.Searching.{AreNumbered, AreAliasesNumbered, met_told, running_told, alias_told}
-use Rattle.symbols_paths.proofs.Growing.{still_stored, same_number}
+use Rattle.symbols_paths.proofs.Growing.{same_number}
 
 -- whether these are one symbol, as the set of met symbols tells it
 abbrev pub is_symbol : UniqueSymbolId → UniqueSymbolId → Bool

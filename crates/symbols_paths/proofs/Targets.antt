@@ -1,56 +1,29 @@
 -- What texts and `export *` lead to, in a root that stores it.
-use Rattle.std.proofs.Common.{◌≡◌, ℕ, zero, suc, ◌<◌, inl, inr, List, [], ◌∷◌, length, map, get_or, Option, None, Some, option_map, option_to_list, option_and_then, Result, Ok, Err, OnOk, OnErr, refl, sym, ap, subst, ◌∙◌, arith, slice_get}
-use Rattle.std.proofs.lemmas.Option.{get_or_from_slice_get, none-some, same_Some}
+use Rattle.std.proofs.Common.{◌≡◌, ℕ, zero, suc, ◌<◌, inl, inr, List, [], ◌∷◌, length, map, get_or, Option, None, Some, option_map, option_to_list, option_and_then, refl, sym, ap, subst, ◌∙◌, arith, slice_get}
+use Rattle.std.proofs.lemmas.Option.{none-some, same_Some}
 use Rattle.symbols_syntax.specs.declared.ids.ModuleId.{ModuleId}
 use Rattle.symbols_syntax.specs.declared.ids.UniqueSymbolId.{UniqueSymbolId}
 use Rattle.symbols_syntax.specs.Graph.{GraphView}
 use Rattle.symbols_table.specs.declared.info.fault.SymbolsFault.{SymbolsFault}
-use Rattle.symbols_root.specs.Roots.{RootView, with_stored, specifier_under, IsRefusal}
+use Rattle.symbols_root.specs.Roots.{RootView, IsRefusal, specifier_in}
+use Rattle.symbols_root.specs.Growing.{HasGrown}
+use Rattle.symbols_root.specs.laws.Numbers.{IsTarget}
 use Rattle.symbols_exports.specs.declared.exports.path.ResolvedExportOrReExportAllPath.{ResolvedExportOrReExportAllPath}
 use Rattle.symbols_exports.specs.Chains.{target, chain_end}
 use Rattle.symbols_exports.specs.Exports.{Entry}
-use Rattle.symbols_exports.specs.Exporting.{specifier_in}
 use Rattle.symbols_exports.specs.OneName.{export_named, IsNameAnswer, IsNameFault, named_way}
 use Rattle.symbols_exports.specs.Paths.{resolved_export}
 use Rattle.symbols_exports.specs.StarStatements.{star_texts, text_target, statements_of}
-use Rattle.symbols_exports.specs.Taking.{NameView}
 use Rattle.symbols_exports.specs.Told.{ToldExport, told_export, told_name}
 use Rattle.symbols_paths.specs.Trees.{NamedSymbol}
 use Rattle.symbols_paths.specs.Leads.{export_along}
 use Rattle.symbols_paths.specs.Views.{named}
-use Rattle.symbols_paths.specs.Growing.{HasGrown}
 use Rattle.symbols_paths.specs.Needed.{IsNeeded, begun, passed_on, IsRefused}
-use Rattle.symbols_paths.proofs.Growing.{grown_not, grown_by_one, grown_by_all}
-
-pub grown_by : {A : Type 0} (old new : RootView) (needed : Option (List ℕ)) (result : Result A SymbolsFault) → OnOk result (new ≡ with_stored old needed) → OnErr result (new ≡ old) → HasGrown old new
-grown_by old new needed (Ok x) stored same = subst (HasGrown old) (sym stored) (grown_by_one old needed)
-grown_by old new needed (Err e) stored same = subst (HasGrown old) (sym same) (grown_not old)
-
-within_at : {A : Type 0} (xs : List A) (i : ℕ) (x : A) → slice_get xs i ≡ Some x → i < length xs
-within_at [] i x e = absurd cc
-within_at (y ∷ ys) zero x e = omega arith
-within_at (y ∷ ys) (suc i) x e = omega (arith, within_at ys i x e)
 
 at_map : {A B : Type 0} (f : A → B) (d : B) (xs : List A) (i : ℕ) (x : A) → slice_get xs i ≡ Some x → get_or (map f xs) i d ≡ f x
 at_map f d [] i x e = absurd cc
 at_map f d (y ∷ ys) zero x e = ap f (same_Some y x e)
 at_map f d (y ∷ ys) (suc i) x e = at_map f d ys i x e
-
--- the module that a text stands for, by its number
-pub record IsTarget (root : RootView) (id : ModuleId) (found : Option (List ℕ)) : Type 0 where
-  pub is : found ≡ Some (specifier_in root id)
-  pub within : id.0 < length root.stored
-
-pub target_is : (root : RootView) (id : ModuleId) (found : Option (List ℕ)) → Some (specifier_under root id) ≡ option_map (λ s. Some s) found → IsTarget root id found
-target_is root id None e = absurd cc
-target_is root id (Some v) e =
-    let at : specifier_under root id ≡ Some v = same_Some (specifier_under root id) (Some v) e in
-    record { is = ap Some (sym (get_or_from_slice_get root.stored id.0 v [] at)); within = within_at root.stored id.0 v at }
-
--- none where the text stands for no module
-pub no_target : (found : Option (List ℕ)) → None ≡ option_map (λ s. Some s) found → found ≡ None
-no_target None e = refl
-no_target (Some v) e = absurd cc
 
 -- ---- what is needed
 
@@ -75,20 +48,12 @@ refused_there old new m text fault stands same refusal = subst (λ root. IsRefus
 
 -- ---- one export
 
--- the root after it was looked for
-pub grown_answer : {old new : RootView} {id : ModuleId} {name : List ℕ} {names : List NameView} {asked : ℕ} → IsNameAnswer old new id name names asked → HasGrown old new
-grown_answer {old = old} is = subst (HasGrown old) (sym is.stored) (grown_by_all old (map (λ (m : List ℕ × List ℕ). m.1) is.reached))
-
-pub grown_fault : {old new : RootView} {id : ModuleId} {name : List ℕ} {fault : SymbolsFault} {asked : ℕ} → IsNameFault old new id name fault asked → HasGrown old new
-grown_fault {old = old} (inl is) = subst (HasGrown old) (sym is.unchanged) (grown_not old)
-grown_fault {old = old} (inr is) = subst (HasGrown old) (sym is.stored) (grown_by_all old (map (λ (m : List ℕ × List ℕ). m.1) is.reached))
-
-pub refused_along : (old mid new : RootView) (m text name : List ℕ) (id : ModuleId) (fault : SymbolsFault) (asked : ℕ) → HasGrown old mid → (position : ℕ) × (slice_get (star_texts old.graph m) position ≡ Some text) → IsTarget mid id (text_target old.graph m text) → IsNameFault mid new id name fault asked → IsRefused new m fault
-refused_along old mid new m text name id fault asked grown stands leads (inl is) = absurd (omega (arith, is.unknown, leads.within))
-refused_along old mid new m text name id fault asked grown stands leads (inr is) = record { needed = is.needed; is_needed = needed; refused = is.refused }
+pub refused_along : (old mid new : RootView) (m text name : List ℕ) (id : ModuleId) (fault : SymbolsFault) (asked : ℕ) → HasGrown old mid → HasGrown mid new → (position : ℕ) × (slice_get (star_texts old.graph m) position ≡ Some text) → IsTarget mid id (text_target old.graph m text) → IsNameFault mid new id name fault asked → IsRefused new m fault
+refused_along old mid new m text name id fault asked grown more stands leads (inl is) = absurd (omega (arith, is.unknown, leads.within))
+refused_along old mid new m text name id fault asked grown more stands leads (inr is) = record { needed = is.needed; is_needed = needed; refused = is.refused }
   where
     same : new.graph ≡ mid.graph
-    same = (grown_fault (inr is)).graph
+    same = more.graph
 
     there : IsNeeded mid.graph m (specifier_in mid id)
     there = subst (λ g. IsNeeded g m (specifier_in mid id)) (sym grown.graph) (needed_there old.graph m text (specifier_in mid id) stands.0 stands.1 leads.is)
@@ -136,15 +101,15 @@ some_stored old new name id path asked is = (is.names_stored 0 (named_way name p
 
 -- ---- an export of a module itself
 
-pub refused_export : (old new : RootView) (name : List ℕ) (id : ModuleId) (fault : SymbolsFault) (asked : ℕ) → id.0 < length old.stored → IsNameFault old new id name fault asked → IsRefused new (specifier_in old id) fault
-refused_export old new name id fault asked known (inl is) = absurd (omega (arith, is.unknown, known))
-refused_export old new name id fault asked known (inr is) = record { needed = is.needed; is_needed = needed; refused = is.refused }
+pub refused_export : (old new : RootView) (name : List ℕ) (id : ModuleId) (fault : SymbolsFault) (asked : ℕ) → id.0 < length old.stored → HasGrown old new → IsNameFault old new id name fault asked → IsRefused new (specifier_in old id) fault
+refused_export old new name id fault asked known grown (inl is) = absurd (omega (arith, is.unknown, known))
+refused_export old new name id fault asked known grown (inr is) = record { needed = is.needed; is_needed = needed; refused = is.refused }
   where
     needed : (v : List ℕ) → is.needed ≡ Some v → IsNeeded new.graph (specifier_in old id) v
     needed v e =
         let at = is.is_needed v e in
         let asked_for = is.are_asked at.0 at.1 in
-        subst (λ g. IsNeeded g (specifier_in old id) v) (sym (grown_fault (inr is)).graph) (passed_on at.0.0 at.0.1 (needed_along asked_for.0 begun asked_for.1.is_chain.leads) at.2)
+        subst (λ g. IsNeeded g (specifier_in old id) v) (sym grown.graph) (passed_on at.0.0 at.0.1 (needed_along asked_for.0 begun asked_for.1.is_chain.leads) at.2)
 
 pub none_exported : (old new : RootView) (id : ModuleId) (name : List ℕ) (asked : ℕ) → IsNameAnswer old new id name [] asked → export_named old.graph (specifier_in old id) name ≡ None
 none_exported old new id name asked is = by (export_named old.graph (specifier_in old id) name) is.tells

@@ -1,5 +1,5 @@
 -- Trails as paths, and what they name, part by part.
-use Rattle.std.proofs.Common.{◌≡◌, ℕ, zero, suc, List, [], ◌∷◌, ◌++◌, length, map, Option, None, Some, option_to_list, Vec, Box, true, false, true≢false, refl, sym, ◌∙◌, ap, subst, arith, append_assoc, append-nil}
+use Rattle.std.proofs.Common.{◌≡◌, ℕ, zero, suc, ◌<◌, List, [], ◌∷◌, ◌++◌, length, map, Option, None, Some, option_to_list, Vec, Box, true, false, true≢false, refl, sym, ◌∙◌, ap, subst, arith, append_assoc, append-nil}
 use Rattle.std.specs.Prelude.{vec_len, ◌==◌}
 use Rattle.std.specs.Global.{Global}
 use Rattle.std.proofs.lemmas.List.{map-append}
@@ -114,6 +114,10 @@ stored_apart root (x ∷ xs) ys h =
 
 pub none_stored : (root : RootView) → AreStored root []
 none_stored root k d w = absurd (omega (arith, w))
+
+pub one_stored : (root : RootView) (id : ModuleId) → id.0 < length root.stored → AreStored root (id ∷ [])
+one_stored root id within zero d w = within
+one_stored root id within (suc k) d w = absurd (omega (arith, w))
 
 pub joined_on : (xs ys : List (List ModuleId)) → joined (xs ++ ys) ≡ joined xs ++ joined ys
 joined_on [] ys = refl

@@ -4,8 +4,9 @@ use Rattle.std.specs.Prelude.{IfSome}
 use Rattle.std.proofs.lemmas.Option.{same_Some}
 use Rattle.symbols_syntax.specs.declared.ids.ModuleId.{ModuleId}
 use Rattle.symbols_syntax.specs.declared.ids.UniqueSymbolId.{UniqueSymbolId}
-use Rattle.symbols_root.specs.Roots.{RootView}
-use Rattle.symbols_exports.specs.Exporting.{specifier_in}
+use Rattle.symbols_root.specs.Roots.{RootView, specifier_in}
+use Rattle.symbols_root.specs.Growing.{HasGrown}
+use Rattle.symbols_root.specs.laws.Growing.{grown_not, grown_on, same_specifier, still_stored}
 use Rattle.symbols_exports.specs.StarStatements.{star_texts, text_target, statements_of}
 use Rattle.symbols_paths.specs.declared.paths.resolving.AliasDecl.{AliasDecl}
 use Rattle.symbols_paths.specs.declared.paths.trail.Trail.{Trail}
@@ -14,11 +15,9 @@ use Rattle.symbols_paths.specs.Leads.{export_along}
 use Rattle.symbols_paths.specs.PartWays.{links_of}
 use Rattle.symbols_paths.specs.Choice.{Tries, missing_in}
 use Rattle.symbols_paths.specs.Computed.{enough}
-use Rattle.symbols_paths.specs.Growing.{HasGrown}
 use Rattle.symbols_paths.specs.Views.{named, AreStored}
 use Rattle.symbols_paths.specs.Trails.{trails_told, modules_of_trails}
 use Rattle.symbols_paths.specs.Searching.{AreNumbered, met_told, running_told, FindsOne, HasSearched, IsTried, IsOffered, ways_along}
-use Rattle.symbols_paths.proofs.Growing.{grown_not, grown_on, same_specifier, still_stored}
 use Rattle.symbols_paths.proofs.Loops.{IsTrying, trying_first, trying_next, trying_here, trying_last}
 
 -- the unresolved entry where no export gives a path

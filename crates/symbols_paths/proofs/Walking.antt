@@ -8,8 +8,9 @@ use Rattle.std.proofs.lemmas.List.Elements.{Contains-append_left, Contains-appen
 use Rattle.symbols_syntax.specs.declared.ids.ModuleId.{ModuleId}
 use Rattle.symbols_syntax.specs.declared.ids.UniqueSymbolId.{UniqueSymbolId}
 use Rattle.symbols_table.specs.declared.info.fault.SymbolsFault.{SymbolsFault}
-use Rattle.symbols_root.specs.Roots.{RootView}
-use Rattle.symbols_exports.specs.Exporting.{specifier_in}
+use Rattle.symbols_root.specs.Roots.{RootView, specifier_in}
+use Rattle.symbols_root.specs.Growing.{HasGrown}
+use Rattle.symbols_root.specs.laws.Growing.{grown_not, grown_on, same_specifier, still_stored}
 use Rattle.symbols_paths.specs.declared.paths.definition.Definition.{Definition}
 use Rattle.symbols_paths.specs.declared.paths.parts.PartWay.{PartWay as ReadWay}
 use Rattle.symbols_paths.specs.declared.paths.parts.PartWay.TheVariants as way
@@ -22,12 +23,11 @@ use Rattle.symbols_paths.specs.Derived.{part_head}
 use Rattle.symbols_paths.specs.Choice.{is_running, Walks, no_parts, ChangesOne, of_definition, of_itself, of_lacking}
 use Rattle.symbols_paths.specs.Computed.{enough}
 use Rattle.symbols_paths.specs.Rebuilt.{defined_of, defined_within, rebuilt}
-use Rattle.symbols_paths.specs.Growing.{HasGrown}
-use Rattle.symbols_paths.specs.Views.{named, named_in, decl_told, definition_told, unresolved_told, first_part, later_parts, star_of, module_of_definition, AreStored}
+use Rattle.symbols_paths.specs.Views.{named, named_in, decl_told, definition_told, unresolved_told, first_part, later_parts, module_of_definition, AreStored}
 use Rattle.symbols_paths.specs.Trails.{trails_told, trails_of_option, trail_told, modules_of_trail, modules_of_trails, present}
 use Rattle.symbols_paths.specs.Needed.{IsNeeded, IsRefused, IsStarDeclared}
 use Rattle.symbols_paths.specs.Searching.{AreNumbered, AreAliasesNumbered, met_told, running_told, alias_told, HasSearched, while_running, by_walk, IsFound, IsWalked, IsResolved, IsChanged, way_told, IsWayStored}
-use Rattle.symbols_paths.proofs.Growing.{grown_not, grown_on, same_specifier, still_stored, all_still_stored}
+use Rattle.symbols_paths.proofs.Growing.{all_still_stored}
 use Rattle.symbols_paths.proofs.Told.{head_told, stored_both}
 use Rattle.symbols_paths.proofs.Leaves.{finds_leaf}
 use Rattle.symbols_paths.proofs.LeafNeeds.{leaf_given, part_needed}
@@ -89,10 +89,6 @@ module _ {old mid : RootView} (running : List AliasDecl) (before : List UniqueSy
 -- the link in its place
 pub head_in_place : (root : RootView) (symbol : UniqueSymbolId) (x : Definition) (ps : Parts) → symbol.module_id ≡ x.«module» → symbol.symbol_id ≡ x.symbol_decl.symbol → head_told root symbol.module_id symbol.symbol_id x.symbol_decl ps ≡ part_head (definition_told root x) ps
 head_in_place root symbol x ps in_module number = (λ i. record { symbol = named_in root (in_module i) (number i); decl = decl_told root (in_module i) x.symbol_decl; parts = ps })
-
--- the definition itself
-pub definition_in_place : (root : RootView) (symbol : UniqueSymbolId) (x : Definition) → symbol.module_id ≡ x.«module» → one (leaf (definition (record { decl = decl_told root symbol.module_id x.symbol_decl; range = x.range; star = star_of x.kind }))) ≡ one (leaf (definition (definition_told root x)))
-definition_in_place root symbol x in_module = (λ i. one (leaf (definition (record { decl = decl_told root (in_module i) x.symbol_decl; range = x.range; star = star_of x.kind }))))
 
 pub one_less : (parts : Parts) → 0 < length parts → length (later_parts parts) + 1 ≡ length parts
 one_less [] some = absurd (omega (arith, some))

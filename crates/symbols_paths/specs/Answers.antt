@@ -1,33 +1,33 @@
 -- What `find_definition_paths` answers.
-use Rattle.std.specs.Prelude.{◌≡◌, ◌≢◌, ◌<◌, ◌≤◌, ◌⊎◌, List, [], length, Contains, Option, None}
+use Rattle.std.specs.Prelude.{◌≡◌, ◌≢◌, ◌<◌, ◌≤◌, ◌⊎◌, List, [], ◌∷◌, length, Contains, Option, None}
 use Rattle.symbols_syntax.specs.declared.ids.ModuleId.{ModuleId}
 use Rattle.symbols_syntax.specs.declared.ids.SymbolId.{SymbolId}
 use Rattle.symbols_syntax.specs.Graph.{GraphView}
 use Rattle.symbols_table.specs.declared.info.fault.SymbolsFault.{SymbolsFault}
 use Rattle.symbols_table.specs.declared.info.fault.SymbolsFault.TheVariants.{UnknownModule, UnknownSymbol}
-use Rattle.symbols_table.specs.SymbolViews.{SymbolView, symbol_after}
-use Rattle.symbols_root.specs.Roots.{RootView}
-use Rattle.symbols_exports.specs.Exporting.{specifier_in}
-use Rattle.symbols_exports.specs.StarStatements.{changes_under}
+use Rattle.symbols_table.specs.SymbolViews.{SymbolView}
+use Rattle.symbols_root.specs.Roots.{RootView, specifier_in}
+use Rattle.symbols_root.specs.GraphModules.{symbol_under}
 use Rattle.symbols_paths.specs.declared.paths.node.DefinitionPathNode.{DefinitionPathNode}
 use Rattle.symbols_paths.specs.Trees.{NamedSymbol, Parts, Leaf, Forest, leaves_in, IsOnce}
 use Rattle.symbols_paths.specs.PartWays.{links_of}
 use Rattle.symbols_paths.specs.Derived.{IsDerived, IsDerivedUnder}
 use Rattle.symbols_paths.specs.Reach.{IsLeaf, IsWalk, IsNearLeaf, GivesUnder, IsPartLast}
-use Rattle.symbols_paths.specs.Searches.{IsFirstLeaf, IsFirstWalk, IsApart, HasOneRest, MeetsNoAlias}
+use Rattle.symbols_paths.specs.Searches.{IsFirstLeaf, IsFirstWalk, IsApart, HasOneRest, HasOneRestItself, MeetsNoAlias}
 use Rattle.symbols_paths.specs.Choice.{IsChosen, IsChosenUnder}
 use Rattle.symbols_paths.specs.Views.{named_in, forest_told, modules_in, AreStored}
 use Rattle.symbols_paths.specs.Needed.{IsRefused}
 
--- the paths of a symbol under parts: each is derived, each leaf is one of the symbol's under the parts, and what a leaf of first reach comes to under the parts is there; no leaf is lost where no alias is met in its own search and no symbol reached with two different remaining parts in one; and of all such lists it is the choice
+-- the paths of a symbol under parts: each is derived, each leaf is one of the symbol's under the parts, and what a leaf of first reach comes to under the parts is there; no leaf is lost where no alias is met in its own search and no symbol reached with two different remaining parts in one, and so none where no alias is met at all and the search itself reaches no symbol with two; and of all such lists it is the choice
 pub record ArePathsUnder (graph : GraphView) (s : NamedSymbol) (ps : Parts) (paths : Forest) : Type 0 where
   pub derived : IsDerivedUnder (links_of graph) s ps paths
   pub leaves : (x : Leaf) → Contains (leaves_in paths) x → IsWalk (links_of graph) s ps x
   pub first : (x y : Leaf) → IsNearLeaf (links_of graph) s x → GivesUnder (links_of graph) ps x y → Contains (leaves_in paths) y
   pub lossless : IsApart (links_of graph) s ps → HasOneRest (links_of graph) s ps → (x : Leaf) → IsFirstWalk (links_of graph) s ps x → Contains (leaves_in paths) x
+  pub all_without_alias : MeetsNoAlias (links_of graph) s ps → HasOneRestItself (links_of graph) s ps → (x : Leaf) → IsFirstWalk (links_of graph) s ps x → Contains (leaves_in paths) x
   pub chosen : IsChosenUnder (links_of graph) s ps paths
 
--- the paths of a symbol: the same without parts; no leaf of first reach is lost, no declaration is given twice where no alias is met, and a part that isn't resolved, behind no alias, stands only where all else is told
+-- the paths of a symbol: the same without parts; no leaf of first reach is lost, where no alias is met none is lost and no declaration is given twice, and a part that isn't resolved, behind no alias, stands only where all else is told
 pub record ArePaths (graph : GraphView) (s : NamedSymbol) (paths : Forest) : Type 0 where
   pub derived : IsDerived (links_of graph) s paths
   pub leaves : (x : Leaf) → Contains (leaves_in paths) x → IsLeaf (links_of graph) s x
@@ -35,11 +35,17 @@ pub record ArePaths (graph : GraphView) (s : NamedSymbol) (paths : Forest) : Typ
   pub once : MeetsNoAlias (links_of graph) s [] → IsOnce (leaves_in paths)
   pub parts : IsPartLast graph paths (leaves_in paths)
   pub lossless : IsApart (links_of graph) s [] → HasOneRest (links_of graph) s [] → (x : Leaf) → IsFirstLeaf (links_of graph) s x → Contains (leaves_in paths) x
+  pub all_without_alias : MeetsNoAlias (links_of graph) s [] → (x : Leaf) → IsFirstLeaf (links_of graph) s x → Contains (leaves_in paths) x
   pub chosen : IsChosen (links_of graph) s paths
+
+-- the paths of a symbol under parts, of which there may be none
+abbrev pub ArePathsFor : GraphView → NamedSymbol → Parts → Forest → Type 0
+ArePathsFor graph s [] paths = ArePaths graph s paths
+ArePathsFor graph s (p ∷ ps) paths = ArePathsUnder graph s (p ∷ ps) paths
 
 -- the symbol of a stored module
 abbrev pub symbol_in : RootView → ModuleId → SymbolId → Option SymbolView
-symbol_in root module_id s = symbol_after (changes_under root.graph (specifier_in root module_id)) s
+symbol_in root module_id s = symbol_under root.graph (specifier_in root module_id) s
 
 -- an answer: the module is stored and has the symbol, and all modules that the paths name are stored then
 pub record IsPathsAnswer (old new : RootView) (module_id : ModuleId) (s : SymbolId) (paths : List DefinitionPathNode) : Type 0 where

@@ -1,5 +1,5 @@
 -- What `resolve_symbol_dep` answers.
-use Rattle.std.specs.Prelude.{◌≡◌, ◌<◌, ◌≤◌, ◌⊎◌, ℕ, List, [], ◌∷◌, length, Option, Some, None, MatchOption}
+use Rattle.std.specs.Prelude.{◌≡◌, ◌<◌, ◌≤◌, ◌⊎◌, ℕ, List, [], ◌∷◌, length, map, Option, Some, None, MatchOption}
 use Rattle.std.specs.Option.{option_map, option_map_or}
 use Rattle.symbols_syntax.specs.declared.ids.ModuleId.{ModuleId}
 use Rattle.symbols_syntax.specs.declared.ids.SymbolId.{SymbolId}
@@ -8,8 +8,7 @@ use Rattle.symbols_syntax.specs.Ids.{IdView}
 use Rattle.symbols_nodes.specs.References.{Reference, id, qualified_id, import_type}
 use Rattle.symbols_table.specs.declared.info.fault.SymbolsFault.{SymbolsFault}
 use Rattle.symbols_table.specs.declared.info.fault.SymbolsFault.TheVariants.{UnknownModule}
-use Rattle.symbols_root.specs.Roots.{RootView}
-use Rattle.symbols_exports.specs.Exporting.{specifier_in}
+use Rattle.symbols_root.specs.Roots.{RootView, specifier_in}
 use Rattle.symbols_exports.specs.StarStatements.{text_target}
 use Rattle.symbols_paths.specs.declared.paths.resolve.ResolvedSymbolDepEntry.{ResolvedSymbolDepEntry}
 use Rattle.symbols_paths.specs.declared.paths.resolve.ResolvedSymbolDepEntry.TheVariants as entry
@@ -17,9 +16,9 @@ use Rattle.symbols_paths.specs.Trees.{NamedSymbol, Parts, no_symbol, no_module, 
 use Rattle.symbols_paths.specs.Leads.{symbol_of_id}
 use Rattle.symbols_paths.specs.PartWays.{PartWay, to, itself, lacks, text_part}
 use Rattle.symbols_paths.specs.Computed.{paths_under}
-use Rattle.symbols_paths.specs.Views.{tree_told}
+use Rattle.symbols_paths.specs.Views.{tree_told, joined, modules_of}
 use Rattle.symbols_paths.specs.Needed.{IsRefused}
-use Rattle.symbols_paths.specs.Answers.{ArePathsUnder}
+use Rattle.symbols_paths.specs.Answers.{ArePathsFor}
 
 -- an entry: a path, or a module by its specifier
 pub data EntryView : Type 0 where
@@ -29,6 +28,14 @@ pub data EntryView : Type 0 where
 abbrev pub entry_told : RootView → ResolvedSymbolDepEntry → EntryView
 entry_told root (entry.Path path) = a_path (tree_told root path)
 entry_told root (entry.ImportType module_id) = a_module (specifier_in root module_id)
+
+-- the modules that entries name
+abbrev pub modules_of_entry : ResolvedSymbolDepEntry → List ModuleId
+modules_of_entry (entry.Path path) = modules_of path
+modules_of_entry (entry.ImportType module_id) = module_id ∷ []
+
+abbrev pub modules_of_entries : List ResolvedSymbolDepEntry → List ModuleId
+modules_of_entries entries = joined (map modules_of_entry entries)
 
 -- each path an entry
 abbrev pub entries_in : Forest → List EntryView
@@ -82,11 +89,11 @@ entries_of graph specifier reference = option_map_or (λ (asked : Asked). entrie
 
 -- an answer: the paths of the symbol under the parts, where one is asked for
 abbrev pub IsDepAnswer : GraphView → List ℕ → Reference → List EntryView → Type 0
-IsDepAnswer graph specifier reference entries = MatchOption (asked_for graph specifier reference) (entries ≡ other_entries graph specifier reference) (λ asked. (paths : Forest) × ArePathsUnder graph asked.0 asked.1 paths × (entries ≡ entries_in paths))
+IsDepAnswer graph specifier reference entries = MatchOption (asked_for graph specifier reference) (entries ≡ other_entries graph specifier reference) (λ asked. (paths : Forest) × ArePathsFor graph asked.0 asked.1 paths × (entries ≡ entries_in paths))
 
 -- for inner functions: the paths that were found of a symbol under parts, or the one unresolved entry
 abbrev pub ArePathsOf : GraphView → Option Asked → Forest → Forest → Type 0
-ArePathsOf graph asked otherwise paths = MatchOption asked (paths ≡ otherwise) (λ it. ArePathsUnder graph it.0 it.1 paths × (paths ≡ paths_under graph it.0 it.1))
+ArePathsOf graph asked otherwise paths = MatchOption asked (paths ≡ otherwise) (λ it. ArePathsFor graph it.0 it.1 paths × (paths ≡ paths_under graph it.0 it.1))
 
 -- no answer: no module of this number is stored, and nothing changes; else what was refused is a module that is needed on from the module, or from that which an import type stands for, or memory
 pub data IsDepRefused (root : RootView) (specifier : List ℕ) (reference : Reference) (fault : SymbolsFault) : Type 0 where

@@ -11,9 +11,10 @@ use Rattle.symbols_syntax.specs.Ids.{IdView}
 use Rattle.symbols_table.specs.Changes.{mapped_after}
 use Rattle.symbols_table.specs.DeclViews.{all_names, one_name, DepView, DeclKind, target, qualified_target, file_ref, definition, Declaration}
 use Rattle.symbols_table.specs.SymbolViews.{SymbolView, symbol_after}
+use Rattle.symbols_root.specs.GraphModules.{changes_under}
 use Rattle.symbols_exports.specs.Exports.{Entry}
 use Rattle.symbols_exports.specs.OneName.{export_named}
-use Rattle.symbols_exports.specs.StarStatements.{changes_under, text_target, statements_of, owned_of}
+use Rattle.symbols_exports.specs.StarStatements.{text_target, statements_of, owned_of}
 use Rattle.symbols_paths.specs.Trees.{NamedSymbol, Parts, Missing, no_symbol, no_module, no_part}
 
 -- the ways on from a declaration: the symbol that its link tells, with the parts; the candidates, of which the first that has a path is taken; and the unresolved entry that stands where none has one

@@ -9,7 +9,6 @@ pub mod Computed
 pub mod Rebuilt
 pub mod Views
 pub mod Trails
-pub mod Growing
 pub mod Needed
 pub mod Searching
 pub mod Answers

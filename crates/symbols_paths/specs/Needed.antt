@@ -5,18 +5,15 @@ use Rattle.symbols_table.specs.DeclViews.{DepName, DepView, Declaration, file_re
 use Rattle.symbols_table.specs.declared.info.fault.SymbolsFault.{SymbolsFault}
 use Rattle.symbols_root.specs.Roots.{RootView, IsRefusal}
 use Rattle.symbols_exports.specs.Chains.{target}
-use Rattle.symbols_exports.specs.Exports.{Entry}
-use Rattle.symbols_exports.specs.OneName.{export_named}
 use Rattle.symbols_exports.specs.StarStatements.{text_target, statements_of}
 use Rattle.symbols_paths.specs.Trees.{NamedSymbol, Defined}
 use Rattle.symbols_paths.specs.Leads.{declarations_of}
 
--- the module that a search begins in; what an import leads to; what an `export *` leads to; and the owner of a name that is exported
+-- the module that a search begins in; what an import leads to; and what an `export *` leads to
 pub data IsNeeded (graph : GraphView) (start : List ℕ) : List ℕ → Type 0 where
   begun : IsNeeded graph start start
   imported : {v : List ℕ} (s : NamedSymbol) (decl : Declaration) (name : DepName) (text : List ℕ) → IsNeeded graph start s.specifier → Contains (declarations_of graph s) decl → decl.kind ≡ file_ref name text → text_target graph s.specifier text ≡ Some v → IsNeeded graph start v
   passed_on : {v : List ℕ} (specifier : List ℕ) (position : ℕ) → IsNeeded graph start specifier → target (statements_of graph) specifier position ≡ Some v → IsNeeded graph start v
-  owner : (specifier name : List ℕ) (entry : Entry) → IsNeeded graph start specifier → export_named graph specifier name ≡ Some entry → IsNeeded graph start entry.owner
 
 -- what was refused, if it was a module, is one of these
 pub record IsRefused (root : RootView) (start : List ℕ) (fault : SymbolsFault) : Type 0 where

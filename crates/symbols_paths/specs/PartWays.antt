@@ -8,9 +8,10 @@ use Rattle.symbols_syntax.specs.Graph.{GraphView}
 use Rattle.symbols_nodes.specs.NodeTests.{is_class}
 use Rattle.symbols_table.specs.DeclViews.{DepView, node_test}
 use Rattle.symbols_table.specs.SymbolViews.{SymbolView, symbol_after}
+use Rattle.symbols_root.specs.GraphModules.{changes_under}
 use Rattle.symbols_exports.specs.Exports.{Entry}
 use Rattle.symbols_exports.specs.OneName.{export_named}
-use Rattle.symbols_exports.specs.StarStatements.{changes_under, text_target}
+use Rattle.symbols_exports.specs.StarStatements.{text_target}
 use Rattle.symbols_paths.specs.Trees.{NamedSymbol, NamedDecl, Parts, Defined, Missing, no_module, no_part}
 use Rattle.symbols_paths.specs.Leads.{Leads, declarations_of, leads_of}
 

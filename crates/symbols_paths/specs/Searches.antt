@@ -43,6 +43,10 @@ pub record IsApart (links : Links) (asked : NamedSymbol) (under : Parts) : Type 
 pub record HasOneRest (links : Links) (asked : NamedSymbol) (under : Parts) : Type 0 where
   pub one_rest : (run : List NamedDecl) (s : NamedSymbol) (r : Parts) (u : NamedSymbol) (q o : Parts) → IsSearch links asked under run s r → IsReached links s r u q → IsReached links s r u o → q ≡ o
 
+-- the search itself reaches no symbol with two different remaining parts
+pub record HasOneRestItself (links : Links) (asked : NamedSymbol) (under : Parts) : Type 0 where
+  pub one_rest : (u : NamedSymbol) (q o : Parts) → IsReached links asked under u q → IsReached links asked under u o → q ≡ o
+
 -- its own search meets no alias
 pub record MeetsNoAlias (links : Links) (asked : NamedSymbol) (under : Parts) : Type 0 where
   pub meets_none : (u : NamedSymbol) (i : ℕ) (t : NamedSymbol) (q ps : Parts) → IsReached links asked under u q → StandsAt links.leads u i (alias t ps) → ⊥

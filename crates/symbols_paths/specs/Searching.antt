@@ -6,8 +6,8 @@ use Rattle.symbols_syntax.specs.declared.ids.UniqueSymbolId.{UniqueSymbolId}
 use Rattle.symbols_syntax.specs.Graph.{GraphView}
 use Rattle.symbols_syntax.specs.Ids.{id_view}
 use Rattle.symbols_table.specs.DeclViews.{Declaration, file_ref, one_name}
-use Rattle.symbols_root.specs.Roots.{RootView}
-use Rattle.symbols_exports.specs.Exporting.{specifier_in}
+use Rattle.symbols_root.specs.Roots.{RootView, specifier_in}
+use Rattle.symbols_root.specs.Growing.{HasGrown}
 use Rattle.symbols_exports.specs.StarStatements.{text_target}
 use Rattle.symbols_paths.specs.declared.paths.definition.Definition.{Definition}
 use Rattle.symbols_paths.specs.declared.paths.leads.Lead.{Lead as ReadLead}
@@ -23,7 +23,6 @@ use Rattle.symbols_paths.specs.Choice.{is_running, Finds, Follows, Tries, Walks,
 use Rattle.symbols_paths.specs.Computed.{enough}
 use Rattle.symbols_paths.specs.Views.{named, named_in, decl_told, definition_told, unresolved_told, first_part, later_parts, star_of, AreStored}
 use Rattle.symbols_paths.specs.Trails.{parts_told, trails_told, trails_of_option}
-use Rattle.symbols_paths.specs.Growing.{HasGrown}
 
 -- what is found of a symbol, if there is one
 abbrev pub FindsOne : Links → ℕ → List NamedDecl → List NamedSymbol → Option NamedSymbol → Forest → List NamedSymbol → Type 0

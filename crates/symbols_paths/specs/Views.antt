@@ -7,8 +7,7 @@ use Rattle.symbols_syntax.specs.declared.ids.SymbolId.{SymbolId}
 use Rattle.symbols_syntax.specs.declared.ids.UniqueSymbolId.{UniqueSymbolId}
 use Rattle.symbols_syntax.specs.Ids.{id_view}
 use Rattle.symbols_table.specs.DeclViews.{DepView, dep_view}
-use Rattle.symbols_root.specs.Roots.{RootView}
-use Rattle.symbols_exports.specs.Exporting.{specifier_in}
+use Rattle.symbols_root.specs.Roots.{RootView, specifier_in}
 use Rattle.symbols_paths.specs.declared.paths.definition.DeclRef.{DeclRef}
 use Rattle.symbols_paths.specs.declared.paths.definition.Definition.{Definition}
 use Rattle.symbols_paths.specs.declared.paths.definition.DefinitionKind.{DefinitionKind}

@@ -1,6 +1,7 @@
 //! A definition at the end of a path.
 
 ghost use Rattle.std.specs.Prelude.{◌≡◌};
+ghost use Rattle.std.specs.Bool.{Decides};
 ghost use Rattle.std.specs.Str.Pattern.{GetsRange};
 
 use std::ops::Range;
@@ -24,6 +25,18 @@ pub enum DefinitionKind<'a> {
     Definition,
 }
 
+impl DefinitionKind<'_> {
+    ghost use Rattle.symbols_paths.specs.Views.{star_of};
+
+    /// Whether these are of one kind, and take the same (own rule): what `==` answers, and with it
+    /// the hash.
+    pub fn is_same(&self, other: &DefinitionKind<'_>) -> bool
+        ensures { Decides result (star_of self.now ≡ star_of other.now) }
+    {
+        self == other
+    }
+}
+
 /// A definition of a symbol (as deno_graph, which lends the module, the symbol and the declaration;
 /// here they are numbers, of the root that gave the definition).
 #[derive(Clone, Copy)]
@@ -31,12 +44,13 @@ pub struct Definition<'a> {
     pub kind: DefinitionKind<'a>,
     /// The module that it is in.
     pub module: ModuleId,
-    /// The symbol that it defines.
+    /// The symbol that it defines, which is its declaration's.
     pub symbol: SymbolId,
     /// The declaration.
     pub symbol_decl: DeclRef,
     /// Where it stands in the module's text, in bytes.
     pub range: SourceRange,
+    pub ghost declared: { symbol ≡ symbol_decl.symbol },
 }
 
 impl Definition<'_> {

@@ -1,15 +1,16 @@
 //! Where a symbol is defined.
 
-ghost use Rattle.std.specs.Prelude.{◌≡◌, ◌≢◌, ◌<◌, length, map, None, IfOk, IfErr};
+ghost use Rattle.std.specs.Prelude.{◌≡◌, ◌≢◌, ◌<◌, ℕ, List, length, map, None, IfOk, IfErr};
 ghost use Rattle.symbols_table.specs.declared.info.fault.SymbolsFault.TheVariants.{OutOfMemory};
 ghost use Rattle.symbols_root.specs.Roots.{widest};
+ghost use Rattle.symbols_root.specs.Growing.{HasGrown};
+ghost use Rattle.symbols_exports.specs.Answers.{AreListed};
 ghost use Rattle.symbols_paths.specs.Trees.{Forest, leaves_in, definitions_in};
 ghost use Rattle.symbols_paths.specs.PartWays.{links_of};
 ghost use Rattle.symbols_paths.specs.Choice.{IsChosen};
 ghost use Rattle.symbols_paths.specs.Computed.{paths_of};
-ghost use Rattle.symbols_paths.specs.Views.{named_in, forest_told, definition_told, leaf_told, definitions_left, ends_left, AreStored};
+ghost use Rattle.symbols_paths.specs.Views.{named_in, forest_told, definition_told, leaf_told, module_of_definition, module_of_end, definitions_left, ends_left, AreStored};
 ghost use Rattle.symbols_paths.specs.Trails.{trails_told, modules_of_trails};
-ghost use Rattle.symbols_paths.specs.Growing.{HasGrown};
 ghost use Rattle.symbols_paths.specs.Answers.{ArePaths, symbol_in, IsPathsAnswer, IsPathsFault};
 
 use crate::paths::iter::{DefinitionsIter, DefinitionsOrUnresolvedsIter, definitions_of, ends_of};
@@ -18,6 +19,7 @@ use crate::paths::search::find;
 use crate::paths::trail::Trail;
 use crate::paths::unroll::nodes_of;
 use indexmap::IndexSet;
+use symbols_exports::laws::exports_are_listed;
 use symbols_root::root::RootSymbol;
 use symbols_table::info::SymbolsFault;
 use symbols_tree::ids::{ModuleId, SymbolId, UniqueSymbolId};
@@ -34,8 +36,10 @@ fn trails_of<'a>(
     ensures stored { IfOk result (λ trails. AreStored root.new (modules_of_trails trails.items)) }
     ensures faults { IfErr result (IsPathsFault root.old root.new module_id symbol_id) }
     ensures kept { HasGrown root.old root.new }
+    ensures exports_listed { (start : List ℕ) → AreListed root.old.graph start }
     ensures enough { root.old.limits ≡ widest → module_id.0 < length root.old.stored → symbol_in root.old module_id symbol_id ≢ None → IfErr result (λ fault. fault ≡ OutOfMemory) }
 {
+    exports_are_listed(root);
     match root.module_from_id(module_id) {
         None => return Err(SymbolsFault::UnknownModule),
         Some(info) => {
@@ -70,6 +74,7 @@ pub fn find_definition_paths<'a>(
     ensures faults { IfErr result (IsPathsFault root.old root.new module_id symbol_id) }
     ensures kept { HasGrown root.old root.new }
     ensures only { (f g : Forest) → IsChosen (links_of root.old.graph) (named_in root.old module_id symbol_id) f → IsChosen (links_of root.old.graph) (named_in root.old module_id symbol_id) g → f ≡ g }
+    ensures exports_listed { (start : List ℕ) → AreListed root.old.graph start }
     ensures enough { root.old.limits ≡ widest → module_id.0 < length root.old.stored → symbol_in root.old module_id symbol_id ≢ None → IfErr result (λ fault. fault ≡ OutOfMemory) }
 {
     match trails_of(root, module_id, symbol_id) {
@@ -92,8 +97,10 @@ pub fn go_to_definitions_or_unresolveds<'a>(
     ensures answers { IfOk result (λ ends. (paths : Forest) × ArePaths root.old.graph (named_in root.old module_id symbol_id) paths × (map (leaf_told root.new) (ends_left ends) ≡ leaves_in paths)) }
     ensures listed { IfOk result (λ ends. map (leaf_told root.new) (ends_left ends) ≡ leaves_in (paths_of root.old.graph (named_in root.old module_id symbol_id))) }
     ensures known { IfOk result (λ ends. (module_id.0 < length root.old.stored) × (symbol_in root.old module_id symbol_id ≢ None)) }
+    ensures stored { IfOk result (λ ends. AreStored root.new (map module_of_end (ends_left ends))) }
     ensures faults { IfErr result (IsPathsFault root.old root.new module_id symbol_id) }
     ensures kept { HasGrown root.old root.new }
+    ensures exports_listed { (start : List ℕ) → AreListed root.old.graph start }
     ensures enough { root.old.limits ≡ widest → module_id.0 < length root.old.stored → symbol_in root.old module_id symbol_id ≢ None → IfErr result (λ fault. fault ≡ OutOfMemory) }
 {
     match trails_of(root, module_id, symbol_id) {
@@ -115,8 +122,10 @@ pub fn go_to_definitions<'a>(
     ensures answers { IfOk result (λ definitions. (paths : Forest) × ArePaths root.old.graph (named_in root.old module_id symbol_id) paths × (map (definition_told root.new) (definitions_left definitions) ≡ definitions_in (leaves_in paths))) }
     ensures listed { IfOk result (λ definitions. map (definition_told root.new) (definitions_left definitions) ≡ definitions_in (leaves_in (paths_of root.old.graph (named_in root.old module_id symbol_id)))) }
     ensures known { IfOk result (λ definitions. (module_id.0 < length root.old.stored) × (symbol_in root.old module_id symbol_id ≢ None)) }
+    ensures stored { IfOk result (λ definitions. AreStored root.new (map module_of_definition (definitions_left definitions))) }
     ensures faults { IfErr result (IsPathsFault root.old root.new module_id symbol_id) }
     ensures kept { HasGrown root.old root.new }
+    ensures exports_listed { (start : List ℕ) → AreListed root.old.graph start }
     ensures enough { root.old.limits ≡ widest → module_id.0 < length root.old.stored → symbol_in root.old module_id symbol_id ≢ None → IfErr result (λ fault. fault ≡ OutOfMemory) }
 {
     let ends = match go_to_definitions_or_unresolveds(root, module_id, symbol_id) {

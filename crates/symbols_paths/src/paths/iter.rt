@@ -3,8 +3,8 @@
 ghost use Rattle.std.specs.Prelude.{◌≡◌, ◌++◌, ◌∷◌, [], map, IfOk, OnOk};
 ghost use Rattle.symbols_root.specs.Roots.{RootView};
 ghost use Rattle.symbols_paths.specs.Trees.{leaves_of, leaves_in, definitions_in};
-ghost use Rattle.symbols_paths.specs.Views.{tree_told, forest_told, definition_told, leaf_told, module_of_end, symbol_of_end, definitions_left, ends_left};
-ghost use Rattle.symbols_paths.specs.Trails.{trail_told, trails_told};
+ghost use Rattle.symbols_paths.specs.Views.{tree_told, forest_told, definition_told, leaf_told, module_of_definition, module_of_end, symbol_of_end, definitions_left, ends_left, AreStored};
+ghost use Rattle.symbols_paths.specs.Trails.{trail_told, trails_told, modules_of_trail, modules_of_trails};
 
 use crate::paths::definition::Definition;
 use crate::paths::node::{DefinitionPathLink, DefinitionPathNode, DefinitionPathNodeResolved};
@@ -136,7 +136,8 @@ fn add_trail_ends<'a>(
     trails: Vec<Trail<'a>>,
     left: &mut VecDeque<DefinitionOrUnresolved<'a>>,
 ) -> Result<(), AllocError>
-    ensures { OnOk result ((root : RootView) → map (leaf_told root) left.new.items ≡ map (leaf_told root) left.old.items ++ leaves_in (trails_told root trails.entry.items)) }
+    ensures told { OnOk result ((root : RootView) → map (leaf_told root) left.new.items ≡ map (leaf_told root) left.old.items ++ leaves_in (trails_told root trails.entry.items)) }
+    ensures stored { OnOk result ((root : RootView) → AreStored root (map module_of_end left.old.items) → AreStored root (modules_of_trails trails.entry.items) → AreStored root (map module_of_end left.new.items)) }
 {
     for trail in trails {
         add_trail_end(trail, left)?;
@@ -150,7 +151,8 @@ fn add_trail_end<'a>(
     trail: Trail<'a>,
     left: &mut VecDeque<DefinitionOrUnresolved<'a>>,
 ) -> Result<(), AllocError>
-    ensures { OnOk result ((root : RootView) → map (leaf_told root) left.new.items ≡ map (leaf_told root) left.old.items ++ leaves_in (trail_told root trail.entry)) }
+    ensures told { OnOk result ((root : RootView) → map (leaf_told root) left.new.items ≡ map (leaf_told root) left.old.items ++ leaves_in (trail_told root trail.entry)) }
+    ensures stored { OnOk result ((root : RootView) → AreStored root (map module_of_end left.old.items) → AreStored root (modules_of_trail trail.entry) → AreStored root (map module_of_end left.new.items)) }
 {
     match trail {
         Trail::To(_, end) => {
@@ -169,7 +171,8 @@ pub(crate) fn ends_of<'a>(
     alloc: Global,
     trails: Vec<Trail<'a>>,
 ) -> Result<DefinitionsOrUnresolvedsIter<'a>, AllocError>
-    ensures { IfOk result (λ ends. (root : RootView) → map (leaf_told root) (ends_left ends) ≡ leaves_in (trails_told root trails.entry.items)) }
+    ensures told { IfOk result (λ ends. (root : RootView) → map (leaf_told root) (ends_left ends) ≡ leaves_in (trails_told root trails.entry.items)) }
+    ensures stored { IfOk result (λ ends. (root : RootView) → AreStored root (modules_of_trails trails.entry.items) → AreStored root (map module_of_end (ends_left ends))) }
 {
     let mut left = VecDeque::new(alloc);
     add_trail_ends(trails, &mut left)?;
@@ -181,11 +184,13 @@ fn add_definition<'a>(
     end: DefinitionOrUnresolved<'a>,
     left: &mut VecDeque<Definition<'a>>,
 ) -> Result<(), AllocError>
-    ensures { OnOk result ((root : RootView) → map (definition_told root) left.new.items ≡ map (definition_told root) left.old.items ++ definitions_in (leaf_told root end.entry ∷ [])) }
+    ensures told { OnOk result ((root : RootView) → map (definition_told root) left.new.items ≡ map (definition_told root) left.old.items ++ definitions_in (leaf_told root end.entry ∷ [])) }
+    ensures stored { OnOk result ((root : RootView) → AreStored root (map module_of_definition left.old.items) → AreStored root (module_of_end end.entry ∷ []) → AreStored root (map module_of_definition left.new.items)) }
 {
-    if let DefinitionOrUnresolved::Definition(definition) = end {
-        left.push_back(definition)?;
-    }
+    let DefinitionOrUnresolved::Definition(definition) = end else {
+        return Ok(());
+    };
+    left.push_back(definition)?;
     Ok(())
 }
 
@@ -194,7 +199,8 @@ pub(crate) fn definitions_of<'a>(
     alloc: Global,
     ends: DefinitionsOrUnresolvedsIter<'a>,
 ) -> Result<DefinitionsIter<'a>, AllocError>
-    ensures { IfOk result (λ definitions. (root : RootView) → map (definition_told root) (definitions_left definitions) ≡ definitions_in (map (leaf_told root) (ends_left ends.entry))) }
+    ensures told { IfOk result (λ definitions. (root : RootView) → map (definition_told root) (definitions_left definitions) ≡ definitions_in (map (leaf_told root) (ends_left ends.entry))) }
+    ensures stored { IfOk result (λ definitions. (root : RootView) → AreStored root (map module_of_end (ends_left ends.entry)) → AreStored root (map module_of_definition (definitions_left definitions))) }
 {
     let mut left = VecDeque::new(alloc);
     for end in ends.left {

@@ -6,7 +6,7 @@ ghost use Rattle.symbols_syntax.specs.Graph.{GraphView};
 ghost use Rattle.symbols_syntax.specs.Ids.{IdView, id_view};
 ghost use Rattle.symbols_table.specs.DeclViews.{decl_view};
 ghost use Rattle.symbols_table.specs.Modules.{lent_table, mapped_in};
-ghost use Rattle.symbols_exports.specs.Exporting.{specifier_in};
+ghost use Rattle.symbols_root.specs.Roots.{specifier_in};
 ghost use Rattle.symbols_exports.specs.StarStatements.{star_texts};
 ghost use Rattle.symbols_paths.specs.Trees.{NamedSymbol};
 ghost use Rattle.symbols_paths.specs.Leads.{own_export, declarations_of, lead_of, symbol_of_id};

@@ -3,8 +3,7 @@
 ghost use Rattle.std.specs.Prelude.{◌≡◌, ◌<◌, ◌++◌, [], length, IfOk, IfSome, OnOk};
 ghost use Rattle.std.specs.Option.{option_to_list};
 ghost use Rattle.symbols_syntax.specs.Ids.{id_view};
-ghost use Rattle.symbols_root.specs.Roots.{RootView};
-ghost use Rattle.symbols_exports.specs.Exporting.{specifier_in};
+ghost use Rattle.symbols_root.specs.Roots.{RootView, specifier_in};
 ghost use Rattle.symbols_paths.specs.Trees.{leaf, link, one, link_to, definition, unresolved, no_symbol};
 ghost use Rattle.symbols_paths.specs.Views.{named, decl_told, star_of, reason_told, texts_of, unresolved_told, AreStored};
 ghost use Rattle.symbols_paths.specs.Trails.{parts_told, step_head, trail_told, trails_told, trails_of_option, modules_of_trail, modules_of_trails};
@@ -21,18 +20,18 @@ use symbols_tree::tree::{Id, SourceRange};
 /// The trail that is a definition alone.
 pub(crate) fn defined<'a>(
     alloc: Global,
-    symbol: UniqueSymbolId,
+    module: ModuleId,
     symbol_decl: DeclRef,
     kind: DefinitionKind<'a>,
     range: SourceRange,
 ) -> Trail<'a>
-    ensures told { (root : RootView) → trail_told root result ≡ one (leaf (definition (record { decl = decl_told root symbol.module_id symbol_decl; range = range; star = star_of kind.entry }))) }
-    ensures stored { (root : RootView) → symbol.module_id.0 < length root.stored → AreStored root (modules_of_trail result) }
+    ensures told { (root : RootView) → trail_told root result ≡ one (leaf (definition (record { decl = decl_told root «module» symbol_decl; range = range; star = star_of kind.entry }))) }
+    ensures stored { (root : RootView) → «module».0 < length root.stored → AreStored root (modules_of_trail result) }
 {
     let definition = Definition {
         kind,
-        module: symbol.module_id,
-        symbol: symbol.symbol_id,
+        module,
+        symbol: symbol_decl.symbol,
         symbol_decl,
         range,
     };

@@ -2,13 +2,12 @@
 
 ghost use Rattle.std.specs.Prelude.{◌≡◌, ◌<◌, ℕ, List, length, Some, IfOk, IfErr};
 ghost use Rattle.symbols_table.specs.declared.info.fault.SymbolsFault.TheVariants.{OutOfMemory};
-ghost use Rattle.symbols_root.specs.Roots.{RootView, widest};
-ghost use Rattle.symbols_exports.specs.Exporting.{specifier_in};
+ghost use Rattle.symbols_root.specs.Roots.{RootView, widest, specifier_in};
+ghost use Rattle.symbols_root.specs.Growing.{HasGrown};
 ghost use Rattle.symbols_exports.specs.OneName.{export_named};
 ghost use Rattle.symbols_exports.specs.StarStatements.{text_target};
 ghost use Rattle.symbols_paths.specs.PartWays.{lacks, own_part, export_of_symbol, module_part, text_part, part_of};
 ghost use Rattle.symbols_paths.specs.Views.{named_in, decl_told, definition_told, reason_told, first_part, later_parts, texts_of};
-ghost use Rattle.symbols_paths.specs.Growing.{HasGrown};
 ghost use Rattle.symbols_paths.specs.Needed.{IsNeeded, IsRefused, IsStarDeclared};
 ghost use Rattle.symbols_paths.specs.Searching.{way_told, IsWayStored};
 

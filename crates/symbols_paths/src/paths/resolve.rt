@@ -7,17 +7,19 @@ ghost use Rattle.std.specs.Str.{bytes_eq};
 ghost use Rattle.symbols_syntax.specs.Ids.{id_view};
 ghost use Rattle.symbols_nodes.specs.References.{qualified_id, import_type, reference_view};
 ghost use Rattle.symbols_table.specs.declared.info.fault.SymbolsFault.TheVariants.{OutOfMemory};
-ghost use Rattle.symbols_root.specs.Roots.{RootView, widest};
-ghost use Rattle.symbols_exports.specs.Exporting.{specifier_in};
+ghost use Rattle.symbols_root.specs.Roots.{RootView, widest, specifier_in};
+ghost use Rattle.symbols_root.specs.Growing.{HasGrown};
+ghost use Rattle.symbols_exports.specs.Answers.{AreListed};
 ghost use Rattle.symbols_exports.specs.StarStatements.{text_target};
-ghost use Rattle.symbols_paths.specs.PartWays.{text_part};
+ghost use Rattle.symbols_paths.specs.Trees.{NamedSymbol, Parts, Forest};
+ghost use Rattle.symbols_paths.specs.PartWays.{text_part, links_of};
+ghost use Rattle.symbols_paths.specs.Choice.{IsChosenUnder};
 ghost use Rattle.symbols_paths.specs.Computed.{paths_under};
-ghost use Rattle.symbols_paths.specs.Views.{named, texts_in, first_part, later_parts, forest_told};
-ghost use Rattle.symbols_paths.specs.Trails.{parts_told, trails_told};
-ghost use Rattle.symbols_paths.specs.Growing.{HasGrown};
+ghost use Rattle.symbols_paths.specs.Views.{named, texts_in, first_part, later_parts, forest_told, modules_in, AreStored};
+ghost use Rattle.symbols_paths.specs.Trails.{parts_told, trails_told, modules_of_trails};
 ghost use Rattle.symbols_paths.specs.Needed.{IsNeeded, IsRefused};
-ghost use Rattle.symbols_paths.specs.Answers.{ArePathsUnder};
-ghost use Rattle.symbols_paths.specs.DepAnswers.{entry_told, entries_in, asked_by_id, asked_by_way, missing_id, missing_way, other_entries, entries_of, ArePathsOf, IsDepAnswer, IsDepFault};
+ghost use Rattle.symbols_paths.specs.Answers.{ArePathsFor};
+ghost use Rattle.symbols_paths.specs.DepAnswers.{entry_told, modules_of_entries, entries_in, asked_by_id, asked_by_way, missing_id, missing_way, other_entries, entries_of, ArePathsOf, IsDepAnswer, IsDepFault};
 
 use crate::paths::leads::symbol_of_id;
 use crate::paths::link::{copied_id, copied_parts, one_unresolved, unresolved};
@@ -32,6 +34,7 @@ use crate::paths::unroll::nodes_of;
 use indexmap::IndexSet;
 use std::alloc::{AllocError, Global};
 use std::borrow::CowStr;
+use symbols_exports::laws::exports_are_listed;
 use symbols_nodes::deps::SymbolNodeDep;
 use symbols_root::root::RootSymbol;
 use symbols_table::info::SymbolsFault;
@@ -55,8 +58,9 @@ fn paths_under<'a>(
     requires known { symbol.module_id.0 < length root.old.stored }
     requires once { IsDistinct bytes_eq root.old.stored }
     ensures kept { HasGrown root.old root.new }
-    ensures found { IfOk result (λ paths. ArePathsUnder root.old.graph (named root.old symbol) (parts_told parts.now) (trails_told root.new paths.items)) }
+    ensures found { IfOk result (λ paths. ArePathsFor root.old.graph (named root.old symbol) (parts_told parts.now) (trails_told root.new paths.items)) }
     ensures listed { IfOk result (λ paths. trails_told root.new paths.items ≡ paths_under root.old.graph (named root.old symbol) (parts_told parts.now)) }
+    ensures stored { IfOk result (λ paths. AreStored root.new (modules_of_trails paths.items)) }
     ensures refused { IfErr result (IsRefused root.new (specifier_in root.old symbol.module_id)) }
     ensures enough { root.old.limits ≡ widest → IfErr result (λ fault. fault ≡ OutOfMemory) }
 {
@@ -75,8 +79,9 @@ fn paths_behind_first<'a>(
     requires some { 0 < length (parts_told parts.now) }
     requires once { IsDistinct bytes_eq root.old.stored }
     ensures kept { HasGrown root.old root.new }
-    ensures found { IfOk result (λ paths. ArePathsUnder root.old.graph (named root.old symbol) (later_parts (parts_told parts.now)) (trails_told root.new paths.items)) }
+    ensures found { IfOk result (λ paths. ArePathsFor root.old.graph (named root.old symbol) (later_parts (parts_told parts.now)) (trails_told root.new paths.items)) }
     ensures listed { IfOk result (λ paths. trails_told root.new paths.items ≡ paths_under root.old.graph (named root.old symbol) (later_parts (parts_told parts.now))) }
+    ensures stored { IfOk result (λ paths. AreStored root.new (modules_of_trails paths.items)) }
     ensures refused { IfErr result (IsRefused root.new (specifier_in root.old symbol.module_id)) }
     ensures enough { root.old.limits ≡ widest → IfErr result (λ fault. fault ≡ OutOfMemory) }
 {
@@ -115,6 +120,7 @@ fn paths_of_id<'a>(
     requires once { IsDistinct bytes_eq root.old.stored }
     ensures kept { HasGrown root.old root.new }
     ensures found { IfOk result (λ paths. ArePathsOf root.old.graph (asked_by_id root.old.graph (specifier_in root.old module_id) (id_view id.now) (parts_told parts.now)) (missing_id (specifier_in root.old module_id) (id_view id.now) (parts_told parts.now)) (trails_told root.new paths.items)) }
+    ensures stored { IfOk result (λ paths. AreStored root.new (modules_of_trails paths.items)) }
     ensures refused { IfErr result (IsRefused root.new (specifier_in root.old module_id)) }
     ensures enough { root.old.limits ≡ widest → IfErr result (λ fault. fault ≡ OutOfMemory) }
 {
@@ -140,6 +146,7 @@ fn paths_of_import<'a>(
     requires once { IsDistinct bytes_eq root.old.stored }
     ensures kept { HasGrown root.old root.new }
     ensures found { IfOk result (λ paths. ArePathsOf root.old.graph (asked_by_way (later_parts (parts_told parts.now)) (text_part root.old.graph (specifier_in root.old module_id) text.now (first_part (parts_told parts.now)) (later_parts (parts_told parts.now)) (text_target root.old.graph (specifier_in root.old module_id) text.now))) (missing_way (text_part root.old.graph (specifier_in root.old module_id) text.now (first_part (parts_told parts.now)) (later_parts (parts_told parts.now)) (text_target root.old.graph (specifier_in root.old module_id) text.now))) (trails_told root.new paths.items)) }
+    ensures stored { IfOk result (λ paths. AreStored root.new (modules_of_trails paths.items)) }
     ensures refused { IfErr result (λ fault. (start : List ℕ) → ((k : List ℕ) → text_target root.old.graph (specifier_in root.old module_id) text.now ≡ Some k → IsNeeded root.old.graph start k) → IsRefused root.new start fault) }
     ensures enough { root.old.limits ≡ widest → IfErr result (λ fault. fault ≡ OutOfMemory) }
 {
@@ -160,6 +167,7 @@ fn module_of_import<'a>(
     requires known { module_id.0 < length root.old.stored }
     ensures kept { HasGrown root.old root.new }
     ensures found { IfOk result (λ entries. map (entry_told root.new) entries.items ≡ other_entries root.old.graph (specifier_in root.old module_id) (import_type text.now [])) }
+    ensures stored { IfOk result (λ entries. AreStored root.new (modules_of_entries entries.items)) }
     ensures refused { IfErr result (λ fault. (start : List ℕ) → ((k : List ℕ) → text_target root.old.graph (specifier_in root.old module_id) text.now ≡ Some k → IsNeeded root.old.graph start k) → IsRefused root.new start fault) }
     ensures enough { root.old.limits ≡ widest → IfErr result (λ fault. fault ≡ OutOfMemory) }
 {
@@ -185,7 +193,8 @@ fn entries_along<'a>(
     alloc: Global,
     paths: Vec<DefinitionPathNode<'a>>,
 ) -> Result<Vec<ResolvedSymbolDepEntry<'a>>, AllocError>
-    ensures { IfOk result (λ entries. (root : RootView) → map (entry_told root) entries.items ≡ entries_in (forest_told root paths.entry.items)) }
+    ensures told { IfOk result (λ entries. (root : RootView) → map (entry_told root) entries.items ≡ entries_in (forest_told root paths.entry.items)) }
+    ensures modules { IfOk result (λ entries. modules_of_entries entries.items ≡ modules_in paths.entry.items) }
 {
     let mut entries = Vec::new(alloc);
     for path in paths {
@@ -199,7 +208,8 @@ fn entries_of<'a>(
     alloc: Global,
     trails: Vec<Trail<'a>>,
 ) -> Result<Vec<ResolvedSymbolDepEntry<'a>>, AllocError>
-    ensures { IfOk result (λ entries. (root : RootView) → map (entry_told root) entries.items ≡ entries_in (trails_told root trails.entry.items)) }
+    ensures told { IfOk result (λ entries. (root : RootView) → map (entry_told root) entries.items ≡ entries_in (trails_told root trails.entry.items)) }
+    ensures stored { IfOk result (λ entries. (root : RootView) → AreStored root (modules_of_trails trails.entry.items) → AreStored root (modules_of_entries entries.items)) }
 {
     let paths = nodes_of(alloc, trails)?;
     entries_along(alloc, paths)
@@ -217,6 +227,7 @@ fn entries_of_id<'a>(
     ensures kept { HasGrown root.old root.new }
     ensures answers { IfOk result (λ entries. IsDepAnswer root.old.graph (specifier_in root.old module_id) (qualified_id (id_view id.now) (parts_told parts.now)) (map (entry_told root.new) entries.items)) }
     ensures listed { IfOk result (λ entries. map (entry_told root.new) entries.items ≡ entries_of root.old.graph (specifier_in root.old module_id) (qualified_id (id_view id.now) (parts_told parts.now))) }
+    ensures stored { IfOk result (λ entries. AreStored root.new (modules_of_entries entries.items)) }
     ensures refused { IfErr result (IsRefused root.new (specifier_in root.old module_id)) }
     ensures enough { root.old.limits ≡ widest → IfErr result (λ fault. fault ≡ OutOfMemory) }
 {
@@ -238,6 +249,7 @@ fn entries_of_import<'a>(
     ensures kept { HasGrown root.old root.new }
     ensures answers { IfOk result (λ entries. IsDepAnswer root.old.graph (specifier_in root.old module_id) (import_type text.now (parts_told parts.now)) (map (entry_told root.new) entries.items)) }
     ensures listed { IfOk result (λ entries. map (entry_told root.new) entries.items ≡ entries_of root.old.graph (specifier_in root.old module_id) (import_type text.now (parts_told parts.now))) }
+    ensures stored { IfOk result (λ entries. AreStored root.new (modules_of_entries entries.items)) }
     ensures refused { IfErr result (λ fault. (start : List ℕ) → ((k : List ℕ) → text_target root.old.graph (specifier_in root.old module_id) text.now ≡ Some k → IsNeeded root.old.graph start k) → IsRefused root.new start fault) }
     ensures enough { root.old.limits ≡ widest → IfErr result (λ fault. fault ≡ OutOfMemory) }
 {
@@ -266,10 +278,14 @@ pub fn resolve_symbol_dep<'a>(
 ) -> Result<Vec<ResolvedSymbolDepEntry<'a>>, SymbolsFault>
     ensures answers { IfOk result (λ entries. (module_id.0 < length root.old.stored) × IsDepAnswer root.old.graph (specifier_in root.old module_id) (reference_view dep.now) (map (entry_told root.new) entries.items)) }
     ensures listed { IfOk result (λ entries. map (entry_told root.new) entries.items ≡ entries_of root.old.graph (specifier_in root.old module_id) (reference_view dep.now)) }
+    ensures stored { IfOk result (λ entries. AreStored root.new (modules_of_entries entries.items)) }
     ensures faults { IfErr result (IsDepFault root.old root.new module_id (reference_view dep.now)) }
     ensures kept { HasGrown root.old root.new }
+    ensures only { (s : NamedSymbol) (parts : Parts) (f g : Forest) → IsChosenUnder (links_of root.old.graph) s parts f → IsChosenUnder (links_of root.old.graph) s parts g → f ≡ g }
+    ensures exports_listed { (start : List ℕ) → AreListed root.old.graph start }
     ensures enough { root.old.limits ≡ widest → module_id.0 < length root.old.stored → IfErr result (λ fault. fault ≡ OutOfMemory) }
 {
+    exports_are_listed(root);
     if root.module_from_id(module_id).is_none() {
         return Err(SymbolsFault::UnknownModule);
     }

@@ -7,12 +7,11 @@ ghost use Rattle.std.specs.Str.{bytes_eq};
 ghost use Rattle.symbols_syntax.specs.declared.ids.UniqueSymbolId.{UniqueSymbolId};
 ghost use Rattle.symbols_table.specs.declared.info.fault.SymbolsFault.TheVariants.{OutOfMemory};
 ghost use Rattle.symbols_table.specs.DeclViews.{Declaration};
-ghost use Rattle.symbols_root.specs.Roots.{widest};
-ghost use Rattle.symbols_exports.specs.Exporting.{specifier_in};
+ghost use Rattle.symbols_root.specs.Roots.{widest, specifier_in};
+ghost use Rattle.symbols_root.specs.Growing.{HasGrown};
 ghost use Rattle.symbols_paths.specs.Leads.{declarations_of};
 ghost use Rattle.symbols_paths.specs.Views.{named, later_parts, definition_told, AreStored};
 ghost use Rattle.symbols_paths.specs.Trails.{parts_told, modules_of_trails};
-ghost use Rattle.symbols_paths.specs.Growing.{HasGrown};
 ghost use Rattle.symbols_paths.specs.Needed.{IsRefused, IsStarDeclared};
 ghost use Rattle.symbols_paths.specs.Searching.{AreNumbered, AreAliasesNumbered, HasSearched, IsFound, IsFollowed, IsTried, IsOffered, IsResolved, IsWalked, IsChanged, IsImported, IsImportOf, ways_of_import, ways_along};
 
@@ -94,7 +93,10 @@ fn follow<'a>(
         index,
     };
     match lead {
-        Lead::Defines(kind, range) => Ok(Some(defined(root.alloc(), symbol, decl, *kind, *range))),
+        Lead::Defines(kind, range) => {
+            let module = symbol.module_id;
+            Ok(Some(defined(root.alloc(), module, decl, *kind, *range)))
+        }
         Lead::Nowhere => Ok(None),
         Lead::Target(symbol_id) => {
             let target = UniqueSymbolId::new(symbol.module_id, *symbol_id);
@@ -353,7 +355,7 @@ fn step<'a>(
         Ok(PartWay::Itself) => {
             let itself = defined(
                 root.alloc(),
-                symbol,
+                definition.module,
                 decl,
                 definition.kind,
                 definition.range,

@@ -16,10 +16,13 @@ on_memory P (Err fault) is held = subst P (sym is) held
 pub returns-in_ok-ends_of-in-Ok-clause-answers : goal.returns-in_ok-ends_of-in-Ok-clause-answers
 returns-in_ok-ends_of-in-Ok-clause-answers c =
     let root = c.trails_of.new.root in
-    (trails_told root c.in-Ok.trails.items, c.in-Ok.ensures.answers, c.in_ok-ends_of-in-Ok.ensures root)
+    (trails_told root c.in-Ok.trails.items, c.in-Ok.ensures.answers, c.in_ok-ends_of-in-Ok.ensures.told root)
 
 pub returns-in_ok-ends_of-in-Ok-clause-listed : goal.returns-in_ok-ends_of-in-Ok-clause-listed
-returns-in_ok-ends_of-in-Ok-clause-listed c = c.in_ok-ends_of-in-Ok.ensures c.trails_of.new.root ∙ ap leaves_in c.in-Ok.ensures.listed
+returns-in_ok-ends_of-in-Ok-clause-listed c = c.in_ok-ends_of-in-Ok.ensures.told c.trails_of.new.root ∙ ap leaves_in c.in-Ok.ensures.listed
 
 pub returns-in_err-ends_of-in-Ok-clause-faults : goal.returns-in_err-ends_of-in-Ok-clause-faults
 returns-in_err-ends_of-in-Ok-clause-faults c = on_memory (IsPathsFault c.args.root.now c.trails_of.new.root c.args.module_id c.args.symbol_id) c.from_residual.result c.from_residual.ensures.1 (memory_refused c.in-Ok.ensures.known)
+
+pub returns-in_ok-ends_of-in-Ok-clause-stored : goal.returns-in_ok-ends_of-in-Ok-clause-stored
+returns-in_ok-ends_of-in-Ok-clause-stored c = c.in_ok-ends_of-in-Ok.ensures.stored c.trails_of.new.root c.in-Ok.ensures.stored

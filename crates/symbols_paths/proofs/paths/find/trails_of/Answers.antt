@@ -2,7 +2,7 @@ use Rattle.std.proofs.Common.{refl, subst, inl, inr, Result, Ok, Err, IfOk, IfEr
 use Rattle.symbols_syntax.specs.declared.ids.ModuleId.{ModuleId}
 use Rattle.symbols_table.specs.declared.info.fault.SymbolsFault.{SymbolsFault}
 use Rattle.symbols_table.specs.Modules.{lent_table}
-use Rattle.symbols_exports.specs.Exporting.{specifier_in}
+use Rattle.symbols_root.specs.Roots.{specifier_in}
 use Rattle.symbols_paths.specs.Needed.{IsRefused}
 use Rattle.symbols_paths.proofs.Answering.{paths_found, paths_listed, no_symbol_there, symbol_there}
 use Rattle.symbols_paths.proofs.paths.find.trails_of.Goals as goal

@@ -1,10 +1,21 @@
-use Rattle.std.proofs.Common.{arith}
+use Rattle.std.proofs.Common.{subst, arith}
 use Rattle.std.proofs.lemmas.List.{nil_from_length}
 use Rattle.symbols_paths.specs.Views.{ends_left}
-use Rattle.symbols_paths.proofs.Ends.{definitions_last}
+use Rattle.symbols_paths.proofs.Ends.{AreDefinitionsSo, definitions_first, definitions_next, definitions_last}
 use Rattle.symbols_paths.proofs.paths.iter.definitions_of.Goals as goal
 
-pub returns : goal.returns
-returns c =
+pub loop-end-init : goal.loop-end-init
+loop-end-init c = rw (c.new-left.ensures.items, c.into_iter-end-iterator.ensures.into_iter_gives.0) (definitions_first (ends_left c.args.ends))
+
+pub loop-end-preserved : goal.loop-end-preserved
+loop-end-preserved c =
+    let so = subst (λ rest. AreDefinitionsSo c.loop-end.left.items rest (ends_left c.args.ends)) c.in-Some.ensures.steps.0 c.loop-end.invariant in
+    definitions_next c.loop-end.left.items c.add_definition.new.left.items c.in-Some.end c.next.new.self.rest.items (ends_left c.args.ends) so c.in_ok-add_definition.ensures.told c.in_ok-add_definition.ensures.stored
+
+pub returns-clause-told : goal.returns-clause-told
+returns-clause-told c =
     let over = nil_from_length c.loop-end.end-iterator.rest.items (omega (arith, c.in-None.ensures.steps.0, c.loop-end.end-iterator.rest.ok.0)) in
     definitions_last c.loop-end.left.items c.loop-end.end-iterator.rest.items (ends_left c.args.ends) over c.loop-end.invariant
+
+pub returns-clause-stored : goal.returns-clause-stored
+returns-clause-stored c = λ root a. (c.loop-end.invariant.stored root a).0

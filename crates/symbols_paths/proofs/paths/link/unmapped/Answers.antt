@@ -1,5 +1,5 @@
 use Rattle.std.proofs.Common.{Result, Ok, Err, IfOk, ap, ◌∙◌}
-use Rattle.symbols_exports.specs.Exporting.{specifier_in}
+use Rattle.symbols_root.specs.Roots.{specifier_in}
 use Rattle.symbols_paths.specs.Trees.{one, leaf, link_to, unresolved, no_symbol}
 use Rattle.symbols_paths.specs.Trails.{parts_told}
 use Rattle.symbols_paths.proofs.Told.{head_told}

@@ -1,37 +1,25 @@
 use Rattle.std.proofs.Common.{◌≡◌, arith, None, ◌∙◌, sym, ap, subst}
 use Rattle.std.specs.Prelude.{string_bytes}
 use Rattle.std.proofs.lemmas.List.{length-map}
-use Rattle.symbols_exports.specs.Exporting.{specifier_in}
+use Rattle.symbols_root.specs.Roots.{specifier_in}
+use Rattle.symbols_root.specs.laws.Growing.{same_specifier, still_stored}
 use Rattle.symbols_exports.specs.OneName.{export_named}
 use Rattle.symbols_paths.specs.Trees.{no_part}
 use Rattle.symbols_paths.specs.PartWays.{lacks, module_part}
 use Rattle.symbols_paths.specs.Views.{texts_of, first_part, later_parts}
-use Rattle.symbols_paths.proofs.Growing.{same_specifier, still_stored}
 use Rattle.symbols_paths.proofs.PartReading.{first_read}
 use Rattle.symbols_paths.proofs.Walking.{some_parts}
-use Rattle.symbols_paths.proofs.Targets.{grown_answer, grown_fault, refused_export, none_exported}
+use Rattle.symbols_paths.proofs.Targets.{refused_export, none_exported, some_stored}
 use Rattle.symbols_paths.proofs.paths.parts.module_part.Goals as goal
 
-pub returns-in-Err-clause-kept : goal.returns-in-Err-clause-kept
-returns-in-Err-clause-kept c = grown_fault c.in-Err.ensures.faults.1
-
 pub returns-in-Err-clause-refused : goal.returns-in-Err-clause-refused
-returns-in-Err-clause-refused c = refused_export c.args.root.now c.export_of.new.root _ c.args.module_id c.in-Err.fault c.in-Err.ensures.faults.0 c.requires.known c.in-Err.ensures.faults.1
-
-pub returns-in_err-name-in-Ok-None-clause-kept : goal.returns-in_err-name-in-Ok-None-clause-kept
-returns-in_err-name-in-Ok-None-clause-kept c = grown_answer c.in-Ok-None.ensures.answers.1
-
-pub returns-in_err-lacking-in-Ok-None-clause-kept : goal.returns-in_err-lacking-in-Ok-None-clause-kept
-returns-in_err-lacking-in-Ok-None-clause-kept c = grown_answer c.in-Ok-None.ensures.answers.1
-
-pub returns-in_ok-lacking-in-Ok-None-clause-kept : goal.returns-in_ok-lacking-in-Ok-None-clause-kept
-returns-in_ok-lacking-in-Ok-None-clause-kept c = grown_answer c.in-Ok-None.ensures.answers.1
+returns-in-Err-clause-refused c = refused_export c.args.root.now c.export_of.new.root _ c.args.module_id c.in-Err.fault c.in-Err.ensures.faults.0 c.requires.known c.in-Err.ensures.kept c.in-Err.ensures.faults.1
 
 pub returns-in_ok-lacking-in-Ok-None-clause-told : goal.returns-in_ok-lacking-in-Ok-None-clause-told
 returns-in_ok-lacking-in-Ok-None-clause-told c =
     let old = c.args.root.now in
     let new = c.export_of.new.root in
-    let grown = grown_answer c.in-Ok-None.ensures.answers.1 in
+    let grown = c.in-Ok-None.ensures.kept in
     let parts = texts_of c.args.parts.now in
     let v = specifier_in old c.args.module_id in
     let first = c.as_str.ensures.value ∙ first_read c.args.parts.now c.index-parts-0.result c.requires.some c.index-parts-0.is in
@@ -43,7 +31,7 @@ returns-in_ok-lacking-in-Ok-None-clause-told c =
     ∙ sym (ap (module_part v (first_part parts) (later_parts parts)) none_first))
 
 pub returns-in_ok-lacking-in-Ok-None-clause-stored : goal.returns-in_ok-lacking-in-Ok-None-clause-stored
-returns-in_ok-lacking-in-Ok-None-clause-stored c = c.in_ok-lacking-in-Ok-None.ensures.stored c.export_of.new.root (still_stored (grown_answer c.in-Ok-None.ensures.answers.1) c.args.module_id.0 c.requires.known)
+returns-in_ok-lacking-in-Ok-None-clause-stored c = c.in_ok-lacking-in-Ok-None.ensures.stored c.export_of.new.root (still_stored c.in-Ok-None.ensures.kept c.args.module_id.0 c.requires.known)
 
-pub returns-in-Ok-Some-clause-kept : goal.returns-in-Ok-Some-clause-kept
-returns-in-Ok-Some-clause-kept c = grown_answer c.in-Ok-Some.ensures.answers.1
+pub returns-in-Ok-Some-clause-stored : goal.returns-in-Ok-Some-clause-stored
+returns-in-Ok-Some-clause-stored c = rw (c.new.ensures.module, c.as_resolved_export-export.ensures) (some_stored c.args.root.now c.export_of.new.root _ c.args.module_id c.in-Ok-Some.path c.in-Ok-Some.ensures.answers.0 (rw c.in-Ok-Some.field-0-is at c.in-Ok-Some.ensures.answers.1))

@@ -2,7 +2,7 @@ use Rattle.std.proofs.Common.{◌≡◌, arith, false, ◌&&◌, Result, Ok, Err
 use Rattle.std.specs.Str.{bytes_eq}
 use Rattle.std.specs.Prelude.{string_bytes}
 use Rattle.std.proofs.lemmas.List.{length-map}
-use Rattle.symbols_exports.specs.Exporting.{specifier_in}
+use Rattle.symbols_root.specs.Roots.{specifier_in}
 use Rattle.symbols_paths.specs.Trees.{no_part}
 use Rattle.symbols_paths.specs.PartWays.{lacks, prototype_name, is_class_at, export_of_symbol}
 use Rattle.symbols_paths.specs.Views.{decl_told, texts_of, first_part, later_parts}

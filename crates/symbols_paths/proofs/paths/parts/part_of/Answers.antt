@@ -1,6 +1,6 @@
 use Rattle.std.proofs.Common.{Result, Ok, Err, IfErr, ap}
 use Rattle.symbols_table.specs.DeclViews.{dep_view}
-use Rattle.symbols_exports.specs.Exporting.{specifier_in}
+use Rattle.symbols_root.specs.Roots.{specifier_in}
 use Rattle.symbols_paths.specs.Needed.{begun, imported}
 use Rattle.symbols_paths.specs.Views.{star_of, definition_told}
 use Rattle.symbols_paths.proofs.paths.parts.part_of.Goals as goal

@@ -1,9 +1,9 @@
 use Rattle.std.proofs.Common.{Result, Ok, Err, IfOk, IfErr, ◌∙◌}
-use Rattle.symbols_exports.specs.Exporting.{specifier_in}
+use Rattle.symbols_root.specs.Roots.{specifier_in}
+use Rattle.symbols_root.specs.laws.Numbers.{target_is}
 use Rattle.symbols_exports.specs.StarStatements.{text_target}
 use Rattle.symbols_paths.specs.Views.{texts_of, first_part, later_parts}
 use Rattle.symbols_paths.proofs.PartReading.{text_told, refused_text, refused_behind}
-use Rattle.symbols_paths.proofs.Targets.{target_is}
 use Rattle.symbols_paths.proofs.paths.parts.text_part.Goals as goal
 
 on_answer : {A E : Type 0} {P Q : A → Type 0} (r : Result A E) → ((x : A) → P x → Q x) → IfOk r P → IfOk r Q

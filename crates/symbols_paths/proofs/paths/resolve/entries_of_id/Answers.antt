@@ -1,6 +1,6 @@
 use Rattle.std.proofs.Common.{map, refl}
 use Rattle.symbols_syntax.specs.Ids.{id_view}
-use Rattle.symbols_exports.specs.Exporting.{specifier_in}
+use Rattle.symbols_root.specs.Roots.{specifier_in}
 use Rattle.symbols_paths.specs.Trails.{parts_told, trails_told}
 use Rattle.symbols_paths.specs.DepAnswers.{entry_told, entries_in, asked_by_id, missing_id}
 use Rattle.symbols_paths.proofs.DepEntries.{entries_answer, entries_listed}
@@ -12,7 +12,7 @@ returns-in_ok-entries_of-in-Ok-clause-answers c =
     let m = specifier_in c.args.root.now c.args.module_id in
     let root = c.paths_of_id.new.root in
     let otherwise = missing_id m (id_view c.args.id.now) (parts_told c.args.parts.now) in
-    entries_answer graph (asked_by_id graph m (id_view c.args.id.now) (parts_told c.args.parts.now)) otherwise (trails_told root c.in-Ok.paths.items) (map (entry_told root) c.in_ok-entries_of-in-Ok.field-0.items) (entries_in otherwise) c.in-Ok.ensures.found (c.in_ok-entries_of-in-Ok.ensures root) refl
+    entries_answer graph (asked_by_id graph m (id_view c.args.id.now) (parts_told c.args.parts.now)) otherwise (trails_told root c.in-Ok.paths.items) (map (entry_told root) c.in_ok-entries_of-in-Ok.field-0.items) (entries_in otherwise) c.in-Ok.ensures.found (c.in_ok-entries_of-in-Ok.ensures.told root) refl
 
 pub returns-in_ok-entries_of-in-Ok-clause-listed : goal.returns-in_ok-entries_of-in-Ok-clause-listed
 returns-in_ok-entries_of-in-Ok-clause-listed c =
@@ -20,4 +20,7 @@ returns-in_ok-entries_of-in-Ok-clause-listed c =
     let m = specifier_in c.args.root.now c.args.module_id in
     let root = c.paths_of_id.new.root in
     let otherwise = missing_id m (id_view c.args.id.now) (parts_told c.args.parts.now) in
-    entries_listed graph (asked_by_id graph m (id_view c.args.id.now) (parts_told c.args.parts.now)) otherwise (trails_told root c.in-Ok.paths.items) (map (entry_told root) c.in_ok-entries_of-in-Ok.field-0.items) (entries_in otherwise) c.in-Ok.ensures.found (c.in_ok-entries_of-in-Ok.ensures root) refl
+    entries_listed graph (asked_by_id graph m (id_view c.args.id.now) (parts_told c.args.parts.now)) otherwise (trails_told root c.in-Ok.paths.items) (map (entry_told root) c.in_ok-entries_of-in-Ok.field-0.items) (entries_in otherwise) c.in-Ok.ensures.found (c.in_ok-entries_of-in-Ok.ensures.told root) refl
+
+pub returns-in_ok-entries_of-in-Ok-clause-stored : goal.returns-in_ok-entries_of-in-Ok-clause-stored
+returns-in_ok-entries_of-in-Ok-clause-stored c = c.in_ok-entries_of-in-Ok.ensures.stored c.paths_of_id.new.root c.in-Ok.ensures.stored

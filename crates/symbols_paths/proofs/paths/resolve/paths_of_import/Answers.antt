@@ -1,6 +1,6 @@
 use Rattle.std.proofs.Common.{Result, Ok, Err, IfErr}
 use Rattle.symbols_table.specs.declared.info.fault.SymbolsFault.{SymbolsFault}
-use Rattle.symbols_exports.specs.Exporting.{specifier_in}
+use Rattle.symbols_root.specs.Roots.{specifier_in}
 use Rattle.symbols_paths.specs.Views.{first_part, later_parts}
 use Rattle.symbols_paths.specs.Trails.{parts_told}
 use Rattle.symbols_paths.proofs.DepEntries.{import_refused}

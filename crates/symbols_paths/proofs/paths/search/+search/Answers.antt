@@ -2,8 +2,9 @@ use Rattle.std.proofs.Common.{◌≡◌, ◌<◌, ◌^◌, List, [], ◌∷◌, 
 use Rattle.std.proofs.lemmas.List.{length-append, nil_from_length}
 use Rattle.symbols_syntax.specs.declared.ids.ModuleId.{ModuleId}
 use Rattle.symbols_table.specs.declared.info.fault.SymbolsFault.{SymbolsFault}
-use Rattle.symbols_root.specs.Roots.{RootView}
-use Rattle.symbols_exports.specs.Exporting.{specifier_in}
+use Rattle.symbols_root.specs.Roots.{RootView, specifier_in}
+use Rattle.symbols_root.specs.laws.Growing.{grown_not, grown_on, same_specifier, still_stored}
+use Rattle.symbols_root.specs.laws.Numbers.{target_is, no_target}
 use Rattle.symbols_exports.specs.StarStatements.{text_target}
 use Rattle.symbols_paths.specs.declared.paths.definition.Definition.{Definition}
 use Rattle.symbols_paths.specs.declared.paths.resolving.AliasDecl.{AliasDecl}
@@ -12,17 +13,16 @@ use Rattle.symbols_paths.specs.Views.{named, texts_of, later_parts}
 use Rattle.symbols_paths.specs.Trails.{parts_told, trails_told, modules_of_trails}
 use Rattle.symbols_paths.specs.Needed.{IsNeeded, IsRefused}
 use Rattle.symbols_paths.specs.Searching.{AreNumbered, AreAliasesNumbered, IsRead}
-use Rattle.symbols_paths.proofs.Growing.{grown_not, grown_on, same_specifier, still_stored, still_numbered, all_still_stored}
+use Rattle.symbols_paths.proofs.Growing.{still_numbered, all_still_stored}
 use Rattle.symbols_paths.proofs.Told.{none_at, some_at}
 use Rattle.symbols_paths.proofs.Trailing.{is_some, is_none, not_none}
-use Rattle.symbols_paths.proofs.Targets.{target_is, no_target}
 use Rattle.symbols_paths.proofs.Finding.{new_symbol, old_symbol, new_few, found_old, finding_first, finding_next, finding_last, finding_searched, now_within, index_within, index_before, stands_among, left, fewer_steps, one_met_more, for_alias, one_alias_more, without_parts, one_part_less}
 use Rattle.symbols_paths.proofs.Following.{followed_itself, followed_alias, followed_nowhere, followed_unmapped, followed_target, followed_import, option_stored, target_later, tried_nowhere, tried_owned, tried_along}
 use Rattle.symbols_paths.proofs.Trying.{asking_first, asking_within, position_within, position_before, asking_next, asking_here, here_searched, asking_last, last_searched}
 use Rattle.symbols_paths.proofs.SearchSteps.{still_aliases, aliases_with}
 use Rattle.symbols_paths.proofs.Aliases.{new_alias, old_alias, alias_few, popped}
 use Rattle.symbols_paths.proofs.SharedParts.{short_parts}
-use Rattle.symbols_paths.proofs.Walking.{IsWalking, AreGiven, head_in_place, definition_in_place, one_less, walked_alone, changed_itself, changed_lacking, changed_on, walking_first, walking_next, walking_last, resolved_open, resolved_walk, first_given, others_given, given_first, refused_given, refused_on}
+use Rattle.symbols_paths.proofs.Walking.{IsWalking, AreGiven, head_in_place, one_less, walked_alone, changed_itself, changed_lacking, changed_on, walking_first, walking_next, walking_last, resolved_open, resolved_walk, first_given, others_given, given_first, refused_given, refused_on}
 use Rattle.symbols_paths.proofs.Needing.{refused_from, needed_import, refused_import, needed_candidate}
 use Rattle.symbols_paths.proofs.paths.search.+search.Goals as goal
 
@@ -477,13 +477,13 @@ walk_on-returns-clause-walked t c = rw c.in_ok-rest.ensures at c.walk.ensures.wa
 pub step-returns-in-Ok-Itself-clause-changed : goal.step-returns-in-Ok-Itself-clause-changed
 step-returns-in-Ok-Itself-clause-changed t c =
     let x = c.args.definition.now in
-    changed_itself c.args.resolving.now.keys c.args.met.now.keys x (parts_told c.args.parts.now) c.requires.known c.in-Ok-Itself.field-0 c.in-Ok-Itself.ensures.kept c.in-Ok-Itself.ensures.stored (rw c.texts.ensures.told at c.in-Ok-Itself.ensures.told) c.in-Ok-Itself.field-0-is c.defined-itself.result (λ later. c.defined-itself.ensures.told later ∙ definition_in_place later c.new-symbol.result x c.new-symbol.ensures.module)
+    changed_itself c.args.resolving.now.keys c.args.met.now.keys x (parts_told c.args.parts.now) c.requires.known c.in-Ok-Itself.field-0 c.in-Ok-Itself.ensures.kept c.in-Ok-Itself.ensures.stored (rw c.texts.ensures.told at c.in-Ok-Itself.ensures.told) c.in-Ok-Itself.field-0-is c.defined-itself.result c.defined-itself.ensures.told
 
 pub step-returns-in-Ok-Itself-clause-searched : goal.step-returns-in-Ok-Itself-clause-searched
 step-returns-in-Ok-Itself-clause-searched t c =
     let kept = c.in-Ok-Itself.ensures.kept in
     let root = c.part_of.new.root in
-    let within : c.new-symbol.result.module_id.0 < length root.stored = subst (λ (id : ModuleId). id.0 < length root.stored) (sym c.new-symbol.ensures.module) (still_stored kept c.args.definition.now.«module».0 c.requires.known) in
+    let within = still_stored kept c.args.definition.now.«module».0 c.requires.known in
     record { numbered = still_numbered kept c.args.met.now.keys c.requires.met; longer = omega arith; few = λ h. h; stored = option_stored root (Some c.defined-itself.result) (c.defined-itself.ensures.stored root within) }
 
 pub step-returns-in_ok-link_under-in-Ok-Lacks-clause-changed : goal.step-returns-in_ok-link_under-in-Ok-Lacks-clause-changed

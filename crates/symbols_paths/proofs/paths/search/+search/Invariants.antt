@@ -1,5 +1,5 @@
 use Rattle.std.proofs.Common.{length, ◌-◌, ◌^◌}
-use Rattle.symbols_exports.specs.Exporting.{specifier_in}
+use Rattle.symbols_root.specs.Roots.{specifier_in}
 use Rattle.symbols_exports.specs.StarStatements.{star_texts}
 use Rattle.symbols_paths.specs.Leads.{declarations_of}
 use Rattle.symbols_paths.specs.Views.{named}

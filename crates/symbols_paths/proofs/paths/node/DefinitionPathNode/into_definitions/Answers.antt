@@ -7,4 +7,4 @@ on_answer (Ok x) f h = f x h
 on_answer (Err e) f h = tt
 
 pub returns : goal.returns
-returns c = on_answer c.definitions_of.result (λ definitions told root. told root ∙ ap definitions_in (c.in_ok-ends.ensures root)) c.definitions_of.ensures
+returns c = on_answer c.definitions_of.result (λ definitions told root. told root ∙ ap definitions_in (c.in_ok-ends.ensures root)) c.definitions_of.ensures.told
