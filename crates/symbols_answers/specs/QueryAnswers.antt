@@ -6,10 +6,10 @@ use Rattle.symbols_syntax.specs.Graph.{GraphView}
 use Rattle.symbols_nodes.specs.declared.deps.dep.ResolveDepsMode.{ResolveDepsMode}
 use Rattle.symbols_table.specs.Changes.{mapped_after}
 use Rattle.symbols_table.specs.DeclViews.{decl_dependencies}
-use Rattle.symbols_table.specs.SymbolViews.{SymbolView, symbol_after}
+use Rattle.symbols_table.specs.SymbolViews.{SymbolView}
 use Rattle.symbols_table.specs.QualifiedNames.{qualified_name}
 use Rattle.symbols_root.specs.TypesChains.{stands_for}
-use Rattle.symbols_exports.specs.StarStatements.{changes_under}
+use Rattle.symbols_root.specs.GraphModules.{changes_under, symbol_under}
 use Rattle.symbols_exports.specs.Ways.{exports_told, unresolved_told_in}
 use Rattle.symbols_paths.specs.Trees.{Forest, leaves_in, definitions_in}
 use Rattle.symbols_paths.specs.Computed.{paths_of}
@@ -17,11 +17,7 @@ use Rattle.symbols_paths.specs.DepAnswers.{entries_of}
 use Rattle.symbols_answers.specs.Questions.{QuestionView, asks_module, asks_exports, asks_symbol, asks_name, asks_deps, asks_paths, asks_definitions, asks_leaves, asks_entries, QueryView}
 use Rattle.symbols_answers.specs.Answers.{AnswerView, tells_nothing, tells_module, tells_exports, tells_symbol, tells_name, tells_deps, tells_paths, tells_definitions, tells_leaves, tells_entries}
 
--- a symbol of the module of this specifier
-abbrev pub symbol_under : GraphView → List ℕ → SymbolId → Option SymbolView
-symbol_under graph specifier s = symbol_after (changes_under graph specifier) s
-
--- the paths to what it is defined by
+-- the paths to what a symbol of the module of this specifier is defined by
 abbrev pub paths_from : GraphView → List ℕ → SymbolId → Forest
 paths_from graph specifier s = paths_of graph (record { specifier = specifier; number = s })
 

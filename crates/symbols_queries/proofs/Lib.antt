@@ -1,2 +1,5 @@
 mod Naming
+mod Storing
 mod Asking
+mod Running
+mod PathModules

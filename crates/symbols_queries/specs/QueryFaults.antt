@@ -5,12 +5,15 @@ use Rattle.symbols_nodes.specs.References.{Reference, id, qualified_id, import_t
 use Rattle.symbols_table.specs.declared.info.fault.SymbolsFault.{SymbolsFault}
 use Rattle.symbols_table.specs.declared.info.fault.SymbolsFault.TheVariants.{UnknownSymbol}
 use Rattle.symbols_root.specs.TypesChains.{stands_for}
-use Rattle.symbols_root.specs.Roots.{RootView, IsRefusal}
+use Rattle.symbols_root.specs.Roots.{RootView, with_stored, IsRefusal}
 use Rattle.symbols_exports.specs.Chains.{IsReached}
 use Rattle.symbols_exports.specs.StarStatements.{text_target, statements_of}
+use Rattle.symbols_root.specs.Growing.{HasGrown}
 use Rattle.symbols_paths.specs.Needed.{IsNeeded}
 use Rattle.symbols_answers.specs.Questions.{QuestionView, asks_module, asks_exports, asks_symbol, asks_name, asks_deps, asks_paths, asks_definitions, asks_leaves, asks_entries, QueryView}
+use Rattle.symbols_answers.specs.Answers.{AnswerView}
 use Rattle.symbols_answers.specs.QueryAnswers.{module_answer, query_answer}
+use Rattle.symbols_answers.specs.Stored.{HasStoredFor}
 
 -- the modules that a reference in a module may need: those needed on from the module, and from that which an import type stands for
 abbrev pub IsNeededFor : GraphView → List ℕ → Reference → List ℕ → Type 0
@@ -30,26 +33,60 @@ IsAskedFor graph specifier (asks_definitions s) v = IsNeeded graph specifier v
 IsAskedFor graph specifier (asks_leaves s) v = IsNeeded graph specifier v
 IsAskedFor graph specifier (asks_entries reference) v = IsNeededFor graph specifier reference v
 
--- the module of this specifier has no such symbol; else what was refused is a module that the question may need, or memory
-pub data IsQuestionFault (root : RootView) (specifier : List ℕ) (question : QuestionView) (fault : SymbolsFault) : Type 0 where
-  no_such_symbol : module_answer root.graph specifier question ≡ None → fault ≡ UnknownSymbol → IsQuestionFault root specifier question fault
-  refused_module : (needed : Option (List ℕ)) → ((v : List ℕ) → needed ≡ Some v → IsAskedFor root.graph specifier question v) → IsRefusal root needed fault → IsQuestionFault root specifier question fault
+-- for inner functions, of a question on a stored module: it has no such symbol, and nothing changes
+pub record IsNoSymbol (old new : RootView) (specifier : List ℕ) (question : QuestionView) (fault : SymbolsFault) : Type 0 where
+  pub none_told : module_answer old.graph specifier question ≡ None
+  pub fault_is : fault ≡ UnknownSymbol
+  pub unchanged : new ≡ old
 
--- the modules that a query may need: that which its specifier stands for, and what the question needs besides it
-pub data IsNeededBy (graph : GraphView) (query : QueryView) : List ℕ → Type 0 where
-  the_module : (specifier : List ℕ) → stands_for graph query.specifier ≡ Some specifier → IsNeededBy graph query specifier
-  besides_it : (specifier v : List ℕ) → stands_for graph query.specifier ≡ Some specifier → IsAskedFor graph specifier query.question v → IsNeededBy graph query v
+-- or there is an answer, and what was refused is a module that it may need besides, or memory
+pub record IsBrokenOff (old new : RootView) (specifier : List ℕ) (question : QuestionView) (fault : SymbolsFault) : Type 0 where
+  pub has_answer : module_answer old.graph specifier question ≢ None
+  pub needed : Option (List ℕ)
+  pub is_needed : (v : List ℕ) → needed ≡ Some v → IsAskedFor old.graph specifier question v
+  pub refused : IsRefusal new needed fault
 
--- the same of a query
-pub data IsQueryFault (root : RootView) (query : QueryView) (fault : SymbolsFault) : Type 0 where
-  no_answer : query_answer root.graph query ≡ None → fault ≡ UnknownSymbol → IsQueryFault root query fault
-  broken_off : (needed : Option (List ℕ)) → ((v : List ℕ) → needed ≡ Some v → IsNeededBy root.graph query v) → IsRefusal root needed fault → IsQueryFault root query fault
+abbrev pub IsQuestionFault : RootView → RootView → List ℕ → QuestionView → SymbolsFault → Type 0
+IsQuestionFault old new specifier question fault = IsNoSymbol old new specifier question fault ⊎ IsBrokenOff old new specifier question fault
 
--- of some queries: those before one have answers, and it has none, for this fault
-pub record IsRunFault (root : RootView) (queries : List QueryView) (fault : SymbolsFault) : Type 0 where
+-- the modules that a query may need besides that which its specifier stands for
+abbrev pub IsNeededBesides : GraphView → QueryView → List ℕ → Type 0
+IsNeededBesides graph query v = (specifier : List ℕ) × (stands_for graph query.specifier ≡ Some specifier) × IsAskedFor graph specifier query.question v
+
+-- the module that the specifier stands for has no such symbol: it alone is stored, if it wasn't
+pub record IsUnknownSymbol (old new : RootView) (query : QueryView) (fault : SymbolsFault) : Type 0 where
+  pub no_answer : query_answer old.graph query ≡ None
+  pub fault_is : fault ≡ UnknownSymbol
+  pub stored : new ≡ with_stored old (stands_for old.graph query.specifier)
+
+-- that module was refused, or memory for it: nothing changes
+pub record IsModuleRefused (old new : RootView) (query : QueryView) (fault : SymbolsFault) : Type 0 where
+  pub refused : IsRefusal old (stands_for old.graph query.specifier) fault
+  pub unchanged : new ≡ old
+
+-- there is an answer, and that module is stored; what was refused is one that may be needed besides, or memory
+pub record IsAnswerRefused (old new : RootView) (query : QueryView) (fault : SymbolsFault) : Type 0 where
+  pub has_answer : query_answer old.graph query ≢ None
+  pub stored : HasGrown (with_stored old (stands_for old.graph query.specifier)) new
+  pub needed : Option (List ℕ)
+  pub is_needed : (v : List ℕ) → needed ≡ Some v → IsNeededBesides old.graph query v
+  pub refused : IsRefusal new needed fault
+
+-- why a query has no answer: one of these
+abbrev pub IsQueryFault : RootView → RootView → QueryView → SymbolsFault → Type 0
+IsQueryFault old new query fault = IsUnknownSymbol old new query fault ⊎ IsModuleRefused old new query fault ⊎ IsAnswerRefused old new query fault
+
+-- a query was answered: it has an answer, and what that needs is stored
+abbrev pub IsAnswered : RootView → QueryView → Type 0
+IsAnswered root query = (answer : AnswerView) × (query_answer root.graph query ≡ Some answer) × HasStoredFor root query answer
+
+-- of some queries: those before one were answered, in a root that has stored what they need, and in that root it has no answer, for this fault
+pub record IsRunFault (old new : RootView) (queries : List QueryView) (fault : SymbolsFault) : Type 0 where
   pub before : List QueryView
   pub query : QueryView
   pub behind : List QueryView
   pub are : queries ≡ before ++ query ∷ behind
-  pub answered : All (λ (earlier : QueryView). query_answer root.graph earlier ≢ None) before
-  pub fails : IsQueryFault root query fault
+  pub between : RootView
+  pub grown : HasGrown old between
+  pub answered : All (IsAnswered between) before
+  pub fails : IsQueryFault between new query fault

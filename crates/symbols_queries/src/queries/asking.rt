@@ -1,18 +1,22 @@
 //! The answers to queries.
 
-ghost use Rattle.std.specs.Prelude.{◌≡◌, ◌<◌, ◌⊎◌, length, map, Some, IfOk, IfErr};
+ghost use Rattle.std.specs.Prelude.{◌≡◌, ◌<◌, ◌⊎◌, ℕ, List, length, map, Some, IfOk, IfErr};
+ghost use Rattle.std.specs.List.{AllZip};
 ghost use Rattle.symbols_syntax.specs.Ids.{id_view};
 ghost use Rattle.symbols_nodes.specs.References.{reference_view};
 ghost use Rattle.symbols_table.specs.declared.info.fault.SymbolsFault.TheVariants.{OutOfMemory, UnknownSymbol};
 ghost use Rattle.symbols_table.specs.Changes.{mapped_after};
-ghost use Rattle.symbols_root.specs.Roots.{widest};
-ghost use Rattle.symbols_exports.specs.Exporting.{specifier_in};
-ghost use Rattle.symbols_exports.specs.StarStatements.{changes_under};
-ghost use Rattle.symbols_paths.specs.Growing.{HasGrown};
+ghost use Rattle.symbols_root.specs.Roots.{widest, specifier_in};
+ghost use Rattle.symbols_root.specs.GraphModules.{changes_under};
+ghost use Rattle.symbols_root.specs.Growing.{HasGrown};
+ghost use Rattle.symbols_exports.specs.Answers.{AreListed};
 ghost use Rattle.symbols_answers.specs.Questions.{asks_exports, asks_name, asks_deps, asks_paths, asks_definitions, asks_leaves, asks_entries};
-ghost use Rattle.symbols_answers.specs.QueryAnswers.{module_answer, query_answer};
+ghost use Rattle.symbols_answers.specs.QueryAnswers.{query_answer};
+ghost use Rattle.symbols_answers.specs.Meanings.{IsAnswerTo};
+ghost use Rattle.symbols_answers.specs.Stored.{HasStoredFor};
 ghost use Rattle.symbols_queries.specs.Queries.{query_view};
 ghost use Rattle.symbols_queries.specs.AnswerViews.{answer_view};
+ghost use Rattle.symbols_queries.specs.Given.{IsGiven};
 ghost use Rattle.symbols_queries.specs.QueryFaults.{IsQuestionFault, IsQueryFault, IsRunFault};
 
 use crate::queries::answers::Answer;
@@ -21,6 +25,7 @@ use crate::queries::exports::{named_exports, specifier_of};
 use crate::queries::paths::{named_definitions, named_ends, named_entries, named_paths};
 use crate::queries::query::Query;
 use symbols_exports::exports::exports;
+use symbols_exports::laws::exports_are_listed;
 use symbols_nodes::deps::{ResolveDepsMode, SymbolNodeDep};
 use symbols_paths::paths::{
     find_definition_paths, go_to_definitions, go_to_definitions_or_unresolveds, resolve_symbol_dep,
@@ -37,8 +42,8 @@ fn exports_answer<'a>(
 ) -> Result<Answer<'a>, SymbolsFault>
     requires { module_id.0 < length root.old.stored }
     ensures kept { HasGrown root.old root.new }
-    ensures answers { IfOk result (λ answer. module_answer root.old.graph (specifier_in root.old module_id) asks_exports ≡ Some (answer_view answer)) }
-    ensures faults { IfErr result (IsQuestionFault root.new (specifier_in root.old module_id) asks_exports) }
+    ensures given { IfOk result (λ answer. IsGiven root.old root.new (specifier_in root.old module_id) asks_exports (answer_view answer)) }
+    ensures faults { IfErr result (IsQuestionFault root.old root.new (specifier_in root.old module_id) asks_exports) }
     ensures enough { root.old.limits ≡ widest → IfErr result (λ fault. fault ≡ OutOfMemory) }
 {
     match exports(root, module_id) {
@@ -66,8 +71,8 @@ fn name_answer<'a>(
     symbol: SymbolId,
 ) -> Result<Answer<'a>, SymbolsFault>
     requires { module_id.0 < length root.now.stored }
-    ensures answers { IfOk result (λ answer. module_answer root.now.graph (specifier_in root.now module_id) (asks_name symbol) ≡ Some (answer_view answer)) }
-    ensures faults { IfErr result (IsQuestionFault root.now (specifier_in root.now module_id) (asks_name symbol)) }
+    ensures given { IfOk result (λ answer. IsGiven root.now root.now (specifier_in root.now module_id) (asks_name symbol) (answer_view answer)) }
+    ensures faults { IfErr result (IsQuestionFault root.now root.now (specifier_in root.now module_id) (asks_name symbol)) }
 {
     match root.module_from_id(module_id) {
         Some(info) => match info.fully_qualified_symbol_name(root.alloc(), symbol) {
@@ -86,8 +91,8 @@ fn deps_answer<'a>(
     mode: ResolveDepsMode,
 ) -> Result<Answer<'a>, SymbolsFault>
     requires { module_id.0 < length root.now.stored }
-    ensures answers { IfOk result (λ answer. module_answer root.now.graph (specifier_in root.now module_id) (asks_deps symbol_id mode) ≡ Some (answer_view answer)) }
-    ensures faults { IfErr result (IsQuestionFault root.now (specifier_in root.now module_id) (asks_deps symbol_id mode)) }
+    ensures given { IfOk result (λ answer. IsGiven root.now root.now (specifier_in root.now module_id) (asks_deps symbol_id mode) (answer_view answer)) }
+    ensures faults { IfErr result (IsQuestionFault root.now root.now (specifier_in root.now module_id) (asks_deps symbol_id mode)) }
 {
     match root.module_from_id(module_id) {
         Some(info) => match info.symbol(symbol_id) {
@@ -106,8 +111,8 @@ fn paths_answer<'a>(
 ) -> Result<Answer<'a>, SymbolsFault>
     requires { module_id.0 < length root.old.stored }
     ensures kept { HasGrown root.old root.new }
-    ensures answers { IfOk result (λ answer. module_answer root.old.graph (specifier_in root.old module_id) (asks_paths symbol) ≡ Some (answer_view answer)) }
-    ensures faults { IfErr result (IsQuestionFault root.new (specifier_in root.old module_id) (asks_paths symbol)) }
+    ensures given { IfOk result (λ answer. IsGiven root.old root.new (specifier_in root.old module_id) (asks_paths symbol) (answer_view answer)) }
+    ensures faults { IfErr result (IsQuestionFault root.old root.new (specifier_in root.old module_id) (asks_paths symbol)) }
     ensures enough { root.old.limits ≡ widest → IfErr result (λ fault. (fault ≡ OutOfMemory) ⊎ (fault ≡ UnknownSymbol)) }
 {
     match find_definition_paths(root, module_id, symbol) {
@@ -124,8 +129,8 @@ fn definitions_answer<'a>(
 ) -> Result<Answer<'a>, SymbolsFault>
     requires { module_id.0 < length root.old.stored }
     ensures kept { HasGrown root.old root.new }
-    ensures answers { IfOk result (λ answer. module_answer root.old.graph (specifier_in root.old module_id) (asks_definitions symbol) ≡ Some (answer_view answer)) }
-    ensures faults { IfErr result (IsQuestionFault root.new (specifier_in root.old module_id) (asks_definitions symbol)) }
+    ensures given { IfOk result (λ answer. IsGiven root.old root.new (specifier_in root.old module_id) (asks_definitions symbol) (answer_view answer)) }
+    ensures faults { IfErr result (IsQuestionFault root.old root.new (specifier_in root.old module_id) (asks_definitions symbol)) }
     ensures enough { root.old.limits ≡ widest → IfErr result (λ fault. (fault ≡ OutOfMemory) ⊎ (fault ≡ UnknownSymbol)) }
 {
     match go_to_definitions(root, module_id, symbol) {
@@ -145,8 +150,8 @@ fn leaves_answer<'a>(
 ) -> Result<Answer<'a>, SymbolsFault>
     requires { module_id.0 < length root.old.stored }
     ensures kept { HasGrown root.old root.new }
-    ensures answers { IfOk result (λ answer. module_answer root.old.graph (specifier_in root.old module_id) (asks_leaves symbol) ≡ Some (answer_view answer)) }
-    ensures faults { IfErr result (IsQuestionFault root.new (specifier_in root.old module_id) (asks_leaves symbol)) }
+    ensures given { IfOk result (λ answer. IsGiven root.old root.new (specifier_in root.old module_id) (asks_leaves symbol) (answer_view answer)) }
+    ensures faults { IfErr result (IsQuestionFault root.old root.new (specifier_in root.old module_id) (asks_leaves symbol)) }
     ensures enough { root.old.limits ≡ widest → IfErr result (λ fault. (fault ≡ OutOfMemory) ⊎ (fault ≡ UnknownSymbol)) }
 {
     match go_to_definitions_or_unresolveds(root, module_id, symbol) {
@@ -163,8 +168,8 @@ fn entries_answer<'a>(
 ) -> Result<Answer<'a>, SymbolsFault>
     requires { module_id.0 < length root.old.stored }
     ensures kept { HasGrown root.old root.new }
-    ensures answers { IfOk result (λ answer. module_answer root.old.graph (specifier_in root.old module_id) (asks_entries (reference_view dep.now)) ≡ Some (answer_view answer)) }
-    ensures faults { IfErr result (IsQuestionFault root.new (specifier_in root.old module_id) (asks_entries (reference_view dep.now))) }
+    ensures given { IfOk result (λ answer. IsGiven root.old root.new (specifier_in root.old module_id) (asks_entries (reference_view dep.now)) (answer_view answer)) }
+    ensures faults { IfErr result (IsQuestionFault root.old root.new (specifier_in root.old module_id) (asks_entries (reference_view dep.now))) }
     ensures enough { root.old.limits ≡ widest → IfErr result (λ fault. fault ≡ OutOfMemory) }
 {
     match resolve_symbol_dep(root, module_id, dep) {
@@ -181,8 +186,8 @@ fn answer_on<'a>(
 ) -> Result<Answer<'a>, SymbolsFault>
     requires { module_id.0 < length root.old.stored }
     ensures kept { HasGrown root.old root.new }
-    ensures answers { IfOk result (λ answer. module_answer root.old.graph (specifier_in root.old module_id) (query_view query.now).question ≡ Some (answer_view answer)) }
-    ensures faults { IfErr result (IsQuestionFault root.new (specifier_in root.old module_id) (query_view query.now).question) }
+    ensures given { IfOk result (λ answer. IsGiven root.old root.new (specifier_in root.old module_id) (query_view query.now).question (answer_view answer)) }
+    ensures faults { IfErr result (IsQuestionFault root.old root.new (specifier_in root.old module_id) (query_view query.now).question) }
     ensures enough { root.old.limits ≡ widest → IfErr result (λ fault. (fault ≡ OutOfMemory) ⊎ (fault ≡ UnknownSymbol)) }
 {
     match query {
@@ -202,14 +207,19 @@ fn answer_on<'a>(
 ///
 /// # Errors
 ///
-/// `UnknownSymbol` where the module has no such symbol; else what storing a module refuses that the
-/// answer needs. What was stored stays.
+/// `UnknownSymbol` exactly where the module has no such symbol, and then it alone is stored; else what
+/// storing a module refuses that the answer needs. Where that is the module that is asked, nothing
+/// changes; else what was stored stays.
 pub fn answer<'a>(root: &mut RootSymbol<'a>, query: &Query<'_>) -> Result<Answer<'a>, SymbolsFault>
     ensures kept { HasGrown root.old root.new }
     ensures answers { IfOk result (λ answer. query_answer root.old.graph (query_view query.now) ≡ Some (answer_view answer)) }
-    ensures faults { IfErr result (IsQueryFault root.new (query_view query.now)) }
+    ensures means { IfOk result (λ answer. IsAnswerTo root.old.graph (query_view query.now) (answer_view answer)) }
+    ensures stored { IfOk result (λ answer. HasStoredFor root.new (query_view query.now) (answer_view answer)) }
+    ensures listed { (start : List ℕ) → AreListed root.old.graph start }
+    ensures faults { IfErr result (IsQueryFault root.old root.new (query_view query.now)) }
     ensures enough { root.old.limits ≡ widest → IfErr result (λ fault. (fault ≡ OutOfMemory) ⊎ (fault ≡ UnknownSymbol)) }
 {
+    exports_are_listed(root);
     match root.module_from_specifier(query.specifier()) {
         Err(fault) => Err(fault),
         Ok(None) => Ok(Answer::NoModule),
@@ -222,16 +232,20 @@ pub fn answer<'a>(root: &mut RootSymbol<'a>, query: &Query<'_>) -> Result<Answer
 /// # Errors
 ///
 /// The fault of the first query that has no answer, as `answer` gives it; the answers to those before
-/// are dropped. What was stored stays.
+/// are dropped, and what they need is stored. What was stored stays.
 pub fn run<'a>(
     root: &mut RootSymbol<'a>,
     queries: &[Query<'_>],
 ) -> Result<Vec<Answer<'a>>, SymbolsFault>
     ensures kept { HasGrown root.old root.new }
     ensures answers { IfOk result (λ answers. map (λ answer. Some (answer_view answer)) answers.items ≡ map (λ query. query_answer root.old.graph (query_view query)) queries.now) }
-    ensures faults { IfErr result (IsRunFault root.new (map query_view queries.now)) }
+    ensures means { IfOk result (λ answers. AllZip (λ query answer. IsAnswerTo root.old.graph (query_view query) (answer_view answer)) queries.now answers.items) }
+    ensures stored { IfOk result (λ answers. AllZip (λ query answer. HasStoredFor root.new (query_view query) (answer_view answer)) queries.now answers.items) }
+    ensures listed { (start : List ℕ) → AreListed root.old.graph start }
+    ensures faults { IfErr result (IsRunFault root.old root.new (map query_view queries.now)) }
     ensures enough { root.old.limits ≡ widest → IfErr result (λ fault. (fault ≡ OutOfMemory) ⊎ (fault ≡ UnknownSymbol)) }
 {
+    exports_are_listed(root);
     let mut answers = Vec::new(root.alloc());
     for query in queries {
         match answer(root, query) {

@@ -1,9 +1,10 @@
 use Rattle.std.proofs.Common.{Result, Ok, Err, IfErr}
+use Rattle.symbols_syntax.specs.Ids.{id_view}
 use Rattle.symbols_table.specs.declared.info.fault.SymbolsFault.{SymbolsFault}
-use Rattle.symbols_exports.specs.Exporting.{specifier_in}
-use Rattle.symbols_paths.proofs.Growing.{grown_not}
+use Rattle.symbols_root.specs.Roots.{specifier_in}
+use Rattle.symbols_root.specs.laws.Growing.{grown_not}
 use Rattle.symbols_answers.specs.Questions.{asks_name, asks_deps}
-use Rattle.symbols_queries.proofs.Asking.{no_refusal}
+use Rattle.symbols_queries.proofs.Asking.{no_refusal, module_given, symbol_given}
 use Rattle.symbols_queries.proofs.queries.asking.answer_on.Goals as goal
 
 on_fault : {A : Type 0} {P Q : SymbolsFault → Type 0} (r : Result A SymbolsFault) → IfErr r P → ((e : SymbolsFault) → P e → Q e) → IfErr r Q
@@ -13,8 +14,14 @@ on_fault (Err e) h f = f e h
 pub returns-in-Module-clause-kept : goal.returns-in-Module-clause-kept
 returns-in-Module-clause-kept c = grown_not c.args.root.now
 
+pub returns-in-Module-clause-given : goal.returns-in-Module-clause-given
+returns-in-Module-clause-given c = rw c.in-Module.is (module_given c.args.root.now c.args.module_id c.specifier_of.result.now c.requires c.specifier_of.ensures)
+
 pub returns-in-Symbol-clause-kept : goal.returns-in-Symbol-clause-kept
 returns-in-Symbol-clause-kept c = grown_not c.args.root.now
+
+pub returns-in-Symbol-clause-given : goal.returns-in-Symbol-clause-given
+returns-in-Symbol-clause-given c = rw c.in-Symbol.is (symbol_given c.args.root.now c.args.module_id (id_view c.in-Symbol.id) c.mapped_symbol.result c.requires c.mapped_symbol.ensures)
 
 pub returns-in-Name-clause-kept : goal.returns-in-Name-clause-kept
 returns-in-Name-clause-kept c = grown_not c.args.root.now

@@ -1,26 +1,32 @@
-use Rattle.std.proofs.Common.{ℕ, List, map, refl, ap, ◌∙◌}
+use Rattle.std.proofs.Common.{ℕ, List, map, refl, sym, ap, subst, ◌∙◌}
+use Rattle.std.specs.Prelude.{All, Contains}
 use Rattle.symbols_syntax.specs.Graph.{GraphView}
-use Rattle.symbols_exports.specs.Exporting.{specifier_in}
-use Rattle.symbols_paths.specs.Trees.{leaves_in, definitions_in}
+use Rattle.symbols_root.specs.Roots.{specifier_in}
+use Rattle.symbols_paths.specs.Trees.{Forest, leaves_in, definitions_in}
+use Rattle.symbols_paths.specs.Views.{definitions_left}
 use Rattle.symbols_answers.specs.Questions.{asks_definitions}
 use Rattle.symbols_answers.specs.Answers.{tells_definitions}
-use Rattle.symbols_answers.specs.QueryAnswers.{paths_from}
+use Rattle.symbols_answers.specs.Stored.{module_of_defined}
 use Rattle.symbols_queries.specs.AnswerViews.{defined_view}
-use Rattle.symbols_queries.proofs.Asking.{memory_refused, found_told, refused_told, paths_enough}
+use Rattle.symbols_queries.proofs.Asking.{memory_refused, paths_given, paths_answered, paths_refused, paths_enough}
+use Rattle.symbols_queries.proofs.PathModules.{definitions_there}
 use Rattle.symbols_queries.proofs.queries.asking.definitions_answer.Goals as goal
 
 pub returns-in-Err-clause-faults : goal.returns-in-Err-clause-faults
 returns-in-Err-clause-faults c =
     let s = c.args.symbol in
-    refused_told (asks_definitions s) s (λ (graph : GraphView) (specifier : List ℕ). tells_definitions (definitions_in (leaves_in (paths_from graph specifier s)))) (λ graph specifier. refl) (λ graph specifier v is. is) c.args.root.now c.go_to_definitions.new.root c.args.module_id c.in-Err.fault c.requires c.in-Err.ensures.faults
+    paths_refused (asks_definitions s) s (λ (paths : Forest). tells_definitions (definitions_in (leaves_in paths))) (λ graph specifier. refl) (λ graph specifier given is. is) (λ graph specifier v is. is) (λ is. let no : ⊥ = cc in no) c.args.root.now c.go_to_definitions.new.root c.args.module_id c.in-Err.fault c.in-Err.ensures.kept c.requires c.in-Err.ensures.faults
 
 pub returns-in-Err-clause-enough : goal.returns-in-Err-clause-enough
 returns-in-Err-clause-enough c = λ wide. paths_enough c.args.root.now c.go_to_definitions.new.root c.args.module_id c.args.symbol c.in-Err.fault c.requires c.in-Err.ensures.faults (c.in-Err.ensures.enough wide c.requires)
 
 pub returns-in_err-named-in-Ok-clause-faults : goal.returns-in_err-named-in-Ok-clause-faults
-returns-in_err-named-in-Ok-clause-faults c = memory_refused c.from_residual.result c.go_to_definitions.new.root (specifier_in c.args.root.now c.args.module_id) (asks_definitions c.args.symbol) c.from_residual.ensures.1
-
-pub returns-in_ok-named-in-Ok-clause-answers : goal.returns-in_ok-named-in-Ok-clause-answers
-returns-in_ok-named-in-Ok-clause-answers c =
+returns-in_err-named-in-Ok-clause-faults c =
     let s = c.args.symbol in
-    found_told (asks_definitions s) s (λ (graph : GraphView) (specifier : List ℕ). tells_definitions (definitions_in (leaves_in (paths_from graph specifier s)))) (λ graph specifier. refl) (λ graph specifier v is. is) c.args.root.now c.args.module_id (tells_definitions (map defined_view c.in_ok-named-in-Ok.named.items)) c.in-Ok.ensures.known.1 (ap tells_definitions (c.in_ok-named-in-Ok.ensures ∙ c.in-Ok.ensures.listed))
+    let has = paths_answered (asks_definitions s) s (λ (paths : Forest). tells_definitions (definitions_in (leaves_in paths))) (λ graph specifier. refl) (λ graph specifier given is. is) (λ graph specifier v is. is) (λ is. let no : ⊥ = cc in no) c.args.root.now c.args.module_id c.in-Ok.ensures.known.1 in
+    memory_refused c.from_residual.result c.args.root.now c.go_to_definitions.new.root (specifier_in c.args.root.now c.args.module_id) (asks_definitions c.args.symbol) has c.from_residual.ensures.1
+
+pub returns-in_ok-named-in-Ok-clause-given : goal.returns-in_ok-named-in-Ok-clause-given
+returns-in_ok-named-in-Ok-clause-given c =
+    let s = c.args.symbol in
+    paths_given (asks_definitions s) s (λ (paths : Forest). tells_definitions (definitions_in (leaves_in paths))) (λ graph specifier. refl) (λ graph specifier given is. is) (λ graph specifier v is. is) (λ is. let no : ⊥ = cc in no) c.args.root.now c.go_to_definitions.new.root c.args.module_id (tells_definitions (map defined_view c.in_ok-named-in-Ok.named.items)) c.in-Ok.ensures.answers.0 c.in-Ok.ensures.kept c.requires c.in-Ok.ensures.known.1 c.in-Ok.ensures.answers.1 (ap tells_definitions (c.in_ok-named-in-Ok.ensures ∙ c.in-Ok.ensures.answers.2)) (ap tells_definitions (c.in_ok-named-in-Ok.ensures ∙ c.in-Ok.ensures.listed)) (subst (λ told. All (Contains c.go_to_definitions.new.root.stored) (map module_of_defined told)) (sym c.in_ok-named-in-Ok.ensures) (definitions_there c.go_to_definitions.new.root (definitions_left c.in-Ok.definitions) c.in-Ok.ensures.stored))

@@ -1,11 +1,11 @@
 use Rattle.std.specs.Prelude.{string_bytes}
 use Rattle.std.specs.Option.{option_map}
 use Rattle.symbols_table.specs.Modules.{lent_table}
-use Rattle.symbols_queries.proofs.Asking.{named_symbol, unnamed_symbol}
+use Rattle.symbols_queries.proofs.Asking.{name_given, unnamed_symbol}
 use Rattle.symbols_queries.proofs.queries.asking.name_answer.Goals as goal
 
-pub returns-in-Ok-clause-answers : goal.returns-in-Ok-clause-answers
-returns-in-Ok-clause-answers c = named_symbol c.args.root.now c.args.module_id (lent_table c.in-Some.info) c.in-Some.ensures.table c.args.symbol (option_map string_bytes c.in-Ok.name) c.in-Ok.ensures.name.0 c.in-Ok.ensures.name.1
+pub returns-in-Ok-clause-given : goal.returns-in-Ok-clause-given
+returns-in-Ok-clause-given c = name_given c.args.root.now c.args.module_id (lent_table c.in-Some.info) c.requires c.in-Some.ensures.table c.args.symbol (option_map string_bytes c.in-Ok.name) c.in-Ok.ensures.name.0 c.in-Ok.ensures.name.1
 
 pub returns-in-Err-clause-faults : goal.returns-in-Err-clause-faults
 returns-in-Err-clause-faults c = unnamed_symbol c.args.root.now c.args.module_id (lent_table c.in-Some.info) c.in-Some.ensures.table c.args.symbol c.in-Err.fault c.in-Err.ensures.fault

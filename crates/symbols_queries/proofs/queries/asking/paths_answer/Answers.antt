@@ -1,25 +1,32 @@
-use Rattle.std.proofs.Common.{ℕ, List, refl, ap, ◌∙◌}
+use Rattle.std.proofs.Common.{ℕ, List, refl, sym, ap, subst, ◌∙◌}
+use Rattle.std.specs.Prelude.{All, Contains}
 use Rattle.symbols_syntax.specs.Graph.{GraphView}
-use Rattle.symbols_exports.specs.Exporting.{specifier_in}
+use Rattle.symbols_root.specs.Roots.{specifier_in}
+use Rattle.symbols_paths.specs.Trees.{Forest}
+use Rattle.symbols_paths.specs.Views.{forest_told}
 use Rattle.symbols_answers.specs.Questions.{asks_paths}
 use Rattle.symbols_answers.specs.Answers.{tells_paths}
-use Rattle.symbols_answers.specs.QueryAnswers.{paths_from}
+use Rattle.symbols_answers.specs.Stored.{modules_of_forest}
 use Rattle.symbols_queries.specs.AnswerViews.{forest_view}
-use Rattle.symbols_queries.proofs.Asking.{memory_refused, found_told, refused_told, paths_enough}
+use Rattle.symbols_queries.proofs.Asking.{memory_refused, paths_given, paths_answered, paths_refused, paths_enough}
+use Rattle.symbols_queries.proofs.PathModules.{paths_there}
 use Rattle.symbols_queries.proofs.queries.asking.paths_answer.Goals as goal
 
 pub returns-in-Err-clause-faults : goal.returns-in-Err-clause-faults
 returns-in-Err-clause-faults c =
     let s = c.args.symbol in
-    refused_told (asks_paths s) s (λ (graph : GraphView) (specifier : List ℕ). tells_paths (paths_from graph specifier s)) (λ graph specifier. refl) (λ graph specifier v is. is) c.args.root.now c.find_definition_paths.new.root c.args.module_id c.in-Err.fault c.requires c.in-Err.ensures.faults
+    paths_refused (asks_paths s) s (λ (paths : Forest). tells_paths paths) (λ graph specifier. refl) (λ graph specifier given is. is) (λ graph specifier v is. is) (λ is. let no : ⊥ = cc in no) c.args.root.now c.find_definition_paths.new.root c.args.module_id c.in-Err.fault c.in-Err.ensures.kept c.requires c.in-Err.ensures.faults
 
 pub returns-in-Err-clause-enough : goal.returns-in-Err-clause-enough
 returns-in-Err-clause-enough c = λ wide. paths_enough c.args.root.now c.find_definition_paths.new.root c.args.module_id c.args.symbol c.in-Err.fault c.requires c.in-Err.ensures.faults (c.in-Err.ensures.enough wide c.requires)
 
 pub returns-in_err-named_paths-in-Ok-clause-faults : goal.returns-in_err-named_paths-in-Ok-clause-faults
-returns-in_err-named_paths-in-Ok-clause-faults c = memory_refused c.from_residual.result c.find_definition_paths.new.root (specifier_in c.args.root.now c.args.module_id) (asks_paths c.args.symbol) c.from_residual.ensures.1
-
-pub returns-in_ok-named_paths-in-Ok-clause-answers : goal.returns-in_ok-named_paths-in-Ok-clause-answers
-returns-in_ok-named_paths-in-Ok-clause-answers c =
+returns-in_err-named_paths-in-Ok-clause-faults c =
     let s = c.args.symbol in
-    found_told (asks_paths s) s (λ (graph : GraphView) (specifier : List ℕ). tells_paths (paths_from graph specifier s)) (λ graph specifier. refl) (λ graph specifier v is. is) c.args.root.now c.args.module_id (tells_paths (forest_view c.in_ok-named_paths-in-Ok.field-0.items)) c.in-Ok.ensures.answers.has_symbol (ap tells_paths (c.in_ok-named_paths-in-Ok.ensures ∙ c.in-Ok.ensures.listed))
+    let has = paths_answered (asks_paths s) s (λ (paths : Forest). tells_paths paths) (λ graph specifier. refl) (λ graph specifier given is. is) (λ graph specifier v is. is) (λ is. let no : ⊥ = cc in no) c.args.root.now c.args.module_id c.in-Ok.ensures.answers.has_symbol in
+    memory_refused c.from_residual.result c.args.root.now c.find_definition_paths.new.root (specifier_in c.args.root.now c.args.module_id) (asks_paths c.args.symbol) has c.from_residual.ensures.1
+
+pub returns-in_ok-named_paths-in-Ok-clause-given : goal.returns-in_ok-named_paths-in-Ok-clause-given
+returns-in_ok-named_paths-in-Ok-clause-given c =
+    let s = c.args.symbol in
+    paths_given (asks_paths s) s (λ (paths : Forest). tells_paths paths) (λ graph specifier. refl) (λ graph specifier given is. is) (λ graph specifier v is. is) (λ is. let no : ⊥ = cc in no) c.args.root.now c.find_definition_paths.new.root c.args.module_id (tells_paths (forest_view c.in_ok-named_paths-in-Ok.field-0.items)) (forest_told c.find_definition_paths.new.root c.in-Ok.paths.items) c.in-Ok.ensures.kept c.requires c.in-Ok.ensures.answers.has_symbol c.in-Ok.ensures.answers.are_paths (ap tells_paths c.in_ok-named_paths-in-Ok.ensures) (ap tells_paths (c.in_ok-named_paths-in-Ok.ensures ∙ c.in-Ok.ensures.listed)) (subst (λ told. All (Contains c.find_definition_paths.new.root.stored) (modules_of_forest told)) (sym c.in_ok-named_paths-in-Ok.ensures) (paths_there c.find_definition_paths.new.root c.in-Ok.paths.items c.in-Ok.ensures.answers.stored))

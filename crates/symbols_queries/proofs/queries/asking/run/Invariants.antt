@@ -1,4 +1,4 @@
-use Rattle.symbols_queries.proofs.Asking.{AreAnswered}
+use Rattle.symbols_queries.proofs.Running.{AreAnswered}
 use Rattle.symbols_queries.proofs.queries.asking.run.Given as goal
 
 abbrev pub invariant-loop-query : goal.invariant-loop-query
