@@ -1,5 +1,5 @@
 -- The answer to a query, by what a root that stores its module tells.
-use Rattle.std.proofs.Common.{◌≡◌, ℕ, List, [], map, true, false, Option, None, Some, sym, ap, ◌∙◌, subst, refl}
+use Rattle.std.proofs.Common.{◌≡◌, ℕ, List, [], map, true, false, Option, None, Some, sym, ap, ◌∙◌, subst}
 use Rattle.std.specs.Prelude.{Result, Ok, Err, OnOk, IsSome}
 use Rattle.std.specs.Option.{option_map, option_map_or}
 use Rattle.std.specs.declared.alloc.AllocError.{AllocError}
@@ -13,27 +13,22 @@ use Rattle.symbols_table.specs.declared.info.fault.SymbolsFault.{SymbolsFault}
 use Rattle.symbols_table.specs.declared.info.fault.SymbolsFault.TheVariants as fault
 use Rattle.symbols_table.specs.Modules.{Table, symbol_in}
 use Rattle.symbols_table.specs.QualifiedNames.{qualified_name}
-use Rattle.symbols_root.specs.Roots.{RootView, with_stored, specifier_under, IsStoredTable}
+use Rattle.symbols_root.specs.Roots.{RootView, specifier_under, IsStoredTable, specifier_in}
 use Rattle.symbols_root.specs.TypesChains.{stands_for}
+use Rattle.symbols_root.specs.laws.StoredTables.{stored_symbol, stored_names}
+use Rattle.symbols_root.specs.laws.Numbers.{target_is, no_target}
+use Rattle.symbols_root.specs.GraphModules.{symbol_under}
 use Rattle.symbols_exports.specs.Answers.{IsAnswer}
-use Rattle.symbols_exports.specs.Exporting.{specifier_in}
 use Rattle.symbols_exports.specs.Taking.{NameView}
 use Rattle.symbols_exports.specs.Told.{told_name, told_number}
 use Rattle.symbols_exports.specs.Ways.{exports_told, unresolved_told_in}
-use Rattle.symbols_paths.proofs.Reading.{stored_symbol, stored_names}
-use Rattle.symbols_paths.proofs.Targets.{target_is, no_target}
 use Rattle.symbols_answers.specs.Questions.{QueryView}
 use Rattle.symbols_answers.specs.Answers.{AnswerView, tells_nothing, tells_module, tells_exports, tells_symbol, tells_name}
-use Rattle.symbols_answers.specs.QueryAnswers.{symbol_under, dependencies_told, told_of, module_answer, query_answer}
+use Rattle.symbols_answers.specs.QueryAnswers.{dependencies_told, told_of, module_answer, query_answer}
 use Rattle.symq_core.specs.AnswerData.{answer_data, found_data}
 use Rattle.symq_core.specs.Answering.{table_question_view, table_answer, fault_words}
 use Rattle.symq_core.specs.Telling.{Tells}
 use Rattle.symq_core.specs.declared.program.query.TableQuestion.{TableQuestion}
-
--- what is stored changes no graph
-pub graph_stays : (root : RootView) (stored : Option (List ℕ)) → (with_stored root stored).graph ≡ root.graph
-graph_stays root None = refl
-graph_stays root (Some specifier) = refl
 
 -- the answer to a query, by what its specifier stands for
 abbrev answer_by : GraphView → QueryView → Option (List ℕ) → Option AnswerView

@@ -8,3 +8,4 @@ pub mod Kinds
 pub mod KindShapes
 pub mod GraphText
 pub mod Streams
+pub mod Outcomes

@@ -7,6 +7,8 @@
 ghost use Rattle.std.specs.Prelude.{◌≡◌, IfOk, Ok};
 ghost use Rattle.symq_reader.specs.GraphText.{graph_shape, outcome_of, if_object, graph_fields};
 ghost use Rattle.symq_reader.specs.Streams.{ReadsMembers, Reads};
+ghost use Rattle.symq_reader.specs.Outcomes.{by_format, by_json};
+ghost use Rattle.symq_reader.specs.declared.stream.GiveUp.TheVariants.{OutOfMemory, Odd};
 
 mod members;
 mod modules;
@@ -28,24 +30,32 @@ pub(crate) enum GiveUp {
 }
 
 impl From<AllocError> for GiveUp {
+    ghost from_gives = { λ _ why. why ≡ OutOfMemory };
+
     fn from(_error: AllocError) -> GiveUp {
         GiveUp::OutOfMemory
     }
 }
 
 impl<T: Drop> From<AllocFailed<T>> for GiveUp {
+    ghost from_gives = { λ _ why. why ≡ OutOfMemory };
+
     fn from(_error: AllocFailed<T>) -> GiveUp {
         GiveUp::OutOfMemory
     }
 }
 
 impl From<Invalid> for GiveUp {
+    ghost from_gives = { λ _ why. why ≡ Odd };
+
     fn from(_error: Invalid) -> GiveUp {
         GiveUp::Odd
     }
 }
 
 impl From<Error> for GiveUp {
+    ghost from_gives = { λ error why. why ≡ by_json error };
+
     fn from(error: Error) -> GiveUp {
         match error {
             Error::OutOfMemory => GiveUp::OutOfMemory,
@@ -55,6 +65,8 @@ impl From<Error> for GiveUp {
 }
 
 impl From<FormatFault> for GiveUp {
+    ghost from_gives = { λ fault why. why ≡ by_format fault };
+
     fn from(fault: FormatFault) -> GiveUp {
         match fault {
             FormatFault::OutOfMemory => GiveUp::OutOfMemory,

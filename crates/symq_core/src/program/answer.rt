@@ -5,8 +5,8 @@ ghost use Rattle.std.specs.Option.{option_and_then};
 ghost use Rattle.symbols_syntax.specs.Ids.{id_view};
 ghost use Rattle.symbols_table.specs.Modules.{lent_table, symbol_in, mapped_in};
 ghost use Rattle.symbols_table.specs.QualifiedNames.{qualified_name};
-ghost use Rattle.symbols_root.specs.Roots.{widest};
-ghost use Rattle.symbols_exports.specs.Exporting.{specifier_in};
+ghost use Rattle.symbols_root.specs.Growing.{HasGrown};
+ghost use Rattle.symbols_root.specs.Roots.{widest, specifier_in};
 ghost use Rattle.symbols_exports.specs.Ways.{exports_told, unresolved_told_in};
 ghost use Rattle.symbols_answers.specs.Answers.{tells_exports, tells_symbol, tells_name};
 ghost use Rattle.symbols_answers.specs.QueryAnswers.{told_of, query_answer};
@@ -94,7 +94,7 @@ fn tell_exports_of(
 ) -> Result<(), AllocError>
     requires widest { root.old.limits ≡ widest }
     requires known { module_id.0 < length root.old.stored }
-    ensures kept { (root.new.graph ≡ root.old.graph) × (root.new.limits ≡ root.old.limits) }
+    ensures kept { HasGrown root.old root.new }
     ensures value { Tells result out.old out.new (answer_data (tells_exports (exports_told root.old.graph (specifier_in root.old module_id)) (unresolved_told_in root.old.graph (specifier_in root.old module_id)))) }
 {
     match exports(root, module_id) {
@@ -112,7 +112,7 @@ fn tell_query(
     query: &Query<'_>,
 ) -> Result<(), AllocError>
     requires { root.old.limits ≡ widest }
-    ensures kept { (root.new.graph ≡ root.old.graph) × (root.new.limits ≡ root.old.limits) }
+    ensures kept { HasGrown root.old root.new }
     ensures value { Tells result out.old out.new (found_data (query_answer root.old.graph (query_view query.now))) }
 {
     let module_id = match root.module_from_specifier(query.specifier) {
@@ -141,7 +141,7 @@ fn tell_asked(
     value: &Value<'_>,
 ) -> Result<(), AllocError>
     requires { root.old.limits ≡ widest }
-    ensures kept { (root.new.graph ≡ root.old.graph) × (root.new.limits ≡ root.old.limits) }
+    ensures kept { HasGrown root.old root.new }
     ensures value { Tells result out.old out.new (asked_data root.old.graph (query_of (data_of value.now))) }
 {
     match read_query(alloc, value)? {
@@ -159,7 +159,7 @@ fn tell_line(
     line: &[u8],
 ) -> Result<(), AllocError>
     requires { root.old.limits ≡ widest }
-    ensures kept { (root.new.graph ≡ root.old.graph) × (root.new.limits ≡ root.old.limits) }
+    ensures kept { HasGrown root.old root.new }
     ensures value { Tells result out.old out.new (asked_data root.old.graph (option_and_then query_of (json_of line.now))) }
 {
     let value = read_value(alloc, line, scratch)?;
@@ -178,7 +178,7 @@ pub(crate) fn answer(
     bytes: Vec<u8>,
 ) -> Result<Vec<u8>, AllocError>
     requires { root.old.limits ≡ widest }
-    ensures kept { (root.new.graph ≡ root.old.graph) × (root.new.limits ≡ root.old.limits) }
+    ensures kept { HasGrown root.old root.new }
     ensures text { IfOk result (λ text. text.items ≡ bytes.items ++ answer_text root.old.graph line.now) }
 {
     let mut out = Writer::new(bytes);

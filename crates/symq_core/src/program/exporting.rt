@@ -1,7 +1,7 @@
 //! What a module exports, as text.
 
 ghost use Rattle.std.specs.Prelude.{◌≡◌, map};
-ghost use Rattle.symbols_exports.specs.Exporting.{specifier_in};
+ghost use Rattle.symbols_root.specs.Roots.{specifier_in};
 ghost use Rattle.symbols_exports.specs.Paths.{resolved_export, statements_on};
 ghost use Rattle.symbols_exports.specs.Taking.{names_view, unresolved_told};
 ghost use Rattle.symbols_exports.specs.Told.{told_number, told_name};

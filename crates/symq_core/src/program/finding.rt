@@ -1,7 +1,7 @@
 //! Where a symbol is defined, as text.
 
 ghost use Rattle.std.specs.Prelude.{◌≡◌, map, string_bytes};
-ghost use Rattle.symbols_exports.specs.Exporting.{specifier_in};
+ghost use Rattle.symbols_root.specs.Roots.{specifier_in};
 ghost use Rattle.symbols_paths.specs.Views.{decl_told, star_of, definition_told, reason_told, unresolved_told, tree_told, forest_told, leaf_told, definitions_left, ends_left};
 ghost use Rattle.symq_core.specs.PathData.{decl_data, defined_data, reason_words, reason_name, scope_members, missing_data, leaf_data, link_end, tree_data, forest_items};
 ghost use Rattle.symq_core.specs.Telling.{Adds, Tells, rest_tokens, members_left, items_left, star_tokens, link_front};

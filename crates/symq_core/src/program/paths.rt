@@ -2,8 +2,8 @@
 
 ghost use Rattle.std.specs.Prelude.{◌≡◌, ◌<◌, ◌∷◌, [], length};
 ghost use Rattle.json.specs.Token as token;
-ghost use Rattle.symbols_root.specs.Roots.{widest};
-ghost use Rattle.symbols_exports.specs.Exporting.{specifier_in};
+ghost use Rattle.symbols_root.specs.Growing.{HasGrown};
+ghost use Rattle.symbols_root.specs.Roots.{widest, specifier_in};
 ghost use Rattle.symbols_answers.specs.Questions.{asks_paths, asks_definitions, asks_leaves};
 ghost use Rattle.symbols_answers.specs.QueryAnswers.{module_answer};
 ghost use Rattle.symq_core.specs.AnswerData.{found_data};
@@ -37,7 +37,7 @@ pub(crate) fn tell_paths(
 ) -> Result<(), AllocError>
     requires widest { root.old.limits ≡ widest }
     requires known { module_id.0 < length root.old.stored }
-    ensures kept { (root.new.graph ≡ root.old.graph) × (root.new.limits ≡ root.old.limits) }
+    ensures kept { HasGrown root.old root.new }
     ensures value { Tells result out.old out.new (found_data (module_answer root.old.graph (specifier_in root.old module_id) (asks_paths symbol))) }
 {
     match find_definition_paths(root, module_id, symbol) {
@@ -59,7 +59,7 @@ pub(crate) fn tell_definitions(
 ) -> Result<(), AllocError>
     requires widest { root.old.limits ≡ widest }
     requires known { module_id.0 < length root.old.stored }
-    ensures kept { (root.new.graph ≡ root.old.graph) × (root.new.limits ≡ root.old.limits) }
+    ensures kept { HasGrown root.old root.new }
     ensures value { Tells result out.old out.new (found_data (module_answer root.old.graph (specifier_in root.old module_id) (asks_definitions symbol))) }
 {
     match go_to_definitions(root, module_id, symbol) {
@@ -81,7 +81,7 @@ pub(crate) fn tell_leaves(
 ) -> Result<(), AllocError>
     requires widest { root.old.limits ≡ widest }
     requires known { module_id.0 < length root.old.stored }
-    ensures kept { (root.new.graph ≡ root.old.graph) × (root.new.limits ≡ root.old.limits) }
+    ensures kept { HasGrown root.old root.new }
     ensures value { Tells result out.old out.new (found_data (module_answer root.old.graph (specifier_in root.old module_id) (asks_leaves symbol))) }
 {
     match go_to_definitions_or_unresolveds(root, module_id, symbol) {

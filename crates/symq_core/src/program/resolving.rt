@@ -2,8 +2,8 @@
 
 ghost use Rattle.std.specs.Prelude.{◌≡◌, ◌<◌, length, map};
 ghost use Rattle.symbols_nodes.specs.References.{reference_view};
-ghost use Rattle.symbols_root.specs.Roots.{widest};
-ghost use Rattle.symbols_exports.specs.Exporting.{specifier_in};
+ghost use Rattle.symbols_root.specs.Growing.{HasGrown};
+ghost use Rattle.symbols_root.specs.Roots.{widest, specifier_in};
 ghost use Rattle.symbols_paths.specs.DepAnswers.{entry_told, entries_of};
 ghost use Rattle.symbols_answers.specs.Answers.{tells_entries};
 ghost use Rattle.symq_core.specs.AnswerData.{answer_data};
@@ -62,7 +62,7 @@ fn tell_entries_of(
 ) -> Result<(), AllocError>
     requires widest { root.old.limits ≡ widest }
     requires known { module_id.0 < length root.old.stored }
-    ensures kept { (root.new.graph ≡ root.old.graph) × (root.new.limits ≡ root.old.limits) }
+    ensures kept { HasGrown root.old root.new }
     ensures value { Tells result out.old out.new (answer_data (tells_entries (entries_of root.old.graph (specifier_in root.old module_id) (reference_view reference.now)))) }
 {
     match resolve_symbol_dep(root, module_id, reference) {
@@ -84,7 +84,7 @@ pub(crate) fn tell_entries(
 ) -> Result<(), AllocError>
     requires widest { root.old.limits ≡ widest }
     requires known { module_id.0 < length root.old.stored }
-    ensures kept { (root.new.graph ≡ root.old.graph) × (root.new.limits ≡ root.old.limits) }
+    ensures kept { HasGrown root.old root.new }
     ensures value { Tells result out.old out.new (answer_data (tells_entries (entries_of root.old.graph (specifier_in root.old module_id) (asked_view reference.now)))) }
 {
     let lent = reference.lent(root.alloc())?;

@@ -2,6 +2,7 @@
 
 ghost use Rattle.std.specs.Prelude.{◌≡◌, ◌+◌, ◌<◌, ◌++◌, ◌∷◌, [], OnOk, IfErr};
 ghost use Rattle.std.specs.Io.KnownBytes.{Appends};
+ghost use Rattle.symbols_root.specs.Growing.{HasGrown};
 ghost use Rattle.symbols_root.specs.Roots.{widest};
 ghost use Rattle.symq_core.specs.AnswerTexts.{answer_text};
 ghost use Rattle.symq_core.specs.Devices.{COUNT_LIMIT};
@@ -51,7 +52,7 @@ fn add_answer(
     answers: &mut Vec<u8>,
 ) -> Result<(), AllocError>
     requires { root.old.limits ≡ widest }
-    ensures kept { (root.new.graph ≡ root.old.graph) × (root.new.limits ≡ root.old.limits) }
+    ensures kept { HasGrown root.old root.new }
     ensures added { OnOk result (answers.new.items ≡ answers.old.items ++ (answer_text root.old.graph line.now ++ line_end ∷ [])) }
 {
     text.clear();

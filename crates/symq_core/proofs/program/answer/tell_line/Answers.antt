@@ -4,12 +4,19 @@ use Rattle.serde_json.specs.Data.{Data}
 use Rattle.symq_reader.specs.GraphText.{json_of}
 use Rattle.symq_reader.specs.Lists.{has_lists_only}
 use Rattle.symq_reader.specs.Plain.{data_of}
+use Rattle.symbols_root.specs.laws.Growing.{grown_not}
 use Rattle.symbols_answers.specs.Questions.{QueryView}
 use Rattle.symq_core.specs.AnswerData.{asked_data}
 use Rattle.symq_core.specs.Queries.{query_of}
 use Rattle.symq_core.specs.Telling.{Tells}
 use Rattle.symq_core.proofs.Listed.{no_query}
 use Rattle.symq_core.proofs.program.answer.tell_line.Goals as goal
+
+pub returns-in_err-value-clause-kept : goal.returns-in_err-value-clause-kept
+returns-in_err-value-clause-kept c = grown_not c.args.root.now
+
+pub returns-clause-kept : goal.returns-clause-kept
+returns-clause-kept c = grown_not c.args.root.now
 
 pub returns-in-Some-clause-value : goal.returns-in-Some-clause-value
 returns-in-Some-clause-value c =

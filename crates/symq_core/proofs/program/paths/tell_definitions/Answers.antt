@@ -1,10 +1,11 @@
 use Rattle.std.proofs.Common.{List, map, subst}
 use Rattle.std.proofs.lemmas.Result.{on_ok_weaker}
-use Rattle.symbols_exports.specs.Exporting.{specifier_in}
+use Rattle.symbols_root.specs.Roots.{specifier_in}
+use Rattle.symbols_root.specs.GraphModules.{symbol_under}
 use Rattle.symbols_paths.specs.Trees.{Defined, leaves_in, definitions_in}
 use Rattle.symbols_paths.specs.Views.{definition_told, definitions_left}
 use Rattle.symbols_answers.specs.Answers.{tells_definitions}
-use Rattle.symbols_answers.specs.QueryAnswers.{symbol_under, paths_from}
+use Rattle.symbols_answers.specs.QueryAnswers.{paths_from}
 use Rattle.symq_core.specs.AnswerData.{answer_data}
 use Rattle.symq_core.specs.Telling.{Tells}
 use Rattle.symq_core.proofs.Texts.{then}
