@@ -95,6 +95,11 @@ fn lends(info: ModuleInfoRef<'_, '_>) -> Checked {
         esm.symbol(SymbolId::from_number(4)).is_none(),
         "there is no symbol 4"
     );
+    let last = there!(esm.symbol(SymbolId::from_number(3)), "symbol 3");
+    holds!(
+        last.module_id().number() == 7,
+        "the number of the module of symbol 3"
+    );
     let symbol = info.module_symbol();
     holds!(
         symbol.export("a") == Some(SymbolId::from_number(3)),

@@ -1,4 +1,4 @@
-//! Every question by one call, in order, backwards and twice over, and what a fault leaves.
+//! Every question by one call, in order, backwards and twice over, answers of more than one thing, and what a fault leaves.
 
 use crate::graphs::text;
 use crate::lending::{Checked, of_limited, of_root};
@@ -217,6 +217,74 @@ fn answers_each_form_in_any_order(rt: HostRuntime) -> Checked {
     of_root(rt.alloc(), GRAPH, each_again)
 }
 
+/// The module `m` of the text `export var n: T, n: U, o;`.
+const TWICE: &str =
+    r#"{"modules": [{"specifier": "m", "kind": "esm", "text": "", "tree": {"nodes": [
+    {"kind": "Program", "range": [0, 0], "body": [1]},
+    {"kind": "ExportDecl", "range": [0, 0], "decl": 2},
+    {"kind": "VarDecl", "range": [0, 0], "decls": [3, 8, 13]},
+    {"kind": "VarDeclarator", "range": [0, 0], "name": 4},
+    {"kind": "BindingIdent", "range": [0, 0], "sym": ["n", 1], "type_ann": 5},
+    {"kind": "TsTypeAnn", "range": [0, 0], "ty": 6},
+    {"kind": "Type", "range": [0, 0], "children": [7]},
+    {"kind": "Ident", "range": [0, 0], "sym": ["T", 1]},
+    {"kind": "VarDeclarator", "range": [0, 0], "name": 9},
+    {"kind": "BindingIdent", "range": [0, 0], "sym": ["n", 1], "type_ann": 10},
+    {"kind": "TsTypeAnn", "range": [0, 0], "ty": 11},
+    {"kind": "Type", "range": [0, 0], "children": [12]},
+    {"kind": "Ident", "range": [0, 0], "sym": ["U", 1]},
+    {"kind": "VarDeclarator", "range": [0, 0], "name": 14},
+    {"kind": "BindingIdent", "range": [0, 0], "sym": ["o", 1]}
+]}}]}"#;
+
+/// Whether an answer tells of two exports, of two declarations that refer to one name each, or of two definitions.
+fn tells_two(answer: &Answer<'_>) -> bool {
+    match answer {
+        Answer::Exports(named) => named.exports.len() == 2,
+        Answer::Deps(deps) => match deps.as_slice() {
+            [first, second] => first.len() == 1 && second.len() == 1,
+            _ => false,
+        },
+        Answer::Definitions(definitions) => definitions.len() == 2,
+        _ => false,
+    }
+}
+
+fn answers_two(root: &mut RootSymbol<'_>, query: &Query) -> bool {
+    match answer(root, query) {
+        Ok(given) => tells_two(&given),
+        Err(_) => false,
+    }
+}
+
+/// The query of a form, on the module `m`.
+fn query_of_m(alloc: Global, place: usize) -> Result<Query<'static>, AllocError> {
+    query(alloc, place, text(alloc, "m")?)
+}
+
+/// The answer to the query of this place tells of two things.
+fn tells_two_at(root: &mut RootSymbol<'_>, place: usize) -> Checked {
+    let Ok(query) = query_of_m(root.alloc(), place) else {
+        return Err("no memory");
+    };
+    if answers_two(root, &query) {
+        Ok(())
+    } else {
+        Err(form(place))
+    }
+}
+
+fn tells_two_each(root: &mut RootSymbol<'_>) -> Checked {
+    tells_two_at(root, 1)?;
+    tells_two_at(root, 4)?;
+    tells_two_at(root, 6)
+}
+
+#[test]
+fn tells_more_than_the_first(rt: HostRuntime) -> Checked {
+    of_root(rt.alloc(), TWICE, tells_two_each)
+}
+
 /// The second module is refused, and the first is stored.
 fn stops(root: &mut RootSymbol<'_>, queries: &[Query]) -> Checked {
     holds!(
@@ -242,4 +310,37 @@ fn stops_at_the_first_fault(rt: HostRuntime) -> Checked {
         symbols: u32::MAX,
     };
     of_limited(rt.alloc(), GRAPH, limits, stops_within_a_limit)
+}
+
+/// A query of a form that names a symbol, here symbol 9 of `b`, which has two.
+fn unknown(place: usize, specifier: String) -> Query<'static> {
+    let ninth = SymbolId::from_number(9);
+    match place {
+        3 => Query::Name(specifier, ninth),
+        4 => Query::Deps(specifier, ninth, ResolveDepsMode::TypesAndExpressions),
+        5 => Query::Paths(specifier, ninth),
+        6 => Query::Definitions(specifier, ninth),
+        _ => Query::Leaves(specifier, ninth),
+    }
+}
+
+/// Each form that names a symbol tells of one that isn't there, and stores the asked module alone.
+fn tells_unknown_symbols(root: &mut RootSymbol<'_>) -> Checked {
+    for place in 3..8 {
+        let Ok(specifier) = text(root.alloc(), "b") else {
+            return Err("no memory");
+        };
+        let query = unknown(place, specifier);
+        if !matches!(answer(root, &query), Err(SymbolsFault::UnknownSymbol)) {
+            return Err(form(place));
+        }
+    }
+    holds!(root.has_analyzed("b"), "b is stored");
+    holds!(!root.has_analyzed("a"), "a isn't stored");
+    Ok(())
+}
+
+#[test]
+fn tells_unknown_symbols_by_each_form(rt: HostRuntime) -> Checked {
+    of_root(rt.alloc(), GRAPH, tells_unknown_symbols)
 }

@@ -16,7 +16,12 @@ fn first() -> SymbolId {
     SymbolId::from_number(1)
 }
 
-/// `q` imports n from a, which passes on b and c, and both own n.
+/// And the one that it declares next.
+fn second() -> SymbolId {
+    SymbolId::from_number(2)
+}
+
+/// `q` imports n from a, which passes on b and c, and both own n. In b it is declared behind m.
 const TWO_OWNERS: &str = r#"{"modules": [
 {"specifier": "q", "kind": "esm", "text": "", "tree": {"nodes": [
     {"kind": "Program", "range": [0, 0], "body": [1]},
@@ -32,8 +37,10 @@ const TWO_OWNERS: &str = r#"{"modules": [
 {"specifier": "b", "kind": "esm", "text": "", "tree": {"nodes": [
     {"kind": "Program", "range": [0, 0], "body": [1]},
     {"kind": "ExportDecl", "range": [0, 0], "decl": 2},
-    {"kind": "VarDecl", "range": [0, 0], "decls": [3]},
+    {"kind": "VarDecl", "range": [0, 0], "decls": [3, 5]},
     {"kind": "VarDeclarator", "range": [0, 0], "name": 4},
+    {"kind": "BindingIdent", "range": [0, 0], "sym": ["m", 1]},
+    {"kind": "VarDeclarator", "range": [0, 0], "name": 6},
     {"kind": "BindingIdent", "range": [0, 0], "sym": ["n", 1]}
 ]}},
 {"specifier": "c", "kind": "esm", "text": "", "tree": {"nodes": [
@@ -91,7 +98,7 @@ fn leads(path: &DefinitionPathNode<'_>) -> Checked {
     holds!(path.symbol() == Some(first()), "the symbol of the path");
     let next = there!(next_of(path), "a link");
     holds!(
-        next.symbol() == Some(first()),
+        next.symbol() == Some(second()),
         "the symbol of the next path"
     );
     let definition = there!(definition_of(next), "a definition");
@@ -118,7 +125,7 @@ fn ends(alloc: Global, path: DefinitionPathNode<'_>) -> Checked {
     };
     let mut count: usize = 0;
     for definition in definitions {
-        holds!(definition.symbol == first(), "the symbol of an end");
+        holds!(definition.symbol == second(), "the symbol of an end");
         count = count.saturating_add(1);
     }
     holds!(count == 1, "how many ends there are");

@@ -1,10 +1,11 @@
-//! Nodes of declarations, in a tree without kinds, and in one of which no table tells. Most of what they tell is told
-//! by runs of `symq_tables`.
+//! Nodes of declarations, in a tree without kinds, and in such as no table tells of. Most of what they tell is told by
+//! runs of `symq_tables`.
 
 use crate::lending::{Checked, Told};
-use crate::trees::push;
+use crate::trees::{id, list, push};
+use deno_symbols::deps::ResolveDepsMode;
 use deno_symbols::nodes::{ExportDeclRef, SymbolNode, SymbolNodeRef};
-use deno_symbols::tree::{Decl, Expr, Kind, NodeId, NodeRef, Pat, Tree};
+use deno_symbols::tree::{Decl, Expr, Kind, Member, NodeId, NodeRef, Pat, Tree};
 use std::alloc::{AllocError, Global};
 use std::borrow::CowStr;
 
@@ -140,4 +141,60 @@ fn is_named(alloc: Global, tree: &Tree) -> Checked {
 fn names_a_module_by_its_text(rt: HostRuntime) -> Checked {
     let alloc = rt.alloc();
     of_tree(tree_of_a_named_module(alloc), |tree| is_named(alloc, tree))
+}
+
+/// A parameter that is a property, with the type `a` where a checked tree has a name.
+fn tree_of_a_typed_property(alloc: Global) -> Result<Tree, AllocError> {
+    let property = Member::TsParamProp {
+        param: NodeId(1),
+        accessibility: None,
+    };
+    let mut nodes = Vec::new(alloc);
+    push(&mut nodes, Kind::Member(property))?;
+    let children = list(alloc, &[2])?;
+    push(&mut nodes, Kind::Pat(Pat::Plain { children }))?;
+    let sym = id(alloc, "a", 1)?;
+    push(&mut nodes, Kind::Expr(Expr::Ident { sym }))?;
+    Ok(Tree {
+        declaration: false,
+        nodes,
+    })
+}
+
+/// Whether the node depends on so much, expressions included.
+fn depends_on(alloc: Global, node: SymbolNodeRef<'_>, wanted: usize) -> bool {
+    match node.deps(alloc, ResolveDepsMode::TypesAndExpressions) {
+        Ok(deps) => deps.len() == wanted,
+        Err(_) => false,
+    }
+}
+
+/// Edges go by the form in which a node is come to: a type has none where it is a property. A name where a walk begins
+/// is no reference.
+fn goes_by_forms(alloc: Global, tree: &Tree) -> Checked {
+    let property = there!(NodeRef::new(tree, NodeId(0)), "node 0");
+    let ty = there!(NodeRef::new(tree, NodeId(1)), "node 1");
+    let name = there!(NodeRef::new(tree, NodeId(2)), "node 2");
+    holds!(
+        depends_on(alloc, SymbolNodeRef::ClassParamProp(property), 0),
+        "a type that is a property"
+    );
+    holds!(
+        depends_on(alloc, SymbolNodeRef::ClassParamProp(ty), 1),
+        "a type where the walk begins"
+    );
+    holds!(
+        depends_on(alloc, SymbolNodeRef::TsInterface(name), 0),
+        "a name where the walk begins"
+    );
+    Ok(())
+}
+
+#[test]
+fn depends_by_forms(rt: HostRuntime) -> Checked {
+    let alloc = rt.alloc();
+    of_tree(
+        tree_of_a_typed_property(alloc),
+        |tree| goes_by_forms(alloc, tree),
+    )
 }

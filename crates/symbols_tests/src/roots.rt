@@ -5,12 +5,13 @@ use deno_symbols::ids::ModuleId;
 use deno_symbols::info::SymbolsFault;
 use deno_symbols::root::{Limits, RootSymbol};
 
-/// The modules `a` and `b`, with a symbol each, and the JSON module `j`, which has two.
+/// The modules `a` and `b`, with a symbol each, and the JSON module `j`, which has two. `r` leads to `b`.
 const GRAPH: &str = r#"{"modules": [
 {"specifier": "a", "kind": "esm", "text": "", "tree": {"nodes": [{"kind": "Program", "range": [0, 0]}]}},
 {"specifier": "b", "kind": "esm", "text": "", "tree": {"nodes": [{"kind": "Program", "range": [0, 0]}]}},
 {"specifier": "j", "kind": "json", "text": ""}
-]}"#;
+],
+"redirects": [["r", "b"]]}"#;
 
 /// The number of the module that a specifier stands for, or why there is none.
 fn number(root: &mut RootSymbol<'_>, specifier: &str) -> Result<Option<u32>, &'static str> {
@@ -46,6 +47,11 @@ fn stores_in_order(root: &mut RootSymbol<'_>) -> Checked {
         "the number of b, asked for again"
     );
     holds!(root.has_analyzed("b"), "b is stored");
+    holds!(has_number(root, "r", Ok(Some(0))), "the number of r");
+    holds!(
+        !root.has_analyzed("r"),
+        "b isn't stored under the specifier r"
+    );
     holds!(!root.has_analyzed("a"), "a isn't stored");
     holds!(
         root.module_from_id(ModuleId::from_number(1)).is_some(),

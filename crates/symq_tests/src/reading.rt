@@ -1,10 +1,11 @@
-//! Fields that no program tells of.
+//! Fields, and values of lines, that no program tells of.
 
 use crate::Checked;
 use deno_symbols::check::{RawModule, RawModuleKind};
 use deno_symbols::tree::{Accessibility, Kind, Member, MethodKind};
+use json::Scratch;
 use std::alloc::{AllocError, Global};
-use symq_reader::{FormatFault, read_graph};
+use symq_reader::{FormatFault, read_graph, read_value};
 
 /// The text of a graph with one module whose tree has this node alone.
 fn graph_text(alloc: Global, kind: &str, fields: &str) -> Result<String, AllocError> {
@@ -140,6 +141,31 @@ fn names_what_is_no_graph(rt: HostRuntime) -> Checked {
         ("[]", Some(FormatFault::BadForm)),
     ] {
         if fault_of(rt.alloc(), text) != wanted {
+            return Err(text);
+        }
+    }
+    Ok(())
+}
+
+/// Whether a text is a value; nothing where memory is refused.
+fn is_value(alloc: Global, text: &str) -> Option<bool> {
+    let mut scratch = Scratch::new(alloc);
+    match read_value(alloc, text.as_bytes(), &mut scratch) {
+        Ok(found) => Some(found.is_some()),
+        Err(_) => None,
+    }
+}
+
+#[test]
+fn takes_whole_numbers_alone(rt: HostRuntime) -> Checked {
+    for (text, wanted) in [
+        ("[18446744073709551615]", true),
+        ("[18446744073709551616]", false),
+        ("[1.5]", false),
+        ("[1e0]", false),
+        ("[-1]", false),
+    ] {
+        if is_value(rt.alloc(), text) != Some(wanted) {
             return Err(text);
         }
     }

@@ -195,8 +195,9 @@ fn answers_four(alloc: Global, text: &[u8], most: usize) -> Checked
     Ok(())
 }
 
-/// Blocks of each of three lengths give the same answers.
+/// Blocks of each of four lengths give the same answers, two thousand blocks of the shortest.
 fn answers_in_blocks(alloc: Global, text: &[u8]) -> Checked {
+    answers_four(alloc, text, 100)?;
     answers_four(alloc, text, 1000)?;
     answers_four(alloc, text, 65535)?;
     answers_four(alloc, text, 1000000)
