@@ -77,6 +77,7 @@ function pattern(text) {
 /** @param {Run} run @param {Progress} [progress] @returns {import('./folder/sources.js').Reading} */
 function reading({ words, options }, progress = new Progress()) {
   if (words.length === 0) throw new Failure('which folder? `symdir --help` shows how it is called', 2);
+  if (/:\d+$/.test(words[0])) throw new Failure(`the folder goes first, as \`symdir where . ${words[0]}\``, 2);
   return {
     folder: withSlashes(path.resolve(words[0])),
     skip: (options.skip ?? []).map(pattern),

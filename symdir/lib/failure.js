@@ -9,3 +9,8 @@ export class Failure extends Error {
     this.status = status;
   }
 }
+
+/** @param {string} file @param {'read' | 'written'} what @param {unknown} error of the operating system @returns {Failure} */
+export function fileFailure(file, what, error) {
+  return new Failure(`${file} can't be ${what} (${/** @type {any} */ (error).code})`);
+}

@@ -42,8 +42,9 @@ Without a column each name of the line is told; NAME takes one of them, as Foo o
 ${ASKING}`,
   web: `symdir web FOLDER -o web.svg: which module passes names on to which, as a picture
 
-Yellow: entries. Thick: \`export *\`, with the number of names. Thin: names that are exported one by
-one. Red: leads nowhere. Files open by a click, and names are told where the pointer rests.
+Yellow: entries. Thick: \`export *\`, with the number of names; 7 x 12 are 12 names of 7 modules.
+Thin: names that are exported one by one. Red: leads nowhere. Files open by a click, and names are
+told where the pointer rests.
 
   -o, --out FILE       the picture: .svg, .png, .pdf, or .dot, which needs no Graphviz;
                        without it the text for Graphviz goes to standard output

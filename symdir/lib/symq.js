@@ -51,13 +51,20 @@ function started(program, words) {
   return spawn(program, words, { stdio: ['pipe', 'pipe', 'pipe'] });
 }
 
-/** @param {number | null} status @param {string} said on standard error @returns {Failure} */
+/** @param {string} program @param {Error} error @returns {Failure} */
+function notStarted(program, error) {
+  const { code } = /** @type {NodeJS.ErrnoException} */ (error);
+  const why = code === 'ENOENT' ? 'it isn\'t there' : code === 'EACCES' ? 'it is no program' : error.message;
+  return new Failure(`${program} doesn't start: ${why}; --symq FILE and SYMQ name the program symq, and \`make symq\` builds it`);
+}
+
+/** @param {number | string | null} status or signal @param {string} said on standard error @returns {Failure} */
 function ended(status, said) {
   const last = said.trim().split('\n').pop() ?? '';
   const isRefused = /^symq: (not a graph|graph refused)/.test(last);
   const more = ' (`symdir graph FOLDER -o graph.json` and `symdir graph --check graph.json` say more)';
   const text = isRefused ? last + more : last;
-  return new Failure(text || `symq ended with the status ${status}`);
+  return new Failure(text || (typeof status === 'number' ? `symq ended with the status ${status}` : `symq was ended by ${status}`));
 }
 
 /** Questions by the lines that they are; each is asked once. */
@@ -72,15 +79,20 @@ class Asked {
     return JSON.stringify(query);
   }
 
-  /** @param {unknown[][]} queries @returns {string[]} lines that have no answer yet, each once */
-  missing(queries) {
-    return [...new Set(queries.map(Asked.line))].filter((it) => !this.known.has(it));
+  /** @param {string[]} lines @returns {string[]} those that have no answer yet, each once */
+  missing(lines) {
+    return [...new Set(lines)].filter((it) => !this.known.has(it));
   }
 
-  /** @param {unknown[][]} queries @returns {any[]} */
-  answers(queries) {
-    return queries.map((it) => this.known.get(Asked.line(it)));
+  /** @param {string[]} lines @returns {any[]} */
+  answers(lines) {
+    return lines.map((it) => this.known.get(it));
   }
+}
+
+/** @param {string} text lines of JSON, each with its end @returns {any[]} */
+function parsedLines(text) {
+  return JSON.parse(`[${text.slice(0, -1).replaceAll('\n', ',')}]`);
 }
 
 /** symq as a process that stays: any number of rounds of questions. */
@@ -88,6 +100,7 @@ export class Symq extends Asked {
   /** @param {string} program @param {string} graph a file @param {string[]} [words] before it */
   constructor(program, graph, words = []) {
     super();
+    this.program = program;
     this.process = started(program, [...words, graph]);
     this.said = '';
     /** @type {string[]} lines that are asked, in order */
@@ -98,8 +111,8 @@ export class Symq extends Asked {
     this.failure = null;
     this.process.stderr.on('data', (it) => (this.said += it));
     this.process.stdin.on('error', () => {});
-    this.process.on('error', (error) => this.fail(new Failure(`${program} doesn't start: ${error.message}`)));
-    this.process.on('close', (status) => this.fail(ended(status, this.said)));
+    this.process.on('error', (error) => this.fail(notStarted(program, error)));
+    this.process.on('close', (status, signal) => this.fail(ended(status ?? signal, this.said)));
     this.process.stdout.on('data', (it) => this.receive(it));
   }
 
@@ -115,24 +128,26 @@ export class Symq extends Asked {
 
   /** @param {Buffer} bytes of lines, which end at line feeds alone */
   receive(bytes) {
-    let from = 0;
-    for (let at = bytes.indexOf(10); at >= 0; at = bytes.indexOf(10, from)) {
-      this.part.push(bytes.subarray(from, at));
-      this.take(Buffer.concat(this.part).toString());
+    const end = bytes.lastIndexOf(10) + 1;
+    if (end > 0) {
+      const text = Buffer.concat([...this.part, bytes.subarray(0, end)]).toString();
       this.part = [];
-      from = at + 1;
+      this.take(text);
     }
-    if (from < bytes.length) this.part.push(bytes.subarray(from));
+    if (end < bytes.length) this.part.push(bytes.subarray(end));
   }
 
-  /** @param {string} line */
-  take(line) {
-    const query = this.open[this.taken++];
-    this.known.set(query, JSON.parse(line));
-    if (this.taken === this.open.length) {
-      this.waiting?.resolve();
-      this.waiting = null;
+  /** @param {string} text of whole lines */
+  take(text) {
+    try {
+      for (const answer of parsedLines(text)) this.known.set(this.open[this.taken++], answer);
+    } catch {
+      this.fail(new Failure(`${this.program} doesn't answer as symq does`));
+      return;
     }
+    if (this.taken < this.open.length) return;
+    this.waiting?.resolve();
+    this.waiting = null;
   }
 
   /** How many of the open lines have their answer. */
@@ -143,10 +158,11 @@ export class Symq extends Asked {
    * @returns {Promise<any[]>} the answers, in order
    */
   ask(queries) {
+    const lines = queries.map(Asked.line);
     const asked = this.turn.then(async () => {
-      const lines = this.missing(queries);
-      if (lines.length > 0) await this.round(lines);
-      return this.answers(queries);
+      const open = this.missing(lines);
+      if (open.length > 0) await this.round(open);
+      return this.answers(lines);
     });
     this.turn = asked.then(() => {}, () => {});
     return asked;
@@ -173,13 +189,14 @@ export class Symq extends Asked {
     await answered;
   }
 
-  /** @returns {Promise<void>} when the process has ended */
+  /** @returns {Promise<void>} when the process has ended; what it started itself may go on, and holds nothing up */
   close() {
+    const { process: it } = this;
     return new Promise((resolve) => {
-      if (this.failure) return resolve();
-      this.process.removeAllListeners('close').on('close', () => resolve());
-      this.process.stdin.end();
-      this.process.kill();
+      if (it.pid === undefined || it.exitCode !== null || it.signalCode !== null) resolve();
+      else it.once('exit', () => resolve());
+      it.kill('SIGKILL');
+      for (const stream of [it.stdin, it.stdout, it.stderr]) stream.destroy();
     });
   }
 }
@@ -204,27 +221,28 @@ export class SymqAtOnce extends Asked {
 
   /** @param {unknown[][]} queries @returns {Promise<any[]>} */
   async ask(queries) {
-    if (this.missing(queries).length > 0) {
-      const lines = this.missing([...queries, ...this.ahead]);
-      const answers = await this.run(lines);
-      lines.forEach((it, i) => this.known.set(it, JSON.parse(answers[i])));
+    const lines = queries.map(Asked.line);
+    if (this.missing(lines).length > 0) {
+      const open = this.missing([...lines, ...this.ahead.map(Asked.line)]);
+      const answers = await this.run(open);
+      open.forEach((it, i) => this.known.set(it, answers[i]));
     }
-    return this.answers(queries);
+    return this.answers(lines);
   }
 
-  /** @param {string[]} lines @returns {Promise<string[]>} */
+  /** @param {string[]} lines @returns {Promise<any[]>} */
   run(lines) {
     return new Promise((resolve, reject) => {
       const child = started(this.program, [this.graph]);
       let [output, said] = ['', ''];
       child.stdout.on('data', (it) => (output += it));
       child.stderr.on('data', (it) => (said += it));
-      child.on('error', (error) => reject(new Failure(`${this.program} doesn't start: ${error.message}`)));
+      child.on('error', (error) => reject(notStarted(this.program, error)));
       child.stdin.on('error', () => {});
-      child.on('close', (status) => {
-        const answers = output.split('\n').slice(0, -1);
-        if (answers.length === lines.length) resolve(answers);
-        else reject(ended(status, said));
+      child.on('close', (status, signal) => {
+        const count = output.split('\n').length - 1;
+        if (count === lines.length) resolve(parsedLines(output));
+        else reject(ended(status ?? signal, said));
       });
       child.stdin.end(`${lines.join('\n')}\n`);
     });

@@ -37,6 +37,22 @@ test('wrong words', () => {
   assert.equal(said('api', folder, '--entry', 'c.ts'), `symdir: no module c.ts below ${folder}\n`);
   assert.equal(said('web', folder, '-o', 'x.bmp'), 'symdir: -o x.bmp: a picture ends in .svg, .png, .pdf or .dot\n');
   assert.equal(said('api', folder, '--symq', '/none/symq'), 'symdir: no program /none/symq\n');
+  assert.equal(said('where', 'src/a.ts:3:14'), 'symdir: the folder goes first, as `symdir where . src/a.ts:3:14`\n');
+});
+
+test('what can\'t be done', () => {
+  const folder = folderOf(FILES);
+  const said = (/** @type {string[]} */ ...words) => {
+    const { status, stdout, stderr } = symdir(words);
+    assert.deepEqual([status, stdout], [3, '']);
+    return stderr;
+  };
+  assert.equal(said('api', folder, '--save', '/none/names'), 'symdir: /none/names can\'t be written (ENOENT)\n');
+  assert.equal(said('api', folder, '--check', folder), `symdir: ${folder} can't be read (EISDIR)\n`);
+  assert.equal(said('web', folder, '-o', '/none/web.dot'), 'symdir: /none/web.dot can\'t be written (ENOENT)\n');
+  assert.equal(said('api', folderOf({})).replace(/\/\S+:/, ':'), 'symdir: no module in : files that end in .ts .tsx .mts .cts .js .jsx .mjs .cjs are looked for\n');
+  assert.equal(said('api', folder, '--skip', '.'), `symdir: no module in ${folder}: --skip leaves out all 2\n`);
+  assert.equal(said('api', folder, '--symq', 'none'), 'symdir: none doesn\'t start: it isn\'t there; --symq FILE and SYMQ name the program symq, and `make symq` builds it\n');
 });
 
 test('a program that refuses, and one that dies', () => {
@@ -46,6 +62,10 @@ test('a program that refuses, and one that dies', () => {
   assert.deepEqual([refused.status, refused.stderr], [3, 'symdir: symq: graph refused: 7 file:///a.ts 6 1 (`symdir graph FOLDER -o graph.json` and `symdir graph --check graph.json` say more)\n']);
   const dies = program({}, 'symq', '#!/bin/sh\nread line\nexit 9\n');
   assert.equal(symdir(['api', folder, '--symq', dies]).stderr, 'symdir: symq ended with the status 9\n');
+  const killed = program({}, 'symq', '#!/bin/sh\nkill -9 $$\n');
+  assert.equal(symdir(['api', folder, '--symq', killed]).stderr, 'symdir: symq was ended by SIGKILL\n');
+  const isOther = program({}, 'symq', '#!/bin/sh\nread line\necho hello\nsleep 60\n');
+  assert.deepEqual(symdir(['api', folder, '--symq', isOther]).stderr, `symdir: ${isOther} doesn't answer as symq does\n`);
   const isNone = program({}, 'symq', 'no program');
   assert.equal(symdir(['api', folder, '--symq', path.dirname(isNone)]).status, 3);
 });

@@ -7,6 +7,8 @@ import { after } from 'node:test';
 import { fileURLToPath } from 'node:url';
 
 const BIN = fileURLToPath(new URL('../bin/symdir.js', import.meta.url));
+/** After which a run that goes on is ended, and told. */
+const SECONDS = 300;
 /** @type {string[]} */
 const made = [];
 after(() => made.forEach((it) => rmSync(it, { recursive: true, force: true })));
@@ -24,7 +26,9 @@ export function folderOf(files) {
 
 /** @param {string[]} words @param {{ cwd?: string, env?: Record<string, string> }} [how] */
 export function symdir(words, { cwd, env } = {}) {
-  const { status, stdout, stderr } = spawnSync(process.execPath, [BIN, ...words], { cwd, env: { ...process.env, ...env }, encoding: 'utf8' });
+  const how = { cwd, env: { ...process.env, ...env }, timeout: SECONDS * 1000, encoding: /** @type {const} */ ('utf8') };
+  const { status, stdout, stderr, error } = spawnSync(process.execPath, [BIN, ...words], how);
+  if (error) throw new Error(`symdir ${words.join(' ')}: ${error.message}\n${stdout}\n${stderr}`);
   return { status, stdout, stderr };
 }
 

@@ -22,6 +22,14 @@ test('packages that nobody knows, and what is outside', () => {
   assert.deepEqual(answer(['missing', folderOf(files)]).external, ['https://x.org/a.ts', 'jsr:@a/b', 'node:fs', 'npm:known']);
 });
 
+test('names of files that configuration files give, where no file is there', () => {
+  const files = {
+    'index.ts': 'import "lib/gone.ts";\nimport "@u/gone";\nimport "#gone";\n',
+    'deno.json': '{"imports":{"lib/":"./lib/"}}', 'tsconfig.json': '{"compilerOptions":{"paths":{"@u/*":["./u/*"]}}}',
+  };
+  assert.deepEqual(missing(files), ['file index.ts:1:1 import lib/gone.ts', 'file index.ts:2:1 import @u/gone', 'file index.ts:3:1 import #gone']);
+});
+
 test('imported names that aren\'t there', () => {
   assert.deepEqual(missing({
     'index.ts': 'import d, { a, b as c } from "./m";\nexport { e } from "./m";\nlet t: import("./m").T;\n',

@@ -15,6 +15,13 @@ function make(): S { const inner = 1; return inner; }
   'shapes.ts': 'export interface Shape {}\nexport class Shape {}\n',
 };
 
+test('a type that is exported from elsewhere is one name of its line', () => {
+  const folder = folderOf({ 'index.ts': 'export { type Shape } from "./shapes.ts";\nimport { type Shape as S } from "./shapes.ts";\n', 'shapes.ts': 'export interface Shape {}\n' });
+  const at = (/** @type {string} */ line) => answer(['where', folder, line]).map((/** @type {any} */ it) => `${it.at.column} ${it.name} ${it.ways[0].defined?.line}`);
+  assert.deepEqual(at('index.ts:1'), ['15 Shape 1']);
+  assert.deepEqual(at('index.ts:2'), ['15 Shape 1', '24 S 1']);
+});
+
 /** @param {string} place @param {string[]} words @returns {string[]} */
 function where(place, ...words) {
   const out = answer(['where', folderOf(FILES), place, ...words]);

@@ -1,7 +1,7 @@
 // `symdir api`: what a folder exports.
 import { existsSync, readFileSync, writeFileSync } from 'node:fs';
 
-import { Failure } from '../failure.js';
+import { Failure, fileFailure } from '../failure.js';
 import { isDefinition } from '../folder/folder.js';
 import { endOf, endText } from '../folder/ends.js';
 import { columns, counted, placeText } from '../output.js';
@@ -83,17 +83,30 @@ function printEntry({ print, paint }, entry, names, stars) {
 
 /** @param {Run} run @param {PublicName[]} names @returns {number} */
 function save({ options, print }, names) {
-  const text = snapshotText(names);
-  writeFileSync(/** @type {string} */ (options.save), text);
-  print(`${options.save}: ${counted(names.length, 'public name')}`);
+  const file = /** @type {string} */ (options.save);
+  try {
+    writeFileSync(file, snapshotText(names));
+  } catch (error) {
+    throw fileFailure(file, 'written', error);
+  }
+  print(`${file}: ${counted(names.length, 'public name')}`);
   return 0;
+}
+
+/** @param {string} file a snapshot @returns {string} */
+function textOf(file) {
+  if (!existsSync(file)) throw new Failure(`no file ${file}: \`symdir api FOLDER --save ${file}\` writes it`);
+  try {
+    return readFileSync(file, 'utf8');
+  } catch (error) {
+    throw fileFailure(file, 'read', error);
+  }
 }
 
 /** @param {Run} run @param {PublicName[]} names @returns {number} */
 function check({ options, print, paint }, names) {
   const file = /** @type {string} */ (options.check);
-  if (!existsSync(file)) throw new Failure(`no file ${file}: \`symdir api FOLDER --save ${file}\` writes it`);
-  const found = differences(readSnapshot(readFileSync(file, 'utf8'), file), readSnapshot(snapshotText(names), 'the folder'));
+  const found = differences(readSnapshot(textOf(file), file), readSnapshot(snapshotText(names), 'the folder'));
   if (options.json) print(JSON.stringify(found, null, 1));
   else {
     for (const it of found.gone) print(paint.red(`- ${it}`));

@@ -2,7 +2,7 @@
 import { spawnSync } from 'node:child_process';
 import { readFileSync } from 'node:fs';
 
-import { Failure } from '../failure.js';
+import { Failure, fileFailure } from '../failure.js';
 import { formFaults, readJson } from '../check/form.js';
 import { graphFaults } from '../check/faults.js';
 import { counted } from '../output.js';
@@ -18,7 +18,7 @@ function bytesOf(file) {
   try {
     return readFileSync(file);
   } catch (error) {
-    throw new Failure(`${file} can't be read (${/** @type {any} */ (error).code})`);
+    throw fileFailure(file, 'read', error);
   }
 }
 

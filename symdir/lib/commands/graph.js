@@ -1,7 +1,7 @@
 // `symdir graph`: the graph of a folder, as a file that symq reads.
 import { closeSync, openSync } from 'node:fs';
 
-import { Failure } from '../failure.js';
+import { Failure, fileFailure } from '../failure.js';
 import { Sources } from '../folder/sources.js';
 import { writeGraph } from '../folder/graph.js';
 import { counted } from '../output.js';
@@ -21,7 +21,7 @@ function tryToWrite(file) {
   try {
     closeSync(openSync(file, 'a'));
   } catch (error) {
-    throw new Failure(`${file} can't be written (${/** @type {any} */ (error).code})`);
+    throw fileFailure(file, 'written', error);
   }
 }
 
@@ -30,7 +30,7 @@ export async function graph({ options, print, warn }, reading) {
   if (options.out) tryToWrite(options.out);
   const sources = new Sources(reading);
   await sources.read();
-  if (sources.modules.size === 0) throw new Failure(`no module in ${reading.folder}: files that end in .ts .tsx .mts .cts .js .jsx .mjs .cjs are looked for`);
+  if (sources.modules.size === 0) throw new Failure(sources.files.emptyText());
   writeGraph(sources, options.out ?? 1);
   await sources.keep();
   const faults = faultsOf(sources);

@@ -35,10 +35,11 @@ function unparsed(folder) {
 
 /** @param {Folder} folder @returns {Finding[]} */
 function lostImports(folder) {
-  const { resolutions } = folder.sources;
+  const { resolutions, resolver, modules } = folder.sources;
+  const fileOf = (/** @type {string} */ specifier) => /** @type {import('../folder/sources.js').Module} */ (modules.get(specifier)).file;
   const lost = references(folder).filter(({ specifier, reference }) => !resolutions.get(specifier)?.has(reference.text));
   return lost.map(({ specifier, reference }) => ({
-    what: /^(\.{0,2}\/|\.{1,2}$)/.test(reference.text) ? 'file' : 'package',
+    what: resolver.meansFile(fileOf(specifier), reference.text) ? 'file' : 'package',
     ...folder.place(specifier, reference.start), text: reference.text, how: reference.how,
   }));
 }

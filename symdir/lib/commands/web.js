@@ -3,7 +3,7 @@ import { spawnSync } from 'node:child_process';
 import { writeFileSync } from 'node:fs';
 import path from 'node:path';
 
-import { Failure } from '../failure.js';
+import { Failure, fileFailure } from '../failure.js';
 import { counted } from '../output.js';
 import { Drawing } from '../web/draw.js';
 import { gather } from '../web/gather.js';
@@ -14,10 +14,19 @@ import { gather } from '../web/gather.js';
 /** What Graphviz writes here, by the ending of the file. */
 const FORMS = ['svg', 'png', 'pdf'];
 
+/** @param {string} file @param {string} text */
+function written(file, text) {
+  try {
+    writeFileSync(file, text);
+  } catch (error) {
+    throw fileFailure(file, 'written', error);
+  }
+}
+
 /** @param {string} out @param {string} text for Graphviz */
 function drawn(out, text) {
   const form = path.extname(out).slice(1).toLowerCase();
-  if (form === 'dot' || form === 'gv') return writeFileSync(out, text);
+  if (form === 'dot' || form === 'gv') return written(out, text);
   if (!FORMS.includes(form)) throw new Failure(`-o ${out}: a picture ends in ${FORMS.map((it) => `.${it}`).join(', ')} or .dot`, 2);
   const done = spawnSync('dot', [`-T${form}`, '-o', out], { input: text, encoding: 'utf8' });
   if (done.error) throw new Failure('Graphviz isn\'t there: install its command dot (`apt-get install graphviz`), or take -o web.dot');

@@ -30,17 +30,27 @@ export class Files {
   constructor(folder, skip) {
     this.folder = folder;
     this.skip = skip;
-    /** @type {Set<string>} each file of the folder, by its absolute path */
-    this.all = new Set();
+    /** @type {Set<string> | null} */
+    this.listed = null;
     /** @type {string[]} what can't be listed */
     this.unread = [];
-    if (isFile(folder)) throw new Failure(`${folder} is a file: name the folder, and --entry ${path.basename(folder)}`, 2);
+    if (isFile(folder)) {
+      throw new Failure(`${folder} is a file: name the folder${isCode(folder) ? `, and --entry ${path.basename(folder)}` : ''}`, 2);
+    }
     if (!isFolder(folder)) throw new Failure(`no folder ${folder}`);
-    this.list(folder);
   }
 
-  /** @param {string} folder whose files are put into the set, with those of the folders in it */
-  list(folder) {
+  /** @returns {Set<string>} each file of the folder, by its absolute path, as they were when this was first asked */
+  get all() {
+    if (!this.listed) {
+      this.listed = new Set();
+      this.list(this.folder, this.listed);
+    }
+    return this.listed;
+  }
+
+  /** @param {string} folder @param {Set<string>} files is given its files, with those of the folders in it */
+  list(folder, files) {
     /** @type {Dirent[]} */
     let entries;
     try {
@@ -52,8 +62,8 @@ export class Files {
     for (const it of entries) {
       const file = `${folder === '/' ? '' : folder}/${it.name}`;
       if (it.isDirectory()) {
-        if (it.name !== 'node_modules' && !it.name.startsWith('.')) this.list(file);
-      } else if (it.isFile() || (it.isSymbolicLink() && isFile(file))) this.all.add(file);
+        if (it.name !== 'node_modules' && !it.name.startsWith('.')) this.list(file, files);
+      } else if (it.isFile() || (it.isSymbolicLink() && isFile(file))) files.add(file);
     }
   }
 
@@ -76,6 +86,13 @@ export class Files {
   /** @param {string} file absolute @returns {boolean} whether it is there, in the folder or elsewhere */
   has(file) {
     return this.holds(file) ? this.all.has(file) : isFile(file);
+  }
+
+  /** @returns {string} why there is no module, to be told */
+  emptyText() {
+    const skipped = [...this.all].filter((it) => isCode(it)).length;
+    if (skipped > 0) return `no module in ${this.folder}: --skip leaves out all ${skipped}`;
+    return `no module in ${this.folder}: files that end in .ts .tsx .mts .cts .js .jsx .mjs .cjs are looked for`;
   }
 
   /** @returns {string[]} the modules of TypeScript and JavaScript in the folder, in the order of their paths */

@@ -49,9 +49,7 @@ export class Folder {
   static async read(reading, { entry }) {
     const sources = new Sources(reading);
     await sources.read();
-    if (sources.modules.size === 0) {
-      throw new Failure(`no module in ${reading.folder}: files that end in .ts .tsx .mts .cts .js .jsx .mjs .cjs are looked for`);
-    }
+    if (sources.modules.size === 0) throw new Failure(sources.files.emptyText());
     return new Folder(sources, entriesOf(sources, entry));
   }
 

@@ -1,4 +1,4 @@
-// Threads that parse files, as many as processors.
+// Threads that parse files, as many as are worth it and as processors are free.
 import { statSync } from 'node:fs';
 import os from 'node:os';
 import { Worker } from 'node:worker_threads';
@@ -16,6 +16,13 @@ const BYTES_FOR_A_THREAD = 2_000_000;
 const AHEAD = 3;
 /** Trees are deep, and walked by recursion. */
 const STACK_MEGABYTES = 64;
+/** What one file makes is gone before so much is made. */
+const YOUNG_MEGABYTES = 96;
+
+/** @returns {number} how many processors nothing else uses, as far as the system tells that, and at least one */
+function freeProcessors() {
+  return Math.max(1, os.cpus().length - Math.round(os.loadavg()[0]));
+}
 
 export class Pool {
   /** @param {{ typescript: string, compiled: string | undefined, bodies: boolean, ambient: boolean }} how `compiled`: where TypeScript's compiled form is kept */
@@ -23,7 +30,7 @@ export class Pool {
     this.how = how;
     /** @type {Worker[]} */
     this.workers = [];
-    this.hasFailed = false;
+    this.hasParsed = false;
   }
 
   /** @param {number} count starts threads until there are so many */
@@ -31,7 +38,7 @@ export class Pool {
     while (this.workers.length < count) {
       this.workers.push(new Worker(new URL('./worker.js', import.meta.url), {
         workerData: this.how,
-        resourceLimits: { stackSizeMb: STACK_MEGABYTES, maxOldGenerationSizeMb: 4096 },
+        resourceLimits: { stackSizeMb: STACK_MEGABYTES, maxYoungGenerationSizeMb: YOUNG_MEGABYTES, maxOldGenerationSizeMb: 4096 },
       }));
     }
   }
@@ -46,20 +53,23 @@ export class Pool {
     const sized = jobs.map((job) => ({ job, size: statSync(job.file, { throwIfNoEntry: false })?.size ?? 0 }));
     sized.sort((a, b) => b.size - a.size);
     const bytes = sized.reduce((sum, it) => sum + it.size, 0);
-    this.start(Math.max(1, Math.min(os.cpus().length, jobs.length, Math.ceil(bytes / BYTES_FOR_A_THREAD))));
-    const waiting = sized.map((it) => it.job).reverse();
+    this.start(Math.max(1, Math.min(freeProcessors(), jobs.length, Math.ceil(bytes / BYTES_FOR_A_THREAD))));
+    // several threads end together where the largest go first; one is done sooner where it warms up on small ones
+    const waiting = sized.map((it) => it.job);
+    if (this.workers.length > 1) waiting.reverse();
     try {
       await Promise.all(this.workers.map((it) => serve(it, waiting, done)));
+      this.hasParsed = true;
     } catch (error) {
-      this.hasFailed = true;
+      this.hasParsed = false;
       throw new Failure(`a thread that parses ended: ${/** @type {Error} */ (error).message}`);
     }
   }
 
-  /** Has the compiled form of TypeScript kept, and ends the threads. */
+  /** Has the compiled form of TypeScript kept where it has parsed, and ends the threads. */
   async close() {
     const [first] = this.workers;
-    if (first && !this.hasFailed) {
+    if (this.hasParsed) {
       first.postMessage({ file: null });
       await new Promise((resolve) => first.once('message', resolve).once('exit', resolve));
     }

@@ -3,7 +3,7 @@ import { builtinModules } from 'node:module';
 import path from 'node:path';
 import { fileURLToPath } from 'node:url';
 
-import { importMap, mappedText, pathsFor, typeScriptPaths } from './aliases.js';
+import { bestPattern, importMap, mappedText, pathsFor, typeScriptPaths } from './aliases.js';
 import { isJavaScript } from '../language.js';
 import { dependencies, packageFile, tableTargets } from './packages.js';
 import { foundAt } from './endings.js';
@@ -40,9 +40,29 @@ export class Resolver {
    */
   resolve(from, text) {
     const folder = path.posix.dirname(from);
-    const map = kept(this.maps, folder, () => importMap(this.configs, folder));
+    const map = this.mapOf(folder);
     const asks = map && Object.keys(map.scopes).length > 0 ? from : `${folder}${isJavaScript(from) ? '/*.js' : ''}`;
     return kept(this.known, `${asks}\n${text}`, () => this.plain(from, folder, (map && mappedText(map, text, from)) ?? text));
+  }
+
+  /** @param {string} folder @returns {import('./aliases.js').ImportMap | null} */
+  mapOf(folder) {
+    return kept(this.maps, folder, () => importMap(this.configs, folder));
+  }
+
+  /** @param {string} folder @returns {import('./aliases.js').Paths | null} */
+  pathsOf(folder) {
+    return kept(this.paths, folder, () => typeScriptPaths(this.configs, folder));
+  }
+
+  /** @param {string} from the module @param {string} text @returns {boolean} whether it means a file and no package, by its form or by what configuration files say */
+  meansFile(from, text) {
+    const folder = path.posix.dirname(from);
+    const map = this.mapOf(folder);
+    const mapped = (map && mappedText(map, text, from)) ?? text;
+    if (/^(\.{0,2}\/|\.{1,2}$|#|file:)/.test(mapped)) return true;
+    const patterns = Object.keys(this.pathsOf(folder)?.paths ?? {}).filter((it) => it !== '*');
+    return bestPattern(patterns, mapped) !== null;
   }
 
   /** @param {string} from @param {string} folder @param {string} text behind the import map @returns {Target | null} */
@@ -69,7 +89,7 @@ export class Resolver {
 
   /** @param {string} from @param {string} folder @param {string} text @returns {Target | null} by TypeScript's `paths` and `baseUrl` */
   byPaths(from, folder, text) {
-    const paths = kept(this.paths, folder, () => typeScriptPaths(this.configs, folder));
+    const paths = this.pathsOf(folder);
     for (const it of paths ? pathsFor(paths, text) : []) {
       const found = this.at(from, it);
       if (found) return found;

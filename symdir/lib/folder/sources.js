@@ -46,12 +46,12 @@ export class Sources {
     this.modules = new Map();
     /** @type {Map<string, Map<string, string>>} by specifier and text */
     this.resolutions = new Map();
-    /** @type {() => Promise<void>} keeps the trees, where there are new ones: to be called when nothing waits for this thread */
+    /** @type {() => Promise<void>} keeps what is new, and ends with the threads: to be called when nothing waits for this one */
     this.keep = async () => {};
     /** @type {Set<string>} specifiers of modules that aren't read */
     this.external = new Set();
     /** @type {{ file: string, error: string }[]} */
-    this.unread = this.files.unread.map((file) => ({ file: this.files.below(file), error: 'EACCES' }));
+    this.unread = [];
   }
 
   /** @param {string} file absolute @returns {string} */
@@ -81,17 +81,24 @@ export class Sources {
     const pool = new Pool({ typescript, compiled, bodies: this.reading.bodies, ambient: this.reading.ambient });
     let isNew = false;
     try {
+      // a thread takes a while to start, and meanwhile the files are listed
+      if (!kept?.modules.size) pool.start(1);
       let wanted = this.files.code().filter((it) => this.reading.javascript || !isJavaScript(it) || !this.hasTypes(it));
+      this.unread.push(...this.files.unread.map((file) => ({ file: this.files.below(file), error: 'EACCES' })));
       while (wanted.length > 0) {
         const parsed = await this.parse(wanted, kept, pool);
         isNew ||= parsed > 0;
         wanted = this.resolveAll(wanted);
       }
     } finally {
-      await pool.close();
+      const closed = pool.close();
+      this.keep = () => closed;
     }
     if (this.reading.cache && (isNew || kept?.modules.size !== this.modules.size)) {
-      this.keep = async () => kept?.write(new Map([...this.modules.values()].map((it) => [it.file, it.parsed])));
+      const { keep } = this;
+      this.keep = async () => {
+        await Promise.all([keep(), kept?.write(new Map([...this.modules.values()].map((it) => [it.file, it.parsed])))]);
+      };
     }
   }
 

@@ -26,12 +26,32 @@ import { wellFormed } from './offsets.js';
  * @property {string[]} implicit names that TypeScript exports of a declaration file without a word
  */
 
-/** A comment that TypeScript parses for its tags, at the beginning of a line, where nothing of a tree is a string. */
-const DOCUMENTATION = /^([ \t]*\/\*)\*(?!\/)/gm;
+/** @param {string} text @param {number} at @returns {boolean} whether nothing but spaces and tabs stands before it in its line */
+function beginsLine(text, at) {
+  let unit = 32;
+  while (unit === 32 || unit === 9) unit = text.charCodeAt(--at);
+  return at < 0 || unit === 10 || unit === 13 || unit === 0x2028 || unit === 0x2029;
+}
+
+/**
+ * @param {string} text
+ * @returns {string} of equal length, in which TypeScript parses no comment for its tags: the second star is a space in those that
+ * begin a line, where nothing of a tree is a string
+ */
+function withoutTags(text) {
+  const parts = [];
+  let from = 0;
+  for (let at = text.indexOf('/**'); at >= 0; at = text.indexOf('/**', at + 3)) {
+    if (text.charCodeAt(at + 3) === 47 || !beginsLine(text, at)) continue;
+    parts.push(text.slice(from, at), '/* ');
+    from = at + 3;
+  }
+  return from === 0 ? text : parts.join('') + text.slice(from);
+}
 
 /** @param {string} name @param {string} source @param {Options} options @returns {import('typescript').SourceFile} without what comments say, which takes long and isn't needed */
 function parsed(name, source, options) {
-  const text = source.replace(DOCUMENTATION, '$1 ');
+  const text = withoutTags(source);
   const kind = { ts: ts.ScriptKind.TS, tsx: ts.ScriptKind.TSX, js: ts.ScriptKind.JS, jsx: ts.ScriptKind.JSX }[options.language];
   const how = { languageVersion: ts.ScriptTarget.Latest, jsDocParsingMode: 1 };
   return ts.createSourceFile(name, text, /** @type {any} */ (how), false, kind);

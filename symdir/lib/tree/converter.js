@@ -29,6 +29,12 @@ const NUMBER_OF = new Map(KINDS.map((it, i) => [it, i]));
 
 /** Scopes in the bodies of functions are counted from here on, so that the others have their numbers with bodies and without. */
 const BODY_SCOPES = 2 ** 31;
+const SPACE = 32;
+
+/** @param {number} unit of UTF-16 @returns {boolean} whether it is one of A to Z, a to z and _ */
+function isLetter(unit) {
+  return unit > 64 && unit < 123 && (unit < 91 || unit > 94) && unit !== 96;
+}
 
 export class Converter {
   /**
@@ -47,6 +53,9 @@ export class Converter {
     this.scopes = MODULE_SCOPE;
     this.bodyScopes = BODY_SCOPES;
     this.inType = false;
+    /** From the first of these places on, none is before the second. */
+    this.importsFrom = 0;
+    this.importAt = -1;
     /** @type {Reference[]} */
     this.references = [];
     /** @type {number[]} five for each: start, end, number of the kind, start of the name, 1 where it is private */
@@ -57,7 +66,22 @@ export class Converter {
 
   /** @param {Node} node @returns {number} in UTF-16 units, behind comments */
   start(node) {
+    const { pos } = node;
+    if (pos === node.end) return pos;
+    // mostly a word stands there, or a space before it, and no comment
+    if (isLetter(this.source.charCodeAt(pos))) return pos;
+    if (this.source.charCodeAt(pos) === SPACE && isLetter(this.source.charCodeAt(pos + 1))) return pos + 1;
     return node.getStart(this.file);
+  }
+
+  /** @param {number} from in UTF-16 units @returns {number} where the next `import` stands in the text; infinite where there is none */
+  nextImport(from) {
+    if (from < this.importsFrom || from > this.importAt) {
+      const found = this.source.indexOf('import', from);
+      this.importsFrom = from;
+      this.importAt = found < 0 ? Infinity : found;
+    }
+    return this.importAt;
   }
 
   /** @param {string} kind @param {number} start @param {number} end both in UTF-16 units @param {Record<string, Field>} [fields] */

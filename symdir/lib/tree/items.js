@@ -32,7 +32,7 @@ function importNode(c, it) {
   } else if (bindings) {
     for (const part of bindings.elements) {
       const imported = part.propertyName ? moduleName(c, part.propertyName) : null;
-      takesLocal(c, part.name, imported ?? textOf(part.name), part);
+      takesLocal(c, part.name, imported ?? textOf(part.name), part.propertyName ?? part.name);
       specifiers.push(c.node('ImportNamed', part, { local: c.ident(part.name), imported }));
     }
   }
@@ -52,7 +52,7 @@ function exportedName(c, name) {
 function exportSpecifier(c, it, hasSource) {
   const name = /** @type {import('typescript').Node} */ (it.propertyName ?? it.name);
   const text = moduleName(c, name);
-  if (hasSource) c.takes(text, moduleName(c, it.name), 0, it);
+  if (hasSource) c.takes(text, moduleName(c, it.name), 0, name);
   const isString = !ts.isIdentifier(name) || c.stringAt(name) !== undefined;
   /** @type {[string, number]} */
   const sym = hasSource || isString ? /** @type {[string, number]} */ ([text, MODULE_SCOPE]) : exportedName(c, name);

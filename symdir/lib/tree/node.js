@@ -24,15 +24,13 @@ const MAX_DEPTH = 4096;
 /** From this depth on what a node holds is left out at the next place where the form allows it. */
 const CUT_DEPTH = MAX_DEPTH - 96;
 
-/** @param {TreeNode} node @returns {TreeNode[]} in the order of the fields */
-function childrenOf(node) {
-  const children = [];
+/** @param {TreeNode} node @param {TreeNode[]} list is given the nodes that it holds, in the order of the fields */
+function pushChildren(node, list) {
   for (const key in node.fields) {
     const value = node.fields[key];
-    if (value instanceof TreeNode) children.push(value);
-    else if (Array.isArray(value)) for (const it of value) if (it instanceof TreeNode) children.push(it);
+    if (value instanceof TreeNode) list.push(value);
+    else if (typeof value === 'object' && value !== null && value[0] instanceof TreeNode) for (const it of value) list.push(/** @type {TreeNode} */ (it));
   }
-  return children;
 }
 
 /** @param {TreeNode} node leaves out what it holds, where a list or an object of a chain can go */
@@ -50,22 +48,28 @@ function cut(node) {
  * @returns {TreeNode[] | null} by number; null where the tree is too deep
  */
 export function numbered(program) {
+  /** @type {TreeNode[]} */
   const nodes = [];
   const waiting = [program];
-  const depths = [1];
+  // the number of a node that waits is its depth
+  program.number = 1;
   while (waiting.length > 0) {
     const node = /** @type {TreeNode} */ (waiting.pop());
-    const depth = /** @type {number} */ (depths.pop());
-    node.number = nodes.length;
-    nodes.push(node);
+    const depth = node.number;
     if (depth >= CUT_DEPTH) {
       if (depth > MAX_DEPTH) return null;
       cut(node);
     }
-    const children = childrenOf(node);
-    for (let i = children.length - 1; i >= 0; i--) {
-      waiting.push(children[i]);
-      depths.push(depth + 1);
+    node.number = nodes.length;
+    nodes.push(node);
+    const from = waiting.length;
+    pushChildren(node, waiting);
+    for (let i = from, k = waiting.length - 1; i <= k; i++, k--) {
+      const first = waiting[i];
+      waiting[i] = waiting[k];
+      waiting[k] = first;
+      waiting[i].number = depth + 1;
+      waiting[k].number = depth + 1;
     }
   }
   return nodes;
@@ -80,20 +84,23 @@ function quoted(text) {
 
 /** @param {Field} value neither absent nor an empty list @returns {string} */
 function fieldText(value) {
-  if (value instanceof TreeNode) return String(value.number);
+  if (value instanceof TreeNode) return `${value.number}`;
   if (typeof value === 'string') return quoted(value);
-  if (!Array.isArray(value)) return String(value);
-  if (value[0] instanceof TreeNode) return `[${value.map((it) => /** @type {TreeNode} */ (it).number).join(',')}]`;
-  return `[${quoted(/** @type {[string, number]} */ (value)[0])},${value[1]}]`;
+  if (!Array.isArray(value)) return `${value}`;
+  const [first] = value;
+  if (!(first instanceof TreeNode)) return `[${quoted(/** @type {string} */ (first))},${value[1]}]`;
+  let text = `[${first.number}`;
+  for (let i = 1; i < value.length; i++) text += `,${/** @type {TreeNode} */ (value[i]).number}`;
+  return `${text}]`;
 }
 
 /** @param {TreeNode[]} nodes numbered @returns {string} the JSON text of the list */
 export function nodesText(nodes) {
   let text = '[';
-  for (const node of nodes) {
-    text += `${text.length > 1 ? ',' : ''}{"kind":"${node.kind}","range":[${node.start},${node.end}]`;
-    for (const key in node.fields) {
-      const value = node.fields[key];
+  for (const { number, kind, start, end, fields } of nodes) {
+    text += `${number > 0 ? ',' : ''}{"kind":"${kind}","range":[${start},${end}]`;
+    for (const key in fields) {
+      const value = fields[key];
       if (value === null || value === undefined || value === false || (Array.isArray(value) && value.length === 0)) continue;
       text += `,"${key}":${fieldText(value)}`;
     }

@@ -16,8 +16,7 @@ function importedText(node) {
 
 /** @param {Converter} c @param {import('typescript').Node} part notes the import types and the calls of `import` in it */
 export function referencesIn(c, part) {
-  const found = c.source.indexOf('import', part.pos);
-  if (found < 0 || found >= part.end) return;
+  if (c.nextImport(part.pos) >= part.end) return;
   /** @param {import('typescript').Node} node */
   const visit = (node) => {
     const text = importedText(node);

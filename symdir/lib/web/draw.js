@@ -2,6 +2,8 @@
 import path from 'node:path';
 import { pathToFileURL } from 'node:url';
 
+import { counted } from '../output.js';
+
 /** @typedef {import('./gather.js').Web} Web */
 /** @typedef {import('./gather.js').Edge} Edge */
 /** @typedef {import('../folder/folder.js').Folder} Folder */
@@ -180,9 +182,10 @@ export class Drawing {
   /** @returns {string} */
   text() {
     const name = path.posix.basename(this.folder.sources.folder);
-    const title = `${name}: ${this.modules.length} modules that an entry reaches. Yellow: entries. Thick: export *. Thin: one by one. Red: leads nowhere.`;
+    const title = `${name}: ${counted(this.modules.length, 'module')} that entries reach`;
+    const legend = 'Yellow: entries. Thick: export *. Thin: one by one. 7 x 12: 12 names of 7 modules. Red: leads nowhere.';
     return `${['digraph exports {',
-      `graph [rankdir=LR, fontname="Helvetica", fontsize=12, label="${escaped(title)}", labelloc=t, tooltip=" "];`,
+      `graph [rankdir=LR, fontname="Helvetica", fontsize=12, label="${escaped(title)}\\n${escaped(legend)}", labelloc=t, tooltip=" "];`,
       `graph [nodesep=${this.isBig ? 0.12 : 0.25}, ranksep=${this.isBig ? 0.9 : 0.7}];`,
       'node [shape=plain, fontname="Helvetica", fontsize=10];',
       'edge [color="#4466aa", arrowsize=0.6, fontname="Helvetica", fontsize=8];',
