@@ -116,7 +116,7 @@ def all_cases():
 
 
 def show(outcome):
-    return 'status %d\n  standard output %r\n  standard error  %r' % outcome
+    return 'status %s\n  standard output %r\n  standard error  %r' % outcome
 
 
 def difference(case, got):
@@ -158,13 +158,13 @@ def write_trial(folder, key, case):
 def trial_outcomes(output, report):
     """The outcomes of the runs of `rt try --cases` by their keys. It prints what a run wrote to standard output below
     the run's line '== KEY', and what it wrote to standard error above the line 'case=KEY' of its report; a last line
-    without an end gets one."""
+    without an end gets one. A run that a fault ended, as an index out of bounds, has that word for its status."""
     outputs = re.split(rb'^== (\d{5})\n', output, flags=re.M)
     outputs = dict(zip(outputs[1::2], outputs[2::2]))
-    errors = re.split(rb'^case=(\d{5}) run=(\S+) status=(\d+).*\n', report, flags=re.M)
+    errors = re.split(rb'^case=(\d{5}) run=(\S+)(?: status=(\d+))?.*\n', report, flags=re.M)
     ends = zip(errors[0::4], errors[1::4], errors[2::4], errors[3::4])
-    return {key: Outcome(int(status), outputs.get(key), error)
-            for error, key, run, status in ends if run == b'ended'}
+    return {key: Outcome(int(status) if status else run.decode(), outputs.get(key), error)
+            for error, key, run, status in ends if run in (b'ended', b'fault')}
 
 
 def try_program(program, cases):

@@ -8,11 +8,15 @@ import shutil
 import subprocess
 import sys
 
-PACKAGES = {'node': 'nodejs', 'tsc': 'node-typescript', 'dot': 'graphviz'}
+PACKAGES = {'node': 'nodejs', 'tsc': 'node-typescript', 'dot': 'graphviz', 'cc': 'build-essential'}
+
+
+# nothing that is run here may wait for an answer of people
+ASKS_NOTHING = {'stdin': subprocess.DEVNULL, 'env': {**os.environ, 'DEBIAN_FRONTEND': 'noninteractive'}}
 
 
 def quiet(words, **how):
-    return subprocess.run(words, stdout=subprocess.PIPE, stderr=subprocess.STDOUT, text=True, **how)
+    return subprocess.run(words, stdout=subprocess.PIPE, stderr=subprocess.STDOUT, text=True, **{**ASKS_NOTHING, **how})
 
 
 def may_install():

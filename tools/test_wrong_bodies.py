@@ -205,7 +205,7 @@ FILES = {
 }
 
 # the outcomes that are recorded
-RECORDED = ('refused', 'shown', 'unshown')
+RECORDED = ('refused', 'shown')
 # a name, what is changed into what, how the edit has to end, and what it says shows it wrong
 EDITS = [
     ('one_more', [('    x + 1', '    x + 2')], 'refused', ''),
@@ -227,9 +227,10 @@ EDITS = [
     # these two meet the contract, and their change is no fit to the answer by hand
     ('another_fault_that_is_allowed', [('return Err(fault)', 'return Err(Fault::Broken)')], 'let through', ''),
     ('another_fault_by_a_name', [('Err(fault) => return Err(fault)', 'Err(_) => return Err(Fault::Broken)')], 'let through', ''),
-    ('a_fault_that_is_not_allowed', [('return Err(fault)', 'return Err(Fault::Zero)')], 'unshown', ''),
+    # nothing shows this one wrong
+    ('a_fault_that_is_not_allowed', [('return Err(fault)', 'return Err(Fault::Zero)')], 'proof broken', ''),
     # right, but nothing proves it
-    ('twice_in_other_words', [('    x + x', '    2 * x')], 'unshown', ''),
+    ('twice_in_other_words', [('    x + x', '    2 * x')], 'proof broken', ''),
     ('twice_and_one', [('    x + x', '    x + x + 1')], 'shown', 'small_tests/numbers::doubles'),
     ('twice_and_two', [('    x + x', '    x + x + 2')], 'shown', ''),
     ('twice_and_three', [('    x + x', '    x + x + 3')], 'proof broken', 'small_tests/numbers::counts'),
@@ -251,9 +252,14 @@ def lay(folder, source):
     return Crate(folder, 'small', libraries_of(folder))
 
 
+def outcome_of(crate, names, with_base=False, is_record=False):
+    """How edits of the small crate end."""
+    return try_crate(crate, names, words_of(crate, kit(), None), Lanes(), None, with_base, is_record)
+
+
 def tried(crate, names, with_base=False, is_record=False):
     """How edits of the small crate end, what is wrong without an edit, and how many weren't due."""
-    outcome = try_crate(crate, names or crate.names(), words_of(crate, kit(), None), Lanes(), None, with_base, is_record)
+    outcome = outcome_of(crate, names or crate.names(), with_base, is_record)
     return {name: it.how for name, it in outcome.verdicts.items()}, outcome.wrong, outcome.left
 
 
@@ -266,7 +272,7 @@ def tests_of_outcomes(folder):
     for name, _, how, _ in EDITS:
         yield name, found.get(name), how
     yield 'what shows an edit wrong is found, and written into it', crate.edit('twice_and_two').shown, 'small_tests/numbers::doubles'
-    yield 'what fails nothing is recorded', sorted(record.recorded(crate)), sorted(name for name, _, how, _ in EDITS if how in RECORDED)
+    yield 'what passes is recorded, and nothing else', sorted(record.recorded(crate)), sorted(name for name, _, how, _ in EDITS if how in RECORDED)
 
 
 def tests_of_the_record(folder):
@@ -287,7 +293,7 @@ def tests_of_the_record(folder):
     yield 'a record that is false is found by its sum', ['one_more' in {it.name for it in record.due(crate, edits, turn)} for turn in range(record.TURNS)], [True] * record.TURNS
     write(path, lines)
     yield 'a contract that changes makes all due', changed_sums(folder, 'ensures { result ≡ x + 2 }', 'ensures { result ≡ 2 + x }', passed), passed
-    yield 'a body that changes makes no edit of another function due', changed_sums(folder, '    x + x\n', '    x + x + 0\n', passed), {'twice_and_one', 'twice_and_two', 'twice_in_other_words'}
+    yield 'a body that changes makes no edit of another function due', changed_sums(folder, '    x + x\n', '    x + x + 0\n', passed), {'twice_and_one', 'twice_and_two'}
 
 
 def changed_sums(folder, old, new, names):
@@ -310,6 +316,16 @@ def tests_of_contracts(folder):
     yield 'a function that is not proved without its edit', (found, len(wrong)), ({}, 1)
 
 
+def tests_of_what_names_nothing(folder):
+    """An edit that breaks a proof by hand fails where it names nothing that shows it wrong, though a test would fail with it."""
+    crate = lay(folder, SOURCE)
+    outcome = outcome_of(crate, ['twice_and_two', 'twice_and_one'])
+    yield 'an edit that names nothing fails', (outcome.passed(), outcome.failures()), (['twice_and_one'], 1)
+    told_failed = [line.split(': ')[0] for line in outcome.lines() if ': FAILED: proof broken: it names no case and no test' in line]
+    yield 'that it names nothing is told', told_failed, ['small/twice_and_two']
+    yield 'where nothing is looked for, none is written into it', crate.edit('twice_and_two').shown, ''
+
+
 def tests():
     """Each test's name with what was found and what is wanted."""
     with tempfile.TemporaryDirectory() as folder:
@@ -317,6 +333,8 @@ def tests():
         yield from tests_of_the_record(folder)
     with tempfile.TemporaryDirectory() as folder:
         yield from tests_of_contracts(folder)
+    with tempfile.TemporaryDirectory() as folder:
+        yield from tests_of_what_names_nothing(folder)
 
 
 if __name__ == '__main__':

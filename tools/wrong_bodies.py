@@ -26,17 +26,16 @@ what their contracts promise, and which bear its name: so each of them may have 
     proof broken    where answers by hand are no fit to the change, or a loop's invariant isn't, and no such goal is open
                     without them. That is no refusal: a right body may break a proof. The edit names what shows it wrong,
                     by a line 'shown: tests/cases/NAME' or 'shown: CRATE/TEST': that case or test fails in a build with
-                    the edit, which isn't proved. One that names nothing is told as not shown yet, and neither passes
-                    nor fails
+                    the edit, which isn't proved
     let through     where the function is proved with the edit, also without answers by hand that are no fit
     not reached     where the text doesn't apply, or the batch doesn't compile: it is halved until the edit is found
     undecided       where neither a goal was named nor the function proved; such an edit is tried once more, alone
 
 and only the first, and the second where it is shown wrong, pass. The file wrong/refused of a crate records those that
-didn't fail, each with a sum of all that its verdict rests on: the kit, these programs, the crate as a check of the edit reads it,
+pass, each with a sum of all that its verdict rests on: the kit, these programs, the crate as a check of the edit reads it,
 what can be read of the libraries below, and what shows it wrong. Due are the edits whose sum isn't recorded, and of the
 others each sixth, in turn: `--turn` takes the number of commits. What is recorded as shown isn't built again then.
-`--record` builds and runs all that shows edits wrong, and writes into those that name nothing what does. With `--base` the
+`--record` builds and runs all that shows edits wrong, and writes into those that name nothing what does, if anything does. With `--base` the
 functions that are changed must all be proved without an edit, in the setting in which edits are tried. `make wrong` does
 both, with all edits.
 

@@ -8,10 +8,9 @@ from .crates import read, write
 from .trying import try_edits
 from .verdicts import Verdict
 
-# the outcomes that pass, and those that fail nothing; how each is told
-PASSES = ('refused', 'shown')
-OPEN = ('unshown',)
-TOLD = {'shown': 'proof broken, shown wrong', 'unshown': 'proof broken, shown wrong by nothing yet'}
+# the outcomes that pass, each with its last word in the record; how each is told
+PASSES = {'refused': '', 'shown': 'shown'}
+TOLD = {'shown': 'proof broken, shown wrong'}
 
 
 @dataclass
@@ -29,19 +28,19 @@ class Outcome:
         return [name for name, it in self.verdicts.items() if it.how in PASSES]
 
     def failures(self):
-        return sum(it.how not in PASSES + OPEN for it in self.verdicts.values()) + len(self.wrong)
+        return sum(it.how not in PASSES for it in self.verdicts.values()) + len(self.wrong)
 
     def lines(self):
         for name, verdict in sorted(self.verdicts.items()):
-            failed = '' if verdict.how in PASSES + OPEN else 'FAILED: '
+            failed = '' if verdict.how in PASSES else 'FAILED: '
             yield '%s/%s: %s%s: %s' % (self.crate.name, name, failed, TOLD.get(verdict.how, verdict.how), verdict.why[:300])
         for line in self.wrong:
             yield '%s: FAILED: %s' % (self.crate.name, line[:300])
 
     def count(self, seconds):
-        refused, by_runs, open_still = (sum(it.how == how for it in self.verdicts.values()) for how in ('refused', 'shown', 'unshown'))
-        words = (self.crate.name, refused, len(self.verdicts), by_runs, open_still, self.left, self.checks, seconds)
-        return '%s: %d of %d edits refused, %d shown wrong by a run, %d not shown yet, %d more by the record, by %d checks in %d s' % words
+        refused, by_runs = (sum(it.how == how for it in self.verdicts.values()) for how in PASSES)
+        words = (self.crate.name, refused, len(self.verdicts), by_runs, self.left, self.checks, seconds)
+        return '%s: %d of %d edits refused, %d shown wrong by a run, %d more by the record, by %d checks in %d s' % words
 
 
 def named(crate, edit):
@@ -58,13 +57,13 @@ def named(crate, edit):
 
 def shown_wrong(crate, edit, lanes, may_name):
     """The verdict on an edit that broke a proof by hand: whether what it names fails with it, or, where it names nothing and that is wanted,
-    what does."""
+    what does. One that nothing shows wrong fails."""
     with lanes.taken():
         if not edit.shown and may_name:
             edit = named(crate, edit)
-            return Verdict('shown', edit.shown) if edit.shown else Verdict('unshown', 'no case and no test fails with it')
+            return Verdict('shown', edit.shown) if edit.shown else Verdict('proof broken', 'no case and no test fails with it')
         if not edit.shown:
-            return Verdict('unshown', 'it names no case and no test')
+            return Verdict('proof broken', 'it names no case and no test that shows it wrong')
         return Verdict('shown', edit.shown) if shown.is_shown(crate, edit) else Verdict('proof broken', edit.shown + ' does not fail with it')
 
 
@@ -89,6 +88,5 @@ def try_crate(crate, names, words, lanes, turn=None, with_base=False, is_record=
         verdicts[name] = Verdict(verdict.how, '%s (%s)' % (verdict.why, verdicts[name].why))
     verdicts.update({name: Verdict('not reached', why) for name, why in bad.items()})
     if is_record:
-        last_words = {'refused': '', 'shown': 'shown', 'unshown': 'unshown'}
-        record.record(crate, {name: last_words.get(it.how) for name, it in verdicts.items()})
+        record.record(crate, {name: PASSES.get(it.how) for name, it in verdicts.items()})
     return Outcome(crate, verdicts, wrong, checks, len(edits) - len(chosen))

@@ -9,24 +9,41 @@ def line_of(count) -> dict:
     return {'modules': [{'specifier': 's', 'kind': 'esm', 'text': '', 'tree': {'nodes': nodes}}]}
 
 
+def one_statement(number, text, *nodes) -> dict:
+    """A module of this text, which is one statement."""
+    program = {'kind': 'Program', 'range': [0, len(text)], 'body': [1]}
+    return {'specifier': 'm%d' % number, 'kind': 'esm', 'text': text, 'tree': {'nodes': [program, *nodes]}}
+
+
+def passed_on(count) -> dict:
+    """Modules in a row: the last owns `n`, and each other exports that of the next."""
+    modules = [one_statement(at, 'export { n } from "./next";',
+                             {'kind': 'ExportNamed', 'range': [0, 27], 'specifiers': [2], 'src': './next'},
+                             {'kind': 'ExportSpecifier', 'range': [9, 10], 'orig': 3},
+                             {'kind': 'Ident', 'range': [9, 10], 'sym': ['n', 1]}) for at in range(count - 1)]
+    modules.append(one_statement(count - 1, 'export const n = 1;',
+                                 {'kind': 'ExportDecl', 'range': [0, 19], 'decl': 2},
+                                 {'kind': 'VarDecl', 'range': [7, 19], 'decls': [3]},
+                                 {'kind': 'VarDeclarator', 'range': [13, 18], 'name': 4, 'init': 5},
+                                 {'kind': 'BindingIdent', 'range': [13, 14], 'sym': ['n', 1]},
+                                 {'kind': 'Num', 'range': [17, 18], 'text': '1'}))
+    return {'modules': modules, 'resolutions': [['m%d' % at, './next', 'm%d' % (at + 1)] for at in range(count - 1)]}
+
+
 def exported(module, chain) -> dict:
     return {'exports': [{'chain': chain, 'module': module, 'name': 'n', 'symbol': 1}], 'unresolved': []}
 
 
 def large_rows() -> 'list[dict]':
-    definition = {'decl': [1, 0], 'end': 0, 'module': 'm499', 'start': 0, 'symbol': 1}
+    definition = {'decl': [1, 0], 'end': 18, 'module': 'm499', 'start': 13, 'symbol': 1}
     row = [['m%d' % at, './next'] for at in range(3999)]
-    imports = dict(large('imports', 500)[0])
-    for module in imports['modules']:
-        for node in module['tree']['nodes']:
-            node['range'] = [0, 0]
     return [
         {'name': 'a ring of 10,000 modules', 'graph': large('ring', 10000)[0],
          'asked': [[['exports', 'm0'], exported('m0', [])]],
          'calls': [{'call': 'exports', 'module': 'm0', 'steps': 10000}, {'call': 'stored', 'expect': 10000}]},
         {'name': 'a row of 4,000 modules', 'graph': large('stars', 4000)[0],
          'asked': [[['exports', 'm0'], exported('m3999', row)]]},
-        {'name': 'a row of 500 re-exports of a name', 'graph': imports,
+        {'name': 'a row of 500 re-exports of a name', 'graph': passed_on(500),
          'asked': [[['definitions', 'm0', 1], {'definitions': [definition]}]]},
         {'name': 'a tree as deep as may be', 'graph': line_of(4096),
          'asked': [[['exports', 's'], {'exports': [], 'unresolved': []}]]},
