@@ -1,11 +1,11 @@
 //! Which nodes of declarations are members, and which of them are private.
 
-ghost use Rattle.std.specs.Prelude.{◌≡◌};
+ghost use Rattle.std.specs.Prelude.{◌≡◌, true, false};
 ghost use Rattle.symbols_syntax.specs.NodeRefs.{node_view, kind_of};
 ghost use Rattle.symbols_nodes.specs.NodeViews.{symbol_node_view};
 ghost use Rattle.symbols_nodes.specs.NodeMembers.{is_member, is_decl, accessibility_of, is_marked_private, has_private_name, is_private_member};
 
-use crate::nodes::refs::SymbolNodeRef;
+use crate::nodes::refs::{ExportDeclRef, SymbolNodeRef};
 use symbols_syntax::tree::{Accessibility, Expr, Kind, Member, NodeRef};
 
 /// Who may reach a member of a class, where that is written.
@@ -38,6 +38,29 @@ fn has_private_name(node: NodeRef<'_>) -> bool
     match node.key() {
         Some(key) => matches!(key.kind(), Kind::Expr(Expr::PrivateName { .. })),
         None => false,
+    }
+}
+
+impl ExportDeclRef<'_> {
+    /// Whether it is a member: none is (own name: deno_graph asks it of the node).
+    pub fn is_member(&self) -> bool
+        ensures { result ≡ false }
+    {
+        false
+    }
+
+    /// Whether it is a declaration: each is (own name: deno_graph asks it of the node).
+    pub fn is_decl(&self) -> bool
+        ensures { result ≡ true }
+    {
+        true
+    }
+
+    /// Whether it is a private member: none is (own name: deno_graph asks it of the node).
+    pub fn is_private_member(&self) -> bool
+        ensures { result ≡ false }
+    {
+        false
     }
 }
 

@@ -1,6 +1,6 @@
 //! What the node of a declaration is called.
 
-ghost use Rattle.std.specs.Prelude.{◌≡◌, ◌∷◌, Some, None, IfOk, string_bytes, codes};
+ghost use Rattle.std.specs.Prelude.{◌≡◌, ◌∷◌, Some, None, IfOk, IsOkAnd, string_bytes, codes};
 ghost use Rattle.std.specs.Option.{option_map, option_copied, option_and_then};
 ghost use Rattle.std.specs.Cow.{cow_str_bytes};
 ghost use Rattle.symbols_syntax.specs.NodeRefs.{node_view, kind_of};
@@ -154,6 +154,17 @@ fn lent_name<'a>(node: SymbolNodeRef<'a>) -> Option<&'a str>
         | SymbolNodeRef::AutoAccessor(_)
         | SymbolNodeRef::ClassMethod(_)
         | SymbolNodeRef::ClassProp(_) => None,
+    }
+}
+
+impl<'a> ExportDeclRef<'a> {
+    /// What the declaration is called: the name of its identifier, or the text of a module's name
+    /// (own name: deno_graph asks it of the node, and so has the type of this answer). It takes no
+    /// memory, and is never refused.
+    pub fn maybe_name(self, _: Global) -> Result<Option<CowStr<'a>>, AllocError>
+        ensures { IsOkAnd result (λ name. option_map cow_str_bytes name ≡ exported_name (export_decl_view self.entry)) }
+    {
+        Ok(lent(exported_name(self)))
     }
 }
 

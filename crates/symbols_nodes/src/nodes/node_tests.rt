@@ -1,6 +1,6 @@
 //! What holds of the node of a declaration, by its kind.
 
-ghost use Rattle.std.specs.Prelude.{◌≡◌};
+ghost use Rattle.std.specs.Prelude.{◌≡◌, true, false};
 ghost use Rattle.std.specs.Option.{option_and_then, option_copied};
 ghost use Rattle.symbols_syntax.specs.NodeRefs.{node_view, kind_of, child_of};
 ghost use Rattle.symbols_syntax.specs.ChildFields.{decl_of};
@@ -91,6 +91,27 @@ impl ExportDeclRef<'_> {
             ExportDeclRef::TsModule(node) => has_own_body(*node),
             ExportDeclRef::Var(..) | ExportDeclRef::TsTypeAlias(_) => false,
         }
+    }
+
+    /// Whether it is a constructor: none is (own name: deno_graph asks it of the node).
+    pub fn is_ctor(&self) -> bool
+        ensures { result ≡ false }
+    {
+        false
+    }
+
+    /// Whether it is the module: none is (own name: deno_graph asks it of the node).
+    pub fn is_module(&self) -> bool
+        ensures { result ≡ false }
+    {
+        false
+    }
+
+    /// Whether it stands after `export`: each does (own name: deno_graph asks it of the node).
+    pub fn has_export_keyword(&self) -> bool
+        ensures { result ≡ true }
+    {
+        true
     }
 }
 
