@@ -10,7 +10,7 @@ import sys
 import tempfile
 
 from tested import told
-from wrong import record
+from wrong import record, shown
 from wrong.crates import Crate, kit, libraries_of, write
 from wrong.outcomes import try_crate
 from wrong.rooms import Lanes, words_of
@@ -326,6 +326,19 @@ def tests_of_what_names_nothing(folder):
     yield 'where nothing is looked for, none is written into it', crate.edit('twice_and_two').shown, ''
 
 
+# what `rt try --test` says of a test that holds, one that fails and one that ran out of its time
+SAID = '''tests: 3
+test numbers::adds ... ok
+test numbers::counts ... FAILED
+    assertion `left == right` failed
+    src/lib.rt:30:9: the test was killed by signal 6 (SIGABRT)
+test numbers::waits ... FAILED
+    checked: no-answer: the program did not end within the time limit
+    run=no-answer
+test result: FAILED. 1 passed; 2 failed; 0 ignored; 0 filtered out
+'''
+
+
 def tests():
     """Each test's name with what was found and what is wanted."""
     with tempfile.TemporaryDirectory() as folder:
@@ -335,6 +348,7 @@ def tests():
         yield from tests_of_contracts(folder)
     with tempfile.TemporaryDirectory() as folder:
         yield from tests_of_what_names_nothing(folder)
+    yield 'a test that ran out of its time is none that fails', shown.failed_in(SAID), ['numbers::counts']
 
 
 if __name__ == '__main__':

@@ -19,6 +19,8 @@ def with_edit(crate, edit):
     with tempfile.TemporaryDirectory(prefix='shown-') as folder:
         for part in PARTS:
             os.symlink(os.path.join(crate.top, part), os.path.join(folder, part))
+        os.mkdir(os.path.join(folder, 'bin'))
+        os.symlink(shutil.which('true'), os.path.join(folder, 'bin', 'sh'))
         for name in libraries_of(crate.top):
             to, of = os.path.join(folder, 'crates', name), os.path.join(crate.top, 'crates', name)
             shutil.copytree(os.path.join(of, 'src'), os.path.join(to, 'src'))
@@ -30,9 +32,12 @@ def with_edit(crate, edit):
         yield folder
 
 
-def run(words, folder):
+def run(words, top, at=''):
+    """What a command says, at a place in a copy of the repository. Beside each build `rt try` starts a check by `sh`, which gives a hint at
+    reserved names, no more, and would take as long as the build: here its `sh` ends at once."""
+    path = {'PATH': os.path.join(top, 'bin') + os.pathsep + os.environ['PATH']}
     how = {'stdin': subprocess.DEVNULL, 'stdout': subprocess.PIPE, 'stderr': subprocess.STDOUT, 'text': True, 'errors': 'replace'}
-    return subprocess.run(words, cwd=folder, **how).stdout
+    return subprocess.run(words, cwd=os.path.join(top, at), env={**os.environ, **path}, **how).stdout
 
 
 def failing_cases(folder, *names):
@@ -42,10 +47,15 @@ def failing_cases(folder, *names):
     return sorted({'tests/' + it for it in re.findall(r'^((?:cases|tables|forms)/[\w:.-]+)(?:, [a-z ]+)?: got ', said, re.M)})
 
 
+def failed_in(said):
+    """The tests that failed, in what `rt try --test` says. One that ran out of its time is told as failed, too, and says nothing of the edit."""
+    return [name for name, why in re.findall(r'^test (\S+) \.\.\. FAILED\n((?: .*\n)*)', said, re.M) if 'run=no-answer\n' not in why]
+
+
 def failing_tests(folder, crate):
     """The tests of a crate that fail in this copy of the repository; none where it can't be built."""
-    said = run(['rt', 'try', '--test'], os.path.join(folder, 'crates', crate))
-    return ['%s/%s' % (crate, it) for it in re.findall(r'^test (\S+) \.\.\. FAILED', said, re.M)]
+    said = run(['rt', 'try', '--test'], folder, os.path.join('crates', crate))
+    return ['%s/%s' % (crate, it) for it in failed_in(said)]
 
 
 def is_shown(crate, edit):
