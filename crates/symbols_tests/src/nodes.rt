@@ -66,6 +66,23 @@ fn nodes_around(node: NodeRef<'_>) -> Option<usize> {
     Some(source.nodes.len())
 }
 
+/// What is told of every declaration after `export`, whatever it is.
+fn tells_by_itself(exported: ExportDeclRef<'_>) -> Checked {
+    holds!(
+        exported.has_export_keyword(),
+        "what is exported has the word"
+    );
+    holds!(exported.is_decl(), "what is exported is a declaration");
+    holds!(!exported.is_member(), "what is exported is no member");
+    holds!(
+        !exported.is_private_member(),
+        "what is exported is no private member"
+    );
+    holds!(!exported.is_ctor(), "what is exported is no constructor");
+    holds!(!exported.is_module(), "what is exported is no module");
+    Ok(())
+}
+
 /// What a node tells by its form alone.
 fn tells(tree: &Tree) -> Checked {
     let node = there!(NodeRef::new(tree, NodeId(1)), "node 1");
@@ -80,13 +97,15 @@ fn tells(tree: &Tree) -> Checked {
         interface.namespaces() == (false, true),
         "an interface is a type alone"
     );
-    let namespace = SymbolNodeRef::ExportDecl(node, ExportDeclRef::TsModule(node));
+    let exported = ExportDeclRef::TsModule(node);
+    let namespace = SymbolNodeRef::ExportDecl(node, exported);
     holds!(namespace.is_ts_namespace(), "a namespace is a namespace");
     holds!(
         namespace.has_export_keyword(),
         "a namespace that is exported has the word"
     );
     holds!(!namespace.is_var(), "a namespace is no variable");
+    tells_by_itself(exported)?;
     let constructor = SymbolNodeRef::Constructor(node);
     holds!(constructor.is_ctor(), "a constructor is a constructor");
     holds!(constructor.is_member(), "a constructor is a member");
@@ -120,9 +139,8 @@ fn tree_of_a_named_module(alloc: Global) -> Result<Tree, AllocError> {
     })
 }
 
-/// Whether a definition has the name `m`, lent by its tree.
-fn is_named_m(alloc: Global, definition: SymbolNode<'_>) -> bool {
-    let name = definition.maybe_name(alloc);
+/// Whether it is the name `m`, lent by a tree.
+fn is_m(name: Result<Option<CowStr<'_>>, AllocError>) -> bool {
     matches!(name, Ok(Some(CowStr::Borrowed(text))) if text == "m")
 }
 
@@ -131,7 +149,12 @@ fn is_named(alloc: Global, tree: &Tree) -> Checked {
     let node = there!(NodeRef::new(tree, NodeId(0)), "node 0");
     let module = SymbolNodeRef::TsNamespace(node);
     let definition = SymbolNode { node: Some(module) };
-    holds!(is_named_m(alloc, definition), "the name of the module");
+    holds!(is_m(definition.maybe_name(alloc)), "the name of the module");
+    let exported = ExportDeclRef::TsModule(node);
+    holds!(
+        is_m(exported.maybe_name(alloc)),
+        "the name of the module where it is exported"
+    );
     holds!(module.is_ts_namespace(), "it is a namespace");
     holds!(!module.has_body(), "it has no body");
     Ok(())
