@@ -1,8 +1,8 @@
 #!/usr/bin/env python3
-"""Refuses calls of the program in turn: whichever fails, it says so, and what it has written is a beginning of the answers.
+"""Refuses calls of the programs in turn: whichever fails, they say so, and what they have written is a beginning of the answers.
 
-    python3 tools/run_refusing.py           the proved program, crates/symq/out/symq
-    python3 tools/run_refusing.py SYMQ      the program at this path
+    python3 tools/run_refusing.py                     the proved programs, crates/NAME/out/NAME
+    python3 tools/run_refusing.py SYMQ SYMQ_TABLES    the programs at these paths
 
 `tests/refusing/refuse.c`, which `cc` builds here and which is preloaded, refuses the call of a number: of those for memory,
 each alone and with all behind it, over stored cases; a read of the graph's file or of the queries, or a write of the answers,
@@ -18,13 +18,15 @@ import sys
 import tempfile
 from concurrent.futures import ThreadPoolExecutor
 
-from run_cases import ROOT, SECONDS, TESTS, Outcome, folder_cases, show, write
+from run_cases import PROGRAMS, ROOT, SECONDS, TESTS, Outcome, folder_cases, show, write
 from set_up import ensure
 
 # queries of each form on a small graph; declarations with much below them, long ways, other modules; graphs with a fault; no graph
 OF_MEMORY = ('each_form_of_query', 'dependencies_in_both_modes', 'paths_to_definitions', 'types_chains', 'json_module',
              'refused_shape', 'refused_tree_after_tables', 'refused_duplicate_redirect', 'refused_form', 'refused_half_a_text',
              'no_file', 'no_words')
+# tables of declarations of all sorts, of a JSON text, of no module; graphs with a fault
+OF_TABLES = ('tests_of_declarations', 'json_objects', 'no_modules', 'refused_shape', 'refused_half_a_text', 'no_words')
 ALL_FORMS, FEW_LINES = 'each_form_of_query', 'line_that_is_not_utf8'
 NO_GRAPH = Outcome(3, b'', b'symq: cannot read graph\n')
 NO_INPUT, NO_OUTPUT, NO_MEMORY = b'symq: input failed\n', b'symq: output failed\n', b'symq: out of memory\n'
@@ -35,8 +37,13 @@ def stored(name):
     return folder_cases('cases', name, 'symq', 'lines')[0]
 
 
+def stored_tables(name):
+    """A stored case of tables."""
+    return folder_cases('tables', name, 'symq_tables', 'tables')[0]
+
+
 class Program:
-    """The program, with the library that is preloaded into it, and a folder for graphs."""
+    """A program, with the library that is preloaded into it, and a folder for graphs."""
 
     def __init__(self, path, folder):
         self.path, self.folder, self.library = os.path.abspath(path), folder, os.path.join(folder, 'refuse.so')
@@ -127,6 +134,15 @@ def rows_of(program):
     return found + [('writes that take nothing', lambda: of_output(program, few, EMPTY=1))]
 
 
+def rows_of_tables(program):
+    """The rows of refusals of memory to the program that tells tables."""
+    found = []
+    for name in OF_TABLES:
+        found.append(('memory, tables, ' + name, lambda case=stored_tables(name): of_memory(program, case)))
+        found.append(('memory from there on, tables, ' + name, lambda case=stored_tables(name): of_memory(program, case, REST=1)))
+    return found
+
+
 def unread_pipe():
     """The end of a pipe whose reader is gone."""
     reads, writes = os.pipe()
@@ -172,13 +188,14 @@ def folder_as_graph(program):
 
 
 def main(words):
-    path = words[0] if words else os.path.join(ROOT, 'crates', 'symq', 'out', 'symq')
-    if not os.access(path, os.X_OK):
-        sys.exit('%s is not there: `make symq` builds it' % path)
+    paths = words or [os.path.join(ROOT, 'crates', name, 'out', name) for name in PROGRAMS]
+    for path in paths:
+        if not os.access(path, os.X_OK):
+            sys.exit('%s is not there: `rt ci` builds it' % path)
     ensure(['cc'])
     with tempfile.TemporaryDirectory(prefix='refusing-') as folder, ThreadPoolExecutor(os.cpu_count()) as pool:
-        program = Program(path, folder)
-        checks = rows_of(program)
+        program, tables = (Program(path, folder) for path in paths)
+        checks = rows_of(program) + rows_of_tables(tables)
         found = list(zip([name for name, _ in checks], pool.map(lambda check: check[1](), checks)))
         found += [(name, of_stream(program, *rest)) for name, *rest in streams_of(folder)]
         found.append(('a folder as graph', folder_as_graph(program)))

@@ -47,10 +47,23 @@ pub struct ResolvedReExportAllPath<'a> {
 
 /// How an exported name comes to a module (as deno_graph).
 #[cycle(path)]
-#[derive(Drop)]
 pub enum ResolvedExportOrReExportAllPath<'a> {
     Export(ResolvedExport),
     ReExportAllPath(ResolvedReExportAllPath<'a>),
+}
+
+/// Lets go of one statement after the other: a long way takes no more of the stack than a short one.
+impl Drop for ResolvedExportOrReExportAllPath<'_> {
+    fn drop(mut self) {
+        loop {
+            match self {
+                ResolvedExportOrReExportAllPath::Export(_) => return,
+                ResolvedExportOrReExportAllPath::ReExportAllPath(re_export) => {
+                    self = Box::into_inner(re_export.next);
+                }
+            }
+        }
+    }
 }
 
 impl<'a> ResolvedReExportAllPath<'a> {
