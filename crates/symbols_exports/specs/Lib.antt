@@ -9,3 +9,4 @@ pub mod Answers
 pub mod Ways
 pub mod Wanted
 pub mod OneName
+pub mod PublicNames
