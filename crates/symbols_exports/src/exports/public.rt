@@ -1,13 +1,15 @@
 //! The names that a module gives to the world.
 
-ghost use Rattle.std.specs.Prelude.{◌≡◌, ◌≢◌, ◌<◌, ◌++◌, ℕ, List, length, map, flat_map, All, AllPairs, Contains, IfOk, IfErr, OnOk};
+ghost use Rattle.std.specs.Prelude.{◌≡◌, ◌≢◌, ◌<◌, ◌++◌, ◌∷◌, [], ℕ, List, length, map, flat_map, All, AllPairs, Some, IfOk, IfErr, OnOk, if◌then◌else◌};
 ghost use Rattle.symbols_table.specs.declared.info.fault.SymbolsFault.TheVariants.{OutOfMemory};
 ghost use Rattle.symbols_table.specs.DeclViews.{exports_view};
 ghost use Rattle.symbols_root.specs.Roots.{widest, specifier_in};
 ghost use Rattle.symbols_root.specs.Growing.{HasGrown};
 ghost use Rattle.symbols_exports.specs.Answers.{AreListed, IsFault};
-ghost use Rattle.symbols_exports.specs.PublicNames.{name_item, is_nameless, exported_by, items_under, IsNamesAnswer};
+ghost use Rattle.symbols_exports.specs.PublicNames.{name_item, is_nameless, exported_by, members_under, items_of, IsOwned, IsNamesAnswer};
+ghost use Rattle.symbols_exports.specs.Taking.{NameView, names_view};
 
+use crate::exports::path::{ResolvedExport, ResolvedExportOrReExportAllPath};
 use crate::exports::walk::exports;
 use indexmap::IndexMap;
 use std::alloc::{AllocError, Global};
@@ -23,6 +25,83 @@ pub struct PublicName {
     /// A name that the exported symbol exports itself, as a static member of a class or an export of
     /// a namespace; none for the exported name alone.
     pub member: Option<String>,
+}
+
+/// Whether the name is that of a constructor or of an index signature, which have none in the text.
+fn is_nameless(member: &str) -> bool
+    ensures { result ≡ is_nameless member.now }
+{
+    member == "%%dg_ctor%%" || member == "%%dg_index%%"
+}
+
+/// What the symbol of an export exports itself.
+fn exported_by<'r>(
+    root: &'r RootSymbol<'_>,
+    export: &ResolvedExport,
+) -> &'r IndexMap<String, SymbolId>
+    requires { IsOwned root.now export.now }
+    ensures { exports_view result.now.entries ≡ exported_by root.now.graph (specifier_in root.now export.now.«module») export.now.symbol_id }
+{
+    match root.module_from_id(export.module) {
+        Some(info) => match info.symbol(export.symbol_id) {
+            Some(symbol) => symbol.exports(),
+            None => unreachable!(),
+        },
+        None => unreachable!(),
+    }
+}
+
+/// Adds a member of a name, unless it is nameless.
+fn add_member(
+    alloc: Global,
+    name: &str,
+    member: &str,
+    names: &mut Vec<PublicName>,
+) -> Result<(), AllocError>
+    ensures { OnOk result (map name_item names.new.items ≡ (if is_nameless member.now then map name_item names.old.items else map name_item names.old.items ++ record { name = name.now; member = Some member.now } ∷ [])) }
+{
+    if !is_nameless(member) {
+        names.push(PublicName {
+            name: String::from_str(alloc, name)?,
+            member: Some(String::from_str(alloc, member)?),
+        })?;
+    }
+    Ok(())
+}
+
+/// Adds the members of a name, in order.
+fn add_members(
+    alloc: Global,
+    name: &str,
+    members: &IndexMap<String, SymbolId>,
+    names: &mut Vec<PublicName>,
+) -> Result<(), AllocError>
+    ensures { OnOk result (map name_item names.new.items ≡ map name_item names.old.items ++ members_under name.now (exports_view members.now.entries)) }
+{
+    for (member, _) in members.iter() {
+        add_member(alloc, name, member.as_str(), names)?;
+    }
+    Ok(())
+}
+
+/// Each exported name, and the members of each behind it, in order.
+fn list_names(
+    root: &RootSymbol<'_>,
+    resolved: &IndexMap<String, ResolvedExportOrReExportAllPath<'_>>,
+) -> Result<Vec<PublicName>, AllocError>
+    requires { All (λ (name : NameView). IsOwned root.now name.export) (names_view resolved.now.entries) }
+    ensures { IfOk result (λ names. map name_item names.items ≡ flat_map (items_of root.now) (names_view resolved.now.entries)) }
+{
+    let mut names = Vec::new(root.alloc());
+    for (name, path) in resolved.iter() {
+        names.push(PublicName {
+            name: String::from_str(root.alloc(), name.as_str())?,
+            member: None,
+        })?;
+        let members = exported_by(root, path.as_resolved_export());
+        add_members(root.alloc(), name.as_str(), members, &mut names)?;
+    }
+    Ok(names)
 }
 
 /// The names that a stored module gives to the world (own rule): for each export in order the name
@@ -45,5 +124,5 @@ pub fn public_names(
     ensures enough { root.old.limits ≡ widest → module_id.0 < length root.old.stored → IfErr result (λ fault. fault ≡ OutOfMemory) }
 {
     let found = exports(root, module_id)?;
-    unreachable!()
+    Ok(list_names(root, &found.resolved)?)
 }
