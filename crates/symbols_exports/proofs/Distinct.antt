@@ -78,6 +78,11 @@ one_value entries once name s t has_s has_t =
         let long : i < length (map (λ (e : Setting). e.0) entries) = omega (arith, within, length-map entries (λ (e : Setting). e.0)) in
         get_or_default (map (λ (e : Setting). e.0) entries) i [] name long ∙ (get_or-map (λ (e : Setting). e.0) entries i (name, x) ∙ ap (λ (e : Setting). e.0) at)
 
+-- a symbol exports no name twice
+pub exported_once : (graph : GraphView) (u : List ℕ) (s : SymbolId) → IsDistinct bytes_eq (map (λ (x : Setting). x.0) (exports_after (changes_under graph u) s))
+unfolding exports_after names_of
+exported_once graph u s = once_all (settings_after (changes_under graph u) s) [] nothing_twice
+
 -- a module owns each name for one symbol
 pub owns_once : (graph : GraphView) → OwnOnce (owned_of graph)
 unfolding exports_after

@@ -35,7 +35,7 @@ contains_flat f (w ∷ xs) x y has has_y = elim (first_or_later w xs x has) [
   | inr later ↦ contains_right (f w) (flat_map f xs) y (contains_flat f xs x y later has_y)
 ]
 
-flat_sorted : {A B : Type 0} (R : A → A → Type 0) (S : B → B → Type 0) (f : A → List B) → ((x : A) → IsSorted S (f x)) → ((x y : A) → R x y → (a b : B) → Contains (f x) a → Contains (f y) b → S a b) → (xs : List A) → IsSorted R xs → IsSorted S (flat_map f xs)
+pub flat_sorted : {A B : Type 0} (R : A → A → Type 0) (S : B → B → Type 0) (f : A → List B) → ((x : A) → IsSorted S (f x)) → ((x y : A) → R x y → (a b : B) → Contains (f x) a → Contains (f y) b → S a b) → (xs : List A) → IsSorted R xs → IsSorted S (flat_map f xs)
 flat_sorted R S f each across [] sorted = tt
 flat_sorted {A} {B} R S f each across (x ∷ xs) sorted = sorted_both S (f x) (flat_map f xs) (each x) (flat_sorted R S f each across xs sorted.1) behind
   where

@@ -34,3 +34,4 @@ mod WalkingCut
 mod NamedAnswer
 mod WalkingAsked
 mod NamedExport
+mod NameItems

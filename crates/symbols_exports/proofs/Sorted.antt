@@ -115,6 +115,10 @@ pub sorted_map : {A B : Type 0} (R : A → A → Type 0) (S : B → B → Type 0
 sorted_map R S f keeps [] sorted = tt
 sorted_map R S f keeps (x ∷ xs) sorted = (λ y has. let from = mapped_from f xs y has in subst (S (f x)) from.2 (keeps x from.0 (sorted.0 from.0 from.1)), sorted_map R S f keeps xs sorted.1)
 
+pub sorted_mapped : {A B : Type 0} (S : B → B → Type 0) (f : A → B) (xs : List A) → IsSorted S (map f xs) → IsSorted (λ x y. S (f x) (f y)) xs
+sorted_mapped S f [] sorted = tt
+sorted_mapped S f (x ∷ xs) sorted = (λ y has. sorted.0 (f y) (contains_mapped f xs y has), sorted_mapped S f xs sorted.1)
+
 pub sorted_filter : {A : Type 0} (R : A → A → Type 0) (p : A → Bool) (xs : List A) → IsSorted R xs → IsSorted R (filter p xs)
 sorted_filter R p [] sorted = tt
 sorted_filter R p (x ∷ xs) sorted = by (p x) (sorted_filter R p xs sorted.1)
@@ -185,6 +189,11 @@ module _ {A K : Type 0} (same : A → A → Bool) (key : A → K) (decides : (x 
       by (inl is_x) (inr in_y) later = absurd (not_same w y (filtered_from (λ z. not (same w z)) (first_of_each same xs) y in_y).1 (ap key is_x ∙ equal))
       by (inr in_x) (inl is_y) later = absurd (not_same w x (filtered_from (λ z. not (same w z)) (first_of_each same xs) x in_x).1 (ap key is_y ∙ sym equal))
       by (inr in_x) (inr in_y) later = later (filtered_from (λ z. not (same w z)) (first_of_each same xs) x in_x).0 (filtered_from (λ z. not (same w z)) (first_of_each same xs) y in_y).0 equal
+
+  -- no two of them are of one sort
+  pub first_apart : (xs : List A) → IsSorted (λ x y. key x ≡ key y → ⊥) (first_of_each same xs)
+  first_apart [] = tt
+  first_apart (x ∷ xs) = (λ y has. not_same x y (filtered_from (λ z. not (same x z)) (first_of_each same xs) y has).1, sorted_filter (λ a b. key a ≡ key b → ⊥) (λ z. not (same x z)) (first_of_each same xs) (first_apart xs))
 
   pub first_covers : (R : A → A → Type 0) (xs : List A) → IsSorted R xs → (z : A) → Contains xs z → (f : A) × Contains (first_of_each same xs) f × (key f ≡ key z) × ((f ≡ z) ⊎ R f z)
   first_covers R [] sorted z has = absurd (contains_nothing z has)
