@@ -44,11 +44,12 @@ same_text x y same = cc
 
 -- so do the items under a name
 items_apart : (name : List ℕ) (members : List Setting) → IsSorted (λ (x y : Setting). x.0 ≡ y.0 → ⊥) members → IsSorted (λ (a b : NameItem). a ≡ b → ⊥) (items_under name members)
-items_apart name members apart =
-    (λ b has same. let from = mapped_from (λ (member : Setting). record { name = name; member = Some member.0 }) (filter (λ (member : Setting). not (is_nameless member.0)) members) b has in
+items_apart name members apart = (
+  λ b has same. let from = mapped_from (λ (member : Setting). record { name = name; member = Some member.0 }) (filter (λ (member : Setting). not (is_nameless member.0)) members) b has in
       none-some from.0.0 (member_is (record { name = name; member = None }) b same ∙ sym (member_is (record { name = name; member = Some from.0.0 }) b from.2)),
-    sorted_map (λ (x y : Setting). x.0 ≡ y.0 → ⊥) (λ (a b : NameItem). a ≡ b → ⊥) (λ (member : Setting). record { name = name; member = Some member.0 }) (λ x y other same. other (same_text x.0 y.0 (member_is (record { name = name; member = Some x.0 }) (record { name = name; member = Some y.0 }) same)))
-    (filter (λ (member : Setting). not (is_nameless member.0)) members) (sorted_filter (λ (x y : Setting). x.0 ≡ y.0 → ⊥) (λ (member : Setting). not (is_nameless member.0)) members apart))
+  sorted_map (λ (x y : Setting). x.0 ≡ y.0 → ⊥) (λ (a b : NameItem). a ≡ b → ⊥) (λ (member : Setting). record { name = name; member = Some member.0 }) (λ x y other same. other (same_text x.0 y.0 (member_is (record { name = name; member = Some x.0 }) (record { name = name; member = Some y.0 }) same)))
+      (filter (λ (member : Setting). not (is_nameless member.0)) members) (sorted_filter (λ (x y : Setting). x.0 ≡ y.0 → ⊥) (λ (member : Setting). not (is_nameless member.0)) members apart),
+)
 
 -- and all of them have that name
 named_so : (name : List ℕ) (members : List Setting) (a : NameItem) → Contains (items_under name members) a → a.name ≡ name
@@ -61,9 +62,9 @@ pub public_apart : (graph : GraphView) (start : List ℕ) → AllPairs (λ (a b 
 public_apart graph start =
     sorted_pairs (λ (a b : NameItem). a ≡ b → ⊥) (public_names_of graph start)
     (flat_sorted (λ (x y : Entry). x.name ≡ y.name → ⊥) (λ (a b : NameItem). a ≡ b → ⊥) (λ (entry : Entry). items_under entry.name (exported_by graph entry.owner entry.symbol))
-      (λ entry. items_apart entry.name (exported_by graph entry.owner entry.symbol) (exported_apart graph entry.owner entry.symbol))
-      (λ x y other a b has_a has_b same. other (sym (named_so x.name (exported_by graph x.owner x.symbol) a has_a) ∙ (ap (λ (item : NameItem). item.name) same ∙ named_so y.name (exported_by graph y.owner y.symbol) b has_b)))
-      (exports_of graph start) (first_apart same_name (λ (entry : Entry). entry.name) (λ x y. bytes_eq-Decides x.name y.name) (flat_map (offered_at (owned_of graph)) (ways_of graph start))))
+    (λ entry. items_apart entry.name (exported_by graph entry.owner entry.symbol) (exported_apart graph entry.owner entry.symbol))
+    (λ x y other a b has_a has_b same. other (sym (named_so x.name (exported_by graph x.owner x.symbol) a has_a) ∙ (ap (λ (item : NameItem). item.name) same ∙ named_so y.name (exported_by graph y.owner y.symbol) b has_b)))
+    (exports_of graph start) (first_apart same_name (λ (entry : Entry). entry.name) (λ x y. bytes_eq-Decides x.name y.name) (flat_map (offered_at (owned_of graph)) (ways_of graph start))))
 
 -- ---- by the numbers of a root
 

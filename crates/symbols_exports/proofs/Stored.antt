@@ -1,5 +1,6 @@
 -- The symbols of a stored module are those of the graph's module.
-use Rattle.std.proofs.Common.{◌≡◌, ℕ, ◌<◌, List, length, Option, None, Some, slice_get, refl, sym, ap, subst, ◌∙◌}
+use Rattle.std.proofs.Common.{◌≡◌, ℕ, ◌<◌, List, length, inl, inr, Option, None, Some, slice_get, refl, sym, ap, subst, ◌∙◌, arith}
+use Rattle.std.proofs.lemmas.Option.{none-some, slice_get_cases}
 use Rattle.std.specs.Prelude.{Contains}
 use Rattle.std.specs.Option.{option_map}
 use Rattle.symbols_syntax.specs.declared.ids.ModuleId.{ModuleId}
@@ -43,14 +44,24 @@ has_module_in : (info : ModuleInfoRef) → 0 < length (lent_table info).symbols
 has_module_in (ModuleInfoRef.Json info) = info.now.has_module
 has_module_in (ModuleInfoRef.Esm info) = info.now.has_module
 
-pub owned_within : (root : RootView) (module_id : ModuleId) (info : ModuleInfoRef) (name : List ℕ) (s : SymbolId) → IsStoredTable root module_id (lent_table info) → Contains (owned_of root.graph (specifier_in root module_id)) (name, s) → s.0 < length (lent_table info).symbols
+-- (there is a symbol at each place)
+not_nothing : (symbols : List Symbol) (n : ℕ) → n < length symbols → slice_get symbols n ≡ None → ⊥
+not_nothing symbols n within none = elim (slice_get_cases symbols n).1 [
+  | inl found ↦ none-some found.0 (sym none ∙ found.2)
+  | inr past ↦ omega (arith, within, past.0)
+]
+
+owned_within : (root : RootView) (module_id : ModuleId) (info : ModuleInfoRef) (name : List ℕ) (s : SymbolId) → IsStoredTable root module_id (lent_table info) → Contains (owned_of root.graph (specifier_in root module_id)) (name, s) → s.0 < length (lent_table info).symbols
 owned_within root module_id info name s stored owned =
     by (slice_get (lent_table info).symbols 0) refl
   where
     by : (first : Option Symbol) → slice_get (lent_table info).symbols 0 ≡ first → s.0 < length (lent_table info).symbols
-    by None none = ?
+    by None none = absurd (not_nothing (lent_table info).symbols 0 (has_module_in info) none)
     by (Some symbol) first =
         let names = stored_names root module_id (lent_table info) symbol stored first in
         let has : Contains (exports_in symbol) (name, s) = subst (λ (own : List (List ℕ × SymbolId)). Contains own (name, s)) (sym names) owned in
         let within = (lawful_in info (record { 0 = 0 }) symbol first).exports has.0 (name, s) has.1 in
         subst (λ (own : List ℕ × SymbolId). own.1.0 < length (lent_table info).symbols) has.2 within
+
+pub owned_is_there : (root : RootView) (module_id : ModuleId) (info : ModuleInfoRef) (name : List ℕ) (s : SymbolId) → IsStoredTable root module_id (lent_table info) → Contains (owned_of root.graph (specifier_in root module_id)) (name, s) → slice_get (lent_table info).symbols s.0 ≡ None → ⊥
+owned_is_there root module_id info name s stored owned none = not_nothing (lent_table info).symbols s.0 (owned_within root module_id info name s stored owned) none

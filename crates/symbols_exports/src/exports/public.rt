@@ -6,7 +6,7 @@ ghost use Rattle.symbols_table.specs.DeclViews.{exports_view};
 ghost use Rattle.symbols_root.specs.Roots.{widest, specifier_in};
 ghost use Rattle.symbols_root.specs.Growing.{HasGrown};
 ghost use Rattle.symbols_exports.specs.Answers.{AreListed, IsFault};
-ghost use Rattle.symbols_exports.specs.PublicNames.{name_item, is_nameless, exported_by, members_under, items_of, IsOwned, IsNamesAnswer};
+ghost use Rattle.symbols_exports.specs.PublicNames.{name_item, is_nameless, exported_by, members_under, items_under, items_of, IsOwned, IsNamesAnswer};
 ghost use Rattle.symbols_exports.specs.Taking.{NameView, names_view};
 
 use crate::exports::path::{ResolvedExport, ResolvedExportOrReExportAllPath};
@@ -84,7 +84,24 @@ fn add_members(
     Ok(())
 }
 
-/// Each exported name, and the members of each behind it, in order.
+/// Adds an exported name, and its members behind it.
+fn add_name(
+    root: &RootSymbol<'_>,
+    name: &str,
+    export: &ResolvedExport,
+    names: &mut Vec<PublicName>,
+) -> Result<(), AllocError>
+    requires { IsOwned root.now export.now }
+    ensures { OnOk result (map name_item names.new.items ≡ map name_item names.old.items ++ items_under name.now (exported_by root.now.graph (specifier_in root.now export.now.«module») export.now.symbol_id)) }
+{
+    names.push(PublicName {
+        name: String::from_str(root.alloc(), name)?,
+        member: None,
+    })?;
+    add_members(root.alloc(), name, exported_by(root, export), names)
+}
+
+/// The exported names, in order, each with its members behind it.
 fn list_names(
     root: &RootSymbol<'_>,
     resolved: &IndexMap<String, ResolvedExportOrReExportAllPath<'_>>,
@@ -94,12 +111,7 @@ fn list_names(
 {
     let mut names = Vec::new(root.alloc());
     for (name, path) in resolved.iter() {
-        names.push(PublicName {
-            name: String::from_str(root.alloc(), name.as_str())?,
-            member: None,
-        })?;
-        let members = exported_by(root, path.as_resolved_export());
-        add_members(root.alloc(), name.as_str(), members, &mut names)?;
+        add_name(root, name.as_str(), path.as_resolved_export(), &mut names)?;
     }
     Ok(names)
 }
