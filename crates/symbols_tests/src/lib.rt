@@ -50,6 +50,8 @@ mod nodes;
 #[cfg(test)]
 mod one_name;
 #[cfg(test)]
+mod public_names;
+#[cfg(test)]
 mod refusals;
 #[cfg(test)]
 mod roots;
