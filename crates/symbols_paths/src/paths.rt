@@ -1,5 +1,6 @@
 //! Paths from a symbol to its definitions.
 
+mod calls;
 mod definition;
 mod find;
 mod iter;
@@ -17,9 +18,9 @@ mod trail;
 mod unresolved;
 mod unroll;
 
+pub use calls::FindDefinitions;
 pub use definition::{DeclRef, Definition, DefinitionKind};
-pub use find::{find_definition_paths, go_to_definitions, go_to_definitions_or_unresolveds};
 pub use iter::{DefinitionOrUnresolved, DefinitionsIter, DefinitionsOrUnresolvedsIter};
 pub use node::{DefinitionPathLink, DefinitionPathNode, DefinitionPathNodeResolved};
-pub use resolve::{ResolvedSymbolDepEntry, resolve_symbol_dep};
+pub use resolve::ResolvedSymbolDepEntry;
 pub use unresolved::{DefinitionUnresolved, DefinitionUnresolvedKind};

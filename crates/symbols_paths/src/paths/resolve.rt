@@ -1,25 +1,22 @@
 //! What a reference to a symbol stands for.
 
-ghost use Rattle.std.specs.Prelude.{◌≡◌, ◌<◌, ℕ, List, [], ◌∷◌, length, map, Some, IfOk, IfErr};
+ghost use Rattle.std.specs.Prelude.{◌≡◌, ◌<◌, ℕ, List, [], length, map, Some, IfOk, IfErr};
 ghost use Rattle.std.specs.Cow.{cow_str_bytes};
 ghost use Rattle.std.specs.List.{IsDistinct};
 ghost use Rattle.std.specs.Str.{bytes_eq};
 ghost use Rattle.symbols_syntax.specs.Ids.{id_view};
-ghost use Rattle.symbols_nodes.specs.References.{qualified_id, import_type, reference_view};
+ghost use Rattle.symbols_nodes.specs.References.{qualified_id, import_type};
 ghost use Rattle.symbols_table.specs.declared.info.fault.SymbolsFault.TheVariants.{OutOfMemory};
 ghost use Rattle.symbols_root.specs.Roots.{RootView, widest, specifier_in};
 ghost use Rattle.symbols_root.specs.Growing.{HasGrown};
-ghost use Rattle.symbols_exports.specs.Answers.{AreListed};
 ghost use Rattle.symbols_exports.specs.StarStatements.{text_target};
-ghost use Rattle.symbols_paths.specs.Trees.{NamedSymbol, Parts, Forest};
-ghost use Rattle.symbols_paths.specs.PartWays.{text_part, links_of};
-ghost use Rattle.symbols_paths.specs.Choice.{IsChosenUnder};
+ghost use Rattle.symbols_paths.specs.PartWays.{text_part};
 ghost use Rattle.symbols_paths.specs.Computed.{paths_under};
 ghost use Rattle.symbols_paths.specs.Views.{named, texts_in, first_part, later_parts, forest_told, modules_in, AreStored};
 ghost use Rattle.symbols_paths.specs.Trails.{parts_told, trails_told, modules_of_trails};
 ghost use Rattle.symbols_paths.specs.Needed.{IsNeeded, IsRefused};
 ghost use Rattle.symbols_paths.specs.Answers.{ArePathsFor};
-ghost use Rattle.symbols_paths.specs.DepAnswers.{entry_told, modules_of_entries, entries_in, asked_by_id, asked_by_way, missing_id, missing_way, other_entries, entries_of, ArePathsOf, IsDepAnswer, IsDepFault};
+ghost use Rattle.symbols_paths.specs.DepAnswers.{entry_told, modules_of_entries, entries_in, asked_by_id, asked_by_way, missing_id, missing_way, other_entries, entries_of, ArePathsOf, IsDepAnswer};
 
 use crate::paths::leads::symbol_of_id;
 use crate::paths::link::{copied_id, copied_parts, one_unresolved, unresolved};
@@ -34,8 +31,6 @@ use crate::paths::unroll::nodes_of;
 use indexmap::IndexSet;
 use std::alloc::{AllocError, Global};
 use std::borrow::CowStr;
-use symbols_exports::laws::exports_are_listed;
-use symbols_nodes::deps::SymbolNodeDep;
 use symbols_root::root::RootSymbol;
 use symbols_table::info::SymbolsFault;
 use symbols_tree::ids::{ModuleId, UniqueSymbolId};
@@ -101,7 +96,7 @@ fn lent_names<'p>(alloc: Global, parts: &'p [CowStr<'_>]) -> Result<Vec<&'p str>
 }
 
 /// The parts of a reference, copied once.
-fn shared_names(alloc: Global, parts: &[CowStr<'_>]) -> Result<SharedParts, AllocError>
+pub(crate) fn shared_names(alloc: Global, parts: &[CowStr<'_>]) -> Result<SharedParts, AllocError>
     ensures { IfOk result (λ shared. parts_told shared ≡ map cow_str_bytes parts.now) }
 {
     let texts = lent_names(alloc, parts)?;
@@ -216,7 +211,7 @@ fn entries_of<'a>(
 }
 
 /// What a name of a stored module stands for, with the parts behind it.
-fn entries_of_id<'a>(
+pub(crate) fn entries_of_id<'a>(
     root: &mut RootSymbol<'a>,
     module_id: ModuleId,
     id: &Id,
@@ -238,7 +233,7 @@ fn entries_of_id<'a>(
 }
 
 /// What an import type in a stored module stands for, by its text and the parts behind it.
-fn entries_of_import<'a>(
+pub(crate) fn entries_of_import<'a>(
     root: &mut RootSymbol<'a>,
     module_id: ModuleId,
     text: &str,
@@ -259,48 +254,5 @@ fn entries_of_import<'a>(
     match paths_of_import(root, module_id, text, parts) {
         Err(fault) => Err(fault),
         Ok(paths) => Ok(entries_of(root.alloc(), paths)?),
-    }
-}
-
-/// What a reference in a stored module stands for (as deno_graph): a name, the paths of its symbol; a
-/// name with parts behind it, its paths under the parts; an import type, the module itself or, with
-/// parts, the paths of what the first leads to under the others. One unresolved entry where the name
-/// stands for no symbol, the text for no module, or the module has no such part.
-///
-/// # Errors
-///
-/// `UnknownModule` where the id names no stored module; else what storing a module on the way refuses.
-/// What was stored stays.
-pub fn resolve_symbol_dep<'a>(
-    root: &mut RootSymbol<'a>,
-    module_id: ModuleId,
-    dep: &SymbolNodeDep<'_>,
-) -> Result<Vec<ResolvedSymbolDepEntry<'a>>, SymbolsFault>
-    ensures answers { IfOk result (λ entries. (module_id.0 < length root.old.stored) × IsDepAnswer root.old.graph (specifier_in root.old module_id) (reference_view dep.now) (map (entry_told root.new) entries.items)) }
-    ensures listed { IfOk result (λ entries. map (entry_told root.new) entries.items ≡ entries_of root.old.graph (specifier_in root.old module_id) (reference_view dep.now)) }
-    ensures stored { IfOk result (λ entries. AreStored root.new (modules_of_entries entries.items)) }
-    ensures faults { IfErr result (IsDepFault root.old root.new module_id (reference_view dep.now)) }
-    ensures kept { HasGrown root.old root.new }
-    ensures only { (s : NamedSymbol) (parts : Parts) (f g : Forest) → IsChosenUnder (links_of root.old.graph) s parts f → IsChosenUnder (links_of root.old.graph) s parts g → f ≡ g }
-    ensures exports_listed { (start : List ℕ) → AreListed root.old.graph start }
-    ensures enough { root.old.limits ≡ widest → module_id.0 < length root.old.stored → IfErr result (λ fault. fault ≡ OutOfMemory) }
-{
-    exports_are_listed(root);
-    if root.module_from_id(module_id).is_none() {
-        return Err(SymbolsFault::UnknownModule);
-    }
-    match dep {
-        SymbolNodeDep::Id(id) => {
-            let parts = shared_names(root.alloc(), &[])?;
-            entries_of_id(root, module_id, id, &parts)
-        }
-        SymbolNodeDep::QualifiedId(id, parts) => {
-            let parts = shared_names(root.alloc(), parts)?;
-            entries_of_id(root, module_id, id, &parts)
-        }
-        SymbolNodeDep::ImportType(text, parts) => {
-            let parts = shared_names(root.alloc(), parts)?;
-            entries_of_import(root, module_id, text, &parts)
-        }
     }
 }

@@ -9,7 +9,7 @@ use Rattle.symbols_paths.specs.Trails.{parts_told}
 use Rattle.symbols_paths.specs.DepAnswers.{entry_told, entries_of, IsDepAnswer, IsDepRefused}
 use Rattle.symbols_paths.proofs.DepEntries.{dep_refused}
 use Rattle.symbols_paths.proofs.Once.{chosen_once}
-use Rattle.symbols_paths.proofs.paths.resolve.resolve_symbol_dep.Goals as goal
+use Rattle.symbols_paths.proofs.paths.find.RootSymbolFindDefinitions.resolve_symbol_dep.Goals as goal
 
 on_answer : {A : Type 0} {P Q : A → Type 0} (r : Result A SymbolsFault) → IfOk r P → ((x : A) → P x → Q x) → IfOk r Q
 on_answer (Ok x) h f = f x h
@@ -21,45 +21,45 @@ on_fault (Err e) h f = f e h
 
 pub returns-in_ok-parts-in-QualifiedId-clause-answers : goal.returns-in_ok-parts-in-QualifiedId-clause-answers
 returns-in_ok-parts-in-QualifiedId-clause-answers c =
-    let known : c.args.module_id.0 < length c.args.root.now.stored = search rules in
+    let known : c.args.module_id.0 < length c.args.self.now.stored = search rules in
     let parts = c.in_ok-parts-in-QualifiedId.ensures ∙ ap (map cow_str_bytes) c.deref.ensures.value in
     let is : qualified_id (id_view c.in-QualifiedId.id.now) (parts_told c.in_ok-parts-in-QualifiedId.parts) ≡ reference_view c.args.dep.now = ap (qualified_id (id_view c.in-QualifiedId.id.now)) parts ∙ sym (ap reference_view c.in-QualifiedId.is) in
     on_answer c.entries_of_id-in-QualifiedId.result c.entries_of_id-in-QualifiedId.ensures.answers (λ entries told.
-    (known, subst (λ (r : Reference). IsDepAnswer c.args.root.now.graph (specifier_in c.args.root.now c.args.module_id) r (map (entry_told c.entries_of_id-in-QualifiedId.new.root) entries.items)) is told))
+    (known, subst (λ (r : Reference). IsDepAnswer c.args.self.now.graph (specifier_in c.args.self.now c.args.module_id) r (map (entry_told c.entries_of_id-in-QualifiedId.new.root) entries.items)) is told))
 
 pub returns-in_ok-parts-in-QualifiedId-clause-listed : goal.returns-in_ok-parts-in-QualifiedId-clause-listed
 returns-in_ok-parts-in-QualifiedId-clause-listed c =
     let parts = c.in_ok-parts-in-QualifiedId.ensures ∙ ap (map cow_str_bytes) c.deref.ensures.value in
     let is : qualified_id (id_view c.in-QualifiedId.id.now) (parts_told c.in_ok-parts-in-QualifiedId.parts) ≡ reference_view c.args.dep.now = ap (qualified_id (id_view c.in-QualifiedId.id.now)) parts ∙ sym (ap reference_view c.in-QualifiedId.is) in
-    on_answer c.entries_of_id-in-QualifiedId.result c.entries_of_id-in-QualifiedId.ensures.listed (λ entries told. told ∙ ap (λ (r : Reference). entries_of c.args.root.now.graph (specifier_in c.args.root.now c.args.module_id) r) is)
+    on_answer c.entries_of_id-in-QualifiedId.result c.entries_of_id-in-QualifiedId.ensures.listed (λ entries told. told ∙ ap (λ (r : Reference). entries_of c.args.self.now.graph (specifier_in c.args.self.now c.args.module_id) r) is)
 
 pub returns-in_ok-parts-in-ImportType-clause-faults : goal.returns-in_ok-parts-in-ImportType-clause-faults
 returns-in_ok-parts-in-ImportType-clause-faults c =
-    let known : c.args.module_id.0 < length c.args.root.now.stored = search rules in
-    let m = specifier_in c.args.root.now c.args.module_id in
+    let known : c.args.module_id.0 < length c.args.self.now.stored = search rules in
+    let m = specifier_in c.args.self.now c.args.module_id in
     let texts = parts_told c.in_ok-parts-in-ImportType.parts in
     let parts = c.in_ok-parts-in-ImportType.ensures ∙ ap (map cow_str_bytes) c.deref-in-ImportType.ensures.value in
     let is : import_type c.in-ImportType.text.now texts ≡ reference_view c.args.dep.now = ap (import_type c.in-ImportType.text.now) parts ∙ sym (ap reference_view c.in-ImportType.is) in
     on_fault c.entries_of_import.result c.entries_of_import.ensures.refused (λ fault refused.
-    inr (known, subst (λ (r : Reference). IsDepRefused c.entries_of_import.new.root m r fault) is (dep_refused c.args.root.now c.entries_of_import.new.root m c.in-ImportType.text.now texts fault c.entries_of_import.ensures.kept refused)))
+    inr (known, subst (λ (r : Reference). IsDepRefused c.entries_of_import.new.root m r fault) is (dep_refused c.args.self.now c.entries_of_import.new.root m c.in-ImportType.text.now texts fault c.entries_of_import.ensures.kept refused)))
 
 pub returns-then-is_none-clause-only : goal.returns-then-is_none-clause-only
-returns-then-is_none-clause-only c = chosen_once (links_of c.args.root.now.graph)
+returns-then-is_none-clause-only c = chosen_once (links_of c.args.self.now.graph)
 
 pub returns-in_err-parts-in-Id-clause-only : goal.returns-in_err-parts-in-Id-clause-only
-returns-in_err-parts-in-Id-clause-only c = chosen_once (links_of c.args.root.now.graph)
+returns-in_err-parts-in-Id-clause-only c = chosen_once (links_of c.args.self.now.graph)
 
 pub returns-in_err-parts-in-QualifiedId-clause-only : goal.returns-in_err-parts-in-QualifiedId-clause-only
-returns-in_err-parts-in-QualifiedId-clause-only c = chosen_once (links_of c.args.root.now.graph)
+returns-in_err-parts-in-QualifiedId-clause-only c = chosen_once (links_of c.args.self.now.graph)
 
 pub returns-in_err-parts-in-ImportType-clause-only : goal.returns-in_err-parts-in-ImportType-clause-only
-returns-in_err-parts-in-ImportType-clause-only c = chosen_once (links_of c.args.root.now.graph)
+returns-in_err-parts-in-ImportType-clause-only c = chosen_once (links_of c.args.self.now.graph)
 
 pub returns-in_ok-parts-in-Id-clause-only : goal.returns-in_ok-parts-in-Id-clause-only
-returns-in_ok-parts-in-Id-clause-only c = chosen_once (links_of c.args.root.now.graph)
+returns-in_ok-parts-in-Id-clause-only c = chosen_once (links_of c.args.self.now.graph)
 
 pub returns-in_ok-parts-in-QualifiedId-clause-only : goal.returns-in_ok-parts-in-QualifiedId-clause-only
-returns-in_ok-parts-in-QualifiedId-clause-only c = chosen_once (links_of c.args.root.now.graph)
+returns-in_ok-parts-in-QualifiedId-clause-only c = chosen_once (links_of c.args.self.now.graph)
 
 pub returns-in_ok-parts-in-ImportType-clause-only : goal.returns-in_ok-parts-in-ImportType-clause-only
-returns-in_ok-parts-in-ImportType-clause-only c = chosen_once (links_of c.args.root.now.graph)
+returns-in_ok-parts-in-ImportType-clause-only c = chosen_once (links_of c.args.self.now.graph)

@@ -6,7 +6,7 @@ use Rattle.symbols_paths.specs.Trees.{leaves_in}
 use Rattle.symbols_paths.specs.Answers.{IsPathsFault}
 use Rattle.symbols_paths.specs.Trails.{trails_told}
 use Rattle.symbols_paths.proofs.Answering.{memory_refused}
-use Rattle.symbols_paths.proofs.paths.find.go_to_definitions_or_unresolveds.Goals as goal
+use Rattle.symbols_paths.proofs.paths.find.RootSymbolFindDefinitions.go_to_definitions_or_unresolveds.Goals as goal
 
 -- a fault that can only be that memory was refused
 on_memory : {A : Type 0} (P : SymbolsFault → Type 0) (r : Result A SymbolsFault) → IsErrAnd r (λ fault. fault ≡ OutOfMemory) → P OutOfMemory → IfErr r P
@@ -22,7 +22,7 @@ pub returns-in_ok-ends_of-in-Ok-clause-listed : goal.returns-in_ok-ends_of-in-Ok
 returns-in_ok-ends_of-in-Ok-clause-listed c = c.in_ok-ends_of-in-Ok.ensures.told c.trails_of.new.root ∙ ap leaves_in c.in-Ok.ensures.listed
 
 pub returns-in_err-ends_of-in-Ok-clause-faults : goal.returns-in_err-ends_of-in-Ok-clause-faults
-returns-in_err-ends_of-in-Ok-clause-faults c = on_memory (IsPathsFault c.args.root.now c.trails_of.new.root c.args.module_id c.args.symbol_id) c.from_residual.result c.from_residual.ensures.1 (memory_refused c.in-Ok.ensures.known)
+returns-in_err-ends_of-in-Ok-clause-faults c = on_memory (IsPathsFault c.args.self.now c.trails_of.new.root c.args.module_id c.args.symbol_id) c.from_residual.result c.from_residual.ensures.1 (memory_refused c.in-Ok.ensures.known)
 
 pub returns-in_ok-ends_of-in-Ok-clause-stored : goal.returns-in_ok-ends_of-in-Ok-clause-stored
 returns-in_ok-ends_of-in-Ok-clause-stored c = c.in_ok-ends_of-in-Ok.ensures.stored c.trails_of.new.root c.in-Ok.ensures.stored
