@@ -17,7 +17,7 @@ use Rattle.symbols_root.specs.laws.Growing.{grown_not, same_specifier}
 use Rattle.symbols_root.specs.laws.StoredTables.{stored_symbol}
 use Rattle.symbols_paths.specs.declared.paths.trail.Trail.{Trail}
 use Rattle.symbols_paths.specs.Trees.{NamedSymbol, NamedDecl, Parts, Leaf, Forest, leaves_in}
-use Rattle.symbols_paths.specs.PartWays.{Links, links_of}
+use Rattle.symbols_paths.specs.PartWays.{Links, links_of, links_in}
 use Rattle.symbols_paths.specs.Reach.{IsNearLeaf, GivesUnder}
 use Rattle.symbols_paths.specs.Searches.{IsFirstLeaf, IsFirstWalk}
 use Rattle.symbols_paths.specs.Searches as searches
@@ -27,6 +27,7 @@ use Rattle.symbols_paths.specs.Views.{named, named_in}
 use Rattle.symbols_paths.specs.Trails.{trails_told, modules_of_trails}
 use Rattle.symbols_paths.specs.Searching.{met_told, HasSearched, IsFound, IsWalked}
 use Rattle.symbols_paths.specs.Answers.{ArePathsUnder, ArePaths, ArePathsFor, symbol_in, IsPathsFault}
+use Rattle.symbols_paths.proofs.Growing.{same_links}
 use Rattle.symbols_paths.proofs.Deriving.{finds_derived, walks_derived}
 use Rattle.symbols_paths.proofs.Leaves.{finds_leaf, walks_leaf, changes_gives}
 use Rattle.symbols_paths.proofs.Covers.{near_given}
@@ -89,11 +90,11 @@ is_computed graph s ps f after x few = sym (walks_computed (links_of graph) enou
 
 -- what was found from no met symbols, as it is told before more was stored
 module _ {old new : RootView} {module_id : ModuleId} {s : SymbolId} {u : UniqueSymbolId} (trails : List Trail) {after : List UniqueSymbolId} (known : module_id.0 < length old.stored) (in_module : u.module_id ≡ module_id) (number : u.symbol_id ≡ s) (grown : HasGrown old new) (found : IsFound new [] [] u trails after) (searched_it : HasSearched new [] after (modules_of_trails trails)) where
-  pub found_before : Finds (links_of old.graph) enough [] [] (named_in old module_id s) (trails_told new trails) (met_told new after)
+  pub found_before : Finds (links_in old) enough [] [] (named_in old module_id s) (trails_told new trails) (met_told new after)
   found_before =
       let called : named new u ≡ named_in old module_id s = (λ i. record { specifier = (ap (specifier_in new) in_module ∙ same_specifier grown module_id known) i; number = number i }) in
-      subst (λ g. Finds (links_of g) enough [] [] (named_in old module_id s) (trails_told new trails) (met_told new after)) grown.graph
-      (subst (λ n. Finds (links_of new.graph) enough [] [] n (trails_told new trails) (met_told new after)) called (found new (grown_not new)))
+      subst (λ links. Finds links enough [] [] (named_in old module_id s) (trails_told new trails) (met_told new after)) (same_links grown)
+      (subst (λ n. Finds (links_in new) enough [] [] n (trails_told new trails) (met_told new after)) called (found new (grown_not new)))
 
   pub paths_found : ArePaths old.graph (named_in old module_id s) (trails_told new trails)
   paths_found = are_paths old.graph enough (named_in old module_id s) (trails_told new trails) (met_told new after) found_before
@@ -103,11 +104,11 @@ module _ {old new : RootView} {module_id : ModuleId} {s : SymbolId} {u : UniqueS
 
 -- the same under parts
 module _ {old new : RootView} (u : UniqueSymbolId) (parts : Parts) (trails : List Trail) {after : List UniqueSymbolId} (known : u.module_id.0 < length old.stored) (grown : HasGrown old new) (walked_it : IsWalked new [] [] u parts trails after) (searched_it : HasSearched new [] after (modules_of_trails trails)) where
-  walked_before : Walks (links_of old.graph) enough [] [] (named old u) parts (trails_told new trails) (met_told new after)
+  walked_before : Walks (links_in old) enough [] [] (named old u) parts (trails_told new trails) (met_told new after)
   walked_before =
       let called : named new u ≡ named old u = (λ i. record { specifier = same_specifier grown u.module_id known i; number = u.symbol_id }) in
-      subst (λ g. Walks (links_of g) enough [] [] (named old u) parts (trails_told new trails) (met_told new after)) grown.graph
-      (subst (λ n. Walks (links_of new.graph) enough [] [] n parts (trails_told new trails) (met_told new after)) called (walked_it new (grown_not new)))
+      subst (λ links. Walks links enough [] [] (named old u) parts (trails_told new trails) (met_told new after)) (same_links grown)
+      (subst (λ n. Walks (links_in new) enough [] [] n parts (trails_told new trails) (met_told new after)) called (walked_it new (grown_not new)))
 
   pub walked_found : ArePathsFor old.graph (named old u) parts (trails_told new trails)
   walked_found = are_paths_for old.graph enough (named old u) parts (trails_told new trails) (met_told new after) walked_before

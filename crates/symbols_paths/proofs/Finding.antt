@@ -16,7 +16,7 @@ use Rattle.symbols_paths.specs.declared.paths.resolving.AliasDecl.{AliasDecl}
 use Rattle.symbols_paths.specs.declared.paths.trail.Trail.{Trail}
 use Rattle.symbols_paths.specs.Trees.{NamedSymbol, none, join}
 use Rattle.symbols_paths.specs.Leads.{leads_of, lead_of, declarations_of}
-use Rattle.symbols_paths.specs.PartWays.{links_of}
+use Rattle.symbols_paths.specs.PartWays.{links_in}
 use Rattle.symbols_paths.specs.Choice.{is_met, was_met}
 use Rattle.symbols_paths.specs.Computed.{enough}
 use Rattle.symbols_paths.specs.Views.{named, AreStored}
@@ -79,7 +79,7 @@ pub record IsFinding (old : RootView) (running : List AliasDecl) (begun : List U
   pub longer : length begun + 1 ≤ length met
   pub few : length met ≤ 2 ^ 64
   pub stored : AreStored root (modules_of_trails paths)
-  pub told : (later : RootView) → HasGrown root later → IsExpanding (links_of later.graph) enough (running_told later running) (met_told later begun) (named later symbol) index (met_told later met) (trails_told later paths)
+  pub told : (later : RootView) → HasGrown root later → IsExpanding (links_in later) enough (running_told later running) (met_told later begun) (named later symbol) index (met_told later met) (trails_told later paths)
 
 pub finding_first : (root : RootView) (running : List AliasDecl) (begun : List UniqueSymbolId) (symbol : UniqueSymbolId) → AreNumbered root begun → symbol.module_id.0 < length root.stored → list_any (is_symbol symbol) begun ≡ false → length begun < 2 ^ 64 → IsFinding root running begun symbol root running 0 (begun ++ symbol ∷ []) []
 finding_first root running begun symbol numbered within fresh few = record {
@@ -90,7 +90,7 @@ finding_first root running begun symbol numbered within fresh few = record {
   longer = omega (arith, length-append begun (symbol ∷ []));
   few = omega (arith, few, length-append begun (symbol ∷ []));
   stored = λ k d h. absurd (omega (arith, h));
-  told = λ later grown. subst (λ m. IsExpanding (links_of later.graph) enough (running_told later running) (met_told later begun) (named later symbol) 0 m none) (sym (told_with later begun symbol)) (expanding_first (links_of later.graph) enough (running_told later running) (met_told later begun) (named later symbol));
+  told = λ later grown. subst (λ m. IsExpanding (links_in later) enough (running_told later running) (met_told later begun) (named later symbol) 0 m none) (sym (told_with later begun symbol)) (expanding_first (links_in later) enough (running_told later running) (met_told later begun) (named later symbol));
 }
 
 -- the declaration at the index leads as it was read
@@ -136,10 +136,10 @@ module _ {old : RootView} {running : List AliasDecl} {begun : List UniqueSymbolI
   pub now_within : symbol.module_id.0 < length root.stored
   now_within = still_stored is.grown symbol.module_id.0 known
 
-  told_next : {after : RootView} (mid : List UniqueSymbolId) (lead : ReadLead) → IsRead root.graph (named root symbol) index lead → HasGrown root after → (path : Option Trail) → IsFollowed after now met symbol index lead path mid → (later : RootView) → HasGrown after later → IsExpanding (links_of later.graph) enough (running_told later running) (met_told later begun) (named later symbol) (index + 1) (met_told later mid) (join (trails_told later paths) (trails_of_option later path))
+  told_next : {after : RootView} (mid : List UniqueSymbolId) (lead : ReadLead) → IsRead root.graph (named root symbol) index lead → HasGrown root after → (path : Option Trail) → IsFollowed after now met symbol index lead path mid → (later : RootView) → HasGrown after later → IsExpanding (links_in later) enough (running_told later running) (met_told later begun) (named later symbol) (index + 1) (met_told later mid) (join (trails_told later paths) (trails_of_option later path))
   told_next {after = after} mid lead read kept path followed later grown =
       let whole = grown_on kept grown in
-      expanding_next (links_of later.graph) enough (running_told later running) (lead_told later.graph (named later symbol) lead) (is.told later whole) (stands_told later.graph (named later symbol) index lead (read_later whole symbol now_within index lead read)) (subst (λ r. IsFollowed after r met symbol index lead path mid) is.same followed later grown)
+      expanding_next (links_in later) enough (running_told later running) (lead_told later.graph (named later symbol) lead) (is.told later whole) (stands_told later.graph (named later symbol) index lead (read_later whole symbol now_within index lead read)) (subst (λ r. IsFollowed after r met symbol index lead path mid) is.same followed later grown)
 
   pub finding_on : {after : RootView} {mid : List UniqueSymbolId} (lead : ReadLead) → IsRead root.graph (named root symbol) index lead → HasGrown root after → IsFollowed after now met symbol index lead None mid → (onward : List AliasDecl) → onward ≡ now → HasSearched after met mid [] → IsFinding old running begun symbol after onward (index + 1) mid paths
   finding_on {after = after} {mid = mid} lead read kept followed onward on searched = record {
@@ -150,7 +150,7 @@ module _ {old : RootView} {running : List AliasDecl} {begun : List UniqueSymbolI
     longer = omega (arith, is.longer, searched.longer);
     few = searched.few is.few;
     stored = all_still_stored kept (modules_of_trails paths) is.stored;
-    told = λ later grown. subst (λ f. IsExpanding (links_of later.graph) enough (running_told later running) (met_told later begun) (named later symbol) (index + 1) (met_told later mid) f) (join_none (trails_told later paths)) (told_next mid lead read kept None followed later grown);
+    told = λ later grown. subst (λ f. IsExpanding (links_in later) enough (running_told later running) (met_told later begun) (named later symbol) (index + 1) (met_told later mid) f) (join_none (trails_told later paths)) (told_next mid lead read kept None followed later grown);
   }
 
   pub finding_more : {after : RootView} {mid : List UniqueSymbolId} (lead : ReadLead) → IsRead root.graph (named root symbol) index lead → HasGrown root after → (path : Trail) → IsFollowed after now met symbol index lead (Some path) mid → (onward : List AliasDecl) → onward ≡ now → HasSearched after met mid (modules_of_trails (path ∷ [])) → IsFinding old running begun symbol after onward (index + 1) mid (paths ++ path ∷ [])
@@ -162,7 +162,7 @@ module _ {old : RootView} {running : List AliasDecl} {begun : List UniqueSymbolI
     longer = omega (arith, is.longer, searched.longer);
     few = searched.few is.few;
     stored = subst (AreStored after) (sym (modules_with_trail paths path)) (stored_both after (modules_of_trails paths) (modules_of_trail path) (all_still_stored kept (modules_of_trails paths) is.stored) (subst (AreStored after) (append-nil (modules_of_trail path)) searched.stored));
-    told = λ later grown. subst (λ f. IsExpanding (links_of later.graph) enough (running_told later running) (met_told later begun) (named later symbol) (index + 1) (met_told later mid) f) (sym (told_with_trail later paths path)) (told_next mid lead read kept (Some path) followed later grown);
+    told = λ later grown. subst (λ f. IsExpanding (links_in later) enough (running_told later running) (met_told later begun) (named later symbol) (index + 1) (met_told later mid) f) (sym (told_with_trail later paths path)) (told_next mid lead read kept (Some path) followed later grown);
   }
 
   pub finding_next : {after : RootView} {mid : List UniqueSymbolId} (lead : ReadLead) → IsRead root.graph (named root symbol) index lead → HasGrown root after → (path : Option Trail) → IsFollowed after now met symbol index lead path mid → (onward : List AliasDecl) → onward ≡ now → HasSearched after met mid (modules_of_trails (option_to_list path)) → IsFinding old running begun symbol after onward (index + 1) mid (paths ++ option_to_list path)
@@ -176,7 +176,7 @@ module _ {old : RootView} {running : List AliasDecl} {begun : List UniqueSymbolI
   pub finding_last : IsDistinct bytes_eq old.stored → AreNumbered old begun → slice_get (declarations_of root.graph (named root symbol)) index ≡ None → IsFound root running begun symbol paths met
   finding_last once numbered past = λ later grown.
       let fresh = sym (later_met root (is.grown.once once) running begun symbol (still_numbered is.grown begun numbered) now_within later grown) ∙ is.fresh in
-      expanding_last (links_of later.graph) enough (running_told later running) (is.told later grown) fresh (past_later grown symbol now_within index past)
+      expanding_last (links_in later) enough (running_told later running) (is.told later grown) fresh (past_later grown symbol now_within index past)
 
   pub finding_searched : HasSearched root begun met (modules_of_trails paths)
   finding_searched = record { numbered = is.numbered; longer = omega (arith, is.longer); few = λ h. is.few; stored = is.stored }

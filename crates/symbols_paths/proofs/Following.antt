@@ -21,7 +21,7 @@ use Rattle.symbols_paths.specs.declared.paths.shared_parts.SharedParts.{SharedPa
 use Rattle.symbols_paths.specs.declared.paths.trail.Trail.{Trail}
 use Rattle.symbols_paths.specs.Trees.{NamedSymbol, NamedDecl, Parts, no_symbol, definition, Forest, leaf, none, more, one, link_to}
 use Rattle.symbols_paths.specs.Leads.{Ways, defines, leads, alias, nowhere, to_missing, target_ways, import_ways, ways_into, own_export}
-use Rattle.symbols_paths.specs.PartWays.{Links, links_of}
+use Rattle.symbols_paths.specs.PartWays.{Links, links_in}
 use Rattle.symbols_paths.specs.Derived.{decl_at, head_at, alias_head}
 use Rattle.symbols_paths.specs.Choice.{Finds, Follows, by_itself, by_ways, by_running, by_alias, Tries, no_more, first_with, passes, missing_in}
 use Rattle.symbols_paths.specs.Computed.{enough}
@@ -41,7 +41,7 @@ unmapped_ways s id parts = to_missing s parts (record { specifier = s.specifier;
 
 pub followed_itself : (root : RootView) (running : List AliasDecl) (met : List UniqueSymbolId) (symbol : UniqueSymbolId) (index : ℕ) (kind : DefinitionKind) (range : SourceRange) (path : Trail) → ((later : RootView) → trail_told later path ≡ one (leaf (definition (record { decl = decl_told later symbol.module_id (record { symbol = symbol.symbol_id; index = index }); range = range; star = star_of kind })))) → IsFollowed root running met symbol index (read.Defines kind range) (Some path) met
 followed_itself root running met symbol index kind range path told = λ later grown.
-    subst (λ f. Follows (links_of later.graph) enough (running_told later running) (met_told later met) (named later symbol) index (defines range (star_of kind)) f (met_told later met)) (sym (told later)) by_itself
+    subst (λ f. Follows (links_in later) enough (running_told later running) (met_told later met) (named later symbol) index (defines range (star_of kind)) f (met_told later met)) (sym (told later)) by_itself
 
 pub followed_nowhere : (root : RootView) (running : List AliasDecl) (met : List UniqueSymbolId) (symbol : UniqueSymbolId) (index : ℕ) → IsFollowed root running met symbol index read.Nowhere None met
 followed_nowhere root running met symbol index = λ later grown. by_ways {ways = nowhere (named later symbol)} no_more
@@ -50,7 +50,7 @@ followed_nowhere root running met symbol index = λ later grown. by_ways {ways =
 pub followed_unmapped : (root : RootView) (running : List AliasDecl) (met : List UniqueSymbolId) (symbol : UniqueSymbolId) (index : ℕ) (id : Bor Id) (parts : SharedParts) (path : Option Trail) → ((later : RootView) → trails_of_option later path ≡ link_to (head_at (named later symbol) index (unmapped_ways (named later symbol) (id_view id.now) (parts_told parts))) (missing_in (unmapped_ways (named later symbol) (id_view id.now) (parts_told parts)).otherwise)) → IsFollowed root running met symbol index (read.Unmapped id parts) path met
 followed_unmapped root running met symbol index id parts path told = λ later grown.
     let ways = unmapped_ways (named later symbol) (id_view id.now) (parts_told parts) in
-    subst (λ f. Follows (links_of later.graph) enough (running_told later running) (met_told later met) (named later symbol) index (leads ways) f (met_told later met)) (sym (told later)) (by_ways {ways = ways} no_more)
+    subst (λ f. Follows (links_in later) enough (running_told later running) (met_told later met) (named later symbol) index (leads ways) f (met_told later met)) (sym (told later)) (by_ways {ways = ways} no_more)
 
 -- an alias, by what it came to
 follows_alias : {links : Links} {limit : ℕ} {running : List NamedDecl} {met : List NamedSymbol} {s t : NamedSymbol} {i : ℕ} {ps : Parts} {f : Forest} → Resolves links limit running (decl_at s i) t ps f → Follows links limit running met s i (alias t ps) (link_to (alias_head s i ps) f) met
@@ -61,8 +61,8 @@ pub followed_alias : (root : RootView) (running : List AliasDecl) (met : List Un
 followed_alias root running met symbol target t index parts next path in_module number resolved told = λ later grown.
     let same : target ≡ record { module_id = symbol.module_id; symbol_id = t } = (λ i. record { module_id = in_module i; symbol_id = number i }) in
     let s = named later symbol in
-    let to : Resolves (links_of later.graph) enough (running_told later running) (decl_at s index) (named_in later symbol.module_id t) (parts_told parts) (trails_told later next) = subst (λ (u : UniqueSymbolId). Resolves (links_of later.graph) enough (running_told later running) (decl_at s index) (named later u) (parts_told parts) (trails_told later next)) same (resolved later grown) in
-    subst (λ f. Follows (links_of later.graph) enough (running_told later running) (met_told later met) s index (alias (named_in later symbol.module_id t) (parts_told parts)) f (met_told later met)) (sym (told later)) (follows_alias to)
+    let to : Resolves (links_in later) enough (running_told later running) (decl_at s index) (named_in later symbol.module_id t) (parts_told parts) (trails_told later next) = subst (λ (u : UniqueSymbolId). Resolves (links_in later) enough (running_told later running) (decl_at s index) (named later u) (parts_told parts) (trails_told later next)) same (resolved later grown) in
+    subst (λ f. Follows (links_in later) enough (running_told later running) (met_told later met) s index (alias (named_in later symbol.module_id t) (parts_told parts)) f (met_told later met)) (sym (told later)) (follows_alias to)
 
 -- what is stored of a path, if there is one
 pub option_stored : (root : RootView) (path : Option Trail) → IfSome path (λ p. AreStored root (modules_of_trail p)) → AreStored root (modules_of_trails (option_to_list path))
@@ -75,9 +75,9 @@ pub followed_target : (root : RootView) (running : List AliasDecl) (met after : 
 followed_target root running met after symbol target t index next path in_module number found told = λ later grown.
     let same : target ≡ record { module_id = symbol.module_id; symbol_id = t } = (λ i. record { module_id = in_module i; symbol_id = number i }) in
     let s = named later symbol in
-    let to : Finds (links_of later.graph) enough (running_told later running) (met_told later met) (named_in later symbol.module_id t) (trails_told later next) (met_told later after) = subst (λ (u : UniqueSymbolId). Finds (links_of later.graph) enough (running_told later running) (met_told later met) (named later u) (trails_told later next) (met_told later after)) same (found later grown) in
+    let to : Finds (links_in later) enough (running_told later running) (met_told later met) (named_in later symbol.module_id t) (trails_told later next) (met_told later after) = subst (λ (u : UniqueSymbolId). Finds (links_in later) enough (running_told later running) (met_told later met) (named later u) (trails_told later next) (met_told later after)) same (found later grown) in
     let is : trails_of_option later path ≡ link_to (head_at s index (target_ways s (Some t))) (trails_told later next) = told later ∙ ap (λ (u : UniqueSymbolId). link_to (record { symbol = named later u; decl = decl_told later u.module_id (record { symbol = symbol.symbol_id; index = index }); parts = [] }) (trails_told later next)) same in
-    subst (λ f. Follows (links_of later.graph) enough (running_told later running) (met_told later met) s index (leads (target_ways s (Some t))) f (met_told later after)) (sym is) (by_ways {ways = target_ways s (Some t)} (tries_one (trails_told later next) to))
+    subst (λ f. Follows (links_in later) enough (running_told later running) (met_told later met) s index (leads (target_ways s (Some t))) f (met_told later after)) (sym is) (by_ways {ways = target_ways s (Some t)} (tries_one (trails_told later next) to))
 
 -- ---- along an import
 
@@ -95,7 +95,7 @@ followed_import root running met after symbol taken index next path tried told =
     let found = text_target later.graph s.specifier taken.text.now in
     let ways = import_ways later.graph s taken.name.now taken.text.now found in
     let is : trails_of_option later path ≡ link_to (head_at s index ways) (trails_told later next) = told later ∙ sym (ap (λ head. link_to head (trails_told later next)) (import_head later.graph s index taken.name.now taken.text.now found)) in
-    subst (λ f. Follows (links_of later.graph) enough (running_told later running) (met_told later met) s index (leads ways) f (met_told later after)) (sym is) (by_ways {ways = ways} (tried later grown))
+    subst (λ f. Follows (links_in later) enough (running_told later running) (met_told later met) s index (leads ways) f (met_told later after)) (sym is) (by_ways {ways = ways} (tried later grown))
 
 -- ---- what an import comes to
 
@@ -107,8 +107,8 @@ pub tried_nowhere : (root : RootView) (running : List AliasDecl) (met : List Uni
 tried_nowhere root running met symbol name text paths within leads_nowhere told = λ later grown.
     let s = named later symbol in
     let none_there : text_target later.graph s.specifier text ≡ None = target_later grown symbol.module_id within text ∙ leads_nowhere in
-    subst (λ (found : Option (List ℕ)). Tries (links_of later.graph) enough (running_told later running) (met_told later met) (import_ways later.graph s name text found).candidates (import_ways later.graph s name text found).otherwise (trails_told later paths) (met_told later met)) (sym none_there)
-    (subst (λ f. Tries (links_of later.graph) enough (running_told later running) (met_told later met) [] (import_ways later.graph s name text None).otherwise f (met_told later met)) (sym (told later)) no_more)
+    subst (λ (found : Option (List ℕ)). Tries (links_in later) enough (running_told later running) (met_told later met) (import_ways later.graph s name text found).candidates (import_ways later.graph s name text found).otherwise (trails_told later paths) (met_told later met)) (sym none_there)
+    (subst (λ f. Tries (links_in later) enough (running_told later running) (met_told later met) [] (import_ways later.graph s name text None).otherwise f (met_told later met)) (sym (told later)) no_more)
 
 -- the module exports the name itself
 pub tried_owned : (root : RootView) (running : List AliasDecl) (met after : List UniqueSymbolId) (symbol u : UniqueSymbolId) (id : ModuleId) (owned : SymbolId) (name text : List ℕ) (paths : List Trail) → symbol.module_id.0 < length root.stored → id.0 < length root.stored → text_target root.graph (specifier_in root symbol.module_id) text ≡ Some (specifier_in root id) → own_export root.graph (specifier_in root id) name ≡ Some owned → u.module_id ≡ id → u.symbol_id ≡ owned → (new : RootView) → HasGrown root new → IsFound new running met u paths after → IsTried new running met (ways_of_import symbol name text) paths after
@@ -119,10 +119,10 @@ tried_owned root running met after symbol u id owned name text paths within id_w
     let there : text_target later.graph s.specifier text ≡ Some v = target_later whole symbol.module_id within text ∙ (leads_to ∙ ap Some (sym (same_specifier whole id id_within))) in
     let owns : own_export later.graph v name ≡ Some owned = (λ i. own_export (whole.graph i) (same_specifier whole id id_within i) name) ∙ own in
     let same : u ≡ record { module_id = id; symbol_id = owned } = (λ i. record { module_id = in_module i; symbol_id = number i }) in
-    let to : Finds (links_of later.graph) enough (running_told later running) (met_told later met) (named_in later id owned) (trails_told later paths) (met_told later after) = subst (λ (w : UniqueSymbolId). Finds (links_of later.graph) enough (running_told later running) (met_told later met) (named later w) (trails_told later paths) (met_told later after)) same (found later grown) in
-    let at : Tries (links_of later.graph) enough (running_told later running) (met_told later met) (ways_into later.graph s name v (Some owned)).candidates (ways_into later.graph s name v (Some owned)).otherwise (trails_told later paths) (met_told later after) = tries_one (trails_told later paths) to in
-    let here : Tries (links_of later.graph) enough (running_told later running) (met_told later met) (ways_into later.graph s name v (own_export later.graph v name)).candidates (ways_into later.graph s name v (own_export later.graph v name)).otherwise (trails_told later paths) (met_told later after) = subst (λ (o : Option SymbolId). Tries (links_of later.graph) enough (running_told later running) (met_told later met) (ways_into later.graph s name v o).candidates (ways_into later.graph s name v o).otherwise (trails_told later paths) (met_told later after)) (sym owns) at in
-    subst (λ (w : Option (List ℕ)). Tries (links_of later.graph) enough (running_told later running) (met_told later met) (import_ways later.graph s name text w).candidates (import_ways later.graph s name text w).otherwise (trails_told later paths) (met_told later after)) (sym there) here
+    let to : Finds (links_in later) enough (running_told later running) (met_told later met) (named_in later id owned) (trails_told later paths) (met_told later after) = subst (λ (w : UniqueSymbolId). Finds (links_in later) enough (running_told later running) (met_told later met) (named later w) (trails_told later paths) (met_told later after)) same (found later grown) in
+    let at : Tries (links_in later) enough (running_told later running) (met_told later met) (ways_into later.graph s name v (Some owned)).candidates (ways_into later.graph s name v (Some owned)).otherwise (trails_told later paths) (met_told later after) = tries_one (trails_told later paths) to in
+    let here : Tries (links_in later) enough (running_told later running) (met_told later met) (ways_into later.graph s name v (own_export later.graph v name)).candidates (ways_into later.graph s name v (own_export later.graph v name)).otherwise (trails_told later paths) (met_told later after) = subst (λ (o : Option SymbolId). Tries (links_in later) enough (running_told later running) (met_told later met) (ways_into later.graph s name v o).candidates (ways_into later.graph s name v o).otherwise (trails_told later paths) (met_told later after)) (sym owns) at in
+    subst (λ (w : Option (List ℕ)). Tries (links_in later) enough (running_told later running) (met_told later met) (import_ways later.graph s name text w).candidates (import_ways later.graph s name text w).otherwise (trails_told later paths) (met_told later after)) (sym there) here
 
 -- it doesn't: what the exports of its statements `export *` come to
 pub tried_along : (root : RootView) (running : List AliasDecl) (met after : List UniqueSymbolId) (symbol : UniqueSymbolId) (id : ModuleId) (name text : List ℕ) (paths : List Trail) → symbol.module_id.0 < length root.stored → id.0 < length root.stored → text_target root.graph (specifier_in root symbol.module_id) text ≡ Some (specifier_in root id) → own_export root.graph (specifier_in root id) name ≡ None → (new : RootView) → HasGrown root new → IsTried new running met (ways_along id name) paths after → IsTried new running met (ways_of_import symbol name text) paths after
@@ -132,5 +132,5 @@ tried_along root running met after symbol id name text paths within id_within le
     let v = specifier_in later id in
     let there : text_target later.graph s.specifier text ≡ Some v = target_later whole symbol.module_id within text ∙ (leads_to ∙ ap Some (sym (same_specifier whole id id_within))) in
     let owns : own_export later.graph v name ≡ None = (λ i. own_export (whole.graph i) (same_specifier whole id id_within i) name) ∙ own in
-    let here : Tries (links_of later.graph) enough (running_told later running) (met_told later met) (ways_into later.graph s name v (own_export later.graph v name)).candidates (ways_into later.graph s name v (own_export later.graph v name)).otherwise (trails_told later paths) (met_told later after) = subst (λ (o : Option SymbolId). Tries (links_of later.graph) enough (running_told later running) (met_told later met) (ways_into later.graph s name v o).candidates (ways_into later.graph s name v o).otherwise (trails_told later paths) (met_told later after)) (sym owns) (tried later grown) in
-    subst (λ (w : Option (List ℕ)). Tries (links_of later.graph) enough (running_told later running) (met_told later met) (import_ways later.graph s name text w).candidates (import_ways later.graph s name text w).otherwise (trails_told later paths) (met_told later after)) (sym there) here
+    let here : Tries (links_in later) enough (running_told later running) (met_told later met) (ways_into later.graph s name v (own_export later.graph v name)).candidates (ways_into later.graph s name v (own_export later.graph v name)).otherwise (trails_told later paths) (met_told later after) = subst (λ (o : Option SymbolId). Tries (links_in later) enough (running_told later running) (met_told later met) (ways_into later.graph s name v o).candidates (ways_into later.graph s name v o).otherwise (trails_told later paths) (met_told later after)) (sym owns) (tried later grown) in
+    subst (λ (w : Option (List ℕ)). Tries (links_in later) enough (running_told later running) (met_told later met) (import_ways later.graph s name text w).candidates (import_ways later.graph s name text w).otherwise (trails_told later paths) (met_told later after)) (sym there) here

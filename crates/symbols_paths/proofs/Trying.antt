@@ -12,7 +12,7 @@ use Rattle.symbols_paths.specs.declared.paths.resolving.AliasDecl.{AliasDecl}
 use Rattle.symbols_paths.specs.declared.paths.trail.Trail.{Trail}
 use Rattle.symbols_paths.specs.Trees.{Missing, no_part, none}
 use Rattle.symbols_paths.specs.Leads.{export_along}
-use Rattle.symbols_paths.specs.PartWays.{links_of}
+use Rattle.symbols_paths.specs.PartWays.{links_in}
 use Rattle.symbols_paths.specs.Choice.{Tries, missing_in}
 use Rattle.symbols_paths.specs.Computed.{enough}
 use Rattle.symbols_paths.specs.Views.{named, AreStored}
@@ -31,7 +31,7 @@ pub record IsAsking (old : RootView) (running : List AliasDecl) (begun : List Un
   pub numbered : AreNumbered root met
   pub longer : length begun ≤ length met
   pub few : length begun ≤ 2 ^ 64 → length met ≤ 2 ^ 64
-  pub told : (later : RootView) → HasGrown root later → IsTrying (links_of later.graph) enough (running_told later running) (met_told later begun) (export_along later.graph name) (statements_of later.graph (specifier_in later id)) (no_export later id name) position (met_told later met)
+  pub told : (later : RootView) → HasGrown root later → IsTrying (links_in later) enough (running_told later running) (met_told later begun) (export_along later.graph name) (statements_of later.graph (specifier_in later id)) (no_export later id name) position (met_told later met)
 
 pub asking_first : (root : RootView) (running : List AliasDecl) (begun : List UniqueSymbolId) (id : ModuleId) (name : List ℕ) → AreNumbered root begun → IsAsking root running begun id name root running 0 begun
 asking_first root running begun id name numbered = record {
@@ -40,7 +40,7 @@ asking_first root running begun id name numbered = record {
   numbered = numbered;
   longer = omega arith;
   few = λ h. h;
-  told = λ later grown. trying_first (links_of later.graph) enough (running_told later running) (met_told later begun) (export_along later.graph name) (statements_of later.graph (specifier_in later id)) (no_export later id name);
+  told = λ later grown. trying_first (links_in later) enough (running_told later running) (met_told later begun) (export_along later.graph name) (statements_of later.graph (specifier_in later id)) (no_export later id name);
 }
 
 -- where the statement of a text leads
@@ -99,18 +99,18 @@ module _ {old : RootView} {running : List AliasDecl} {begun : List UniqueSymbolI
     told = told;
   }
     where
-      told : (later : RootView) → HasGrown after later → IsTrying (links_of later.graph) enough (running_told later running) (met_told later begun) (export_along later.graph name) (statements_of later.graph (specifier_in later id)) (no_export later id name) (position + 1) (met_told later met_after)
+      told : (later : RootView) → HasGrown after later → IsTrying (links_in later) enough (running_told later running) (met_told later begun) (export_along later.graph name) (statements_of later.graph (specifier_in later id)) (no_export later id name) (position + 1) (met_told later met_after)
       told later grown =
           let whole = grown_on more (grown_on kept grown) in
           let leads_to = text_target later.graph (specifier_in later id) text in
-          let one = subst (λ f. FindsOne (links_of later.graph) enough (running_told later running) (met_told later met) (option_map (named later) candidate) f (met_told later met_after)) (empty later) (subst (λ r. IsOffered after r met candidate paths met_after) is.same offered later grown) in
-          trying_next (links_of later.graph) enough (running_told later running) (is.told later whole) leads_to (statement_later text at later whole) (subst (λ c. FindsOne (links_of later.graph) enough (running_told later running) (met_told later met) c none (met_told later met_after)) (candidate_later text candidate more gives stored later (grown_on kept grown)) one)
+          let one = subst (λ f. FindsOne (links_in later) enough (running_told later running) (met_told later met) (option_map (named later) candidate) f (met_told later met_after)) (empty later) (subst (λ r. IsOffered after r met candidate paths met_after) is.same offered later grown) in
+          trying_next (links_in later) enough (running_told later running) (is.told later whole) leads_to (statement_later text at later whole) (subst (λ c. FindsOne (links_in later) enough (running_told later running) (met_told later met) c none (met_told later met_after)) (candidate_later text candidate more gives stored later (grown_on kept grown)) one)
 
   -- there are some
   pub asking_here : {mid after : RootView} (met_after : List UniqueSymbolId) (text : List ℕ) (candidate : Option UniqueSymbolId) (paths : List Trail) → slice_get (star_texts root.graph (specifier_in root id)) position ≡ Some text → HasGrown root mid → option_map (named mid) candidate ≡ export_along root.graph name (text_target root.graph (specifier_in root id) text) → IfSome candidate (λ s. s.module_id.0 < length mid.stored) → HasGrown mid after → IsOffered after now met candidate paths met_after → ((later : RootView) → trails_told later paths ≡ none → ⊥) → IsTried after running begun (ways_along id name) paths met_after
   asking_here {after = after} met_after text candidate paths at more gives stored kept offered some = λ later grown.
       let whole = grown_on more (grown_on kept grown) in
-      trying_here (links_of later.graph) enough (running_told later running) (is.told later whole) (trails_told later paths) (text_target later.graph (specifier_in later id) text) (statement_later text at later whole) (some later) (subst (λ c. FindsOne (links_of later.graph) enough (running_told later running) (met_told later met) c (trails_told later paths) (met_told later met_after)) (candidate_later text candidate more gives stored later (grown_on kept grown)) (subst (λ r. IsOffered after r met candidate paths met_after) is.same offered later grown))
+      trying_here (links_in later) enough (running_told later running) (is.told later whole) (trails_told later paths) (text_target later.graph (specifier_in later id) text) (statement_later text at later whole) (some later) (subst (λ c. FindsOne (links_in later) enough (running_told later running) (met_told later met) c (trails_told later paths) (met_told later met_after)) (candidate_later text candidate more gives stored later (grown_on kept grown)) (subst (λ r. IsOffered after r met candidate paths met_after) is.same offered later grown))
 
   pub here_searched : {after : RootView} {mid : List UniqueSymbolId} (paths : List Trail) → HasSearched after met mid (modules_of_trails paths) → HasSearched after begun mid (modules_of_trails paths)
   here_searched paths searched = record { numbered = searched.numbered; longer = omega (arith, is.longer, searched.longer); few = λ h. searched.few (is.few h); stored = searched.stored }
@@ -119,7 +119,7 @@ module _ {old : RootView} {running : List AliasDecl} {begun : List UniqueSymbolI
   pub asking_last : (paths : List Trail) → slice_get (star_texts root.graph (specifier_in root id)) position ≡ None → ((later : RootView) → trails_told later paths ≡ missing_in (no_export later id name)) → IsTried root running begun (ways_along id name) paths met
   asking_last paths past told = λ later grown.
       let over : slice_get (statements_of later.graph (specifier_in later id)) position ≡ None = leads_past (text_target later.graph (specifier_in later id)) (star_texts later.graph (specifier_in later id)) position (ap (λ texts. slice_get texts position) (texts_later grown id asking_within) ∙ past) in
-      subst (λ f. Tries (links_of later.graph) enough (running_told later running) (met_told later begun) (ways_along id name later.graph later).candidates (ways_along id name later.graph later).otherwise f (met_told later met)) (sym (told later)) (trying_last (links_of later.graph) enough (running_told later running) (is.told later grown) over)
+      subst (λ f. Tries (links_in later) enough (running_told later running) (met_told later begun) (ways_along id name later.graph later).candidates (ways_along id name later.graph later).otherwise f (met_told later met)) (sym (told later)) (trying_last (links_in later) enough (running_told later running) (is.told later grown) over)
 
   pub last_searched : (paths : List Trail) → AreStored root (modules_of_trails paths) → HasSearched root begun met (modules_of_trails paths)
   last_searched paths stored = record { numbered = is.numbered; longer = is.longer; few = is.few; stored = stored }

@@ -18,7 +18,7 @@ use Rattle.symbols_paths.specs.declared.paths.resolving.AliasDecl.{AliasDecl}
 use Rattle.symbols_paths.specs.declared.paths.unresolved.DefinitionUnresolved.{DefinitionUnresolved}
 use Rattle.symbols_paths.specs.declared.paths.trail.Trail.{Trail}
 use Rattle.symbols_paths.specs.Trees.{Parts, Defined, definition, unresolved, Tree, Forest, leaf, link, none, more, one, link_to, leaves_of, leaves_in}
-use Rattle.symbols_paths.specs.PartWays.{to, lacks, part_of, links_of}
+use Rattle.symbols_paths.specs.PartWays.{to, lacks, part_of, links_in}
 use Rattle.symbols_paths.specs.Derived.{part_head}
 use Rattle.symbols_paths.specs.Choice.{is_running, Walks, no_parts, ChangesOne, of_definition, of_itself, of_lacking}
 use Rattle.symbols_paths.specs.Computed.{enough}
@@ -49,7 +49,7 @@ no_part_left (x ∷ xs) e = absurd (omega (arith, e))
 
 pub walked_alone : (root : RootView) (running : List AliasDecl) (before after : List UniqueSymbolId) (s : UniqueSymbolId) (parts : Parts) (paths : List Trail) → length parts ≡ 0 → IsFound root running before s paths after → IsWalked root running before s parts paths after
 walked_alone root running before after s parts paths e found = λ later grown.
-    subst (λ ps. Walks (links_of later.graph) enough (running_told later running) (met_told later before) (named later s) ps (trails_told later paths) (met_told later after)) (sym (no_part_left parts e)) (no_parts (found later grown))
+    subst (λ ps. Walks (links_in later) enough (running_told later running) (met_told later before) (named later s) ps (trails_told later paths) (met_told later after)) (sym (no_part_left parts e)) (no_parts (found later grown))
 
 -- ---- what stands in the place of a definition
 
@@ -71,20 +71,20 @@ module _ {old mid : RootView} (running : List AliasDecl) (before : List UniqueSy
 
   pub changed_itself : w ≡ way.Itself → (path : Trail) → ((later : RootView) → trail_told later path ≡ one (leaf (definition (definition_told later x)))) → IsChanged mid running before x parts (Some path) before
   changed_itself is path told = λ later grown.
-      subst (λ f. ChangesOne (links_of later.graph) enough (running_told later running) (met_told later before) (first_part parts) (later_parts parts) (leaf (definition (definition_told later x))) f (met_told later before)) (sym (told later)) (of_itself (way_there later grown ∙ ap (way_told later) is))
+      subst (λ f. ChangesOne (links_in later) enough (running_told later running) (met_told later before) (first_part parts) (later_parts parts) (leaf (definition (definition_told later x))) f (met_told later before)) (sym (told later)) (of_itself (way_there later grown ∙ ap (way_told later) is))
 
   pub changed_lacking : (missing : DefinitionUnresolved) → w ≡ way.Lacks missing → 0 < length parts → (path : Option Trail) → ((later : RootView) → trails_of_option later path ≡ link_to (part_head (definition_told later x) parts) (one (leaf (unresolved (unresolved_told later missing))))) → IsChanged mid running before x parts path before
   changed_lacking missing is some path told = λ later grown.
-      let it : ChangesOne (links_of later.graph) enough (running_told later running) (met_told later before) (first_part parts) (later_parts parts) (leaf (definition (definition_told later x))) (one (link (part_head (definition_told later x) (first_part parts ∷ later_parts parts)) (one (leaf (unresolved (unresolved_told later missing)))))) (met_told later before) = of_lacking (way_there later grown ∙ ap (way_told later) is) in
+      let it : ChangesOne (links_in later) enough (running_told later running) (met_told later before) (first_part parts) (later_parts parts) (leaf (definition (definition_told later x))) (one (link (part_head (definition_told later x) (first_part parts ∷ later_parts parts)) (one (leaf (unresolved (unresolved_told later missing)))))) (met_told later before) = of_lacking (way_there later grown ∙ ap (way_told later) is) in
       let same : trails_of_option later path ≡ one (link (part_head (definition_told later x) (first_part parts ∷ later_parts parts)) (one (leaf (unresolved (unresolved_told later missing))))) = told later ∙ ap (λ ps. one (link (part_head (definition_told later x) ps) (one (leaf (unresolved (unresolved_told later missing)))))) (some_parts parts some) in
-      subst (λ f. ChangesOne (links_of later.graph) enough (running_told later running) (met_told later before) (first_part parts) (later_parts parts) (leaf (definition (definition_told later x))) f (met_told later before)) (sym same) it
+      subst (λ f. ChangesOne (links_in later) enough (running_told later running) (met_told later before) (first_part parts) (later_parts parts) (leaf (definition (definition_told later x))) f (met_told later before)) (sym same) it
 
   pub changed_on : {after : RootView} (target : UniqueSymbolId) → w ≡ way.To target → 0 < length parts → (rest : Parts) → rest ≡ later_parts parts → HasGrown mid after → (met_after : List UniqueSymbolId) (next : List Trail) → IsWalked after running before target rest next met_after → (path : Option Trail) → ((later : RootView) → trails_of_option later path ≡ link_to (part_head (definition_told later x) parts) (trails_told later next)) → IsChanged after running before x parts path met_after
   changed_on target is some rest others onward met_after next walked path told = λ later grown.
       let there = way_there later (grown_on onward grown) ∙ ap (way_told later) is in
-      let walk : Walks (links_of later.graph) enough (running_told later running) (met_told later before) (named later target) (later_parts parts) (trails_told later next) (met_told later met_after) = subst (λ ps. Walks (links_of later.graph) enough (running_told later running) (met_told later before) (named later target) ps (trails_told later next) (met_told later met_after)) others (walked later grown) in
+      let walk : Walks (links_in later) enough (running_told later running) (met_told later before) (named later target) (later_parts parts) (trails_told later next) (met_told later met_after) = subst (λ ps. Walks (links_in later) enough (running_told later running) (met_told later before) (named later target) ps (trails_told later next) (met_told later met_after)) others (walked later grown) in
       let same : trails_of_option later path ≡ link_to (part_head (definition_told later x) (first_part parts ∷ later_parts parts)) (trails_told later next) = told later ∙ ap (λ ps. link_to (part_head (definition_told later x) ps) (trails_told later next)) (some_parts parts some) in
-      subst (λ f. ChangesOne (links_of later.graph) enough (running_told later running) (met_told later before) (first_part parts) (later_parts parts) (leaf (definition (definition_told later x))) f (met_told later met_after)) (sym same) (of_definition there walk)
+      subst (λ f. ChangesOne (links_in later) enough (running_told later running) (met_told later before) (first_part parts) (later_parts parts) (leaf (definition (definition_told later x))) f (met_told later met_after)) (sym same) (of_definition there walk)
 
 -- the link in its place
 pub head_in_place : (root : RootView) (symbol : UniqueSymbolId) (x : Definition) (ps : Parts) → symbol.module_id ≡ x.«module» → symbol.symbol_id ≡ x.symbol_decl.symbol → head_told root symbol.module_id symbol.symbol_id x.symbol_decl ps ≡ part_head (definition_told root x) ps
@@ -103,7 +103,7 @@ pub record IsWalking (old : RootView) (running : List AliasDecl) (begun found_me
   pub longer : length begun ≤ length met
   pub few : length begun ≤ 2 ^ 64 → length met ≤ 2 ^ 64
   pub stored : AreStored root (modules_of_trails (present changed))
-  pub told : (later : RootView) → HasGrown root later → IsStepping (links_of later.graph) enough (running_told later running) (met_told later found_met) (first_part parts) (later_parts parts) (defined_within (trails_told later paths)) (map (definition_told later) rest) (met_told later met) (map (trails_of_option later) changed)
+  pub told : (later : RootView) → HasGrown root later → IsStepping (links_in later) enough (running_told later running) (met_told later found_met) (first_part parts) (later_parts parts) (defined_within (trails_told later paths)) (map (definition_told later) rest) (met_told later met) (map (trails_of_option later) changed)
 
 pub walking_first : (root new : RootView) (running : List AliasDecl) (begun found_met : List UniqueSymbolId) (s : UniqueSymbolId) (parts : Parts) (paths : List Trail) (rest : List Definition) (now : List AliasDecl) → now ≡ running → HasGrown root new → HasSearched new begun found_met (modules_of_trails paths) → ((later : RootView) → map (definition_told later) rest ≡ defined_within (trails_told later paths)) → IsWalking root running begun found_met s parts paths new now rest found_met []
 walking_first root new running begun found_met s parts paths rest now same grown searched listed = record {
@@ -113,7 +113,7 @@ walking_first root new running begun found_met s parts paths rest now same grown
   longer = searched.longer;
   few = searched.few;
   stored = λ k d h. absurd (omega (arith, h));
-  told = λ later more. subst (λ xs. IsStepping (links_of later.graph) enough (running_told later running) (met_told later found_met) (first_part parts) (later_parts parts) (defined_within (trails_told later paths)) xs (met_told later found_met) []) (sym (listed later)) (stepping_first (links_of later.graph) enough (running_told later running) (met_told later found_met) (first_part parts) (later_parts parts) (defined_within (trails_told later paths)));
+  told = λ later more. subst (λ xs. IsStepping (links_in later) enough (running_told later running) (met_told later found_met) (first_part parts) (later_parts parts) (defined_within (trails_told later paths)) xs (met_told later found_met) []) (sym (listed later)) (stepping_first (links_in later) enough (running_told later running) (met_told later found_met) (first_part parts) (later_parts parts) (defined_within (trails_told later paths)));
 }
 
 present_with : (changed : List (Option Trail)) (path : Option Trail) → present (changed ++ path ∷ []) ≡ present changed ++ option_to_list path
@@ -147,18 +147,18 @@ module _ {old : RootView} {running : List AliasDecl} {begun found_met : List Uni
     longer = omega (arith, is.longer, searched.longer);
     few = λ h. searched.few (is.few h);
     stored = subst (λ ps. AreStored after (modules_of_trails ps)) (sym (present_with changed path)) (stored_on after (present changed) (option_to_list path) (all_still_stored kept (modules_of_trails (present changed)) is.stored) searched.stored);
-    told = λ later grown. subst (λ cs. IsStepping (links_of later.graph) enough (running_told later running) (met_told later found_met) (first_part parts) (later_parts parts) (defined_within (trails_told later paths)) (map (definition_told later) rest) (met_told later mid) cs) (sym (map-append (trails_of_option later) changed (path ∷ [])))
-        (stepping_next (links_of later.graph) enough (running_told later running) (definition_told later x) (is.told later (grown_on kept grown)) (subst (λ r. IsChanged after r met x parts path mid) is.same stepped later grown));
+    told = λ later grown. subst (λ cs. IsStepping (links_in later) enough (running_told later running) (met_told later found_met) (first_part parts) (later_parts parts) (defined_within (trails_told later paths)) (map (definition_told later) rest) (met_told later mid) cs) (sym (map-append (trails_of_option later) changed (path ∷ [])))
+        (stepping_next (links_in later) enough (running_told later running) (definition_told later x) (is.told later (grown_on kept grown)) (subst (λ r. IsChanged after r met x parts path mid) is.same stepped later grown));
   }
 
 module _ {old : RootView} {running : List AliasDecl} {begun found_met : List UniqueSymbolId} {s : UniqueSymbolId} {parts : Parts} {paths : List Trail} {root : RootView} {now : List AliasDecl} {met : List UniqueSymbolId} {changed : List (Option Trail)} where
   pub walking_last : {new : RootView} (found : List Trail) → IsWalking old running begun found_met s parts paths root now [] met changed → 0 < length parts → HasGrown new root → IsFound new running begun s paths found_met → ((later : RootView) → trails_told later found ≡ (rebuilt parts (trails_told later paths) (map (trails_of_option later) changed)).0) → IsWalked root running begun s parts found met
   walking_last found is some since was_found told = λ later grown.
-      let it = stepping_last (links_of later.graph) enough (running_told later running) (is.told later grown) (was_found later (grown_on since grown)) in
+      let it = stepping_last (links_in later) enough (running_told later running) (is.told later grown) (was_found later (grown_on since grown)) in
       let parts_are = some_parts parts some in
       let same : trails_told later found ≡ (rebuilt (first_part parts ∷ later_parts parts) (trails_told later paths) (map (trails_of_option later) changed)).0 = told later ∙ ap (λ ps. (rebuilt ps (trails_told later paths) (map (trails_of_option later) changed)).0) parts_are in
-      subst (λ ps. Walks (links_of later.graph) enough (running_told later running) (met_told later begun) (named later s) ps (trails_told later found) (met_told later met)) (sym parts_are)
-      (subst (λ f. Walks (links_of later.graph) enough (running_told later running) (met_told later begun) (named later s) (first_part parts ∷ later_parts parts) f (met_told later met)) (sym same) it)
+      subst (λ ps. Walks (links_in later) enough (running_told later running) (met_told later begun) (named later s) ps (trails_told later found) (met_told later met)) (sym parts_are)
+      (subst (λ f. Walks (links_in later) enough (running_told later running) (met_told later begun) (named later s) (first_part parts ∷ later_parts parts) f (met_told later met)) (sym same) it)
 
 -- ---- an alias
 
@@ -173,7 +173,7 @@ module _ (root : RootView) (once : IsDistinct bytes_eq root.stored) (running : L
   resolved_walk target parts paths met fresh few fits kept walked = λ later grown.
       let closed = sym (later_running later (grown_on kept grown)) ∙ fresh in
       by_walk closed (omega (arith, few, length-map running (alias_told later))) (omega (arith, fits, length-map met (named later)))
-      (subst (λ r. Walks (links_of later.graph) enough r [] (named later target) parts (trails_told later paths) (met_told later met)) (running_with later running alias) (walked later grown))
+      (subst (λ r. Walks (links_in later) enough r [] (named later target) parts (trails_told later paths) (met_told later met)) (running_with later running alias) (walked later grown))
 
 -- ---- the definitions that are left: each is of a stored module, which is needed, and a star import is declared there
 
@@ -227,7 +227,7 @@ pub given_first : (root : RootView) (running : List AliasDecl) (before after : L
 given_first root running before after s paths xs found listed stored k d h =
     let y = get_or xs k d in
     let among : Contains (defined_within (trails_told root paths)) (definition_told root y) = subst (λ ys. Contains ys (definition_told root y)) listed (at_map (definition_told root) xs k d h) in
-    let is = leaf_given root.graph (named root s) (definition_told root y) ((finds_leaf (links_of root.graph) enough (found root (grown_not root))).each (definition (definition_told root y)) (forest_leaves (trails_told root paths) (definition_told root y) among)) in
+    let is = leaf_given root.graph (named root s) (definition_told root y) ((finds_leaf (links_in root) enough (found root (grown_not root))).each (definition (definition_told root y)) (forest_leaves (trails_told root paths) (definition_told root y) among)) in
     record { within = at_mapped module_of_definition (λ (id : ModuleId). id.0 < length root.stored) xs k d h stored; needed = is.needed; declared = is.declared }
 
 -- ---- what is refused on the way

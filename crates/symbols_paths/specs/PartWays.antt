@@ -8,6 +8,7 @@ use Rattle.symbols_syntax.specs.Graph.{GraphView}
 use Rattle.symbols_nodes.specs.NodeTests.{is_class}
 use Rattle.symbols_table.specs.DeclViews.{DepView, node_test}
 use Rattle.symbols_table.specs.SymbolViews.{SymbolView, symbol_after}
+use Rattle.symbols_root.specs.Roots.{RootView}
 use Rattle.symbols_root.specs.GraphModules.{changes_under}
 use Rattle.symbols_exports.specs.Exports.{Entry}
 use Rattle.symbols_exports.specs.OneName.{export_named}
@@ -65,3 +66,7 @@ part_of graph x part rest = defined_part graph x.decl part rest x.star
 
 abbrev pub links_of : GraphView → Links
 links_of graph = record { leads = leads_of graph; part = part_of graph }
+
+-- that by which a root searches: its graph's
+abbrev pub links_in : RootView → Links
+links_in root = links_of root.graph

@@ -18,7 +18,7 @@ use Rattle.symbols_paths.specs.declared.paths.resolving.AliasDecl.{AliasDecl}
 use Rattle.symbols_paths.specs.declared.paths.trail.Trail.{Trail}
 use Rattle.symbols_paths.specs.Trees.{NamedSymbol, NamedDecl, Parts, definition, Forest, leaf, none}
 use Rattle.symbols_paths.specs.Leads.{Ways, Lead, defines, leads, alias, nowhere, target_ways, alias_lead, import_ways, ways_into, declarations_of, lead_of}
-use Rattle.symbols_paths.specs.PartWays.{PartWay, to, itself, lacks, Links, links_of}
+use Rattle.symbols_paths.specs.PartWays.{PartWay, to, itself, lacks, Links, links_in}
 use Rattle.symbols_paths.specs.Choice.{is_running, Finds, Follows, Tries, Walks, ChangesOne}
 use Rattle.symbols_paths.specs.Computed.{enough}
 use Rattle.symbols_paths.specs.Views.{named, named_in, decl_told, definition_told, unresolved_told, first_part, later_parts, star_of, AreStored}
@@ -98,14 +98,14 @@ IsWayStored root (way.Lacks missing) = missing.«module».0 < length root.stored
 
 -- what was found, as each later root tells it
 abbrev pub IsFound : RootView → List AliasDecl → List UniqueSymbolId → UniqueSymbolId → List Trail → List UniqueSymbolId → Type 0
-IsFound root running before s paths after = (later : RootView) → HasGrown root later → Finds (links_of later.graph) enough (running_told later running) (met_told later before) (named later s) (trails_told later paths) (met_told later after)
+IsFound root running before s paths after = (later : RootView) → HasGrown root later → Finds (links_in later) enough (running_told later running) (met_told later before) (named later s) (trails_told later paths) (met_told later after)
 
 abbrev pub IsFollowed : RootView → List AliasDecl → List UniqueSymbolId → UniqueSymbolId → ℕ → ReadLead → Option Trail → List UniqueSymbolId → Type 0
-IsFollowed root running before s index lead path after = (later : RootView) → HasGrown root later → Follows (links_of later.graph) enough (running_told later running) (met_told later before) (named later s) index (lead_told later.graph (named later s) lead) (trails_of_option later path) (met_told later after)
+IsFollowed root running before s index lead path after = (later : RootView) → HasGrown root later → Follows (links_in later) enough (running_told later running) (met_told later before) (named later s) index (lead_told later.graph (named later s) lead) (trails_of_option later path) (met_told later after)
 
 -- what the ways of an import came to
 abbrev pub IsTried : RootView → List AliasDecl → List UniqueSymbolId → (GraphView → RootView → Ways) → List Trail → List UniqueSymbolId → Type 0
-IsTried root running before ways paths after = (later : RootView) → HasGrown root later → Tries (links_of later.graph) enough (running_told later running) (met_told later before) (ways later.graph later).candidates (ways later.graph later).otherwise (trails_told later paths) (met_told later after)
+IsTried root running before ways paths after = (later : RootView) → HasGrown root later → Tries (links_in later) enough (running_told later running) (met_told later before) (ways later.graph later).candidates (ways later.graph later).otherwise (trails_told later paths) (met_told later after)
 
 abbrev pub ways_of_import : UniqueSymbolId → List ℕ → List ℕ → GraphView → RootView → Ways
 ways_of_import s name text graph root = import_ways graph (named root s) name text (text_target graph (named root s).specifier text)
@@ -116,16 +116,16 @@ ways_along module_id name graph root = ways_into graph (named_in root module_id 
 
 -- what a candidate came to; nothing where there is none
 abbrev pub IsOffered : RootView → List AliasDecl → List UniqueSymbolId → Option UniqueSymbolId → List Trail → List UniqueSymbolId → Type 0
-IsOffered root running before candidate paths after = (later : RootView) → HasGrown root later → FindsOne (links_of later.graph) enough (running_told later running) (met_told later before) (option_map (named later) candidate) (trails_told later paths) (met_told later after)
+IsOffered root running before candidate paths after = (later : RootView) → HasGrown root later → FindsOne (links_in later) enough (running_told later running) (met_told later before) (option_map (named later) candidate) (trails_told later paths) (met_told later after)
 
 -- what an alias came to
 abbrev pub IsResolved : RootView → List AliasDecl → AliasDecl → UniqueSymbolId → Parts → List Trail → Type 0
-IsResolved root running d target parts paths = (later : RootView) → HasGrown root later → Resolves (links_of later.graph) enough (running_told later running) (alias_told later d) (named later target) parts (trails_told later paths)
+IsResolved root running d target parts paths = (later : RootView) → HasGrown root later → Resolves (links_in later) enough (running_told later running) (alias_told later d) (named later target) parts (trails_told later paths)
 
 -- what a symbol came to under parts
 abbrev pub IsWalked : RootView → List AliasDecl → List UniqueSymbolId → UniqueSymbolId → Parts → List Trail → List UniqueSymbolId → Type 0
-IsWalked root running before s parts paths after = (later : RootView) → HasGrown root later → Walks (links_of later.graph) enough (running_told later running) (met_told later before) (named later s) parts (trails_told later paths) (met_told later after)
+IsWalked root running before s parts paths after = (later : RootView) → HasGrown root later → Walks (links_in later) enough (running_told later running) (met_told later before) (named later s) parts (trails_told later paths) (met_told later after)
 
 -- what stands in the place of a definition
 abbrev pub IsChanged : RootView → List AliasDecl → List UniqueSymbolId → Definition → Parts → Option Trail → List UniqueSymbolId → Type 0
-IsChanged root running before x parts path after = (later : RootView) → HasGrown root later → ChangesOne (links_of later.graph) enough (running_told later running) (met_told later before) (first_part parts) (later_parts parts) (leaf (definition (definition_told later x))) (trails_of_option later path) (met_told later after)
+IsChanged root running before x parts path after = (later : RootView) → HasGrown root later → ChangesOne (links_in later) enough (running_told later running) (met_told later before) (first_part parts) (later_parts parts) (leaf (definition (definition_told later x))) (trails_of_option later path) (met_told later after)

@@ -7,7 +7,7 @@ ghost use Rattle.symbols_root.specs.Roots.{widest, specifier_in};
 ghost use Rattle.symbols_root.specs.Growing.{HasGrown};
 ghost use Rattle.symbols_exports.specs.Answers.{AreListed};
 ghost use Rattle.symbols_paths.specs.Trees.{NamedSymbol, Parts, Forest, leaves_in, definitions_in};
-ghost use Rattle.symbols_paths.specs.PartWays.{links_of};
+ghost use Rattle.symbols_paths.specs.PartWays.{links_in};
 ghost use Rattle.symbols_paths.specs.Choice.{IsChosen, IsChosenUnder};
 ghost use Rattle.symbols_paths.specs.Computed.{paths_of};
 ghost use Rattle.symbols_paths.specs.Views.{named_in, forest_told, definition_told, leaf_told, module_of_definition, module_of_end, definitions_left, ends_left, AreStored};
@@ -71,7 +71,7 @@ impl<'a> FindDefinitions<'a> for RootSymbol<'a> {
         ensures listed { IfOk result (λ paths. forest_told self.new paths.items ≡ paths_of self.old.graph (named_in self.old module_id symbol_id)) }
         ensures faults { IfErr result (IsPathsFault self.old self.new module_id symbol_id) }
         ensures kept { HasGrown self.old self.new }
-        ensures only { (f g : Forest) → IsChosen (links_of self.old.graph) (named_in self.old module_id symbol_id) f → IsChosen (links_of self.old.graph) (named_in self.old module_id symbol_id) g → f ≡ g }
+        ensures only { (f g : Forest) → IsChosen (links_in self.old) (named_in self.old module_id symbol_id) f → IsChosen (links_in self.old) (named_in self.old module_id symbol_id) g → f ≡ g }
         ensures exports_listed { (start : List ℕ) → AreListed self.old.graph start }
         ensures enough { self.old.limits ≡ widest → module_id.0 < length self.old.stored → symbol_in self.old module_id symbol_id ≢ None → IfErr result (λ fault. fault ≡ OutOfMemory) }
     {
@@ -132,7 +132,7 @@ impl<'a> FindDefinitions<'a> for RootSymbol<'a> {
         ensures stored { IfOk result (λ entries. AreStored self.new (modules_of_entries entries.items)) }
         ensures faults { IfErr result (IsDepFault self.old self.new module_id (reference_view dep.now)) }
         ensures kept { HasGrown self.old self.new }
-        ensures only { (s : NamedSymbol) (parts : Parts) (f g : Forest) → IsChosenUnder (links_of self.old.graph) s parts f → IsChosenUnder (links_of self.old.graph) s parts g → f ≡ g }
+        ensures only { (s : NamedSymbol) (parts : Parts) (f g : Forest) → IsChosenUnder (links_in self.old) s parts f → IsChosenUnder (links_in self.old) s parts g → f ≡ g }
         ensures exports_listed { (start : List ℕ) → AreListed self.old.graph start }
         ensures enough { self.old.limits ≡ widest → module_id.0 < length self.old.stored → IfErr result (λ fault. fault ≡ OutOfMemory) }
     {

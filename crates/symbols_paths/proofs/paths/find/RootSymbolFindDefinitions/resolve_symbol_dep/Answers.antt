@@ -4,7 +4,7 @@ use Rattle.symbols_syntax.specs.Ids.{id_view}
 use Rattle.symbols_nodes.specs.References.{Reference, qualified_id, import_type, reference_view}
 use Rattle.symbols_table.specs.declared.info.fault.SymbolsFault.{SymbolsFault}
 use Rattle.symbols_root.specs.Roots.{specifier_in}
-use Rattle.symbols_paths.specs.PartWays.{links_of}
+use Rattle.symbols_paths.specs.PartWays.{links_in}
 use Rattle.symbols_paths.specs.Trails.{parts_told}
 use Rattle.symbols_paths.specs.DepAnswers.{entry_told, entries_of, IsDepAnswer, IsDepRefused}
 use Rattle.symbols_paths.proofs.DepEntries.{dep_refused}
@@ -44,22 +44,22 @@ returns-in_ok-parts-in-ImportType-clause-faults c =
     inr (known, subst (λ (r : Reference). IsDepRefused c.entries_of_import.new.root m r fault) is (dep_refused c.args.self.now c.entries_of_import.new.root m c.in-ImportType.text.now texts fault c.entries_of_import.ensures.kept refused)))
 
 pub returns-then-is_none-clause-only : goal.returns-then-is_none-clause-only
-returns-then-is_none-clause-only c = chosen_once (links_of c.args.self.now.graph)
+returns-then-is_none-clause-only c = chosen_once (links_in c.args.self.now)
 
 pub returns-in_err-parts-in-Id-clause-only : goal.returns-in_err-parts-in-Id-clause-only
-returns-in_err-parts-in-Id-clause-only c = chosen_once (links_of c.args.self.now.graph)
+returns-in_err-parts-in-Id-clause-only c = chosen_once (links_in c.args.self.now)
 
 pub returns-in_err-parts-in-QualifiedId-clause-only : goal.returns-in_err-parts-in-QualifiedId-clause-only
-returns-in_err-parts-in-QualifiedId-clause-only c = chosen_once (links_of c.args.self.now.graph)
+returns-in_err-parts-in-QualifiedId-clause-only c = chosen_once (links_in c.args.self.now)
 
 pub returns-in_err-parts-in-ImportType-clause-only : goal.returns-in_err-parts-in-ImportType-clause-only
-returns-in_err-parts-in-ImportType-clause-only c = chosen_once (links_of c.args.self.now.graph)
+returns-in_err-parts-in-ImportType-clause-only c = chosen_once (links_in c.args.self.now)
 
 pub returns-in_ok-parts-in-Id-clause-only : goal.returns-in_ok-parts-in-Id-clause-only
-returns-in_ok-parts-in-Id-clause-only c = chosen_once (links_of c.args.self.now.graph)
+returns-in_ok-parts-in-Id-clause-only c = chosen_once (links_in c.args.self.now)
 
 pub returns-in_ok-parts-in-QualifiedId-clause-only : goal.returns-in_ok-parts-in-QualifiedId-clause-only
-returns-in_ok-parts-in-QualifiedId-clause-only c = chosen_once (links_of c.args.self.now.graph)
+returns-in_ok-parts-in-QualifiedId-clause-only c = chosen_once (links_in c.args.self.now)
 
 pub returns-in_ok-parts-in-ImportType-clause-only : goal.returns-in_ok-parts-in-ImportType-clause-only
-returns-in_ok-parts-in-ImportType-clause-only c = chosen_once (links_of c.args.self.now.graph)
+returns-in_ok-parts-in-ImportType-clause-only c = chosen_once (links_in c.args.self.now)
