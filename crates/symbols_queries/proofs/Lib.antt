@@ -1,4 +1,6 @@
 mod Naming
+mod Known
+mod Weights
 mod Storing
 mod Asking
 mod Running

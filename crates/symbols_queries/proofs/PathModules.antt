@@ -1,5 +1,5 @@
 -- The modules that paths name are stored where their numbers are those of stored modules.
-use Rattle.std.proofs.Common.{◌≡◌, ℕ, ◌<◌, List, [], ◌∷◌, ◌++◌, length, map, sym, subst}
+use Rattle.std.proofs.Common.{◌≡◌, ℕ, ◌<◌, List, [], ◌∷◌, length, map, sym, subst}
 use Rattle.std.specs.Prelude.{All, Contains, flat_map}
 use Rattle.std.proofs.lemmas.List.Elements.{All-nil, All-cons, All-head, All-tail, All-append}
 use Rattle.symbols_syntax.specs.declared.ids.ModuleId.{ModuleId}
@@ -20,16 +20,8 @@ use Rattle.symbols_paths.specs.DepAnswers.{entry_told, modules_of_entry, modules
 use Rattle.symbols_paths.specs.Trees.{Defined, Missing, Tree, leaf, definition, unresolved}
 use Rattle.symbols_paths.specs.Views.{definition_told, unresolved_told, forest_in, node_step, resolved_step, link_step, tree_told, forest_told, joined, node_modules, resolved_modules, link_modules, modules_of, modules_in, module_of_definition, leaf_told, module_of_end, AreStored}
 use Rattle.symbols_answers.specs.Stored.{module_of_defined, module_of_leaf, modules_of_tree, modules_of_forest, modules_of_standing}
+use Rattle.symbols_queries.proofs.Known.{all_front, all_back}
 use Rattle.symbols_queries.proofs.Storing.{number_stored}
-
--- the parts of a list of which all holds
-all_front : {X : Type 0} (P : X → Type 0) (xs ys : List X) → All P (xs ++ ys) → All P xs
-all_front P [] ys all = All-nil P
-all_front P (x ∷ xs) ys all = All-cons P x xs (All-head P x (xs ++ ys) all) (all_front P xs ys (All-tail P x (xs ++ ys) all))
-
-all_back : {X : Type 0} (P : X → Type 0) (xs ys : List X) → All P (xs ++ ys) → All P ys
-all_back P [] ys all = all
-all_back P (x ∷ xs) ys all = all_back P xs ys (All-tail P x (xs ++ ys) all)
 
 abbrev Ids : Type 0
 Ids = List ModuleId

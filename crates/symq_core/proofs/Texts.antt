@@ -6,7 +6,7 @@ use Rattle.json.specs.Written.{Written, Writes}
 use Rattle.serde_json.specs.Data.{Data, Members}
 use Rattle.serde_json.specs.Written.{compact_text}
 use Rattle.serde_json.proofs.Texts.{print-outline}
-use Rattle.symq_core.specs.Telling.{Behind, tokens_of, members_left, star_tokens}
+use Rattle.symq_core.specs.Telling.{Behind, tokens_of, rest_tokens, members_left, star_tokens}
 use Rattle.symbols_table.specs.DeclViews.{DepView}
 use Rattle.symq_core.specs.PathData.{with_star}
 
@@ -16,6 +16,10 @@ written w = record { before = w.room.0; tokens = w.ok }
 
 pub then : {a b c : Written} {ts us : List Token} → Behind a b ts → Behind b c us → Behind a c (ts ++ us)
 then {a} {b} {c} {ts} {us} p q = record { before = q.before ∙ p.before; tokens = q.tokens ∙ ap (λ t. t ++ us) p.tokens ∙ append_assoc a.tokens ts us }
+
+-- one more value was told, of those that come behind
+pub told_next : (out next begun : Written) (v : Data) (vs : List Data) (all : List Token) → Behind out next (tokens_of v) → out.before ≡ begun.before → out.tokens ++ rest_tokens (v ∷ vs) ≡ all → (next.before ≡ begun.before) × (next.tokens ++ rest_tokens vs ≡ all)
+told_next out next begun v vs all added same so = (added.before ∙ same, ap (λ ts. ts ++ rest_tokens vs) added.tokens ∙ (append_assoc out.tokens (tokens_of v) (rest_tokens vs) ∙ so))
 
 -- what is printed once a value is told is its text, behind the bytes that a writer began with
 pub text_behind : (fresh done : Written) (bytes : List ℕ) (value : Data) → fresh.before ≡ bytes → fresh.tokens ≡ [] → Behind fresh done (tokens_of value) → done.before ++ print done.tokens ≡ bytes ++ compact_text value

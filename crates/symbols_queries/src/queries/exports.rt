@@ -1,10 +1,10 @@
 //! What a module exports, its ways told by specifiers.
 
-ghost use Rattle.std.specs.Prelude.{◌≡◌, map, string_bytes, IfOk};
+ghost use Rattle.std.specs.Prelude.{◌≡◌, ◌<◌, length, map, string_bytes, IfOk};
 ghost use Rattle.symbols_root.specs.Roots.{specifier_in};
 ghost use Rattle.symbols_exports.specs.Paths.{resolved_export, statements_on};
 ghost use Rattle.symbols_exports.specs.Taking.{names_view, unresolved_told};
-ghost use Rattle.symbols_exports.specs.Told.{told_number, told_name};
+ghost use Rattle.symbols_exports.specs.Told.{told_number, told_name, AreNumbered, IsNumbered, AllNumbered};
 ghost use Rattle.symbols_queries.specs.AnswerViews.{statement_view, export_view};
 
 use indexmap::IndexMap;
@@ -45,13 +45,14 @@ pub struct NamedExports<'a> {
     pub unresolved: Vec<NamedStatement<'a>>,
 }
 
-/// The specifier of a stored module; empty where none has the number.
+/// The specifier of a stored module.
 pub(crate) fn specifier_of<'a>(root: &RootSymbol<'a>, module_id: ModuleId) -> &'a str
+    requires { module_id.0 < length root.now.stored }
     ensures { result.now ≡ specifier_in root.now module_id }
 {
     match root.module_from_id(module_id) {
         Some(info) => info.specifier(),
-        None => "",
+        None => unreachable!(),
     }
 }
 
@@ -60,6 +61,7 @@ fn named_statement<'a>(
     referrer: ModuleId,
     specifier: &'a str,
 ) -> NamedStatement<'a>
+    requires { referrer.0 < length root.now.stored }
     ensures { statement_view result ≡ told_number root.now (referrer, specifier.now) }
 {
     NamedStatement {
@@ -75,6 +77,7 @@ fn named_chain<'a>(
     root: &RootSymbol<'a>,
     path: &ResolvedExportOrReExportAllPath<'a>,
 ) -> Result<Vec<NamedStatement<'a>>, AllocError>
+    requires { AreNumbered root.now (statements_on path.now) }
     ensures { IfOk result (λ chain. map statement_view chain.items ≡ map (told_number root.now) (statements_on path.now)) }
 {
     let mut chain = Vec::new(alloc);
@@ -92,6 +95,7 @@ fn named_export<'a>(
     name: String,
     path: &ResolvedExportOrReExportAllPath<'a>,
 ) -> Result<NamedExport<'a>, AllocError>
+    requires { IsNumbered root.now (record { name = string_bytes name; statements = statements_on path.now; export = resolved_export path.now }) }
     ensures { IfOk result (λ named. export_view named ≡ told_name root.now (record { name = string_bytes name; statements = statements_on path.now; export = resolved_export path.now })) }
 {
     let export = path.as_resolved_export();
@@ -109,6 +113,7 @@ fn named_names<'a>(
     root: &RootSymbol<'a>,
     resolved: IndexMap<String, ResolvedExportOrReExportAllPath<'a>>,
 ) -> Result<Vec<NamedExport<'a>>, AllocError>
+    requires { AllNumbered root.now (names_view resolved.entries) }
     ensures { IfOk result (λ exports. map export_view exports.items ≡ map (told_name root.now) (names_view resolved.entry.entries)) }
 {
     let mut exports = Vec::new(alloc);
@@ -124,6 +129,7 @@ fn named_unresolved<'a>(
     root: &RootSymbol<'a>,
     unresolved: &[UnresolvedSpecifier<'a>],
 ) -> Result<Vec<NamedStatement<'a>>, AllocError>
+    requires { AreNumbered root.now (map unresolved_told unresolved.now) }
     ensures { IfOk result (λ statements. map statement_view statements.items ≡ map (told_number root.now) (map unresolved_told unresolved.now)) }
 {
     let mut statements = Vec::new(alloc);
@@ -139,6 +145,8 @@ pub(crate) fn named_exports<'a>(
     root: &RootSymbol<'a>,
     exports: ModuleExports<'a>,
 ) -> Result<NamedExports<'a>, AllocError>
+    requires names { AllNumbered root.now (names_view exports.resolved.entries) }
+    requires statements { AreNumbered root.now (map unresolved_told exports.unresolved_specifiers.items) }
     ensures names { IfOk result (λ named. map export_view named.exports.items ≡ map (told_name root.now) (names_view exports.entry.resolved.entries)) }
     ensures statements { IfOk result (λ named. map statement_view named.unresolved.items ≡ map (told_number root.now) (map unresolved_told exports.entry.unresolved_specifiers.items)) }
 {

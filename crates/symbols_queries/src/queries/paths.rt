@@ -1,10 +1,10 @@
 //! Where symbols are defined, modules told by specifiers.
 
-ghost use Rattle.std.specs.Prelude.{◌≡◌, map, IfOk};
+ghost use Rattle.std.specs.Prelude.{◌≡◌, ◌<◌, length, map, IfOk};
 ghost use Rattle.symbols_paths.specs.declared.paths.node.DefinitionPathNode.TheVariants as node;
 ghost use Rattle.symbols_paths.specs.declared.paths.node.DefinitionPathNodeResolved.TheVariants as resolved;
-ghost use Rattle.symbols_paths.specs.Views.{definition_told, unresolved_told, tree_told, forest_told, leaf_told, definitions_left, ends_left};
-ghost use Rattle.symbols_paths.specs.DepAnswers.{entry_told};
+ghost use Rattle.symbols_paths.specs.Views.{definition_told, unresolved_told, tree_told, forest_told, leaf_told, definitions_left, ends_left, modules_of, modules_in, module_of_definition, module_of_end, AreStored};
+ghost use Rattle.symbols_paths.specs.DepAnswers.{entry_told, modules_of_entry, modules_of_entries};
 ghost use Rattle.symbols_queries.specs.AnswerViews.{defined_view, missing_view, link_view, tree_view, forest_view, end_view, entry_view};
 
 use crate::queries::exports::specifier_of;
@@ -84,6 +84,7 @@ pub enum NamedEntry<'a> {
 }
 
 fn named_definition<'a>(root: &RootSymbol<'a>, definition: &Definition<'a>) -> NamedDefinition<'a>
+    requires { definition.now.«module».0 < length root.now.stored }
     ensures { defined_view result ≡ definition_told root.now definition.now }
 {
     NamedDefinition {
@@ -98,6 +99,7 @@ fn named_unresolved<'a>(
     root: &RootSymbol<'a>,
     unresolved: DefinitionUnresolved,
 ) -> NamedUnresolved<'a>
+    requires { unresolved.«module».0 < length root.now.stored }
     ensures { missing_view result ≡ unresolved_told root.now unresolved }
 {
     NamedUnresolved {
@@ -114,6 +116,7 @@ pub(crate) fn named_paths<'a>(
     root: &RootSymbol<'a>,
     paths: Vec<DefinitionPathNode<'a>>,
 ) -> Result<Vec<NamedPath<'a>>, AllocError>
+    requires { AreStored root.now (modules_in paths.items) }
     ensures { IfOk result (λ named. forest_view named.items ≡ forest_told root.now paths.entry.items) }
 {
     let mut named = Vec::new(alloc);
@@ -129,16 +132,31 @@ pub(crate) fn named_path<'a>(
     root: &RootSymbol<'a>,
     path: DefinitionPathNode<'a>,
 ) -> Result<NamedPath<'a>, AllocError>
+    requires { AreStored root.now (modules_of path) }
     ensures { IfOk result (λ named. tree_view named ≡ tree_told root.now path.entry) }
 {
     match path {
         DefinitionPathNode::Unresolved(unresolved) => {
             Ok(NamedPath::Unresolved(named_unresolved(root, unresolved)))
         }
-        DefinitionPathNode::Resolved(DefinitionPathNodeResolved::Definition(definition)) => {
+        DefinitionPathNode::Resolved(found) => named_resolved(alloc, root, found),
+    }
+}
+
+#[cycle(naming)]
+fn named_resolved<'a>(
+    alloc: Global,
+    root: &RootSymbol<'a>,
+    found: DefinitionPathNodeResolved<'a>,
+) -> Result<NamedPath<'a>, AllocError>
+    requires { AreStored root.now (modules_of (node.Resolved found)) }
+    ensures { IfOk result (λ named. tree_view named ≡ tree_told root.now (node.Resolved found.entry)) }
+{
+    match found {
+        DefinitionPathNodeResolved::Definition(definition) => {
             Ok(NamedPath::Definition(named_definition(root, &definition)))
         }
-        DefinitionPathNode::Resolved(DefinitionPathNodeResolved::Link(link)) => {
+        DefinitionPathNodeResolved::Link(link) => {
             Ok(NamedPath::Link(named_link(alloc, root, link)?))
         }
     }
@@ -150,6 +168,8 @@ fn named_link<'a>(
     root: &RootSymbol<'a>,
     link: DefinitionPathLink<'a>,
 ) -> Result<NamedLink<'a>, AllocError>
+    requires here { link.«module».0 < length root.now.stored }
+    requires next { AreStored root.now (modules_in link.next.items) }
     ensures { IfOk result (λ named. link_view named ≡ tree_told root.now (node.Resolved (resolved.Link link.entry))) }
 {
     let module = specifier_of(root, link.module);
@@ -167,6 +187,7 @@ fn named_link<'a>(
 }
 
 fn named_end<'a>(root: &RootSymbol<'a>, end: DefinitionOrUnresolved<'a>) -> NamedEnd<'a>
+    requires { (module_of_end end).0 < length root.now.stored }
     ensures { end_view result ≡ leaf_told root.now end.entry }
 {
     match end {
@@ -185,6 +206,7 @@ pub(crate) fn named_definitions<'a>(
     root: &RootSymbol<'a>,
     definitions: DefinitionsIter<'a>,
 ) -> Result<Vec<NamedDefinition<'a>>, AllocError>
+    requires { AreStored root.now (map module_of_definition (definitions_left definitions)) }
     ensures { IfOk result (λ named. map defined_view named.items ≡ map (definition_told root.now) (definitions_left definitions.entry)) }
 {
     let mut named = Vec::new(alloc);
@@ -200,6 +222,7 @@ pub(crate) fn named_ends<'a>(
     root: &RootSymbol<'a>,
     ends: DefinitionsOrUnresolvedsIter<'a>,
 ) -> Result<Vec<NamedEnd<'a>>, AllocError>
+    requires { AreStored root.now (map module_of_end (ends_left ends)) }
     ensures { IfOk result (λ named. map end_view named.items ≡ map (leaf_told root.now) (ends_left ends.entry)) }
 {
     let mut named = Vec::new(alloc);
@@ -214,6 +237,7 @@ fn named_entry<'a>(
     root: &RootSymbol<'a>,
     found: ResolvedSymbolDepEntry<'a>,
 ) -> Result<NamedEntry<'a>, AllocError>
+    requires { AreStored root.now (modules_of_entry found) }
     ensures { IfOk result (λ named. entry_view named ≡ entry_told root.now found.entry) }
 {
     match found {
@@ -232,6 +256,7 @@ pub(crate) fn named_entries<'a>(
     root: &RootSymbol<'a>,
     entries: Vec<ResolvedSymbolDepEntry<'a>>,
 ) -> Result<Vec<NamedEntry<'a>>, AllocError>
+    requires { AreStored root.now (modules_of_entries entries.items) }
     ensures { IfOk result (λ named. map entry_view named.items ≡ map (entry_told root.now) entries.entry.items) }
 {
     let mut named = Vec::new(alloc);

@@ -1,10 +1,10 @@
 //! What a module exports, as text.
 
-ghost use Rattle.std.specs.Prelude.{◌≡◌, map};
+ghost use Rattle.std.specs.Prelude.{◌≡◌, ◌<◌, length, map};
 ghost use Rattle.symbols_root.specs.Roots.{specifier_in};
 ghost use Rattle.symbols_exports.specs.Paths.{resolved_export, statements_on};
 ghost use Rattle.symbols_exports.specs.Taking.{names_view, unresolved_told};
-ghost use Rattle.symbols_exports.specs.Told.{told_number, told_name};
+ghost use Rattle.symbols_exports.specs.Told.{told_number, told_name, AreNumbered, IsNumbered, AllNumbered};
 ghost use Rattle.symbols_answers.specs.Answers.{tells_exports};
 ghost use Rattle.symq_core.specs.AnswerData.{statement_data, statements_data, entry_data, answer_data};
 ghost use Rattle.symq_core.specs.Telling.{Tells, Adds, rest_tokens};
@@ -19,13 +19,14 @@ use symbols_exports::exports::{
 use symbols_root::root::RootSymbol;
 use symbols_tree::ids::ModuleId;
 
-/// The specifier of a stored module; empty where none has the number.
+/// The specifier of a stored module.
 pub(crate) fn specifier_of<'a>(root: &RootSymbol<'a>, module_id: ModuleId) -> &'a str
+    requires { module_id.0 < length root.now.stored }
     ensures { result.now ≡ specifier_in root.now module_id }
 {
     match root.module_from_id(module_id) {
         Some(info) => info.specifier(),
-        None => "",
+        None => unreachable!(),
     }
 }
 
@@ -36,6 +37,7 @@ fn tell_statement(
     referrer: ModuleId,
     text: &str,
 ) -> Result<(), AllocError>
+    requires { referrer.0 < length root.now.stored }
     ensures { Tells result out.old out.new (statement_data (told_number root.now (referrer, text.now))) }
 {
     out.begin_array()?;
@@ -51,6 +53,7 @@ fn tell_chain(
     root: &RootSymbol<'_>,
     path: &ResolvedExportOrReExportAllPath<'_>,
 ) -> Result<(), AllocError>
+    requires { AreNumbered root.now (statements_on path.now) }
     ensures { Tells result out.old out.new (statements_data (map (told_number root.now) (statements_on path.now))) }
 {
     out.begin_array()?;
@@ -69,6 +72,7 @@ fn tell_export(
     name: &str,
     path: &ResolvedExportOrReExportAllPath<'_>,
 ) -> Result<(), AllocError>
+    requires { IsNumbered root.now (record { name = name.now; statements = statements_on path.now; export = resolved_export path.now }) }
     ensures { Tells result out.old out.new (entry_data (told_name root.now (record { name = name.now; statements = statements_on path.now; export = resolved_export path.now }))) }
 {
     let export = path.as_resolved_export();
@@ -87,6 +91,7 @@ fn tell_names(
     root: &RootSymbol<'_>,
     resolved: &IndexMap<String, ResolvedExportOrReExportAllPath<'_>>,
 ) -> Result<(), AllocError>
+    requires { AllNumbered root.now (names_view resolved.now.entries) }
     ensures { Adds result out.old out.new (rest_tokens (map entry_data (map (told_name root.now) (names_view resolved.now.entries)))) }
 {
     for (name, path) in resolved {
@@ -101,6 +106,7 @@ fn tell_unresolved(
     root: &RootSymbol<'_>,
     unresolved: &[UnresolvedSpecifier<'_>],
 ) -> Result<(), AllocError>
+    requires { AreNumbered root.now (map unresolved_told unresolved.now) }
     ensures { Tells result out.old out.new (statements_data (map (told_number root.now) (map unresolved_told unresolved.now))) }
 {
     out.begin_array()?;
@@ -116,6 +122,8 @@ pub(crate) fn tell_exports(
     root: &RootSymbol<'_>,
     answer: &ModuleExports<'_>,
 ) -> Result<(), AllocError>
+    requires names { AllNumbered root.now (names_view answer.now.resolved.entries) }
+    requires statements { AreNumbered root.now (map unresolved_told answer.now.unresolved_specifiers.items) }
     ensures { Tells result out.old out.new (answer_data (tells_exports (map (told_name root.now) (names_view answer.now.resolved.entries)) (map (told_number root.now) (map unresolved_told answer.now.unresolved_specifiers.items)))) }
 {
     out.begin_object()?;

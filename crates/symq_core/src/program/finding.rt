@@ -1,8 +1,8 @@
 //! Where a symbol is defined, as text.
 
-ghost use Rattle.std.specs.Prelude.{◌≡◌, map, string_bytes};
+ghost use Rattle.std.specs.Prelude.{◌≡◌, ◌<◌, length, map, string_bytes};
 ghost use Rattle.symbols_root.specs.Roots.{specifier_in};
-ghost use Rattle.symbols_paths.specs.Views.{decl_told, star_of, definition_told, reason_told, unresolved_told, tree_told, forest_told, leaf_told, definitions_left, ends_left};
+ghost use Rattle.symbols_paths.specs.Views.{decl_told, star_of, definition_told, reason_told, unresolved_told, tree_told, forest_told, leaf_told, definitions_left, ends_left, modules_of, modules_in, module_of_definition, module_of_end, AreStored};
 ghost use Rattle.symq_core.specs.PathData.{decl_data, defined_data, reason_words, reason_name, scope_members, missing_data, leaf_data, link_end, tree_data, forest_items};
 ghost use Rattle.symq_core.specs.Telling.{Adds, Tells, rest_tokens, members_left, items_left, star_tokens, link_front};
 
@@ -49,6 +49,7 @@ fn tell_definition(
     root: &RootSymbol<'_>,
     definition: &Definition<'_>,
 ) -> Result<(), AllocError>
+    requires { definition.now.«module».0 < length root.now.stored }
     ensures { Tells result out.old out.new (defined_data (definition_told root.now definition.now)) }
 {
     let decl = definition.symbol_decl;
@@ -102,6 +103,7 @@ fn tell_unresolved(
     root: &RootSymbol<'_>,
     unresolved: &DefinitionUnresolved,
 ) -> Result<(), AllocError>
+    requires { unresolved.now.«module».0 < length root.now.stored }
     ensures { Tells result out.old out.new (missing_data (unresolved_told root.now unresolved.now)) }
 {
     out.begin_object()?;
@@ -120,6 +122,7 @@ pub(crate) fn tell_path(
     root: &RootSymbol<'_>,
     path: &DefinitionPathNode<'_>,
 ) -> Result<(), AllocError>
+    requires { AreStored root.now (modules_of path.now) }
     ensures { Tells result out.old out.new (tree_data (tree_told root.now path.now)) }
 {
     match path {
@@ -135,6 +138,7 @@ fn tell_resolved(
     root: &RootSymbol<'_>,
     resolved: &DefinitionPathNodeResolved<'_>,
 ) -> Result<(), AllocError>
+    requires { AreStored root.now (modules_of (DefinitionPathNode.Resolved resolved.now)) }
     ensures { Tells result out.old out.new (tree_data (tree_told root.now (DefinitionPathNode.Resolved resolved.now))) }
 {
     match resolved {
@@ -156,6 +160,7 @@ pub(crate) fn end_paths(
     root: &RootSymbol<'_>,
     paths: &Vec<DefinitionPathNode<'_>>,
 ) -> Result<(), AllocError>
+    requires { AreStored root.now (modules_in paths.now.items) }
     ensures { Adds result out.old out.new (items_left (forest_items (forest_told root.now paths.now.items))) }
 {
     for path in paths {
@@ -171,6 +176,7 @@ fn begin_link(
     module_id: ModuleId,
     decl: DeclRef,
 ) -> Result<(), AllocError>
+    requires { module_id.0 < length root.now.stored }
     ensures { Adds result out.old out.new (link_front (specifier_in root.now module_id) (decl_told root.now module_id decl)) }
 {
     out.begin_object()?;
@@ -197,6 +203,7 @@ fn tell_end(
     root: &RootSymbol<'_>,
     end: &DefinitionOrUnresolved<'_>,
 ) -> Result<(), AllocError>
+    requires { (module_of_end end.now).0 < length root.now.stored }
     ensures { Tells result out.old out.new (leaf_data (leaf_told root.now end.now)) }
 {
     match end {
@@ -211,6 +218,7 @@ pub(crate) fn end_definitions(
     root: &RootSymbol<'_>,
     definitions: DefinitionsIter<'_>,
 ) -> Result<(), AllocError>
+    requires { AreStored root.now (map module_of_definition (definitions_left definitions)) }
     ensures { Adds result out.old out.new (rest_tokens (map defined_data (map (definition_told root.now) (definitions_left definitions.entry)))) }
 {
     for definition in definitions {
@@ -225,6 +233,7 @@ pub(crate) fn end_leaves(
     root: &RootSymbol<'_>,
     ends: DefinitionsOrUnresolvedsIter<'_>,
 ) -> Result<(), AllocError>
+    requires { AreStored root.now (map module_of_end (ends_left ends)) }
     ensures { Adds result out.old out.new (rest_tokens (map leaf_data (map (leaf_told root.now) (ends_left ends.entry)))) }
 {
     for end in ends {

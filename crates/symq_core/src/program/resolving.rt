@@ -4,7 +4,8 @@ ghost use Rattle.std.specs.Prelude.{◌≡◌, ◌<◌, length, map};
 ghost use Rattle.symbols_nodes.specs.References.{reference_view};
 ghost use Rattle.symbols_root.specs.Growing.{HasGrown};
 ghost use Rattle.symbols_root.specs.Roots.{widest, specifier_in};
-ghost use Rattle.symbols_paths.specs.DepAnswers.{entry_told, entries_of};
+ghost use Rattle.symbols_paths.specs.DepAnswers.{entry_told, modules_of_entry, modules_of_entries, entries_of};
+ghost use Rattle.symbols_paths.specs.Views.{AreStored};
 ghost use Rattle.symbols_answers.specs.Answers.{tells_entries};
 ghost use Rattle.symq_core.specs.AnswerData.{answer_data};
 ghost use Rattle.symq_core.specs.Answering.{asked_view};
@@ -29,6 +30,7 @@ fn tell_entry(
     root: &RootSymbol<'_>,
     entry: &ResolvedSymbolDepEntry<'_>,
 ) -> Result<(), AllocError>
+    requires { AreStored root.now (modules_of_entry entry.now) }
     ensures { Tells result out.old out.new (standing_data (entry_told root.now entry.now)) }
 {
     match entry {
@@ -45,6 +47,7 @@ fn end_entries(
     root: &RootSymbol<'_>,
     entries: &Vec<ResolvedSymbolDepEntry<'_>>,
 ) -> Result<(), AllocError>
+    requires { AreStored root.now (modules_of_entries entries.now.items) }
     ensures { Adds result out.old out.new (rest_tokens (map standing_data (map (entry_told root.now) entries.now.items))) }
 {
     for entry in entries {

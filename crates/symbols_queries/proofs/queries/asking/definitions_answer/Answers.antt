@@ -30,3 +30,6 @@ pub returns-in_ok-named-in-Ok-clause-given : goal.returns-in_ok-named-in-Ok-clau
 returns-in_ok-named-in-Ok-clause-given c =
     let s = c.args.symbol in
     paths_given (asks_definitions s) s (λ (paths : Forest). tells_definitions (definitions_in (leaves_in paths))) (λ graph specifier. refl) (λ graph specifier given is. is) (λ graph specifier v is. is) (λ is. let no : ⊥ = cc in no) c.args.root.now c.go_to_definitions.new.root c.args.module_id (tells_definitions (map defined_view c.in_ok-named-in-Ok.named.items)) c.in-Ok.ensures.answers.0 c.in-Ok.ensures.kept c.requires c.in-Ok.ensures.known.1 c.in-Ok.ensures.answers.1 (ap tells_definitions (c.in_ok-named-in-Ok.ensures ∙ c.in-Ok.ensures.answers.2)) (ap tells_definitions (c.in_ok-named-in-Ok.ensures ∙ c.in-Ok.ensures.listed)) (subst (λ told. All (Contains c.go_to_definitions.new.root.stored) (map module_of_defined told)) (sym c.in_ok-named-in-Ok.ensures) (definitions_there c.go_to_definitions.new.root (definitions_left c.in-Ok.definitions) c.in-Ok.ensures.stored))
+
+pub named_definitions-requires : goal.named_definitions-requires
+named_definitions-requires c = c.in-Ok.ensures.stored

@@ -22,3 +22,6 @@ returns-in_ok-named_entries-in-Ok-clause-given c =
     let told = c.in_ok-named_entries-in-Ok.ensures in
     let is = subst (IsDepAnswer c.args.root.now.graph (specifier_in c.args.root.now c.args.module_id) (reference_view c.args.dep.now)) (sym told) c.in-Ok.ensures.answers.1 in
     entries_given c.args.root.now c.resolve_symbol_dep.new.root c.args.module_id (reference_view c.args.dep.now) (map entry_view c.in_ok-named_entries-in-Ok.field-0.items) c.in-Ok.ensures.kept c.requires is (told ∙ c.in-Ok.ensures.listed) (subst (λ given. All (Contains c.resolve_symbol_dep.new.root.stored) (flat_map modules_of_standing given)) (sym told) (entries_there c.resolve_symbol_dep.new.root c.in-Ok.entries.items c.in-Ok.ensures.stored))
+
+pub named_entries-requires : goal.named_entries-requires
+named_entries-requires c = c.in-Ok.ensures.stored

@@ -16,3 +16,9 @@ pub returns-in_ok-named_exports-in-Ok-clause-given : goal.returns-in_ok-named_ex
 returns-in_ok-named_exports-in-Ok-clause-given c =
     let named = c.in_ok-named_exports-in-Ok.field-0 in
     exports_given c.args.root.now c.exports.new.root c.args.module_id (names_view c.in-Ok.found.resolved.entries) (map unresolved_told c.in-Ok.found.unresolved_specifiers.items) c.in-Ok.ensures.answers.0 (map export_view named.exports.items) (map statement_view named.unresolved.items) c.in-Ok.ensures.kept c.in-Ok.ensures.answers.1 (c.in-Ok.ensures.listed (specifier_in c.args.root.now c.args.module_id)) c.in_ok-named_exports-in-Ok.ensures.names c.in_ok-named_exports-in-Ok.ensures.statements
+
+pub named_exports-requires-clause-names : goal.named_exports-requires-clause-names
+named_exports-requires-clause-names c = c.in-Ok.ensures.answers.1.names_stored
+
+pub named_exports-requires-clause-statements : goal.named_exports-requires-clause-statements
+named_exports-requires-clause-statements c = c.in-Ok.ensures.answers.1.unresolved_stored

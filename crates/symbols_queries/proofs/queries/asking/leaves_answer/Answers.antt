@@ -30,3 +30,6 @@ pub returns-in_ok-named_ends-in-Ok-clause-given : goal.returns-in_ok-named_ends-
 returns-in_ok-named_ends-in-Ok-clause-given c =
     let s = c.args.symbol in
     paths_given (asks_leaves s) s (λ (paths : Forest). tells_leaves (leaves_in paths)) (λ graph specifier. refl) (λ graph specifier given is. is) (λ graph specifier v is. is) (λ is. let no : ⊥ = cc in no) c.args.root.now c.go_to_definitions_or_unresolveds.new.root c.args.module_id (tells_leaves (map end_view c.in_ok-named_ends-in-Ok.field-0.items)) c.in-Ok.ensures.answers.0 c.in-Ok.ensures.kept c.requires c.in-Ok.ensures.known.1 c.in-Ok.ensures.answers.1 (ap tells_leaves (c.in_ok-named_ends-in-Ok.ensures ∙ c.in-Ok.ensures.answers.2)) (ap tells_leaves (c.in_ok-named_ends-in-Ok.ensures ∙ c.in-Ok.ensures.listed)) (subst (λ told. All (Contains c.go_to_definitions_or_unresolveds.new.root.stored) (map module_of_leaf told)) (sym c.in_ok-named_ends-in-Ok.ensures) (ends_there c.go_to_definitions_or_unresolveds.new.root (ends_left c.in-Ok.ends) c.in-Ok.ensures.stored))
+
+pub named_ends-requires : goal.named_ends-requires
+named_ends-requires c = c.in-Ok.ensures.stored

@@ -30,3 +30,6 @@ pub returns-in_ok-named_paths-in-Ok-clause-given : goal.returns-in_ok-named_path
 returns-in_ok-named_paths-in-Ok-clause-given c =
     let s = c.args.symbol in
     paths_given (asks_paths s) s (λ (paths : Forest). tells_paths paths) (λ graph specifier. refl) (λ graph specifier given is. is) (λ graph specifier v is. is) (λ is. let no : ⊥ = cc in no) c.args.root.now c.find_definition_paths.new.root c.args.module_id (tells_paths (forest_view c.in_ok-named_paths-in-Ok.field-0.items)) (forest_told c.find_definition_paths.new.root c.in-Ok.paths.items) c.in-Ok.ensures.kept c.requires c.in-Ok.ensures.answers.has_symbol c.in-Ok.ensures.answers.are_paths (ap tells_paths c.in_ok-named_paths-in-Ok.ensures) (ap tells_paths (c.in_ok-named_paths-in-Ok.ensures ∙ c.in-Ok.ensures.listed)) (subst (λ told. All (Contains c.find_definition_paths.new.root.stored) (modules_of_forest told)) (sym c.in_ok-named_paths-in-Ok.ensures) (paths_there c.find_definition_paths.new.root c.in-Ok.paths.items c.in-Ok.ensures.answers.stored))
+
+pub named_paths-requires : goal.named_paths-requires
+named_paths-requires c = c.in-Ok.ensures.answers.stored

@@ -26,3 +26,6 @@ pub returns-in-Err-clause-value : goal.returns-in-Err-clause-value
 returns-in-Err-clause-value c =
     let told = tells_leaves (leaves_in (paths_from c.args.root.now.graph (specifier_in c.args.root.now c.args.module_id) c.args.symbol)) in
     refused_told c.tell_fault.result c.args.out.now c.tell_fault.new.out c.args.root.now c.go_to_definitions_or_unresolveds.new.root c.args.module_id c.args.symbol c.in-Err.fault told c.requires.widest c.requires.known c.in-Err.ensures.faults c.in-Err.ensures.enough c.tell_fault.ensures.told c.tell_fault.ensures.memory
+
+pub end_leaves-requires : goal.end_leaves-requires
+end_leaves-requires c = c.in-Ok.ensures.stored

@@ -26,3 +26,6 @@ pub returns-in-Err-clause-value : goal.returns-in-Err-clause-value
 returns-in-Err-clause-value c =
     let told = tells_paths (paths_from c.args.root.now.graph (specifier_in c.args.root.now c.args.module_id) c.args.symbol) in
     refused_told c.tell_fault.result c.args.out.now c.tell_fault.new.out c.args.root.now c.find_definition_paths.new.root c.args.module_id c.args.symbol c.in-Err.fault told c.requires.widest c.requires.known c.in-Err.ensures.faults c.in-Err.ensures.enough c.tell_fault.ensures.told c.tell_fault.ensures.memory
+
+pub end_paths-requires : goal.end_paths-requires
+end_paths-requires c = c.in-Ok.ensures.answers.stored

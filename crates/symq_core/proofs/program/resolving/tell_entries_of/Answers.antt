@@ -17,3 +17,6 @@ returns-in_ok-end_entries-in-Ok-clause-value c =
 
 pub returns-in-Err-clause-value : goal.returns-in-Err-clause-value
 returns-in-Err-clause-value c = no_success c.tell_fault.result c.in-Err.fault _ (c.in-Err.ensures.enough c.requires.widest c.requires.known) c.tell_fault.ensures.memory
+
+pub end_entries-requires : goal.end_entries-requires
+end_entries-requires c = c.in-Ok.ensures.stored
