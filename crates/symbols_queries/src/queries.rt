@@ -1,4 +1,4 @@
-//! One call for each question on a module, or for a list of them. Answers name modules by their
+//! Every question on a module by one call of a root, or a list of them. Answers name modules by their
 //! specifiers, so that they don't depend on what was asked before.
 
 mod answers;
@@ -9,7 +9,7 @@ mod paths;
 mod query;
 
 pub use answers::Answer;
-pub use asking::{answer, run};
+pub use asking::AnswerQueries;
 pub use deps::DeclDeps;
 pub use exports::{NamedExport, NamedExports, NamedStatement};
 pub use paths::{NamedDefinition, NamedEnd, NamedEntry, NamedLink, NamedPath, NamedUnresolved};

@@ -7,7 +7,7 @@ use deno_symbols::deps::{ResolveDepsMode, SymbolNodeDep};
 use deno_symbols::ids::SymbolId;
 use deno_symbols::info::SymbolsFault;
 use deno_symbols::queries::{
-    Answer, NamedEnd, NamedEntry, NamedExports, NamedPath, Query, answer, run,
+    Answer, AnswerQueries, NamedEnd, NamedEntry, NamedExports, NamedPath, Query,
 };
 use deno_symbols::root::{Limits, RootSymbol};
 use std::alloc::{AllocError, Global};
@@ -154,7 +154,7 @@ fn form(place: usize) -> &'static str {
 
 /// Whether the answer to one query, asked for alone, is right.
 fn answers_rightly(root: &mut RootSymbol<'_>, place: usize, query: &Query) -> bool {
-    match answer(root, query) {
+    match root.answer(query) {
         Ok(given) => is_right(place, &given),
         Err(_) => false,
     }
@@ -187,7 +187,7 @@ fn answers_again(root: &mut RootSymbol<'_>, queries: &[Query]) -> Checked {
         answers_backwards(root, queries).is_ok(),
         "the answers backwards"
     );
-    match run(root, queries) {
+    match root.run(queries) {
         Ok(answers) => are_right(&answers, queries.len()),
         Err(_) => Err("no answers"),
     }
@@ -251,7 +251,7 @@ fn tells_two(answer: &Answer<'_>) -> bool {
 }
 
 fn answers_two(root: &mut RootSymbol<'_>, query: &Query) -> bool {
-    match answer(root, query) {
+    match root.answer(query) {
         Ok(given) => tells_two(&given),
         Err(_) => false,
     }
@@ -288,7 +288,7 @@ fn tells_more_than_the_first(rt: HostRuntime) -> Checked {
 /// The second module is refused, and the first is stored.
 fn stops(root: &mut RootSymbol<'_>, queries: &[Query]) -> Checked {
     holds!(
-        matches!(run(root, queries), Err(SymbolsFault::TooManyModules)),
+        matches!(root.run(queries), Err(SymbolsFault::TooManyModules)),
         "the fault"
     );
     holds!(root.has_analyzed("b"), "b is stored");
@@ -331,7 +331,7 @@ fn tells_unknown_symbols(root: &mut RootSymbol<'_>) -> Checked {
             return Err("no memory");
         };
         let query = unknown(place, specifier);
-        if !matches!(answer(root, &query), Err(SymbolsFault::UnknownSymbol)) {
+        if !matches!(root.answer(&query), Err(SymbolsFault::UnknownSymbol)) {
             return Err(form(place));
         }
     }

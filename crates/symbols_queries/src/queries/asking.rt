@@ -203,55 +203,61 @@ fn answer_on<'a>(
     }
 }
 
-/// The answer to a query (own rule): the same whatever was asked before.
-///
-/// # Errors
-///
-/// `UnknownSymbol` exactly where the module has no such symbol, and then it alone is stored; else what
-/// storing a module refuses that the answer needs. Where that is the module that is asked, nothing
-/// changes; else what was stored stays.
-pub fn answer<'a>(root: &mut RootSymbol<'a>, query: &Query<'_>) -> Result<Answer<'a>, SymbolsFault>
-    ensures kept { HasGrown root.old root.new }
-    ensures answers { IfOk result (λ answer. query_answer root.old.graph (query_view query.now) ≡ Some (answer_view answer)) }
-    ensures means { IfOk result (λ answer. IsAnswerTo root.old.graph (query_view query.now) (answer_view answer)) }
-    ensures stored { IfOk result (λ answer. HasStoredFor root.new (query_view query.now) (answer_view answer)) }
-    ensures listed { (start : List ℕ) → AreListed root.old.graph start }
-    ensures faults { IfErr result (IsQueryFault root.old root.new (query_view query.now)) }
-    ensures enough { root.old.limits ≡ widest → IfErr result (λ fault. (fault ≡ OutOfMemory) ⊎ (fault ≡ UnknownSymbol)) }
-{
-    exports_are_listed(root);
-    match root.module_from_specifier(query.specifier()) {
-        Err(fault) => Err(fault),
-        Ok(None) => Ok(Answer::NoModule),
-        Ok(Some(module_id)) => answer_on(root, module_id, query),
-    }
+/// Every question on a module by one call of a root (own rule).
+pub trait AnswerQueries<'a> {
+    /// The answer to a query (own rule): the same whatever was asked before.
+    ///
+    /// # Errors
+    ///
+    /// `UnknownSymbol` exactly where the module has no such symbol, and then it alone is stored; else what
+    /// storing a module refuses that the answer needs. Where that is the module that is asked, nothing
+    /// changes; else what was stored stays.
+    fn answer(&mut self, query: &Query<'_>) -> Result<Answer<'a>, SymbolsFault>;
+
+    /// The answers to queries, in order, each the same whatever was asked before (own rule).
+    ///
+    /// # Errors
+    ///
+    /// The fault of the first query that has no answer, as `answer` gives it; the answers to those before
+    /// are dropped, and what they need is stored. What was stored stays.
+    fn run(&mut self, queries: &[Query<'_>]) -> Result<Vec<Answer<'a>>, SymbolsFault>;
 }
 
-/// The answers to queries, in order, each the same whatever was asked before (own rule).
-///
-/// # Errors
-///
-/// The fault of the first query that has no answer, as `answer` gives it; the answers to those before
-/// are dropped, and what they need is stored. What was stored stays.
-pub fn run<'a>(
-    root: &mut RootSymbol<'a>,
-    queries: &[Query<'_>],
-) -> Result<Vec<Answer<'a>>, SymbolsFault>
-    ensures kept { HasGrown root.old root.new }
-    ensures answers { IfOk result (λ answers. map (λ answer. Some (answer_view answer)) answers.items ≡ map (λ query. query_answer root.old.graph (query_view query)) queries.now) }
-    ensures means { IfOk result (λ answers. AllZip (λ query answer. IsAnswerTo root.old.graph (query_view query) (answer_view answer)) queries.now answers.items) }
-    ensures stored { IfOk result (λ answers. AllZip (λ query answer. HasStoredFor root.new (query_view query) (answer_view answer)) queries.now answers.items) }
-    ensures listed { (start : List ℕ) → AreListed root.old.graph start }
-    ensures faults { IfErr result (IsRunFault root.old root.new (map query_view queries.now)) }
-    ensures enough { root.old.limits ≡ widest → IfErr result (λ fault. (fault ≡ OutOfMemory) ⊎ (fault ≡ UnknownSymbol)) }
-{
-    exports_are_listed(root);
-    let mut answers = Vec::new(root.alloc());
-    for query in queries {
-        match answer(root, query) {
-            Err(fault) => return Err(fault),
-            Ok(given) => answers.push(given)?,
+impl<'a> AnswerQueries<'a> for RootSymbol<'a> {
+    fn answer(&mut self, query: &Query<'_>) -> Result<Answer<'a>, SymbolsFault>
+        ensures kept { HasGrown self.old self.new }
+        ensures answers { IfOk result (λ answer. query_answer self.old.graph (query_view query.now) ≡ Some (answer_view answer)) }
+        ensures means { IfOk result (λ answer. IsAnswerTo self.old.graph (query_view query.now) (answer_view answer)) }
+        ensures stored { IfOk result (λ answer. HasStoredFor self.new (query_view query.now) (answer_view answer)) }
+        ensures listed { (start : List ℕ) → AreListed self.old.graph start }
+        ensures faults { IfErr result (IsQueryFault self.old self.new (query_view query.now)) }
+        ensures enough { self.old.limits ≡ widest → IfErr result (λ fault. (fault ≡ OutOfMemory) ⊎ (fault ≡ UnknownSymbol)) }
+    {
+        exports_are_listed(self);
+        match self.module_from_specifier(query.specifier()) {
+            Err(fault) => Err(fault),
+            Ok(None) => Ok(Answer::NoModule),
+            Ok(Some(module_id)) => answer_on(self, module_id, query),
         }
     }
-    Ok(answers)
+
+    fn run(&mut self, queries: &[Query<'_>]) -> Result<Vec<Answer<'a>>, SymbolsFault>
+        ensures kept { HasGrown self.old self.new }
+        ensures answers { IfOk result (λ answers. map (λ answer. Some (answer_view answer)) answers.items ≡ map (λ query. query_answer self.old.graph (query_view query)) queries.now) }
+        ensures means { IfOk result (λ answers. AllZip (λ query answer. IsAnswerTo self.old.graph (query_view query) (answer_view answer)) queries.now answers.items) }
+        ensures stored { IfOk result (λ answers. AllZip (λ query answer. HasStoredFor self.new (query_view query) (answer_view answer)) queries.now answers.items) }
+        ensures listed { (start : List ℕ) → AreListed self.old.graph start }
+        ensures faults { IfErr result (IsRunFault self.old self.new (map query_view queries.now)) }
+        ensures enough { self.old.limits ≡ widest → IfErr result (λ fault. (fault ≡ OutOfMemory) ⊎ (fault ≡ UnknownSymbol)) }
+    {
+        exports_are_listed(self);
+        let mut answers = Vec::new(self.alloc());
+        for query in queries {
+            match self.answer(query) {
+                Err(fault) => return Err(fault),
+                Ok(given) => answers.push(given)?,
+            }
+        }
+        Ok(answers)
+    }
 }
