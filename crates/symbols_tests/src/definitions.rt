@@ -5,8 +5,7 @@ use crate::many::{OWNS, of_row};
 use deno_symbols::ids::{ModuleId, SymbolId};
 use deno_symbols::paths::{
     Definition, DefinitionOrUnresolved, DefinitionPathNode, DefinitionPathNodeResolved,
-    DefinitionUnresolvedKind, find_definition_paths, go_to_definitions,
-    go_to_definitions_or_unresolveds,
+    DefinitionUnresolvedKind, FindDefinitions,
 };
 use deno_symbols::root::RootSymbol;
 use std::alloc::Global;
@@ -55,7 +54,7 @@ const TWO_OWNERS: &str = r#"{"modules": [
 
 /// How many paths the first symbol of a module has.
 fn path_count(root: &mut RootSymbol<'_>, module_id: ModuleId) -> Option<usize> {
-    match find_definition_paths(root, module_id, first()) {
+    match root.find_definition_paths(module_id, first()) {
         Ok(paths) => Some(paths.len()),
         Err(_) => None,
     }
@@ -134,7 +133,7 @@ fn ends(alloc: Global, path: DefinitionPathNode<'_>) -> Checked {
 
 /// The last path of the first symbol of a module.
 fn last_path<'a>(root: &mut RootSymbol<'a>, module_id: ModuleId) -> Option<DefinitionPathNode<'a>> {
-    match find_definition_paths(root, module_id, first()) {
+    match root.find_definition_paths(module_id, first()) {
         Ok(mut paths) => paths.pop(),
         Err(_) => None,
     }
@@ -164,7 +163,7 @@ const PASSES_ON_N: &str = r#"
 /// How many definitions the first symbol of module 0 has, and the number of the module of the last.
 fn defining(root: &mut RootSymbol<'_>) -> Result<(usize, Option<u32>), &'static str> {
     let start = there!(module_id_of(root, "0"), "module 0");
-    let Ok(definitions) = go_to_definitions(root, start, first()) else {
+    let Ok(definitions) = root.go_to_definitions(start, first()) else {
         return Err("no answer");
     };
     let mut count: usize = 0;
@@ -214,7 +213,7 @@ fn is_lost(end: &DefinitionOrUnresolved<'_>, wanted: &str) -> bool {
 /// The last end of the paths of the first symbol of module 0 is in it, since a text leads nowhere.
 fn ends_open(root: &mut RootSymbol<'_>) -> Checked {
     let start = there!(module_id_of(root, "0"), "module 0");
-    let Ok(ends) = go_to_definitions_or_unresolveds(root, start, first()) else {
+    let Ok(ends) = root.go_to_definitions_or_unresolveds(start, first()) else {
         return Err("no answer");
     };
     let mut is_open = false;

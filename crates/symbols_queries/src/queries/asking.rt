@@ -27,9 +27,7 @@ use crate::queries::query::Query;
 use symbols_exports::exports::exports;
 use symbols_exports::laws::exports_are_listed;
 use symbols_nodes::deps::{ResolveDepsMode, SymbolNodeDep};
-use symbols_paths::paths::{
-    find_definition_paths, go_to_definitions, go_to_definitions_or_unresolveds, resolve_symbol_dep,
-};
+use symbols_paths::paths::FindDefinitions;
 use symbols_root::root::RootSymbol;
 use symbols_table::info::{ModuleInfoRef, SymbolsFault};
 use symbols_tree::ids::{ModuleId, SymbolId};
@@ -115,7 +113,7 @@ fn paths_answer<'a>(
     ensures faults { IfErr result (IsQuestionFault root.old root.new (specifier_in root.old module_id) (asks_paths symbol)) }
     ensures enough { root.old.limits ≡ widest → IfErr result (λ fault. (fault ≡ OutOfMemory) ⊎ (fault ≡ UnknownSymbol)) }
 {
-    match find_definition_paths(root, module_id, symbol) {
+    match root.find_definition_paths(module_id, symbol) {
         Err(fault) => Err(fault),
         Ok(paths) => Ok(Answer::Paths(named_paths(root.alloc(), root, paths)?)),
     }
@@ -133,7 +131,7 @@ fn definitions_answer<'a>(
     ensures faults { IfErr result (IsQuestionFault root.old root.new (specifier_in root.old module_id) (asks_definitions symbol)) }
     ensures enough { root.old.limits ≡ widest → IfErr result (λ fault. (fault ≡ OutOfMemory) ⊎ (fault ≡ UnknownSymbol)) }
 {
-    match go_to_definitions(root, module_id, symbol) {
+    match root.go_to_definitions(module_id, symbol) {
         Err(fault) => Err(fault),
         Ok(definitions) => {
             let named = named_definitions(root.alloc(), root, definitions)?;
@@ -154,7 +152,7 @@ fn leaves_answer<'a>(
     ensures faults { IfErr result (IsQuestionFault root.old root.new (specifier_in root.old module_id) (asks_leaves symbol)) }
     ensures enough { root.old.limits ≡ widest → IfErr result (λ fault. (fault ≡ OutOfMemory) ⊎ (fault ≡ UnknownSymbol)) }
 {
-    match go_to_definitions_or_unresolveds(root, module_id, symbol) {
+    match root.go_to_definitions_or_unresolveds(module_id, symbol) {
         Err(fault) => Err(fault),
         Ok(ends) => Ok(Answer::Leaves(named_ends(root.alloc(), root, ends)?)),
     }
@@ -172,7 +170,7 @@ fn entries_answer<'a>(
     ensures faults { IfErr result (IsQuestionFault root.old root.new (specifier_in root.old module_id) (asks_entries (reference_view dep.now))) }
     ensures enough { root.old.limits ≡ widest → IfErr result (λ fault. fault ≡ OutOfMemory) }
 {
-    match resolve_symbol_dep(root, module_id, dep) {
+    match root.resolve_symbol_dep(module_id, dep) {
         Err(fault) => Err(fault),
         Ok(entries) => Ok(Answer::Resolve(named_entries(root.alloc(), root, entries)?)),
     }

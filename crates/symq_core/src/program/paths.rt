@@ -13,9 +13,7 @@ use crate::program::finding::{end_definitions, end_leaves, end_paths};
 use crate::program::telling::tell_fault;
 use json::Writer;
 use std::alloc::AllocError;
-use symbols_paths::paths::{
-    find_definition_paths, go_to_definitions, go_to_definitions_or_unresolveds,
-};
+use symbols_paths::paths::FindDefinitions;
 use symbols_root::root::RootSymbol;
 use symbols_tree::ids::{ModuleId, SymbolId};
 
@@ -40,7 +38,7 @@ pub(crate) fn tell_paths(
     ensures kept { HasGrown root.old root.new }
     ensures value { Tells result out.old out.new (found_data (module_answer root.old.graph (specifier_in root.old module_id) (asks_paths symbol))) }
 {
-    match find_definition_paths(root, module_id, symbol) {
+    match root.find_definition_paths(module_id, symbol) {
         Ok(paths) => {
             begin_list(out, "paths")?;
             end_paths(out, root, &paths)?;
@@ -62,7 +60,7 @@ pub(crate) fn tell_definitions(
     ensures kept { HasGrown root.old root.new }
     ensures value { Tells result out.old out.new (found_data (module_answer root.old.graph (specifier_in root.old module_id) (asks_definitions symbol))) }
 {
-    match go_to_definitions(root, module_id, symbol) {
+    match root.go_to_definitions(module_id, symbol) {
         Ok(definitions) => {
             begin_list(out, "definitions")?;
             end_definitions(out, root, definitions)?;
@@ -84,7 +82,7 @@ pub(crate) fn tell_leaves(
     ensures kept { HasGrown root.old root.new }
     ensures value { Tells result out.old out.new (found_data (module_answer root.old.graph (specifier_in root.old module_id) (asks_leaves symbol))) }
 {
-    match go_to_definitions_or_unresolveds(root, module_id, symbol) {
+    match root.go_to_definitions_or_unresolveds(module_id, symbol) {
         Ok(ends) => {
             begin_list(out, "leaves")?;
             end_leaves(out, root, ends)?;

@@ -20,7 +20,7 @@ use crate::program::telling::{tell_fault, tell_text};
 use json::Writer;
 use std::alloc::AllocError;
 use symbols_nodes::deps::SymbolNodeDep;
-use symbols_paths::paths::{ResolvedSymbolDepEntry, resolve_symbol_dep};
+use symbols_paths::paths::{FindDefinitions, ResolvedSymbolDepEntry};
 use symbols_root::root::RootSymbol;
 use symbols_tree::ids::ModuleId;
 
@@ -68,7 +68,7 @@ fn tell_entries_of(
     ensures kept { HasGrown root.old root.new }
     ensures value { Tells result out.old out.new (answer_data (tells_entries (entries_of root.old.graph (specifier_in root.old module_id) (reference_view reference.now)))) }
 {
-    match resolve_symbol_dep(root, module_id, reference) {
+    match root.resolve_symbol_dep(module_id, reference) {
         Ok(entries) => {
             begin_list(out, "entries")?;
             end_entries(out, root, &entries)?;

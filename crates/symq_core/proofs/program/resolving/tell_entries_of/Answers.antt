@@ -11,7 +11,7 @@ use Rattle.symq_core.proofs.program.resolving.tell_entries_of.Goals as goal
 
 pub returns-in_ok-end_entries-in-Ok-clause-value : goal.returns-in_ok-end_entries-in-Ok-clause-value
 returns-in_ok-end_entries-in-Ok-clause-value c =
-    let tells : Tells c.end_object.result c.args.out.now c.end_object.new.self (answer_data (tells_entries (map (entry_told c.resolve_symbol_dep.new.root) c.in-Ok.entries.items))) =
+    let tells : Tells c.end_object.result c.args.out.now c.end_object.new.self (answer_data (tells_entries (map (entry_told c.resolve_symbol_dep.new.self) c.in-Ok.entries.items))) =
     on_ok_weaker c.end_object.result (λ e. then c.in_ok-begin_list-in-Ok.ensures (then c.in_ok-end_entries-in-Ok.ensures (record { before = c.end_object.ensures.room.0; tokens = e }))) c.end_object.ensures.ok in
     subst (λ (x : List EntryView). Tells c.end_object.result c.args.out.now c.end_object.new.self (answer_data (tells_entries x))) c.in-Ok.ensures.listed tells
 
