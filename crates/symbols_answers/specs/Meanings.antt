@@ -1,5 +1,5 @@
 -- What an answer says, by the definitions of exports, of paths and of the entries of a reference.
-use Rattle.std.specs.Prelude.{◌≡◌, ℕ, List, map, Option, Some, MatchOption}
+use Rattle.std.specs.Prelude.{◌≡◌, ◌≢◌, ℕ, List, map, flat_map, AllPairs, Option, Some, MatchOption}
 use Rattle.std.specs.Option.{option_map}
 use Rattle.symbols_syntax.specs.declared.ids.SymbolId.{SymbolId}
 use Rattle.symbols_syntax.specs.Graph.{GraphView}
@@ -9,13 +9,14 @@ use Rattle.symbols_table.specs.QualifiedNames.{qualified_name}
 use Rattle.symbols_root.specs.GraphModules.{changes_under, symbol_under}
 use Rattle.symbols_root.specs.TypesChains.{stands_for}
 use Rattle.symbols_exports.specs.Exports.{Entry, Statement, AreExports, AreUnresolved}
+use Rattle.symbols_exports.specs.PublicNames.{NameItem, exported_by, items_under}
 use Rattle.symbols_exports.specs.StarStatements.{statements_of, owned_of}
 use Rattle.symbols_exports.specs.Told.{told_export, told_statement}
 use Rattle.symbols_paths.specs.Trees.{Leaf, Forest, leaves_in, definitions_in}
 use Rattle.symbols_paths.specs.Answers.{ArePaths}
 use Rattle.symbols_paths.specs.DepAnswers.{EntryView, IsDepAnswer}
-use Rattle.symbols_answers.specs.Questions.{QuestionView, asks_module, asks_exports, asks_symbol, asks_name, asks_deps, asks_paths, asks_definitions, asks_leaves, asks_entries, QueryView}
-use Rattle.symbols_answers.specs.Answers.{AnswerView, tells_nothing, tells_module, tells_exports, tells_symbol, tells_name, tells_paths, tells_definitions, tells_leaves, tells_entries}
+use Rattle.symbols_answers.specs.Questions.{QuestionView, asks_module, asks_exports, asks_names, asks_symbol, asks_name, asks_deps, asks_paths, asks_definitions, asks_leaves, asks_entries, QueryView}
+use Rattle.symbols_answers.specs.Answers.{AnswerView, tells_nothing, tells_module, tells_exports, tells_names, tells_symbol, tells_name, tells_paths, tells_definitions, tells_leaves, tells_entries}
 use Rattle.symbols_answers.specs.QueryAnswers.{dependencies_told}
 
 -- the exports of a module and the statements that lead nowhere, in order, as they are told
@@ -25,6 +26,17 @@ pub record TellsExports (graph : GraphView) (specifier : List ℕ) (answer : Ans
   pub missed : List Statement
   pub are_unresolved : AreUnresolved (statements_of graph) specifier missed
   pub is : answer ≡ tells_exports (map (told_export graph specifier) entries) (map (told_statement graph) missed)
+
+-- the names that these exports give to the world: each without member, then with each that its symbol exports itself
+abbrev pub names_by : GraphView → List Entry → List NameItem
+names_by graph entries = flat_map (λ (entry : Entry). items_under entry.name (exported_by graph entry.owner entry.symbol)) entries
+
+-- so those of a module, by its exports, and none of them twice
+pub record TellsNames (graph : GraphView) (specifier : List ℕ) (answer : AnswerView) : Type 0 where
+  pub entries : List Entry
+  pub are_exports : AreExports (statements_of graph) (owned_of graph) specifier entries
+  pub once : AllPairs (λ (x y : NameItem). x ≢ y) (names_by graph entries)
+  pub is : answer ≡ tells_names (names_by graph entries)
 
 -- paths of a symbol, in the form in which they are told
 pub record TellsPaths (graph : GraphView) (specifier : List ℕ) (s : SymbolId) (told : Forest → AnswerView) (answer : AnswerView) : Type 0 where
@@ -38,10 +50,11 @@ pub record TellsEntries (graph : GraphView) (specifier : List ℕ) (reference : 
   pub are_entries : IsDepAnswer graph specifier reference entries
   pub is : answer ≡ tells_entries entries
 
--- what an answer to a question on the module of this specifier says: that module; its exports; of a name its symbol; of a symbol its name in full, and what its declarations depend on; its paths, the definitions at their ends, and all ends, from left to right; and the entries of a reference
+-- what an answer to a question on the module of this specifier says: that module; its exports; its public names; of a name its symbol; of a symbol its name in full, and what its declarations depend on; its paths, the definitions at their ends, and all ends, from left to right; and the entries of a reference
 abbrev pub IsModuleAnswer : GraphView → List ℕ → QuestionView → AnswerView → Type 0
 IsModuleAnswer graph specifier asks_module answer = answer ≡ tells_module specifier
 IsModuleAnswer graph specifier asks_exports answer = TellsExports graph specifier answer
+IsModuleAnswer graph specifier asks_names answer = TellsNames graph specifier answer
 IsModuleAnswer graph specifier (asks_symbol name) answer = answer ≡ tells_symbol (mapped_after (changes_under graph specifier) name)
 IsModuleAnswer graph specifier (asks_name s) answer = answer ≡ tells_name (qualified_name (symbol_under graph specifier) s)
 IsModuleAnswer graph specifier (asks_deps s mode) answer = Some answer ≡ option_map (dependencies_told mode) (symbol_under graph specifier s)

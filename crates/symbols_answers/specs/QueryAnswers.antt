@@ -10,12 +10,13 @@ use Rattle.symbols_table.specs.SymbolViews.{SymbolView}
 use Rattle.symbols_table.specs.QualifiedNames.{qualified_name}
 use Rattle.symbols_root.specs.TypesChains.{stands_for}
 use Rattle.symbols_root.specs.GraphModules.{changes_under, symbol_under}
+use Rattle.symbols_exports.specs.PublicNames.{public_names_of}
 use Rattle.symbols_exports.specs.Ways.{exports_told, unresolved_told_in}
 use Rattle.symbols_paths.specs.Trees.{Forest, leaves_in, definitions_in}
 use Rattle.symbols_paths.specs.Computed.{paths_of}
 use Rattle.symbols_paths.specs.DepAnswers.{entries_of}
-use Rattle.symbols_answers.specs.Questions.{QuestionView, asks_module, asks_exports, asks_symbol, asks_name, asks_deps, asks_paths, asks_definitions, asks_leaves, asks_entries, QueryView}
-use Rattle.symbols_answers.specs.Answers.{AnswerView, tells_nothing, tells_module, tells_exports, tells_symbol, tells_name, tells_deps, tells_paths, tells_definitions, tells_leaves, tells_entries}
+use Rattle.symbols_answers.specs.Questions.{QuestionView, asks_module, asks_exports, asks_names, asks_symbol, asks_name, asks_deps, asks_paths, asks_definitions, asks_leaves, asks_entries, QueryView}
+use Rattle.symbols_answers.specs.Answers.{AnswerView, tells_nothing, tells_module, tells_exports, tells_names, tells_symbol, tells_name, tells_deps, tells_paths, tells_definitions, tells_leaves, tells_entries}
 
 -- the paths to what a symbol of the module of this specifier is defined by
 abbrev pub paths_from : GraphView → List ℕ → SymbolId → Forest
@@ -33,6 +34,7 @@ told_of (Some symbol) told = Some told
 abbrev pub module_answer : GraphView → List ℕ → QuestionView → Option AnswerView
 module_answer graph specifier asks_module = Some (tells_module specifier)
 module_answer graph specifier asks_exports = Some (tells_exports (exports_told graph specifier) (unresolved_told_in graph specifier))
+module_answer graph specifier asks_names = Some (tells_names (public_names_of graph specifier))
 module_answer graph specifier (asks_symbol name) = Some (tells_symbol (mapped_after (changes_under graph specifier) name))
 module_answer graph specifier (asks_name s) = told_of (symbol_under graph specifier s) (tells_name (qualified_name (symbol_under graph specifier) s))
 module_answer graph specifier (asks_deps s mode) = option_map (dependencies_told mode) (symbol_under graph specifier s)

@@ -5,10 +5,11 @@ use Rattle.symbols_syntax.specs.Ids.{IdView}
 use Rattle.symbols_nodes.specs.declared.deps.dep.ResolveDepsMode.{ResolveDepsMode}
 use Rattle.symbols_nodes.specs.References.{Reference}
 
--- a question on a module: which it is; what it exports; which symbol a name stands for; of a symbol, what it is called in full, what its declarations depend on, the paths to what it is defined by, the definitions at their ends, and all their ends; and what a reference stands for
+-- a question on a module: which it is; what it exports; the names that it gives to the world; which symbol a name stands for; of a symbol, what it is called in full, what its declarations depend on, the paths to what it is defined by, the definitions at their ends, and all their ends; and what a reference stands for
 pub data QuestionView : Type 0 where
   asks_module : QuestionView
   asks_exports : QuestionView
+  asks_names : QuestionView
   asks_symbol : IdView → QuestionView
   asks_name : SymbolId → QuestionView
   asks_deps : SymbolId → ResolveDepsMode → QuestionView

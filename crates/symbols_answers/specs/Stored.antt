@@ -1,5 +1,5 @@
 -- Which modules are stored once a query is answered.
-use Rattle.std.specs.Prelude.{◌≡◌, ℕ, List, [], ◌∷◌, ◌++◌, map, flat_map, All, Contains, IfSome}
+use Rattle.std.specs.Prelude.{ℕ, List, [], ◌∷◌, ◌++◌, map, flat_map, All, Contains, IfSome}
 use Rattle.symbols_root.specs.Roots.{RootView}
 use Rattle.symbols_root.specs.TypesChains.{stands_for}
 use Rattle.symbols_exports.specs.Chains.{IsReached}
@@ -7,8 +7,8 @@ use Rattle.symbols_exports.specs.StarStatements.{statements_of}
 use Rattle.symbols_exports.specs.Told.{ToldExport, ToldStatement}
 use Rattle.symbols_paths.specs.Trees.{Defined, Leaf, definition, unresolved, Tree, Forest, leaf, link, none, more}
 use Rattle.symbols_paths.specs.DepAnswers.{EntryView, a_path, a_module}
-use Rattle.symbols_answers.specs.Questions.{QuestionView, asks_exports, QueryView}
-use Rattle.symbols_answers.specs.Answers.{AnswerView, tells_nothing, tells_module, tells_exports, tells_symbol, tells_name, tells_deps, tells_paths, tells_definitions, tells_leaves, tells_entries}
+use Rattle.symbols_answers.specs.Questions.{QuestionView, asks_module, asks_exports, asks_names, asks_symbol, asks_name, asks_deps, asks_paths, asks_definitions, asks_leaves, asks_entries, QueryView}
+use Rattle.symbols_answers.specs.Answers.{AnswerView, tells_nothing, tells_module, tells_exports, tells_names, tells_symbol, tells_name, tells_deps, tells_paths, tells_definitions, tells_leaves, tells_entries}
 
 -- ---- the modules that an answer names
 
@@ -41,11 +41,12 @@ abbrev pub modules_of_standing : EntryView → List (List ℕ)
 modules_of_standing (a_path t) = modules_of_tree t
 modules_of_standing (a_module specifier) = specifier ∷ []
 
--- of an answer those of all that it tells; a symbol, a name and dependencies name none
+-- of an answer those of all that it tells; public names, a symbol, a name and dependencies name none
 abbrev pub modules_told : AnswerView → List (List ℕ)
 modules_told tells_nothing = []
 modules_told (tells_module specifier) = specifier ∷ []
 modules_told (tells_exports exports statements) = flat_map modules_of_export exports ++ map referrer statements
+modules_told (tells_names names) = []
 modules_told (tells_symbol symbol) = []
 modules_told (tells_name name) = []
 modules_told (tells_deps deps) = []
@@ -56,10 +57,23 @@ modules_told (tells_entries entries) = flat_map modules_of_standing entries
 
 -- ---- what is stored
 
--- the module that a question is asked of is stored, for its exports each that is reached from it, and all that the answer names
+-- a question on what a module exports: its exports, or its public names
+abbrev pub IsOnExports : QuestionView → Type 0
+IsOnExports asks_module = ⊥
+IsOnExports asks_exports = Unit {0}
+IsOnExports asks_names = Unit {0}
+IsOnExports (asks_symbol name) = ⊥
+IsOnExports (asks_name s) = ⊥
+IsOnExports (asks_deps s mode) = ⊥
+IsOnExports (asks_paths s) = ⊥
+IsOnExports (asks_definitions s) = ⊥
+IsOnExports (asks_leaves s) = ⊥
+IsOnExports (asks_entries reference) = ⊥
+
+-- the module that a question is asked of is stored, for its exports and its public names each that is reached from it, and all that the answer names
 pub record HasStored (root : RootView) (specifier : List ℕ) (question : QuestionView) (answer : AnswerView) : Type 0 where
   pub asked : Contains root.stored specifier
-  pub reached : question ≡ asks_exports → (end : List ℕ) → IsReached (statements_of root.graph) specifier end → Contains root.stored end
+  pub reached : IsOnExports question → (end : List ℕ) → IsReached (statements_of root.graph) specifier end → Contains root.stored end
   pub named : All (Contains root.stored) (modules_told answer)
 
 -- the same of a query, by the module that its specifier stands for, if it stands for one

@@ -1,6 +1,6 @@
 -- The answers to questions, by what the calls of the library say.
 use Rattle.std.proofs.Common.{◌≡◌, ◌≢◌, ℕ, ◌<◌, ◌≤◌, ◌⊎◌, inl, inr, List, [], ◌∷◌, length, map, slice_get, Option, None, Some, option_map, refl, sym, ap, subst, ◌∙◌, arith}
-use Rattle.std.specs.Prelude.{All, Contains, IsSome, Result, Ok, Err, IfErr, string_bytes}
+use Rattle.std.specs.Prelude.{All, AllPairs, Contains, IsSome, Result, Ok, Err, IfErr, string_bytes}
 use Rattle.std.specs.Result.{IsErrAnd}
 use Rattle.std.proofs.lemmas.List.Elements.{All-nil, All-cons}
 use Rattle.std.proofs.lemmas.Option.{none-some}
@@ -26,6 +26,7 @@ use Rattle.symbols_root.specs.laws.Growing.{grown_not}
 use Rattle.symbols_root.specs.laws.StoredTables.{stored_symbol}
 use Rattle.symbols_exports.specs.Answers.{IsAnswer, IsFault, AreListed}
 use Rattle.symbols_exports.specs.Chains.{IsReached}
+use Rattle.symbols_exports.specs.PublicNames.{NameItem, IsNamesAnswer}
 use Rattle.symbols_exports.specs.StarStatements.{statements_of}
 use Rattle.symbols_exports.specs.Taking.{NameView}
 use Rattle.symbols_exports.specs.Told.{ToldExport, ToldStatement, told_name, told_number}
@@ -35,14 +36,14 @@ use Rattle.symbols_paths.specs.DepAnswers.{EntryView, IsDepAnswer, entries_of, I
 use Rattle.symbols_paths.specs.Needed.{IsNeeded}
 use Rattle.symbols_paths.specs.Trees.{Forest}
 use Rattle.symbols_paths.specs.Views.{named_in}
-use Rattle.symbols_answers.specs.Questions.{QuestionView, asks_module, asks_exports, asks_symbol, asks_name, asks_deps, asks_entries}
-use Rattle.symbols_answers.specs.Answers.{AnswerView, tells_module, tells_exports, tells_symbol, tells_name, tells_deps, tells_entries}
+use Rattle.symbols_answers.specs.Questions.{QuestionView, asks_module, asks_exports, asks_names, asks_symbol, asks_name, asks_deps, asks_entries}
+use Rattle.symbols_answers.specs.Answers.{AnswerView, tells_module, tells_exports, tells_names, tells_symbol, tells_name, tells_deps, tells_entries}
 use Rattle.symbols_answers.specs.QueryAnswers.{paths_from, dependencies_told, told_of, module_answer}
 use Rattle.symbols_answers.specs.Meanings.{TellsPaths, IsModuleAnswer}
-use Rattle.symbols_answers.specs.Stored.{modules_told, HasStored}
+use Rattle.symbols_answers.specs.Stored.{modules_told, IsOnExports, HasStored}
 use Rattle.symbols_queries.specs.Given.{IsGiven}
 use Rattle.symbols_queries.specs.QueryFaults.{IsNeededFor, IsAskedFor, IsNoSymbol, IsBrokenOff, IsQuestionFault}
-use Rattle.symbols_queries.proofs.Storing.{number_stored, still_there, reached_there, exports_there}
+use Rattle.symbols_queries.proofs.Storing.{number_stored, still_there, reached_stored, reached_there, exports_there}
 
 -- ---- a symbol of a stored module
 
@@ -85,9 +86,9 @@ no_refusal root specifier question f none_needed (inr is) = by is.needed f is.is
 
 -- ---- what is stored
 
--- where the exports aren't asked for
+-- where what the module exports isn't asked for
 abbrev IsOther : QuestionView → Type 0
-IsOther question = question ≡ asks_exports → ⊥
+IsOther question = IsOnExports question → ⊥
 
 pub stored_for : (old new : RootView) (module_id : ModuleId) (question : QuestionView) (given : AnswerView) → HasGrown old new → module_id.0 < length old.stored → IsOther question → All (Contains new.stored) (modules_told given) → HasStored new (specifier_in old module_id) question given
 stored_for old new module_id question given grown known other named = record { asked = still_there old new (specifier_in old module_id) grown (number_stored old module_id known); reached = λ is end w. absurd (other is); named = named }
@@ -98,7 +99,7 @@ pub module_given : (root : RootView) (module_id : ModuleId) (told : List ℕ) �
 module_given root module_id told known same = record {
   answers = ap (λ s. Some (tells_module s)) (sym same);
   means = ap tells_module same;
-  stored = stored_for root root module_id asks_module (tells_module told) (grown_not root) known (λ is. let no : ⊥ = cc in no)
+  stored = stored_for root root module_id asks_module (tells_module told) (grown_not root) known (λ is. is)
       (All-cons (Contains root.stored) told [] (subst (Contains root.stored) (sym same) (number_stored root module_id known)) (All-nil (Contains root.stored)));
 }
 
@@ -106,7 +107,7 @@ pub symbol_given : (root : RootView) (module_id : ModuleId) (name : IdView) (fou
 symbol_given root module_id name found known same = record {
   answers = ap (λ s. Some (tells_symbol s)) (sym same);
   means = ap tells_symbol same;
-  stored = stored_for root root module_id (asks_symbol name) (tells_symbol found) (grown_not root) known (λ is. let no : ⊥ = cc in no) (All-nil (Contains root.stored));
+  stored = stored_for root root module_id (asks_symbol name) (tells_symbol found) (grown_not root) known (λ is. is) (All-nil (Contains root.stored));
 }
 
 pub name_given : (root : RootView) (module_id : ModuleId) (table : Table) → module_id.0 < length root.stored → IsStoredTable root module_id table → (s : SymbolId) (name : Option (List ℕ)) → IsSome (symbol_in table s) → name ≡ qualified_name (symbol_in table) s → IsGiven root root (specifier_in root module_id) (asks_name s) (tells_name name)
@@ -117,7 +118,7 @@ name_given root module_id table known stored s name some same =
           told_some (symbol_under root.graph (specifier_in root module_id) s) (tells_name (qualified_name (symbol_under root.graph (specifier_in root module_id)) s)) (subst (λ (o : Option SymbolView). IsSome o) (stored_symbol root module_id table stored s) some)
           ∙ ap (λ n. Some (tells_name n)) (sym called);
       means = ap tells_name called;
-      stored = stored_for root root module_id (asks_name s) (tells_name name) (grown_not root) known (λ is. let no : ⊥ = cc in no) (All-nil (Contains root.stored));
+      stored = stored_for root root module_id (asks_name s) (tells_name name) (grown_not root) known (λ is. is) (All-nil (Contains root.stored));
     }
 
 pub unnamed_symbol : (root : RootView) (module_id : ModuleId) (table : Table) → IsStoredTable root module_id table → (s : SymbolId) (f : SymbolsFault) → IsNameFault (symbol_in table s) f → IsQuestionFault root root (specifier_in root module_id) (asks_name s) f
@@ -148,7 +149,7 @@ deps_given root module_id table known stored s mode symbol deps at same =
     record {
       answers = answers;
       means = sym answers;
-      stored = stored_for root root module_id (asks_deps s mode) (tells_deps deps) (grown_not root) known (λ is. let no : ⊥ = cc in no) (All-nil (Contains root.stored));
+      stored = stored_for root root module_id (asks_deps s mode) (tells_deps deps) (grown_not root) known (λ is. is) (All-nil (Contains root.stored));
     }
 
 pub deps_answered : (root : RootView) (module_id : ModuleId) (table : Table) → IsStoredTable root module_id table → (s : SymbolId) (mode : ResolveDepsMode) (symbol : Symbol) → Some symbol ≡ slice_get table.symbols s.0 → module_answer root.graph (specifier_in root module_id) (asks_deps s mode) ≢ None
@@ -184,6 +185,31 @@ exports_answered graph specifier = λ none_told. let no : ⊥ = cc in no
 pub exports_refused : (old new : RootView) (module_id : ModuleId) (f : SymbolsFault) (steps : ℕ) → module_id.0 < length old.stored → IsFault old new module_id f steps → IsQuestionFault old new (specifier_in old module_id) asks_exports f
 exports_refused old new module_id f steps known (inl is) = absurd (omega (arith, is.unknown, known))
 exports_refused old new module_id f steps known (inr is) = inr (record { has_answer = exports_answered old.graph (specifier_in old module_id); needed = is.needed; is_needed = is.is_reached; refused = is.refused })
+
+-- ---- public names
+
+pub names_given : (old new : RootView) (module_id : ModuleId) (names : List NameItem) → HasGrown old new → IsNamesAnswer old new module_id names → AllPairs (λ (x y : NameItem). x ≢ y) names → AreListed old.graph (specifier_in old module_id) → IsGiven old new (specifier_in old module_id) asks_names (tells_names names)
+names_given old new module_id names grown is once listed = record {
+  answers = ap (λ (xs : List NameItem). Some (tells_names xs)) (sym is.items_are);
+  means = record {
+    entries = exports_of old.graph (specifier_in old module_id);
+    are_exports = listed.are_exports;
+    once = subst (AllPairs (λ (x y : NameItem). x ≢ y)) is.items_are once;
+    is = ap tells_names is.items_are;
+  };
+  stored = record {
+    asked = still_there old new (specifier_in old module_id) grown (number_stored old module_id is.known);
+    reached = λ asked end w. reached_stored old new module_id is.reached grown.graph is.are_reached is.stored end w;
+    named = All-nil (Contains new.stored);
+  };
+}
+
+names_answered : (graph : GraphView) (specifier : List ℕ) → module_answer graph specifier asks_names ≢ None
+names_answered graph specifier = λ none_told. let no : ⊥ = cc in no
+
+pub names_refused : (old new : RootView) (module_id : ModuleId) (f : SymbolsFault) (steps : ℕ) → module_id.0 < length old.stored → IsFault old new module_id f steps → IsQuestionFault old new (specifier_in old module_id) asks_names f
+names_refused old new module_id f steps known (inl is) = absurd (omega (arith, is.unknown, known))
+names_refused old new module_id f steps known (inr is) = inr (record { has_answer = names_answered old.graph (specifier_in old module_id); needed = is.needed; is_needed = is.is_reached; refused = is.refused })
 
 -- ---- where a symbol is defined
 
@@ -225,7 +251,7 @@ pub entries_given : (old new : RootView) (module_id : ModuleId) (reference : Ref
 entries_given old new module_id reference given grown known is listed named = record {
   answers = ap (λ e. Some (tells_entries e)) (sym listed);
   means = record { entries = given; are_entries = is; is = refl };
-  stored = stored_for old new module_id (asks_entries reference) (tells_entries given) grown known (λ other. let no : ⊥ = cc in no) named;
+  stored = stored_for old new module_id (asks_entries reference) (tells_entries given) grown known (λ is. is) named;
 }
 
 pub entries_answered : (graph : GraphView) (specifier : List ℕ) (reference : Reference) → module_answer graph specifier (asks_entries reference) ≢ None

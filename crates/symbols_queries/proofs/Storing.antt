@@ -11,7 +11,7 @@ use Rattle.symbols_root.specs.Specifiers.{is_among}
 use Rattle.symbols_root.specs.Roots.{RootView, with_stored, all_stored, specifier_in}
 use Rattle.symbols_root.specs.laws.Growing.{grown_by_all}
 use Rattle.symbols_exports.specs.Answers.{IsAnswer}
-use Rattle.symbols_exports.specs.Chains.{IsReached}
+use Rattle.symbols_exports.specs.Chains.{IsReached, AreReached}
 use Rattle.symbols_exports.specs.StarStatements.{statements_of}
 use Rattle.symbols_exports.specs.Taking.{NameView}
 use Rattle.symbols_exports.specs.Told.{told_name, told_number, AreNumbered, IsNumbered, AllNumbered}
@@ -57,10 +57,13 @@ ends_stored root (m ∷ rest) =
     All-cons (λ (x : List ℕ × List ℕ). Contains (all_stored first (map end_of rest)).stored x.1) m rest (still_there first (all_stored first (map end_of rest)) m.1 (grown_by_all first (map end_of rest)) (stored_there root m.1)) (ends_stored first rest)
 
 -- each module that is reached
+pub reached_stored : (old new : RootView) (module_id : ModuleId) (reached : List (List ℕ × List ℕ)) → new.graph ≡ old.graph → AreReached (statements_of old.graph) (specifier_in old module_id) reached → new ≡ all_stored old (map end_of reached) → (end : List ℕ) → IsReached (statements_of new.graph) (specifier_in old module_id) end → Contains new.stored end
+reached_stored old new module_id reached same are_reached stored end leads =
+    let met = are_reached.reached end (subst (λ (g : GraphView). IsReached (statements_of g) (specifier_in old module_id) end) same leads) in
+    subst (λ (root : RootView). Contains root.stored end) (sym stored) (All-contains (λ (m : List ℕ × List ℕ). Contains (all_stored old (map end_of reached)).stored m.1) reached (met.0, end) (ends_stored old reached) met.1)
+
 pub reached_there : (old new : RootView) (module_id : ModuleId) (names : List NameView) (unresolved : List (ModuleId × List ℕ)) (steps : ℕ) → new.graph ≡ old.graph → IsAnswer old new module_id names unresolved steps → (end : List ℕ) → IsReached (statements_of new.graph) (specifier_in old module_id) end → Contains new.stored end
-reached_there old new module_id names unresolved steps same is end reached =
-    let met = is.are_reached.reached end (subst (λ (g : GraphView). IsReached (statements_of g) (specifier_in old module_id) end) same reached) in
-    subst (λ (root : RootView). Contains root.stored end) (sym is.stored) (All-contains (λ (m : List ℕ × List ℕ). Contains (all_stored old (map end_of is.reached)).stored m.1) is.reached (met.0, end) (ends_stored old is.reached) met.1)
+reached_there old new module_id names unresolved steps same is end leads = reached_stored old new module_id is.reached same is.are_reached is.stored end leads
 
 -- those that statements and exports name
 statements_there : (root : RootView) (statements : List (ModuleId × List ℕ)) → AreNumbered root statements → All (Contains root.stored) (map referrer (map (told_number root) statements))

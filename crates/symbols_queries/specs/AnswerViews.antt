@@ -5,12 +5,13 @@ use Rattle.std.specs.Global.{Global}
 use Rattle.symbols_nodes.specs.declared.deps.dep.ReferenceNamespace.{ReferenceNamespace}
 use Rattle.symbols_nodes.specs.declared.deps.dep.SymbolNodeDep.{SymbolNodeDep}
 use Rattle.symbols_nodes.specs.References.{Dependency, dependency_view}
+use Rattle.symbols_exports.specs.PublicNames.{name_item}
 use Rattle.symbols_exports.specs.Told.{ToldExport, ToldStatement}
 use Rattle.symbols_paths.specs.declared.paths.definition.DeclRef.{DeclRef}
 use Rattle.symbols_paths.specs.Trees.{NamedDecl, Defined, Missing, Leaf, definition, unresolved, Tree, Forest, leaf, link}
 use Rattle.symbols_paths.specs.Views.{star_of, reason_told, texts_of, forest_in}
 use Rattle.symbols_paths.specs.DepAnswers.{EntryView, a_path, a_module}
-use Rattle.symbols_answers.specs.Answers.{AnswerView, tells_nothing, tells_module, tells_exports, tells_symbol, tells_name, tells_deps, tells_paths, tells_definitions, tells_leaves, tells_entries}
+use Rattle.symbols_answers.specs.Answers.{AnswerView, tells_nothing, tells_module, tells_exports, tells_names, tells_symbol, tells_name, tells_deps, tells_paths, tells_definitions, tells_leaves, tells_entries}
 use Rattle.symbols_queries.specs.declared.queries.answers.Answer.{Answer}
 use Rattle.symbols_queries.specs.declared.queries.exports.NamedExport.{NamedExport}
 use Rattle.symbols_queries.specs.declared.queries.exports.NamedStatement.{NamedStatement}
@@ -79,6 +80,7 @@ abbrev pub answer_view : Answer → AnswerView
 answer_view Answer.NoModule = tells_nothing
 answer_view (Answer.Module specifier) = tells_module specifier.now
 answer_view (Answer.Exports named) = tells_exports (map export_view named.exports.items) (map statement_view named.unresolved.items)
+answer_view (Answer.Names names) = tells_names (map name_item names.items)
 answer_view (Answer.Symbol symbol) = tells_symbol symbol
 answer_view (Answer.Name name) = tells_name (option_map string_bytes name)
 answer_view (Answer.Deps deps) = tells_deps (map deps_view deps.items)

@@ -3,7 +3,7 @@ use Rattle.std.specs.Prelude.{string_bytes, String}
 use Rattle.std.specs.Global.{Global}
 use Rattle.symbols_syntax.specs.Ids.{id_view}
 use Rattle.symbols_nodes.specs.References.{reference_view}
-use Rattle.symbols_answers.specs.Questions.{QuestionView, asks_module, asks_exports, asks_symbol, asks_name, asks_deps, asks_paths, asks_definitions, asks_leaves, asks_entries, QueryView}
+use Rattle.symbols_answers.specs.Questions.{QuestionView, asks_module, asks_exports, asks_names, asks_symbol, asks_name, asks_deps, asks_paths, asks_definitions, asks_leaves, asks_entries, QueryView}
 use Rattle.symbols_queries.specs.declared.queries.query.Query.{Query}
 
 abbrev pub on : String Global → QuestionView → QueryView
@@ -12,6 +12,7 @@ on specifier question = record { specifier = string_bytes specifier; question = 
 abbrev pub query_view : Query → QueryView
 query_view (Query.Module specifier) = on specifier asks_module
 query_view (Query.Exports specifier) = on specifier asks_exports
+query_view (Query.Names specifier) = on specifier asks_names
 query_view (Query.Symbol specifier name) = on specifier (asks_symbol (id_view name))
 query_view (Query.Name specifier symbol) = on specifier (asks_name symbol)
 query_view (Query.Deps specifier symbol mode) = on specifier (asks_deps symbol mode)

@@ -10,7 +10,7 @@ use Rattle.symbols_exports.specs.Chains.{IsReached}
 use Rattle.symbols_exports.specs.StarStatements.{text_target, statements_of}
 use Rattle.symbols_root.specs.Growing.{HasGrown}
 use Rattle.symbols_paths.specs.Needed.{IsNeeded}
-use Rattle.symbols_answers.specs.Questions.{QuestionView, asks_module, asks_exports, asks_symbol, asks_name, asks_deps, asks_paths, asks_definitions, asks_leaves, asks_entries, QueryView}
+use Rattle.symbols_answers.specs.Questions.{QuestionView, asks_module, asks_exports, asks_names, asks_symbol, asks_name, asks_deps, asks_paths, asks_definitions, asks_leaves, asks_entries, QueryView}
 use Rattle.symbols_answers.specs.Answers.{AnswerView}
 use Rattle.symbols_answers.specs.QueryAnswers.{module_answer, query_answer}
 use Rattle.symbols_answers.specs.Stored.{HasStoredFor}
@@ -21,10 +21,11 @@ IsNeededFor graph specifier (id name) v = IsNeeded graph specifier v
 IsNeededFor graph specifier (qualified_id name parts) v = IsNeeded graph specifier v
 IsNeededFor graph specifier (import_type text parts) v = IsNeeded graph specifier v ⊎ ((k : List ℕ) × (text_target graph specifier text ≡ Some k) × IsNeeded graph k v)
 
--- the modules that a question on a module may need besides it: for its exports those that are reached from it, and for where something is defined those of the search
+-- the modules that a question on a module may need besides it: for its exports and its public names those that are reached from it, and for where something is defined those of the search
 abbrev pub IsAskedFor : GraphView → List ℕ → QuestionView → List ℕ → Type 0
 IsAskedFor graph specifier asks_module v = ⊥
 IsAskedFor graph specifier asks_exports v = IsReached (statements_of graph) specifier v
+IsAskedFor graph specifier asks_names v = IsReached (statements_of graph) specifier v
 IsAskedFor graph specifier (asks_symbol name) v = ⊥
 IsAskedFor graph specifier (asks_name s) v = ⊥
 IsAskedFor graph specifier (asks_deps s mode) v = ⊥

@@ -34,7 +34,7 @@ fn first() -> SymbolId {
 }
 
 /// What each query is about: its form, and the module that it is asked of.
-const FORMS: [(&str, &str); 10] = [
+const FORMS: [(&str, &str); 11] = [
     ("a module", "b"),
     ("exports", "a"),
     ("a symbol", "b"),
@@ -44,6 +44,7 @@ const FORMS: [(&str, &str); 10] = [
     ("definitions", "b"),
     ("leaves", "b"),
     ("a reference", "a"),
+    ("public names", "a"),
     ("no module", "absent"),
 ];
 
@@ -65,6 +66,7 @@ fn query(alloc: Global, place: usize, specifier: String) -> Result<Query<'static
         6 => Query::Definitions(specifier, first()),
         7 => Query::Leaves(specifier, first()),
         8 => Query::Resolve(specifier, reference(alloc)?),
+        9 => Query::Names(specifier),
         _ => Query::Module(specifier),
     })
 }
@@ -90,7 +92,8 @@ fn place_of(answer: &Answer<'_>) -> usize {
         Answer::Definitions(_) => 6,
         Answer::Leaves(_) => 7,
         Answer::Resolve(_) => 8,
-        Answer::NoModule => 9,
+        Answer::Names(_) => 9,
+        Answer::NoModule => 10,
     }
 }
 
@@ -133,6 +136,10 @@ fn tells_of_n(answer: &Answer<'_>) -> bool {
         },
         Answer::Resolve(entries) => match entries.first() {
             Some(NamedEntry::Path(NamedPath::Definition(definition))) => definition.module == "b",
+            _ => false,
+        },
+        Answer::Names(names) => match names.as_slice() {
+            [name] => name.name.as_str() == "n" && name.member.is_none(),
             _ => false,
         },
         Answer::NoModule => true,
@@ -237,7 +244,7 @@ const TWICE: &str =
     {"kind": "BindingIdent", "range": [0, 0], "sym": ["o", 1]}
 ]}}]}"#;
 
-/// Whether an answer tells of two exports, of two declarations that refer to one name each, or of two definitions.
+/// Whether an answer tells of two exports or names, of two declarations that refer to one name each, or of two definitions.
 fn tells_two(answer: &Answer<'_>) -> bool {
     match answer {
         Answer::Exports(named) => named.exports.len() == 2,
@@ -246,6 +253,7 @@ fn tells_two(answer: &Answer<'_>) -> bool {
             _ => false,
         },
         Answer::Definitions(definitions) => definitions.len() == 2,
+        Answer::Names(names) => names.len() == 2,
         _ => false,
     }
 }
@@ -277,7 +285,8 @@ fn tells_two_at(root: &mut RootSymbol<'_>, place: usize) -> Checked {
 fn tells_two_each(root: &mut RootSymbol<'_>) -> Checked {
     tells_two_at(root, 1)?;
     tells_two_at(root, 4)?;
-    tells_two_at(root, 6)
+    tells_two_at(root, 6)?;
+    tells_two_at(root, 9)
 }
 
 #[test]

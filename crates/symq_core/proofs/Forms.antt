@@ -3,7 +3,7 @@ use Rattle.std.proofs.Common.{◌≡◌, ◌<◌, List, [], ◌∷◌, length, N
 use Rattle.json.specs.declared.value.Value.{Value}
 use Rattle.symq_reader.specs.Plain.{items_data}
 use Rattle.symq_core.specs.ReferenceForms.{id_form, qualified_form, import_form, word_and_rest}
-use Rattle.symq_core.specs.Queries.{two_and_rest, module_question, exports_question, symbol_question, one_symbol, deps_question, resolve_question}
+use Rattle.symq_core.specs.Queries.{two_and_rest, module_question, exports_question, names_question, symbol_question, one_symbol, deps_question, resolve_question}
 
 pub two_short : {A : Type 0} (values : List (Value A)) → length values < 2 → two_and_rest (items_data values) ≡ None
 two_short [] h = refl
@@ -17,6 +17,10 @@ module_long (a ∷ values) h = refl
 pub exports_long : {A : Type 0} (values : List (Value A)) → 0 < length values → exports_question (items_data values) ≡ None
 exports_long [] h = absurd (omega arith)
 exports_long (a ∷ values) h = refl
+
+pub names_long : {A : Type 0} (values : List (Value A)) → 0 < length values → names_question (items_data values) ≡ None
+names_long [] h = absurd (omega arith)
+names_long (a ∷ values) h = refl
 
 pub symbol_short : {A : Type 0} (values : List (Value A)) → length values < 2 → symbol_question (items_data values) ≡ None
 symbol_short [] h = refl

@@ -1,15 +1,16 @@
 -- The JSON value of an answer.
 use Rattle.std.specs.Prelude.{ℕ, List, map, Option, Some, None, codes}
-use Rattle.serde_json.specs.Data.{Data, null, number, unsigned, string, array, object, no_items, item, no_members, member}
+use Rattle.serde_json.specs.Data.{Data, null, number, unsigned, string, array, object, Items, no_items, item, no_members, member}
 use Rattle.serde_json.specs.View.{items_of}
 use Rattle.symbols_syntax.specs.declared.ids.SymbolId.{SymbolId}
 use Rattle.symbols_syntax.specs.Graph.{GraphView}
 use Rattle.symbols_nodes.specs.declared.deps.dep.ReferenceNamespace.{ReferenceNamespace}
 use Rattle.symbols_nodes.specs.declared.deps.dep.ReferenceNamespace.TheVariants as In
 use Rattle.symbols_nodes.specs.References.{Reference, id, qualified_id, import_type, Dependency}
+use Rattle.symbols_exports.specs.PublicNames.{NameItem}
 use Rattle.symbols_exports.specs.Told.{ToldExport, ToldStatement}
 use Rattle.symbols_answers.specs.Questions.{QueryView}
-use Rattle.symbols_answers.specs.Answers.{AnswerView, tells_nothing, tells_module, tells_exports, tells_symbol, tells_name, tells_deps, tells_paths, tells_definitions, tells_leaves, tells_entries}
+use Rattle.symbols_answers.specs.Answers.{AnswerView, tells_nothing, tells_module, tells_exports, tells_names, tells_symbol, tells_name, tells_deps, tells_paths, tells_definitions, tells_leaves, tells_entries}
 use Rattle.symbols_answers.specs.QueryAnswers.{query_answer}
 use Rattle.symq_core.specs.TextsData.{texts_data}
 use Rattle.symq_core.specs.PathData.{defined_data, leaf_data, forest_items, standing_data}
@@ -32,6 +33,14 @@ entry_data entry =
     (member (codes "module") (string entry.owner)
     (member (codes "name") (string entry.name)
     (member (codes "symbol") (number (unsigned entry.symbol.0)) no_members))))
+
+-- a public name: the exported name, and behind it the member, if it has one
+abbrev pub member_items : Option (List ℕ) → Items
+member_items None = no_items
+member_items (Some member) = item (string member) no_items
+
+abbrev pub public_name_data : NameItem → Data
+public_name_data public = array (item (string public.name) (member_items public.member))
 
 abbrev pub symbol_number : Option SymbolId → Data
 symbol_number None = null
@@ -64,6 +73,7 @@ abbrev pub answer_data : AnswerView → Data
 answer_data tells_nothing = null
 answer_data (tells_module specifier) = object (member (codes "module") (string specifier) no_members)
 answer_data (tells_exports entries unresolved) = object (member (codes "exports") (array (items_of (map entry_data entries))) (member (codes "unresolved") (statements_data unresolved) no_members))
+answer_data (tells_names names) = object (member (codes "names") (array (items_of (map public_name_data names))) no_members)
 answer_data (tells_symbol found) = object (member (codes "symbol") (symbol_number found) no_members)
 answer_data (tells_name name) = object (member (codes "name") (name_text name) no_members)
 answer_data (tells_deps lists) = object (member (codes "deps") (array (items_of (map dependencies_data lists))) no_members)

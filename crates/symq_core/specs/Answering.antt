@@ -7,7 +7,7 @@ use Rattle.symbols_table.specs.declared.info.fault.SymbolsFault.{SymbolsFault}
 use Rattle.symbols_table.specs.declared.info.fault.SymbolsFault.TheVariants as fault
 use Rattle.symbols_table.specs.Modules.{Table, symbol_in, mapped_in}
 use Rattle.symbols_table.specs.QualifiedNames.{qualified_name}
-use Rattle.symbols_answers.specs.Questions.{QuestionView, asks_module, asks_exports, asks_symbol, asks_name, asks_deps, asks_paths, asks_definitions, asks_leaves, asks_entries, QueryView}
+use Rattle.symbols_answers.specs.Questions.{QuestionView, asks_module, asks_exports, asks_names, asks_symbol, asks_name, asks_deps, asks_paths, asks_definitions, asks_leaves, asks_entries, QueryView}
 use Rattle.symbols_answers.specs.Answers.{AnswerView, tells_module, tells_symbol, tells_name}
 use Rattle.symbols_answers.specs.QueryAnswers.{dependencies_told, told_of}
 use Rattle.symq_core.specs.declared.program.references.AskedReference.{AskedReference}
@@ -31,6 +31,7 @@ asked_view (Asked.ImportType text parts) = import_type (string_bytes text) (map 
 
 abbrev pub question_view : Question → QuestionView
 question_view Question.Exports = asks_exports
+question_view Question.Names = asks_names
 question_view (Question.Paths symbol) = asks_paths symbol
 question_view (Question.Definitions symbol) = asks_definitions symbol
 question_view (Question.Leaves symbol) = asks_leaves symbol

@@ -6,7 +6,7 @@ use Rattle.serde_json.specs.Find.{as_array, as_str}
 use Rattle.symbols_syntax.specs.declared.ids.SymbolId.{SymbolId}
 use Rattle.symbols_nodes.specs.declared.deps.dep.ResolveDepsMode.{ResolveDepsMode}
 use Rattle.symbols_nodes.specs.declared.deps.dep.ResolveDepsMode.TheVariants.{TypesOnly, TypesAndExpressions}
-use Rattle.symbols_answers.specs.Questions.{QuestionView, asks_module, asks_exports, asks_symbol, asks_name, asks_deps, asks_paths, asks_definitions, asks_leaves, asks_entries, QueryView}
+use Rattle.symbols_answers.specs.Questions.{QuestionView, asks_module, asks_exports, asks_names, asks_symbol, asks_name, asks_deps, asks_paths, asks_definitions, asks_leaves, asks_entries, QueryView}
 use Rattle.symq_reader.specs.UnderKeys.{as_u32}
 use Rattle.symq_core.specs.ReferenceForms.{read_id, reference_of}
 
@@ -19,6 +19,11 @@ module_question _ = None
 abbrev pub exports_question : Items → Option QuestionView
 exports_question no_items = Some asks_exports
 exports_question _ = None
+
+-- the form `["names", specifier]`, behind its specifier
+abbrev pub names_question : Items → Option QuestionView
+names_question no_items = Some asks_names
+names_question _ = None
 
 -- the form `["symbol", specifier, name, scope]`, behind its specifier
 abbrev pub symbol_question : Items → Option QuestionView
@@ -60,7 +65,7 @@ deps_question _ = None
 
 -- the forms by their words
 abbrev pub forms : List (List ℕ × (Items → Option QuestionView))
-forms = (codes "module", module_question) ∷ (codes "exports", exports_question) ∷ (codes "symbol", symbol_question) ∷ (codes "name", name_question) ∷ (codes "deps", deps_question) ∷ (codes "paths", paths_question) ∷ (codes "definitions", definitions_question) ∷ (codes "leaves", leaves_question) ∷ (codes "resolve", resolve_question) ∷ []
+forms = (codes "module", module_question) ∷ (codes "exports", exports_question) ∷ (codes "names", names_question) ∷ (codes "symbol", symbol_question) ∷ (codes "name", name_question) ∷ (codes "deps", deps_question) ∷ (codes "paths", paths_question) ∷ (codes "definitions", definitions_question) ∷ (codes "leaves", leaves_question) ∷ (codes "resolve", resolve_question) ∷ []
 
 abbrev pub question_named : List ℕ → Items → Option QuestionView
 question_named word items = option_and_then (λ form. form.1 items) (find (λ form. bytes_eq word form.0) forms)

@@ -9,6 +9,7 @@ mod fault;
 mod finding;
 mod lines;
 mod memory;
+mod names;
 mod paths;
 mod query;
 mod references;

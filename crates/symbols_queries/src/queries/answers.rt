@@ -3,6 +3,7 @@
 use crate::queries::deps::DeclDeps;
 use crate::queries::exports::NamedExports;
 use crate::queries::paths::{NamedDefinition, NamedEnd, NamedEntry, NamedPath};
+use symbols_exports::exports::PublicName;
 use symbols_tree::ids::SymbolId;
 
 /// What a query is answered with: one variant for each, and one where the specifier stands for no
@@ -15,6 +16,8 @@ pub enum Answer<'a> {
     Module(&'a str),
     /// What the module exports.
     Exports(NamedExports<'a>),
+    /// The names that the module gives to the world.
+    Names(Vec<PublicName>),
     /// The symbol that the name stands for, if it stands for one.
     Symbol(Option<SymbolId>),
     /// What the symbol is called in full, if it has a name.

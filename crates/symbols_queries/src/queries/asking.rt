@@ -10,7 +10,7 @@ ghost use Rattle.symbols_root.specs.Roots.{widest, specifier_in};
 ghost use Rattle.symbols_root.specs.GraphModules.{changes_under};
 ghost use Rattle.symbols_root.specs.Growing.{HasGrown};
 ghost use Rattle.symbols_exports.specs.Answers.{AreListed};
-ghost use Rattle.symbols_answers.specs.Questions.{asks_exports, asks_name, asks_deps, asks_paths, asks_definitions, asks_leaves, asks_entries};
+ghost use Rattle.symbols_answers.specs.Questions.{asks_exports, asks_names, asks_name, asks_deps, asks_paths, asks_definitions, asks_leaves, asks_entries};
 ghost use Rattle.symbols_answers.specs.QueryAnswers.{query_answer};
 ghost use Rattle.symbols_answers.specs.Meanings.{IsAnswerTo};
 ghost use Rattle.symbols_answers.specs.Stored.{HasStoredFor};
@@ -24,7 +24,7 @@ use crate::queries::deps::symbol_deps;
 use crate::queries::exports::{named_exports, specifier_of};
 use crate::queries::paths::{named_definitions, named_ends, named_entries, named_paths};
 use crate::queries::query::Query;
-use symbols_exports::exports::exports;
+use symbols_exports::exports::{exports, public_names};
 use symbols_exports::laws::exports_are_listed;
 use symbols_nodes::deps::{ResolveDepsMode, SymbolNodeDep};
 use symbols_paths::paths::FindDefinitions;
@@ -47,6 +47,23 @@ fn exports_answer<'a>(
     match exports(root, module_id) {
         Err(fault) => Err(fault),
         Ok(found) => Ok(Answer::Exports(named_exports(root.alloc(), root, found)?)),
+    }
+}
+
+/// The names that a stored module gives to the world.
+fn names_answer<'a>(
+    root: &mut RootSymbol<'a>,
+    module_id: ModuleId,
+) -> Result<Answer<'a>, SymbolsFault>
+    requires { module_id.0 < length root.old.stored }
+    ensures kept { HasGrown root.old root.new }
+    ensures given { IfOk result (λ answer. IsGiven root.old root.new (specifier_in root.old module_id) asks_names (answer_view answer)) }
+    ensures faults { IfErr result (IsQuestionFault root.old root.new (specifier_in root.old module_id) asks_names) }
+    ensures enough { root.old.limits ≡ widest → IfErr result (λ fault. fault ≡ OutOfMemory) }
+{
+    match public_names(root, module_id) {
+        Err(fault) => Err(fault),
+        Ok(names) => Ok(Answer::Names(names)),
     }
 }
 
@@ -191,6 +208,7 @@ fn answer_on<'a>(
     match query {
         Query::Module(_) => Ok(Answer::Module(specifier_of(root, module_id))),
         Query::Exports(_) => exports_answer(root, module_id),
+        Query::Names(_) => names_answer(root, module_id),
         Query::Symbol(_, id) => Ok(Answer::Symbol(mapped_symbol(root, module_id, id))),
         Query::Name(_, symbol) => name_answer(root, module_id, *symbol),
         Query::Deps(_, symbol, mode) => deps_answer(root, module_id, *symbol, *mode),

@@ -14,6 +14,8 @@ pub enum Query<'r> {
     Module(String),
     /// What it exports, and which of its `export *` lead to no module.
     Exports(String),
+    /// The names that it gives to the world.
+    Names(String),
     /// The symbol that a name stands for in it.
     Symbol(String, Id),
     /// What a symbol of it is called in full.
@@ -38,6 +40,7 @@ impl Query<'_> {
         match self {
             Query::Module(specifier)
             | Query::Exports(specifier)
+            | Query::Names(specifier)
             | Query::Symbol(specifier, _)
             | Query::Name(specifier, _)
             | Query::Deps(specifier, _, _)

@@ -20,6 +20,7 @@ ghost use Rattle.symq_core.specs.Telling.{Tells};
 
 use crate::program::dependencies::tell_deps;
 use crate::program::exporting::tell_exports;
+use crate::program::names::tell_public_names;
 use crate::program::paths::{tell_definitions, tell_leaves, tell_paths};
 use crate::program::query::{Query, Question, TableQuestion, read_query};
 use crate::program::resolving::tell_entries;
@@ -122,6 +123,7 @@ fn tell_query(
     };
     match &query.question {
         Question::Exports => tell_exports_of(out, root, module_id),
+        Question::Names => tell_public_names(out, root, module_id),
         Question::Paths(symbol) => tell_paths(out, root, module_id, *symbol),
         Question::Definitions(symbol) => tell_definitions(out, root, module_id, *symbol),
         Question::Leaves(symbol) => tell_leaves(out, root, module_id, *symbol),

@@ -2,7 +2,7 @@
 
 ghost use Rattle.std.specs.Prelude.{◌≡◌, option_map, IfOk};
 ghost use Rattle.symq_reader.specs.Plain.{data_of, items_data};
-ghost use Rattle.symq_core.specs.Queries.{query_of, parts_of_query, module_question, exports_question, symbol_question, one_symbol, name_question, paths_question, definitions_question, leaves_question, mode_named, deps_question, resolve_question};
+ghost use Rattle.symq_core.specs.Queries.{query_of, parts_of_query, module_question, exports_question, names_question, symbol_question, one_symbol, name_question, paths_question, definitions_question, leaves_question, mode_named, deps_question, resolve_question};
 ghost use Rattle.symq_core.specs.Answering.{question_view, query_view};
 
 use crate::program::references::{AskedReference, read_id, read_reference};
@@ -31,6 +31,8 @@ pub(crate) enum TableQuestion {
 pub(crate) enum Question {
     /// What it exports.
     Exports,
+    /// The names that it gives to the world.
+    Names,
     /// The paths to where a symbol of it is defined.
     Paths(SymbolId),
     /// The definitions at the ends of these paths.
@@ -79,6 +81,17 @@ fn exports_question(items: &[Value<'_>]) -> Option<Question>
 {
     match items {
         [] => Some(Question::Exports),
+        _ => None,
+    }
+}
+
+/// The items behind the word `names` and a specifier: none.
+#[tactic(auto, using(crate::proofs::Forms::names_long))]
+fn names_question(items: &[Value<'_>]) -> Option<Question>
+    ensures { option_map question_view result ≡ names_question (items_data items.now) }
+{
+    match items {
+        [] => Some(Question::Names),
         _ => None,
     }
 }
@@ -184,6 +197,7 @@ pub(crate) fn read_query<'a>(
     let question = match word {
         "module" => module_question(items),
         "exports" => exports_question(items),
+        "names" => names_question(items),
         "symbol" => symbol_question(alloc, items)?,
         "name" => name_question(items),
         "deps" => deps_question(items),

@@ -21,6 +21,18 @@ returns-in-Exports-clause-value c =
     let gives = subst (λ (id : Option ModuleId). option_map (specifier_under root) id ≡ option_map (λ (s : List ℕ). Some s) stands) c.in-Ok-Some.field-0-is c.in-Ok-Some.ensures.gives in
     module_stands c.tell_exports_of.result c.args.out.now c.tell_exports_of.new.out graph (query_view c.args.query.now) root c.in-Ok-Some.module_id same gives (rw c.in-Exports.is c.tell_exports_of.ensures.value)
 
+pub returns-in-Names-clause-kept : goal.returns-in-Names-clause-kept
+returns-in-Names-clause-kept c = grown_on c.in-Ok-Some.ensures.kept c.tell_public_names.ensures.kept
+
+pub returns-in-Names-clause-value : goal.returns-in-Names-clause-value
+returns-in-Names-clause-value c =
+    let graph = c.args.root.now.graph in
+    let root : RootView = c.module_from_specifier.new.self in
+    let stands : Option (List ℕ) = stands_for graph c.args.query.now.specifier.now in
+    let same : root.graph ≡ graph = c.in-Ok-Some.ensures.kept.graph in
+    let gives = subst (λ (id : Option ModuleId). option_map (specifier_under root) id ≡ option_map (λ (s : List ℕ). Some s) stands) c.in-Ok-Some.field-0-is c.in-Ok-Some.ensures.gives in
+    module_stands c.tell_public_names.result c.args.out.now c.tell_public_names.new.out graph (query_view c.args.query.now) root c.in-Ok-Some.module_id same gives (rw c.in-Names.is c.tell_public_names.ensures.value)
+
 pub returns-in-Paths-clause-kept : goal.returns-in-Paths-clause-kept
 returns-in-Paths-clause-kept c = grown_on c.in-Ok-Some.ensures.kept c.tell_paths.ensures.kept
 
