@@ -46,7 +46,7 @@ class Asking:
         found = []
         asked = [module.specifier for module in self.raw.modules] + [source for source, _ in self.raw.redirects]
         for specifier in asked + (['absent'] if self.rng.random() < 0.3 else []):
-            found += [['module', specifier], ['exports', specifier]]
+            found += [['module', specifier], ['exports', specifier], ['names', specifier]]
             module = self.graph.stands_for(specifier)
             if module is None:
                 found += [['paths', specifier, 0], ['symbol', specifier, 'a', 1]]

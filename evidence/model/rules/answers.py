@@ -53,6 +53,19 @@ def exports_value(root, module):
             'unresolved': [[it.specifier, text] for it, text in unresolved]}
 
 
+# constructors and index signatures, which have no names
+NAMELESS = ('%%dg_ctor%%', '%%dg_index%%')
+
+
+def names_value(root, module):
+    """Each exported name, and behind it each name that its symbol exports itself."""
+    found = []
+    for name, it in exports(root, module)[0].items():
+        members = [member for member in it.module.table.symbols[it.symbol].exports if member not in NAMELESS]
+        found += [[name]] + [[name, member] for member in members]
+    return {'names': found}
+
+
 def dependencies_value(symbol, mode):
     return {'deps': [[[reference_value(reference), namespace]
                       for reference, namespace in declaration.dependencies(mode == 'all')]
@@ -69,6 +82,8 @@ def answer(root: Root, query: Query) -> str:
         return text_of({'module': module.specifier})
     if form == 'exports':
         return text_of(exports_value(root, module))
+    if form == 'names':
+        return text_of(names_value(root, module))
     if form == 'symbol':
         return text_of({'symbol': module.table.names.get(asked)})
     if form == 'resolve':

@@ -55,7 +55,7 @@ def _reference(value) -> tuple:
 
 
 # by form, how its items behind the specifier are read
-FORMS = {'module': (), 'exports': (), 'symbol': (_text, _number), 'name': (_number,), 'deps': (_number, _mode),
+FORMS = {'module': (), 'exports': (), 'names': (), 'symbol': (_text, _number), 'name': (_number,), 'deps': (_number, _mode),
          'paths': (_number,), 'definitions': (_number,), 'leaves': (_number,), 'resolve': (_reference,)}
 
 
