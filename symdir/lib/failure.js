@@ -14,3 +14,9 @@ export class Failure extends Error {
 export function fileFailure(file, what, error) {
   return new Failure(`${file} can't be ${what} (${/** @type {any} */ (error).code})`);
 }
+
+/** @param {unknown} error of the operating system, or a fault of this program @returns {string} its code, or where it comes from */
+export function reasonOf(error) {
+  const { code, stack } = /** @type {NodeJS.ErrnoException} */ (error);
+  return code ?? String(stack);
+}

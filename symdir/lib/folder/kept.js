@@ -34,15 +34,16 @@ function cacheFolder() {
   return path.join(os.homedir(), platform === 'darwin' ? 'Library/Caches' : '.cache', 'symdir');
 }
 
-/** @param {string} version of TypeScript @returns {string} where its compiled form is kept, for this version of Node */
-export function compiledFile(version) {
-  return path.join(cacheFolder(), `typescript-${version}-${process.version}.compiled`);
+/** @param {import('../typescript.js').Found} found @returns {string} where what is made of it is kept for this version of Node, without an ending */
+export function madeOf({ file, version }) {
+  const { size, mtimeMs } = statSync(file);
+  return path.join(cacheFolder(), `typescript-${version}-${process.version}-${hashOf(JSON.stringify([file, size, mtimeMs]))}`);
 }
 
 /** @returns {string} changes with what makes of a text what is kept */
 function maker() {
   const folder = fileURLToPath(new URL('../tree/', import.meta.url));
-  const files = [...readdirSync(folder).sort().map((it) => path.join(folder, it)), fileURLToPath(new URL('./worker.js', import.meta.url))];
+  const files = [...readdirSync(folder).sort().map((it) => path.join(folder, it)), fileURLToPath(new URL('./parse.js', import.meta.url))];
   return hashOf(files.map((it) => readFileSync(it, 'utf8')).join(''));
 }
 

@@ -7,7 +7,7 @@ import { findTypeScript } from '../typescript.js';
 import { Configs } from './configs.js';
 import { sourcesOf } from './endings.js';
 import { Files } from './files.js';
-import { Kept, compiledFile, hashOf } from './kept.js';
+import { Kept, hashOf, madeOf } from './kept.js';
 import { packageFile } from './packages.js';
 import { Pool } from './pool.js';
 import { Resolver } from './resolve.js';
@@ -77,12 +77,9 @@ export class Sources {
 
   /** Reads the modules of the folder, and then what they lead to. */
   async read() {
-    const { typescript, compiled, kept } = this.start();
-    const pool = new Pool({ typescript, compiled, bodies: this.reading.bodies, ambient: this.reading.ambient });
+    const { pool, kept } = this.start();
     let isNew = false;
     try {
-      // a thread takes a while to start, and meanwhile the files are listed
-      if (!kept?.modules.size) pool.start(1);
       let wanted = this.files.code().filter((it) => this.reading.javascript || !isJavaScript(it) || !this.hasTypes(it));
       this.unread.push(...this.files.unread.map((file) => ({ file: this.files.below(file), error: 'EACCES' })));
       while (wanted.length > 0) {
@@ -90,24 +87,22 @@ export class Sources {
         isNew ||= parsed > 0;
         wanted = this.resolveAll(wanted);
       }
-    } finally {
-      const closed = pool.close();
-      this.keep = () => closed;
+    } catch (error) {
+      await pool.close();
+      throw error;
     }
-    if (this.reading.cache && (isNew || kept?.modules.size !== this.modules.size)) {
-      const { keep } = this;
-      this.keep = async () => {
-        await Promise.all([keep(), kept?.write(new Map([...this.modules.values()].map((it) => [it.file, it.parsed])))]);
-      };
-    }
+    const isOther = isNew || kept?.modules.size !== this.modules.size;
+    this.keep = async () => {
+      await Promise.all([pool.close(), isOther && kept?.write(new Map([...this.modules.values()].map((it) => [it.file, it.parsed])))]);
+    };
   }
 
-  /** @returns {{ typescript: string, compiled: string | undefined, kept: Kept | null }} */
+  /** @returns {{ pool: Pool, kept: Kept | null }} */
   start() {
-    const { file: typescript, version } = findTypeScript(this.folder);
+    const found = findTypeScript(this.folder);
     const { bodies, ambient, cache } = this.reading;
-    if (!cache) return { typescript, compiled: undefined, kept: null };
-    return { typescript, compiled: compiledFile(version), kept: new Kept(JSON.stringify([this.folder, version, bodies, ambient])) };
+    const pool = new Pool({ typescript: found.file, kept: cache ? madeOf(found) : undefined, bodies, ambient });
+    return { pool, kept: cache ? new Kept(JSON.stringify([this.folder, found.version, bodies, ambient])) : null };
   }
 
   /**

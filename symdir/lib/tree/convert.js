@@ -125,20 +125,20 @@ export function nodesOf(name, source, options) {
   return { text, nodes, fault, references: c.references, declarations: c.declarations, implicit: c.implicit };
 }
 
+/** @param {string} text @param {Fault | null} fault @returns {Converted} what is known where there is no tree */
+export function withoutTree(text, fault) {
+  return { text: wellFormed(text), tree: null, nodes: 0, fault, references: [], declarations: [], implicit: [] };
+}
+
 /**
  * The tree of a text, as it is written.
  * @param {string} name of the file, which TypeScript is told
  * @param {string} source without a byte order mark
  * @param {Options} options
  * @returns {Converted}
+ * @throws {RangeError} where the text is nested deeper than the stack allows
  */
 export function convert(name, source, options) {
-  try {
-    const made = nodesOf(name, source, options);
-    return { ...made, tree: made.nodes && nodesText(made.nodes), nodes: made.nodes?.length ?? 0 };
-  } catch (error) {
-    if (!(error instanceof RangeError)) throw error;
-    const fault = { line: 1, column: 1, text: 'it is nested too deep for the parser' };
-    return { text: wellFormed(source), tree: null, nodes: 0, fault, references: [], declarations: [], implicit: [] };
-  }
+  const made = nodesOf(name, source, options);
+  return { ...made, tree: made.nodes && nodesText(made.nodes), nodes: made.nodes?.length ?? 0 };
 }

@@ -1,46 +1,65 @@
-// TypeScript itself, loaded once in each thread that parses: by the file that the thread was given, else by where it is found.
-// Its compiled form is kept under the user's cache folder, since compiling ten megabytes takes longer than parsing most folders.
+// TypeScript itself, loaded once in each thread that parses. Decoding and compiling its ten megabytes takes longer than parsing
+// most folders, so its text in ASCII and its compiled form are kept under the user's cache folder.
 import { mkdirSync, readFileSync, renameSync, writeFileSync } from 'node:fs';
 import Module, { createRequire } from 'node:module';
 import path from 'node:path';
+import v8 from 'node:v8';
 import { Script } from 'node:vm';
-import { workerData } from 'node:worker_threads';
 
 import { findTypeScript } from '../typescript.js';
+import { usedTypeScript } from './which.js';
 
-/** @param {string | undefined} file @returns {Buffer | undefined} */
-function kept(file) {
+// Most runs end before what V8's optimizing compiler makes pays for itself: a function has to run 15 times as long as it is set
+// to by itself before it is compiled anew.
+v8.setFlagsFromString('--interrupt-budget=1000000');
+
+/** @param {string} text @returns {string | null} which means the same, in one byte a character; null where a backslash stands before another one */
+function inAscii(text) {
+  if (/\\[^\0-\x7f]/.test(text)) return null;
+  return text.replace(/[^\0-\x7f]/g, (it) => `\\u${it.charCodeAt(0).toString(16).padStart(4, '0')}`);
+}
+
+/** @param {string | undefined} file without its ending @returns {{ text: string, compiled: Buffer } | null} */
+function readKept(file) {
   try {
-    return file === undefined ? undefined : readFileSync(file);
+    return file === undefined ? null : { text: readFileSync(`${file}.js`, 'latin1'), compiled: readFileSync(`${file}.compiled`) };
   } catch {
-    return undefined;
+    return null;
   }
 }
 
-/** @param {string} file @param {Buffer | undefined} compiled which is refused where it is another version's @returns {{ script: Script, value: any }} */
-function load(file, compiled) {
-  const script = new Script(Module.wrap(readFileSync(file, 'utf8')), { filename: file, cachedData: compiled });
+/** @param {string} file @param {string | Buffer} content of which nobody reads a part */
+function write(file, content) {
+  const part = `${file}.${process.pid}`;
+  writeFileSync(part, content);
+  renameSync(part, file);
+}
+
+/** @param {string} file @param {string} text a module of CommonJS, with its wrapper @param {Buffer} [compiled] which is refused where it is another version's */
+function load(file, text, compiled) {
+  const script = new Script(text, { filename: file, cachedData: compiled });
   const module = { exports: {} };
   script.runInThisContext()(module.exports, createRequire(file), module, file, path.dirname(file));
   return { script, value: module.exports };
 }
 
-const file = workerData?.typescript ?? findTypeScript(process.cwd()).file;
-const compiled = kept(workerData?.compiled);
-const loaded = load(file, compiled);
+const which = usedTypeScript() ?? { typescript: findTypeScript(process.cwd()).file };
+const kept = readKept(which.kept);
+const text = kept?.text ?? Module.wrap(readFileSync(which.typescript, 'utf8'));
+const ascii = kept?.text ?? (which.kept ? inAscii(text) : null);
+const loaded = load(which.typescript, ascii ?? text, kept?.compiled);
 
 /** @type {typeof import('typescript')} */
-export const ts = loaded.value;
+export const ts = /** @type {any} */ (loaded.value);
 export const K = ts.SyntaxKind;
 
-/** Keeps the compiled form with what was compiled of it while files were parsed, where none is kept yet. */
+/** Keeps the text, and the compiled form with what was compiled of it while files were parsed, where they aren't kept yet. */
 export function keepCompiled() {
-  if (!workerData?.compiled || (compiled && !loaded.script.cachedDataRejected)) return;
+  if (!which.kept || ascii === null || (kept && !loaded.script.cachedDataRejected)) return;
   try {
-    mkdirSync(path.dirname(workerData.compiled), { recursive: true });
-    const part = `${workerData.compiled}.${process.pid}`;
-    writeFileSync(part, loaded.script.createCachedData());
-    renameSync(part, workerData.compiled);
+    mkdirSync(path.dirname(which.kept), { recursive: true });
+    write(`${which.kept}.js`, ascii);
+    write(`${which.kept}.compiled`, loaded.script.createCachedData());
   } catch {
     // a cache folder that can't be written costs time alone
   }

@@ -1,0 +1,38 @@
+// A file and its specifier in, what is known of its module out.
+import { readFileSync } from 'node:fs';
+
+import { languageOf } from '../language.js';
+import { convert, withoutTree } from '../tree/convert.js';
+import { hashOf } from './kept.js';
+import { decoded } from './text.js';
+
+/** @typedef {import('./kept.js').Parsed} Parsed */
+/** @typedef {import('./pool.js').Job} Job */
+/** @typedef {import('../tree/convert.js').Converted} Converted */
+/** @typedef {{ bodies: boolean, ambient: boolean }} How */
+
+/** @param {Job} job @param {(text: string) => Converted} converted @returns {Parsed} */
+function read({ file, specifier }, converted) {
+  const bytes = readFileSync(file);
+  const { text, tree: nodes, ...rest } = converted(decoded(bytes));
+  const kind = file.endsWith('.json') ? 'json' : 'esm';
+  const start = `{"specifier":${JSON.stringify(specifier)},"kind":"${kind}","text":${JSON.stringify(text)}`;
+  const tree = nodes === null ? '' : `,"tree":{${languageOf(file).declaration ? '"declaration":true,' : ''}"nodes":${nodes}}`;
+  return { hash: hashOf(bytes), text: Buffer.from(start + tree), ...rest };
+}
+
+/**
+ * @param {Job} job
+ * @param {How} how
+ * @returns {Parsed}
+ * @throws {RangeError} where the file is nested deeper than the stack of this thread allows; and what `readFileSync` throws
+ */
+export function parseFile(job, how) {
+  const { file } = job;
+  return read(job, (text) => (file.endsWith('.json') ? withoutTree(text, null) : convert(file, text, { ...languageOf(file), ...how })));
+}
+
+/** @param {Job} job of a file for which no stack is deep enough @returns {Parsed} */
+export function tooDeep(job) {
+  return read(job, (text) => withoutTree(text, { line: 1, column: 1, text: 'it is nested too deep for the parser' }));
+}
