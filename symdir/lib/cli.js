@@ -1,4 +1,5 @@
 // The words of the command, and what each of them does.
+import { readFileSync } from 'node:fs';
 import path from 'node:path';
 import { parseArgs } from 'node:util';
 
@@ -8,11 +9,11 @@ import { withSlashes } from './folder/files.js';
 import { Paint, Progress } from './output.js';
 import { findSymq } from './symq.js';
 import { api } from './commands/api.js';
-import { faultsOf, graph } from './commands/graph.js';
+import { graph } from './commands/graph.js';
 import { leaks } from './commands/leaks.js';
 import { missing } from './commands/missing.js';
-import { where } from './commands/where.js';
-import { web } from './commands/web.js';
+import { spotOf, where } from './commands/where.js';
+import { formOf, web } from './commands/web.js';
 import { checkGraph } from './commands/check.js';
 import { help } from './help.js';
 
@@ -50,19 +51,26 @@ const OUT = /** @type {const} */ ({ type: 'string', short: 'o' });
  * @typedef {object} Command
  * @property {NonNullable<import('node:util').ParseArgsConfig['options']>} options
  * @property {number} words how many it takes at most
+ * @property {string[][]} [apart] options that don't go together
+ * @property {(run: Run) => void} [check] what its words have to be, told before files are read
+ * @property {boolean} [tellsFaults] whether what can't be parsed is told with its answer
+ * @property {boolean} [isLookUp] whether its status is by its answer alone, and no other file's fault is a finding
  * @property {(run: Run, folder: Folder) => Promise<number>} [ask]
  * @property {(run: Run) => Promise<number>} [act]
  */
 
+const APART = [['strict', 'unproved'], ['symq', 'unproved']];
+
 /** @type {Record<string, Command>} */
 const COMMANDS = {
   graph: { options: { ...COMMON, out: OUT, bodies: { type: 'boolean' }, check: { type: 'string' }, symq: { type: 'string' } }, words: 1,
+    apart: [['check', 'out']],
     act: (run) => (run.options.check ? checkGraph(run) : graph(run, reading(run))) },
-  api: { options: { ...ASKING, save: { type: 'string' }, check: { type: 'string' } }, words: 1, ask: api },
-  leaks: { options: ASKING, words: 1, ask: leaks },
-  missing: { options: ASKING, words: 1, ask: missing },
-  where: { options: ASKING, words: 3, ask: where },
-  web: { options: { ...ASKING, out: OUT }, words: 1, ask: web },
+  api: { options: { ...ASKING, save: { type: 'string' }, check: { type: 'string' } }, words: 1, apart: [...APART, ['save', 'check']], ask: api },
+  leaks: { options: ASKING, words: 1, apart: APART, ask: leaks },
+  missing: { options: ASKING, words: 1, apart: APART, tellsFaults: true, ask: missing },
+  where: { options: ASKING, words: 3, apart: APART, check: (run) => void spotOf(run.words[1]), isLookUp: true, ask: where },
+  web: { options: { ...ASKING, out: OUT }, words: 1, apart: APART, check: (run) => void (run.options.out && formOf(run.options.out)), ask: web },
 };
 
 /** @param {string} text @returns {RegExp} */
@@ -90,17 +98,21 @@ function reading({ words, options }, progress = new Progress()) {
   };
 }
 
-/** @param {Run} run @param {Command} command @param {string} name @returns {Promise<number>} */
-async function asked(run, command, name) {
+/** @param {Run} run @param {Command} command @returns {Promise<number>} */
+async function asked(run, command) {
   const progress = new Progress();
+  const how = reading(run, progress);
+  command.check?.(run);
   // what answers has to be there before time is spent on files
   if (!run.options.unproved) findSymq(run.options.symq);
-  const folder = await Folder.read(reading(run, progress), { entry: run.options.entry ?? [] });
+  const folder = await Folder.read(how, { entry: run.options.entry ?? [] });
   progress.end();
   try {
-    if (name !== 'missing') faultsOf(folder.sources).forEach(run.warn);
+    const faults = command.tellsFaults ? [] : folder.sources.faults();
+    faults.forEach(run.warn);
     folder.open(run.options);
-    return await /** @type {NonNullable<Command['ask']>} */ (command.ask)(run, folder);
+    const status = await /** @type {NonNullable<Command['ask']>} */ (command.ask)(run, folder);
+    return status === 0 && faults.length > 0 && !command.isLookUp ? 1 : status;
   } finally {
     await folder.close();
   }
@@ -114,12 +126,25 @@ function parsed(name, command, args) {
       const taken = command.words === 1 ? 'one folder' : 'a folder, FILE:LINE and a name';
       throw new Failure(`${name} takes ${taken}, and not ${positionals.join(' ')}`, 2);
     }
+    const pair = command.apart?.find((it) => it.every((option) => values[option] !== undefined));
+    if (pair) throw new Failure(`${pair.map((it) => `--${it}`).join(' and ')} don't go together`, 2);
     return { words: positionals, options: values };
   } catch (error) {
     if (error instanceof Failure) throw error;
     const text = /** @type {Error} */ (error).message.split('. To specify')[0].replace(/\.$/, '');
     throw new Failure(`${text}; \`symdir ${name} --help\` lists what it takes`, 2);
   }
+}
+
+/** @param {string} name @returns {boolean} that there is such a command */
+function known(name) {
+  if (!Object.hasOwn(COMMANDS, name)) throw new Failure(`no command ${name}; there are ${Object.keys(COMMANDS).join(', ')}`, 2);
+  return true;
+}
+
+/** @returns {string} */
+function version() {
+  return JSON.parse(readFileSync(new URL('../package.json', import.meta.url), 'utf8')).version;
 }
 
 /**
@@ -132,19 +157,27 @@ export async function main(args) {
   const warn = (/** @type {string} */ line) => void process.stderr.write(`symdir: ${line}\n`);
   try {
     const [name, ...rest] = args;
-    if (name === undefined || name === '--help' || name === '-h' || name === 'help') {
-      (name === undefined ? (/** @type {string} */ it) => process.stderr.write(`${it}\n`) : print)(help(rest[0]));
-      return name === undefined ? 2 : 0;
+    if (name === undefined) {
+      process.stderr.write(`${help()}\n`);
+      return 2;
     }
+    if (name === '--version' || name === 'version') {
+      print(`symdir ${version()}`);
+      return 0;
+    }
+    if (['--help', '-h', 'help'].includes(name)) {
+      print(help(rest.find(known)));
+      return 0;
+    }
+    known(name);
     const command = COMMANDS[name];
-    if (!command) throw new Failure(`no command ${name}; there are ${Object.keys(COMMANDS).join(', ')}`, 2);
     const { words, options } = parsed(name, command, rest);
     const run = { words, options, paint: new Paint(), print, warn };
     if (options.help) {
       print(help(name));
       return 0;
     }
-    return await (command.act ? command.act(run) : asked(run, command, name));
+    return await (command.act ? command.act(run) : asked(run, command));
   } catch (error) {
     if (!(error instanceof Failure)) throw error;
     warn(error.message);

@@ -16,6 +16,8 @@ ${COMMON}
 
 const STATUSES = 'Status: 0 nothing found, 1 findings, 2 wrong words, 3 it couldn\'t be done.';
 
+const WHERE_STATUSES = STATUSES.replace('0 nothing found, 1 findings', '0 a definition is found, 1 none');
+
 /** @type {Record<string, string>} */
 const COMMANDS = {
   api: `symdir api FOLDER: each public name, what it is, where it is defined, and by which \`export *\`
@@ -66,11 +68,11 @@ const ALL = `symdir: what a folder of TypeScript or JavaScript exports, and what
   symdir web FOLDER -o web.svg                     who passes names on to whom, as a picture
   symdir graph FOLDER -o graph.json                the graph alone, for symq
 
-\`symdir COMMAND --help\` lists what each takes.
+\`symdir COMMAND --help\` lists what each takes, \`symdir --version\` tells its version.
 ${STATUSES}`;
 
-/** @param {string | undefined} command @returns {string} */
+/** @param {string} [command] one that there is @returns {string} */
 export function help(command) {
   const found = command === undefined ? undefined : COMMANDS[command];
-  return found ? `${found}\n\n${STATUSES}` : ALL;
+  return found ? `${found}\n\n${command === 'where' ? WHERE_STATUSES : STATUSES}` : ALL;
 }

@@ -8,6 +8,8 @@ import { Failure } from './failure.js';
 
 /** @typedef {import('node:child_process').ChildProcessWithoutNullStreams} ChildProcess */
 
+/** The status of symq for words that it doesn't take. */
+const USAGE = 2;
 /** How many bytes of questions may wait before answers are awaited. */
 const WAITING = 1 << 16;
 
@@ -67,6 +69,11 @@ function ended(status, said) {
   return new Failure(text || (typeof status === 'number' ? `symq ended with the status ${status}` : `symq was ended by ${status}`));
 }
 
+/** @param {string} program @returns {Failure} */
+function notStrict(program) {
+  return new Failure(`${program} has no strict rules, which --strict asks it for: without that it answers by Deno's rules`);
+}
+
 /** Questions by the lines that they are; each is asked once. */
 class Asked {
   constructor() {
@@ -97,11 +104,11 @@ function parsedLines(text) {
 
 /** symq as a process that stays: any number of rounds of questions. */
 export class Symq extends Asked {
-  /** @param {string} program @param {string} graph a file @param {string[]} [words] before it */
-  constructor(program, graph, words = []) {
+  /** @param {string} program @param {string} graph a file @param {boolean} [isStrict] whether it answers by strict rules */
+  constructor(program, graph, isStrict = false) {
     super();
     this.program = program;
-    this.process = started(program, [...words, graph]);
+    this.process = started(program, isStrict ? ['--strict', graph] : [graph]);
     this.said = '';
     /** @type {string[]} lines that are asked, in order */
     this.open = [];
@@ -112,7 +119,7 @@ export class Symq extends Asked {
     this.process.stderr.on('data', (it) => (this.said += it));
     this.process.stdin.on('error', () => {});
     this.process.on('error', (error) => this.fail(notStarted(program, error)));
-    this.process.on('close', (status, signal) => this.fail(ended(status ?? signal, this.said)));
+    this.process.on('close', (status, signal) => this.fail(isStrict && status === USAGE ? notStrict(program) : ended(status ?? signal, this.said)));
     this.process.stdout.on('data', (it) => this.receive(it));
   }
 

@@ -1,9 +1,12 @@
 import assert from 'node:assert/strict';
+import { spawn, spawnSync } from 'node:child_process';
+import { once } from 'node:events';
 import { readdirSync, readFileSync, utimesSync, writeFileSync } from 'node:fs';
 import path from 'node:path';
 import test from 'node:test';
+import { setTimeout } from 'node:timers/promises';
 
-import { folderOf, program, symdir } from './helper.js';
+import { BIN, folderOf, program, symdir } from './helper.js';
 
 const FILES = { 'a.ts': 'export * from "./b.ts";\n', 'b.ts': 'export const n = 1;\n' };
 
@@ -16,9 +19,15 @@ test('help', () => {
     assert.equal(status, 0);
     assert.match(stdout, new RegExp(`^symdir ${it} `));
     assert.match(stdout, /--skip REGEX/);
-    assert.match(stdout, /Status: 0 nothing found, 1 findings, 2 wrong words, 3 it couldn't be done\.\n$/);
+    const first = it === 'where' ? '0 a definition is found, 1 none' : '0 nothing found, 1 findings';
+    assert.ok(stdout.endsWith(`Status: ${first}, 2 wrong words, 3 it couldn't be done.\n`));
     assert.ok(stdout.split('\n').every((line) => line.length <= 100));
   }
+});
+
+test('--version', () => {
+  const { version } = JSON.parse(readFileSync(new URL('../package.json', import.meta.url), 'utf8'));
+  assert.deepEqual(symdir(['--version']), { status: 0, stdout: `symdir ${version}\n`, stderr: '' });
 });
 
 test('wrong words', () => {
@@ -28,6 +37,11 @@ test('wrong words', () => {
     return stderr;
   };
   assert.equal(said('what'), 'symdir: no command what; there are graph, api, leaks, missing, where, web\n');
+  assert.equal(said('help', 'what'), 'symdir: no command what; there are graph, api, leaks, missing, where, web\n');
+  assert.equal(said('constructor'), 'symdir: no command constructor; there are graph, api, leaks, missing, where, web\n');
+  assert.equal(said('api', '.', '--save', 'a', '--check', 'b'), 'symdir: --save and --check don\'t go together\n');
+  assert.equal(said('api', '.', '--strict', '--unproved'), 'symdir: --strict and --unproved don\'t go together\n');
+  assert.equal(said('graph', '.', '--check', 'a'), 'symdir: --check takes a graph, and no folder besides: not .\n');
   assert.equal(said('api'), 'symdir: which folder? `symdir --help` shows how it is called\n');
   assert.equal(said('api', 'a', 'b'), 'symdir: api takes one folder, and not a b\n');
   assert.equal(said('api', '.', '--none'), 'symdir: Unknown option \'--none\'; `symdir api --help` lists what it takes\n');
@@ -70,9 +84,40 @@ test('a program that refuses, and one that dies', () => {
   assert.equal(symdir(['api', folder, '--symq', path.dirname(isNone)]).status, 3);
 });
 
-test('--strict is passed on', () => {
-  const file = program({}, 'symq', '#!/bin/sh\necho "symq: words $1" >&2\nexit 2\n');
-  assert.equal(symdir(['api', folderOf(FILES), '--symq', file, '--strict']).stderr, 'symdir: symq: words --strict\n');
+test('--strict is passed on, and a program that doesn\'t know it is told as such', () => {
+  const knows = program({}, 'symq', '#!/bin/sh\necho "symq: words $1" >&2\nexit 6\n');
+  assert.equal(symdir(['api', folderOf(FILES), '--symq', knows, '--strict']).stderr, 'symdir: symq: words --strict\n');
+  const older = program({}, 'symq', '#!/bin/sh\n[ $# -eq 1 ] || { echo "usage: symq GRAPH" >&2; exit 2; }\n');
+  assert.deepEqual(symdir(['api', folderOf(FILES), '--symq', older, '--strict']), {
+    status: 3, stdout: '', stderr: `symdir: ${older} has no strict rules, which --strict asks it for: without that it answers by Deno's rules\n` });
+});
+
+test('a file that can\'t be parsed is told with its place, and is a finding', () => {
+  const folder = folderOf({ 'index.ts': 'export * from "./b.ts";\nexport const a = 1;\n', 'b.ts': 'let a;\nconst b = ;\n' });
+  for (const words of [['api', folder], ['api', folder, '--json'], ['leaks', folder], ['web', folder]]) {
+    const { status, stderr } = symdir(words);
+    assert.deepEqual([status, stderr], [1, 'symdir: b.ts:2:11: Expression expected.\n'], words.join(' '));
+  }
+  assert.match(symdir(['api', folder]).stdout, /^ {2}export \* from "\.\/b\.ts" in index\.ts: b\.ts isn't read: its names are public too$/m);
+  const found = symdir(['where', folder, 'index.ts:2']);
+  assert.deepEqual([found.status, found.stderr], [0, 'symdir: b.ts:2:11: Expression expected.\n']);
+  const faulty = symdir(['where', folder, 'b.ts:1']);
+  assert.deepEqual([faulty.status, faulty.stderr], [3, 'symdir: b.ts:2:11: Expression expected.\nsymdir: nothing is known of a file with a syntax error\n']);
+});
+
+test('a signal ends it as such, and its temporary folder is gone', async () => {
+  const folder = folderOf(FILES);
+  const silent = program({}, 'symq', '#!/bin/sh\nexec cat > /dev/null\n');
+  for (const signal of /** @type {const} */ (['SIGINT', 'SIGTERM', 'SIGHUP'])) {
+    const TMPDIR = folderOf({});
+    const run = spawn(process.execPath, [BIN, 'api', folder, '--symq', silent], { env: { ...process.env, TMPDIR } });
+    const exit = once(run, 'exit');
+    while (readdirSync(TMPDIR).length === 0 && run.exitCode === null) await setTimeout(20);
+    assert.equal(readdirSync(TMPDIR).length, 1);
+    run.kill(signal);
+    assert.deepEqual(await exit, [null, signal]);
+    assert.deepEqual(readdirSync(TMPDIR), []);
+  }
 });
 
 test('the program of SYMQ, and none', () => {
@@ -80,9 +125,12 @@ test('the program of SYMQ, and none', () => {
   assert.deepEqual(symdir(['api', folderOf(FILES)], { env }), { status: 3, stdout: '', stderr: 'symdir: no program /none/symq\n' });
 });
 
-test('a closed output is no fault', () => {
-  const many = Object.fromEntries(Array.from({ length: 40 }, (_, i) => [`m${i}.ts`, `export const n${i} = 1;\n`]));
-  assert.equal(symdir(['api', folderOf({ ...many, ...FILES })]).status, 0);
+test('an output that nobody reads is no fault, and leaves nothing behind', () => {
+  const TMPDIR = folderOf({});
+  const line = `("${process.execPath}" "${BIN}" api "${folderOf(FILES)}"; echo $? >&2) | true`;
+  const { stderr } = spawnSync('sh', ['-c', line], { encoding: 'utf8', env: { ...process.env, TMPDIR } });
+  assert.equal(stderr, '0\n');
+  assert.deepEqual(readdirSync(TMPDIR), []);
 });
 
 test('trees are kept, and a changed file alone is parsed again', () => {

@@ -6,7 +6,7 @@ import path from 'node:path';
 import { after } from 'node:test';
 import { fileURLToPath } from 'node:url';
 
-const BIN = fileURLToPath(new URL('../bin/symdir.js', import.meta.url));
+export const BIN = fileURLToPath(new URL('../bin/symdir.js', import.meta.url));
 /** After which a run that goes on is ended, and told. */
 const SECONDS = 300;
 /** @type {string[]} */

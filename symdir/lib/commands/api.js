@@ -4,6 +4,7 @@ import { existsSync, readFileSync, writeFileSync } from 'node:fs';
 import { Failure, fileFailure } from '../failure.js';
 import { isDefinition } from '../folder/folder.js';
 import { endOf, endText } from '../folder/ends.js';
+import { shortOf } from '../folder/specifier.js';
 import { columns, counted, placeText } from '../output.js';
 import { differences, readSnapshot, snapshotText } from '../snapshot.js';
 
@@ -76,7 +77,7 @@ function printEntry({ print, paint }, entry, names, stars) {
   const rows = sorted.map((it) => [`  ${it.name}`, it.kind, whereText(it), throughText(it)]);
   columns(rows, ([name, kind, where, through]) => [name, kind, /^nowhere/.test(where) ? paint.red(where) : where, paint.dim(through ?? '')]).forEach(print);
   for (const it of stars) {
-    const what = it.external ? `${it.external} isn't read: its names are public too` : 'leads nowhere';
+    const what = it.external ? `${shortOf(it.external)} isn't read: its names are public too` : 'leads nowhere';
     print(`  export * from "${it.text}" in ${it.file}: ${it.external ? what : paint.red(what)}`);
   }
 }

@@ -47,7 +47,8 @@ function verdict({ options }) {
 
 /** @param {Run} run @returns {Promise<number>} the status */
 export async function checkGraph(run) {
-  const { options, print } = run;
+  const { options, print, words: [folder] } = run;
+  if (folder !== undefined) throw new Failure(`--check takes a graph, and no folder besides: not ${folder}`, 2);
   const bytes = bytesOf(options.check);
   const words = wordsOf(bytes);
   const said = verdict(run);

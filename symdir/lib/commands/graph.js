@@ -8,14 +8,6 @@ import { counted } from '../output.js';
 
 /** @typedef {import('../cli.js').Run} Run */
 
-/** @param {Sources} sources @returns {string[]} what isn't in the graph, a line each */
-export function faultsOf(sources) {
-  const unread = sources.unread.map(({ file, error }) => `${file}: can't be read (${error})`);
-  const faulty = [...sources.modules.values()].filter((it) => it.parsed.fault).map(({ specifier, parsed: { fault } }) => (
-    `${sources.short(specifier)}:${fault?.line}:${fault?.column}: ${fault?.text}`));
-  return [...unread, ...faulty];
-}
-
 /** @param {string} file a path that can't be written is told before all is read */
 function tryToWrite(file) {
   try {
@@ -33,7 +25,7 @@ export async function graph({ options, print, warn }, reading) {
   if (sources.modules.size === 0) throw new Failure(sources.files.emptyText());
   writeGraph(sources, options.out ?? 1);
   await sources.keep();
-  const faults = faultsOf(sources);
+  const faults = sources.faults();
   faults.forEach(warn);
   const rows = [...sources.resolutions.values()].reduce((sum, it) => sum + it.size, 0);
   const trees = [...sources.modules.values()].filter((it) => !it.parsed.fault).length;

@@ -23,11 +23,18 @@ function written(file, text) {
   }
 }
 
+/** @param {string} out @returns {string} what is written there, by its ending */
+export function formOf(out) {
+  const form = path.extname(out).slice(1).toLowerCase();
+  if (form === 'dot' || form === 'gv') return 'dot';
+  if (!FORMS.includes(form)) throw new Failure(`-o ${out}: a picture ends in ${FORMS.map((it) => `.${it}`).join(', ')} or .dot`, 2);
+  return form;
+}
+
 /** @param {string} out @param {string} text for Graphviz */
 function drawn(out, text) {
-  const form = path.extname(out).slice(1).toLowerCase();
-  if (form === 'dot' || form === 'gv') return written(out, text);
-  if (!FORMS.includes(form)) throw new Failure(`-o ${out}: a picture ends in ${FORMS.map((it) => `.${it}`).join(', ')} or .dot`, 2);
+  const form = formOf(out);
+  if (form === 'dot') return written(out, text);
   const done = spawnSync('dot', [`-T${form}`, '-o', out], { input: text, encoding: 'utf8' });
   if (done.error) throw new Failure('Graphviz isn\'t there: install its command dot (`apt-get install graphviz`), or take -o web.dot');
   if (done.status !== 0) throw new Failure(`Graphviz ended with the status ${done.status}: ${done.stderr.trim().split('\n').pop()}`);

@@ -154,15 +154,32 @@ function orOwn(ways, local) {
   return local.length > 0 ? local : ways;
 }
 
-/** @param {Run} run @param {Folder} folder @returns {Promise<number>} the status */
+/** @param {import('../folder/sources.js').Module} module @returns its nodes, with those in the bodies of functions */
+async function treeOf({ file, parsed: { fault } }) {
+  if (fault) throw new Failure('nothing is known of a file with a syntax error');
+  const [{ nodesOf }, { keepCompiled }] = await Promise.all([import('../tree/convert.js'), import('../tree/typescript.js')]);
+  const made = parsedDeep(() => nodesOf(file, decoded(readFileSync(file)), { ...languageOf(file), bodies: true, ambient: false }));
+  keepCompiled();
+  if (!made?.nodes) throw new Failure(`${file} is nested too deep for \`where\``);
+  return { ...made, nodes: made.nodes };
+}
+
+/** @template T @param {() => T} parse @returns {T | null} null where the stack isn't deep enough */
+function parsedDeep(parse) {
+  try {
+    return parse();
+  } catch (error) {
+    if (error instanceof RangeError) return null;
+    throw error;
+  }
+}
+
+/** @param {Run} run @param {Folder} folder @returns {Promise<number>} the status: 0 where a definition is found */
 export async function where(run, folder) {
   const spot = spotOf(run.words[1]);
   const name = run.words[2];
   const module = moduleOf(folder, spot.file);
-  const text = decoded(readFileSync(module.file));
-  const { nodesOf } = await import('../tree/convert.js');
-  const made = nodesOf(module.file, text, { ...languageOf(module.file), bodies: true, ambient: false });
-  if (!made.nodes) throw new Failure(`${spot.file}:${made.fault?.line}:${made.fault?.column}: ${made.fault?.text}`);
+  const made = await treeOf(module);
   const hits = hitsAt([...importedNames(made.references), ...namesIn(made.nodes)], spot, new Places(made.text), name);
   if (hits.length === 0) {
     run.print(run.options.json ? '[]' : `no ${name ? `name ${name}` : 'name of a variable or a type'} at ${run.words[1]}`);

@@ -1,5 +1,6 @@
 // What stands at the end of a name's path where it is no definition, and whether that is a fault.
 import { isDefinition } from './folder.js';
+import { shortOf } from './specifier.js';
 
 /** @typedef {import('./folder.js').Folder} Folder */
 /** @typedef {import('./folder.js').Unresolved} Unresolved */
@@ -31,7 +32,7 @@ export function endOf(folder, leaf) {
 
 /** @param {End} end @returns {string} */
 export function endText({ what, file, name }) {
-  if (what === 'external') return `in ${name}, which isn't read`;
+  if (what === 'external') return `in ${shortOf(name)}, which isn't read`;
   if (what === 'import') return `nowhere: ${file} imports "${name}", which leads to no file`;
   return what === 'name' ? `nowhere: ${file} exports no ${name}` : 'a global';
 }

@@ -1,6 +1,4 @@
 // A folder that is asked: its sources, a process of symq over their graph, and what the answers mean in its files.
-import { mkdtempSync, rmSync } from 'node:fs';
-import os from 'node:os';
 import path from 'node:path';
 
 import { Failure } from '../failure.js';
@@ -9,6 +7,7 @@ import { KINDS } from '../kinds.js';
 import { entriesOf } from './entries.js';
 import { writeGraph } from './graph.js';
 import { Sources } from './sources.js';
+import { Temporary } from './temporary.js';
 import { Places } from './text.js';
 
 /** @typedef {{ name: string, module: string, symbol: number, chain: [string, string][] }} Export */
@@ -32,7 +31,8 @@ export class Folder {
     this.entries = entries;
     /** @type {Symq | SymqAtOnce | null} */
     this.symq = null;
-    this.folder = '';
+    /** @type {Temporary | undefined} where the graph is */
+    this.temporary = undefined;
     /** @type {Promise<void> | undefined} */
     this.keeping = undefined;
     /** @type {Map<string, Places>} */
@@ -55,11 +55,11 @@ export class Folder {
 
   /** @param {{ symq?: string, unproved?: boolean, strict?: boolean }} options writes the graph, and starts the process */
   open({ symq, unproved, strict }) {
-    this.folder = mkdtempSync(path.join(os.tmpdir(), 'symdir-'));
-    const graph = path.join(this.folder, 'graph.json');
+    this.temporary = new Temporary();
+    const graph = path.join(this.temporary.path, 'graph.json');
     writeGraph(this.sources, graph);
     if (unproved) this.symq = new SymqAtOnce(unprovedSymq(), graph, this.ahead());
-    else this.symq = new Symq(findSymq(symq), graph, strict ? ['--strict'] : []);
+    else this.symq = new Symq(findSymq(symq), graph, strict);
     this.keeping = this.sources.keep();
   }
 
@@ -73,7 +73,7 @@ export class Folder {
 
   async close() {
     await Promise.all([this.symq?.close(), this.keeping]);
-    if (this.folder) rmSync(this.folder, { recursive: true, force: true });
+    this.temporary?.close();
   }
 
   /** @param {unknown[][]} queries @returns {Promise<any[]>} */

@@ -11,6 +11,7 @@ import { Kept, hashOf, madeOf } from './kept.js';
 import { packageFile } from './packages.js';
 import { Pool } from './pool.js';
 import { Resolver } from './resolve.js';
+import { shortOf } from './specifier.js';
 
 /** @typedef {import('./kept.js').Parsed} Parsed */
 /** @typedef {import('../tree/converter.js').Reference} Reference */
@@ -64,7 +65,7 @@ export class Sources {
 
   /** @param {string} specifier @returns {string} below the folder, as people read it */
   short(specifier) {
-    return specifier.startsWith('file:///') ? specifier.slice('file:///'.length) : specifier;
+    return shortOf(specifier);
   }
 
   /** @param {string} file a module of JavaScript @returns {boolean} whether declarations or sources say what it has */
@@ -95,6 +96,14 @@ export class Sources {
     this.keep = async () => {
       await Promise.all([pool.close(), isOther && kept?.write(new Map([...this.modules.values()].map((it) => [it.file, it.parsed])))]);
     };
+  }
+
+  /** @returns {string[]} what couldn't be read or parsed, a line each */
+  faults() {
+    const unread = this.unread.map(({ file, error }) => `${file}: can't be read (${error})`);
+    const faulty = [...this.modules.values()].flatMap(({ specifier, parsed: { fault } }) => (
+      fault ? [`${this.short(specifier)}:${fault.line}:${fault.column}: ${fault.text}`] : []));
+    return [...unread, ...faulty];
   }
 
   /** @returns {{ pool: Pool, kept: Kept | null }} */
