@@ -5,10 +5,11 @@
 //
 // In each round four processes run one after the other: the checker; symdir with an empty cache; symdir with no trees kept, but
 // with TypeScript's compiled form, as any earlier run on any folder keeps it; and symdir with the trees of the run before.
-// Times are medians on the clock, in seconds; the ratios are to the checker's. Both read the same files, the modules of
-// TypeScript below the folder, and both say how many names they found.
+// Told are the least of the rounds on the clock and of the processors, in seconds, the latter with all that the process started
+// and on Linux alone; and their ratios to the checker's. Both read the same files, the modules of TypeScript below the folder, and
+// both say how many names they found.
 import { spawnSync } from 'node:child_process';
-import { mkdtempSync, readdirSync, rmSync } from 'node:fs';
+import { existsSync, mkdtempSync, readFileSync, readdirSync, rmSync } from 'node:fs';
 import { createRequire } from 'node:module';
 import os from 'node:os';
 import path from 'node:path';
@@ -74,18 +75,33 @@ async function askSymdir(folder, symq) {
   return { exports: exports.length, imports: imports.length };
 }
 
-/** @param {string[]} words @param {string} cache @returns {{ seconds: number, count: string }} */
-function timed(words, cache) {
-  const began = performance.now();
-  const { status, stdout, stderr } = spawnSync(process.execPath, [SELF, ...words], { encoding: 'utf8', env: { ...process.env, XDG_CACHE_HOME: cache } });
-  const seconds = (performance.now() - began) / 1000;
-  if (status !== 0) throw new Error(stderr);
-  return { seconds, count: stdout.trim() };
+/** @returns {number} the seconds of processors of all processes that this one started and that have ended */
+function processors() {
+  if (!existsSync('/proc/self/stat')) return NaN;
+  const [user, system] = readFileSync('/proc/self/stat', 'utf8').split(') ')[1].split(' ').slice(13, 15);
+  return (Number(user) + Number(system)) / 100;
 }
 
-/** @param {number[]} numbers */
-function median(numbers) {
-  return [...numbers].sort((a, b) => a - b)[numbers.length >> 1];
+/** @typedef {{ clock: number, processors: number }} Time */
+
+/** @param {string[]} words @param {string} cache @returns {{ time: Time, count: string }} */
+function timed(words, cache) {
+  const [began, before] = [performance.now(), processors()];
+  const { status, stdout, stderr } = spawnSync(process.execPath, [SELF, ...words], { encoding: 'utf8', env: { ...process.env, XDG_CACHE_HOME: cache } });
+  const time = { clock: (performance.now() - began) / 1000, processors: processors() - before };
+  if (status !== 0) throw new Error(stderr);
+  return { time, count: stdout.trim() };
+}
+
+/** @param {Time[]} times @returns {Time} the least of each */
+function least(times) {
+  return { clock: Math.min(...times.map((it) => it.clock)), processors: Math.min(...times.map((it) => it.processors)) };
+}
+
+/** @param {Time} time @param {Time} [other] @returns {string} with its ratio to the other */
+function timeText(time, other) {
+  const text = (/** @type {'clock' | 'processors'} */ it) => `${time[it].toFixed(2)} s${other ? ` (${(time[it] / other[it]).toFixed(2)})` : ''}`;
+  return `clock ${text('clock')}, processors ${text('processors')}`;
 }
 
 /** @param {string} folder a cache, whose trees go */
@@ -100,8 +116,8 @@ function compare(folder, rounds, symq) {
   for (let i = 0; i < rounds; i++) {
     const cache = mkdtempSync(path.join(os.tmpdir(), 'sources-'));
     const once = (/** @type {string} */ name, /** @type {string[]} */ words) => {
-      const { seconds, count } = timed(words, cache);
-      runs[name].push(seconds);
+      const { time, count } = timed(words, cache);
+      runs[name].push(time);
       counts.add(`${name === 'checker' ? 'checker' : 'symdir'} ${count}`);
     };
     once('checker', ['--ask', 'checker', folder]);
@@ -111,10 +127,12 @@ function compare(folder, rounds, symq) {
     once('kept', ['--ask', 'symdir', '--symq', symq, folder]);
     rmSync(cache, { recursive: true });
   }
-  const checker = median(runs.checker);
-  const told = [['empty cache', runs.empty], ['no trees kept', runs.cold], ['trees kept', runs.kept]].map(([name, times]) => (
-    `${name} ${median(times).toFixed(2)} s (${(median(times) / checker).toFixed(2)})`));
-  console.log(`${folder}: ${modules(folder).length} modules; checker ${checker.toFixed(2)} s; symdir: ${told.join(', ')}`);
+  const checker = least(runs.checker);
+  console.log(`${folder}: ${modules(folder).length} modules; load ${os.loadavg()[0].toFixed(1)}`);
+  console.log(`  checker        ${timeText(checker)}`);
+  for (const [name, times] of [['empty cache', runs.empty], ['no trees kept', runs.cold], ['trees kept', runs.kept]]) {
+    console.log(`  ${name.padEnd(15)}${timeText(least(times), checker)}`);
+  }
   for (const it of counts) console.log(`  ${it}`);
 }
 

@@ -3,6 +3,7 @@ import { readFileSync } from 'node:fs';
 import test from 'node:test';
 
 import { convert, nodesOf } from '../lib/tree/convert.js';
+import { inAscii } from '../lib/tree/typescript.js';
 import { languageOf } from '../lib/language.js';
 
 const PLAIN = { bodies: false, ambient: false };
@@ -148,4 +149,13 @@ test('what a file\'s name says', () => {
   assert.deepEqual(languageOf('a.tsx'), { language: 'tsx', declaration: false });
   assert.deepEqual(languageOf('a.cjs'), { language: 'js', declaration: false });
   assert.deepEqual(languageOf('d.ts'), { language: 'ts', declaration: false });
+});
+
+test('TypeScript\'s text in ASCII means the same', () => {
+  const ascii = (/** @type {string} */ text) => inAscii(Buffer.from(text).toString('latin1'));
+  assert.equal(ascii('var a = "é║😀"; // ß'), 'var a = "\\u00e9\\u2551\\ud83d\\ude00"; // \\u00df');
+  const text = '[`é😀`, /^[ä-ü]$/.test("ö"), (function () { var é = 1; return é; })()] // –';
+  assert.deepEqual(eval(/** @type {string} */ (ascii(text))), ['é😀', true, 1]);
+  assert.equal(ascii('/\\–/'), null);
+  assert.equal(ascii('\ufeffvar a;'), null);
 });

@@ -69,13 +69,13 @@ export class Files {
 
   /** @param {string} file absolute @returns {string} below the folder; with `../` where it is elsewhere */
   below(file) {
-    return withSlashes(path.relative(this.folder, file));
+    const start = this.folder === '/' ? '/' : `${this.folder}/`;
+    return file.startsWith(start) ? file.slice(start.length) : withSlashes(path.relative(this.folder, file));
   }
 
   /** @param {string} file absolute @returns {boolean} whether `--skip` leaves it out */
   isSkipped(file) {
-    const below = this.below(file);
-    return this.skip.some((it) => it.test(below));
+    return this.skip.length > 0 && this.skip.some((it) => it.test(this.below(file)));
   }
 
   /** @param {string} file absolute @returns {boolean} whether it stands in the folder, packages that are installed there apart */

@@ -13,10 +13,23 @@ import { usedTypeScript } from './which.js';
 // to by itself before it is compiled anew.
 v8.setFlagsFromString('--interrupt-budget=1000000');
 
-/** @param {string} text @returns {string | null} which means the same, in one byte a character; null where a backslash stands before another one */
-function inAscii(text) {
-  if (/\\[^\0-\x7f]/.test(text)) return null;
-  return text.replace(/[^\0-\x7f]/g, (it) => `\\u${it.charCodeAt(0).toString(16).padStart(4, '0')}`);
+/** @param {string} text @returns {string} with an escape for each of its units */
+function escaped(text) {
+  return Array.from({ length: text.length }, (_, i) => `\\u${text.charCodeAt(i).toString(16).padStart(4, '0')}`).join('');
+}
+
+/**
+ * @param {string} bytes of a text in UTF-8, a character each
+ * @returns {string | null} the text in ASCII: an escape means the same in names, strings, patterns and comments, but for one at the
+ * front and one behind a backslash, where this is null
+ */
+export function inAscii(bytes) {
+  let isSame = true;
+  const text = bytes.replace(/[\x80-\xff]+/g, (it, /** @type {number} */ at) => {
+    isSame &&= at > 0 && bytes[at - 1] !== '\\';
+    return escaped(Buffer.from(it, 'latin1').toString());
+  });
+  return isSame ? text : null;
 }
 
 /** @param {string | undefined} file without its ending @returns {{ text: string, compiled: Buffer } | null} */
@@ -45,9 +58,9 @@ function load(file, text, compiled) {
 
 const which = usedTypeScript() ?? { typescript: findTypeScript(process.cwd()).file };
 const kept = readKept(which.kept);
-const text = kept?.text ?? Module.wrap(readFileSync(which.typescript, 'utf8'));
-const ascii = kept?.text ?? (which.kept ? inAscii(text) : null);
-const loaded = load(which.typescript, ascii ?? text, kept?.compiled);
+const ascii = kept ? null : inAscii(readFileSync(which.typescript, 'latin1'));
+const text = kept?.text ?? Module.wrap(ascii ?? readFileSync(which.typescript, 'utf8'));
+const loaded = load(which.typescript, text, kept?.compiled);
 
 /** @type {typeof import('typescript')} */
 export const ts = /** @type {any} */ (loaded.value);
@@ -55,10 +68,10 @@ export const K = ts.SyntaxKind;
 
 /** Keeps the text, and the compiled form with what was compiled of it while files were parsed, where they aren't kept yet. */
 export function keepCompiled() {
-  if (!which.kept || ascii === null || (kept && !loaded.script.cachedDataRejected)) return;
+  if (!which.kept || (kept ? !loaded.script.cachedDataRejected : ascii === null)) return;
   try {
     mkdirSync(path.dirname(which.kept), { recursive: true });
-    write(`${which.kept}.js`, ascii);
+    if (!kept) write(`${which.kept}.js`, text);
     write(`${which.kept}.compiled`, loaded.script.createCachedData());
   } catch {
     // a cache folder that can't be written costs time alone
