@@ -5,7 +5,7 @@ import { parseArgs } from 'node:util';
 
 import { Failure } from './failure.js';
 import { Folder } from './folder/folder.js';
-import { withSlashes } from './folder/files.js';
+import { checkFolder, withSlashes } from './folder/files.js';
 import { Paint, Progress } from './output.js';
 import { findSymq } from './symq.js';
 import { api } from './commands/api.js';
@@ -86,8 +86,10 @@ function pattern(text) {
 function reading({ words, options }, progress = new Progress()) {
   if (words.length === 0) throw new Failure('which folder? `symdir --help` shows how it is called', 2);
   if (/:\d+$/.test(words[0])) throw new Failure(`the folder goes first, as \`symdir where . ${words[0]}\``, 2);
+  const folder = withSlashes(path.resolve(words[0]));
+  checkFolder(folder);
   return {
-    folder: withSlashes(path.resolve(words[0])),
+    folder,
     skip: (options.skip ?? []).map(pattern),
     bodies: options.bodies ?? false,
     ambient: options['ambient-exports'] ?? false,

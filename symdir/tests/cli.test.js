@@ -1,7 +1,7 @@
 import assert from 'node:assert/strict';
 import { spawn, spawnSync } from 'node:child_process';
 import { once } from 'node:events';
-import { readdirSync, readFileSync, utimesSync, writeFileSync } from 'node:fs';
+import { cpSync, readdirSync, readFileSync, utimesSync, writeFileSync } from 'node:fs';
 import path from 'node:path';
 import test from 'node:test';
 import { setTimeout } from 'node:timers/promises';
@@ -118,6 +118,27 @@ test('a signal ends it as such, and its temporary folder is gone', async () => {
     assert.deepEqual(await exit, [null, signal]);
     assert.deepEqual(readdirSync(TMPDIR), []);
   }
+});
+
+test('the package by itself: what it needs is told', () => {
+  const alone = folderOf({});
+  for (const it of ['bin', 'lib', 'package.json']) cpSync(path.join(path.dirname(BIN), '..', it), path.join(alone, it), { recursive: true });
+  const said = (/** @type {Record<string, string>} */ env, /** @type {string[]} */ ...words) => {
+    const { status, stdout, stderr } = spawnSync(process.execPath, [path.join(alone, 'bin', 'symdir.js'), ...words], { encoding: 'utf8', env });
+    assert.equal(stdout, '');
+    return [status, stderr];
+  };
+  const folder = folderOf(FILES);
+  assert.deepEqual(said({ PATH: '/none' }, 'api', folder), [
+    3, 'symdir: the program symq isn\'t there: `make symq` builds it, --symq FILE names it, and --unproved does without its proof\n']);
+  assert.deepEqual(said({ PATH: '/none' }, 'api', folder, '--symq', program({}, 'symq', '')), [
+    3, 'symdir: TypeScript isn\'t there: `npm install typescript`, or on Debian `apt-get install node-typescript` (4.8 to 6)\n']);
+  assert.deepEqual(said({ PATH: process.env.PATH ?? '' }, 'api', folder, '--unproved'), [
+    2, 'symdir: --unproved works in the repository of deno_symbols alone\n']);
+});
+
+test('a folder that isn\'t there is told before a program that isn\'t', () => {
+  assert.deepEqual(symdir(['api', '/none'], { env: { SYMQ: '/none/symq' } }), { status: 3, stdout: '', stderr: 'symdir: no folder /none\n' });
 });
 
 test('the program of SYMQ, and none', () => {

@@ -67,6 +67,15 @@ test('a text that is nested too deep for the parser is told, and the others are 
   assert.equal(JSON.parse(stdout).modules.length, 2);
 });
 
+test('a text that is nested too deep for the stack of the first thread is parsed in another, and `where` says that it can\'t', () => {
+  const folder = folderOf({ 'a.ts': 'export const a = 1;', 'b.ts': `export let b = ${'('.repeat(2500)}1${')'.repeat(2500)};\n` });
+  const { status, stdout, stderr } = symdir(['graph', folder]);
+  assert.deepEqual([status, stderr], [0, '']);
+  assert.deepEqual(JSON.parse(stdout).modules.map((/** @type {any} */ it) => it.tree !== undefined), [true, true]);
+  const asked = symdir(['where', folder, 'b.ts:1']);
+  assert.deepEqual([asked.status, asked.stderr], [3, 'symdir: b.ts is nested too deep for `where`\n']);
+});
+
 test('no folder, no module, a file that can\'t be written', () => {
   const folder = folderOf({ 'readme.md': '', 'a.ts': '' });
   assert.deepEqual(symdir(['graph', path.join(folder, 'none')]), { status: 3, stdout: '', stderr: `symdir: no folder ${folder}/none\n` });

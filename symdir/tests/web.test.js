@@ -3,7 +3,7 @@ import { readFileSync } from 'node:fs';
 import path from 'node:path';
 import test from 'node:test';
 
-import { answer, folderOf, symdir } from './helper.js';
+import { answer, folderOf, program, symdir } from './helper.js';
 
 const FILES = {
   'index.ts': 'export * from "./all.ts";\nexport { one as two } from "./one.ts";\nexport * from "./gone.ts";\nexport { lost } from "./one.ts";\n',
@@ -48,4 +48,11 @@ test('a picture', () => {
 test('without Graphviz it says what to do', () => {
   const { status, stderr } = symdir(['web', folderOf(FILES), '-o', 'x.svg'], { env: { PATH: '/none' } });
   assert.deepEqual([status, stderr.includes('apt-get install graphviz')], [3, true]);
+});
+
+test('what Graphviz says is told where it fails', () => {
+  const dot = program({}, 'dot', '#!/bin/sh\nread line\necho "Error: no fonts" >&2\nexit 1\n');
+  const PATH = `${path.dirname(dot)}:${process.env.PATH}`;
+  const { status, stderr } = symdir(['web', folderOf(FILES), '-o', 'x.svg'], { env: { PATH } });
+  assert.deepEqual([status, stderr], [3, 'symdir: Graphviz ended with the status 1: Error: no fonts\n']);
 });

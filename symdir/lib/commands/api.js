@@ -114,7 +114,7 @@ function check({ options, print, paint }, names) {
     for (const it of found.added) print(paint.green(`+ ${it}`));
     for (const it of found.changed) print(paint.yellow(`~ ${it.from}  ->  ${it.to}`));
     const [gone, added, changed] = [found.gone, found.added, found.changed].map((it) => it.length);
-    print(gone + added + changed === 0 ? `the ${counted(names.length, 'public name')} are those of ${file}`
+    print(gone + added + changed === 0 ? `the ${counted(names.length, 'public name')} ${names.length === 1 ? 'is that' : 'are those'} of ${file}`
       : `${gone} gone, ${added} new, ${changed} changed; \`symdir api FOLDER --save ${file}\` takes them over`);
   }
   return found.gone.length + found.added.length + found.changed.length > 0 ? 1 : 0;

@@ -154,13 +154,13 @@ function orOwn(ways, local) {
   return local.length > 0 ? local : ways;
 }
 
-/** @param {import('../folder/sources.js').Module} module @returns its nodes, with those in the bodies of functions */
-async function treeOf({ file, parsed: { fault } }) {
+/** @param {import('../folder/sources.js').Module} module @param {string} name of its file @returns its nodes, with those in the bodies of functions */
+async function treeOf({ file, parsed: { fault } }, name) {
   if (fault) throw new Failure('nothing is known of a file with a syntax error');
   const [{ nodesOf }, { keepCompiled }] = await Promise.all([import('../tree/convert.js'), import('../tree/typescript.js')]);
   const made = parsedDeep(() => nodesOf(file, decoded(readFileSync(file)), { ...languageOf(file), bodies: true, ambient: false }));
   keepCompiled();
-  if (!made?.nodes) throw new Failure(`${file} is nested too deep for \`where\``);
+  if (!made?.nodes) throw new Failure(`${name} is nested too deep for \`where\``);
   return { ...made, nodes: made.nodes };
 }
 
@@ -179,7 +179,7 @@ export async function where(run, folder) {
   const spot = spotOf(run.words[1]);
   const name = run.words[2];
   const module = moduleOf(folder, spot.file);
-  const made = await treeOf(module);
+  const made = await treeOf(module, spot.file);
   const hits = hitsAt([...importedNames(made.references), ...namesIn(made.nodes)], spot, new Places(made.text), name);
   if (hits.length === 0) {
     run.print(run.options.json ? '[]' : `no ${name ? `name ${name}` : 'name of a variable or a type'} at ${run.words[1]}`);

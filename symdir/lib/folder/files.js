@@ -22,6 +22,14 @@ export function isFolder(folder) {
   return statSync(folder, { throwIfNoEntry: false })?.isDirectory() ?? false;
 }
 
+/** @param {string} folder @throws {Failure} where it is none */
+export function checkFolder(folder) {
+  if (isFile(folder)) {
+    throw new Failure(`${folder} is a file: name the folder${isCode(folder) ? `, and --entry ${path.basename(folder)}` : ''}`, 2);
+  }
+  if (!isFolder(folder)) throw new Failure(`no folder ${folder}`);
+}
+
 export class Files {
   /**
    * @param {string} folder absolute
@@ -34,10 +42,6 @@ export class Files {
     this.listed = null;
     /** @type {string[]} what can't be listed */
     this.unread = [];
-    if (isFile(folder)) {
-      throw new Failure(`${folder} is a file: name the folder${isCode(folder) ? `, and --entry ${path.basename(folder)}` : ''}`, 2);
-    }
-    if (!isFolder(folder)) throw new Failure(`no folder ${folder}`);
   }
 
   /** @returns {Set<string>} each file of the folder, by its absolute path, as they were when this was first asked */
