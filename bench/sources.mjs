@@ -28,8 +28,9 @@ function modules(folder) {
   return new Files(folder, []).code().filter((it) => !isJavaScript(it));
 }
 
-/** @param {string} folder what the checker finds */
+/** @param {string} folder @returns {{ exports: number, imports: number }} how many names the checker finds */
 function askChecker(folder) {
+  /** @type {typeof import('typescript')} */
   const ts = createRequire(import.meta.url)(findTypeScript(folder).file);
   const program = ts.createProgram(modules(folder), {
     noEmit: true, skipLibCheck: true, noLib: true, types: [], moduleResolution: ts.ModuleResolutionKind.NodeJs,
@@ -38,7 +39,7 @@ function askChecker(folder) {
   const checker = program.getTypeChecker();
   const wanted = new Set(modules(folder));
   const count = { exports: 0, imports: 0 };
-  const define = (symbol) => (symbol.flags & ts.SymbolFlags.Alias ? checker.getAliasedSymbol(symbol) : symbol).declarations?.map((it) => it.getStart());
+  const define = (/** @type {import('typescript').Symbol} */ symbol) => (symbol.flags & ts.SymbolFlags.Alias ? checker.getAliasedSymbol(symbol) : symbol).declarations?.map((it) => it.getStart());
   for (const file of program.getSourceFiles().filter((it) => wanted.has(it.fileName))) {
     const module = checker.getSymbolAtLocation(file);
     for (const it of module ? checker.getExportsOfModule(module) : []) {
@@ -67,7 +68,7 @@ async function askSymdir(folder, symq) {
   opened.open({ symq });
   const specifiers = [...opened.sources.modules.keys()];
   const exports = (await opened.exports(specifiers)).flatMap((it) => it.exports);
-  const imports = specifiers.flatMap((specifier) => opened.sources.modules.get(specifier).parsed.references
+  const imports = specifiers.flatMap((specifier) => (opened.sources.modules.get(specifier)?.parsed.references ?? [])
     .filter((it) => it.how === 'import').flatMap(({ text, names }) => names.filter(([name]) => name !== '*').map(([name]) => ['resolve', specifier, ['import', text, [name]]])));
   const [leaves] = await Promise.all([opened.leaves(exports.map((it) => [it.module, it.symbol])), opened.ask(imports)]);
   for (const it of leaves.flat()) if (isDefinition(it)) opened.declaration(it.module, it.start, it.end);
@@ -111,11 +112,12 @@ function forgetTrees(folder) {
 
 /** @param {string} folder @param {number} rounds @param {string} symq */
 function compare(folder, rounds, symq) {
+  /** @type {Record<'checker' | 'empty' | 'cold' | 'kept', Time[]>} */
   const runs = { checker: [], empty: [], cold: [], kept: [] };
   const counts = new Set();
   for (let i = 0; i < rounds; i++) {
     const cache = mkdtempSync(path.join(os.tmpdir(), 'sources-'));
-    const once = (/** @type {string} */ name, /** @type {string[]} */ words) => {
+    const once = (/** @type {keyof typeof runs} */ name, /** @type {string[]} */ words) => {
       const { time, count } = timed(words, cache);
       runs[name].push(time);
       counts.add(`${name === 'checker' ? 'checker' : 'symdir'} ${count}`);
@@ -130,7 +132,7 @@ function compare(folder, rounds, symq) {
   const checker = least(runs.checker);
   console.log(`${folder}: ${modules(folder).length} modules; load ${os.loadavg()[0].toFixed(1)}`);
   console.log(`  checker        ${timeText(checker)}`);
-  for (const [name, times] of [['empty cache', runs.empty], ['no trees kept', runs.cold], ['trees kept', runs.kept]]) {
+  for (const [name, times] of Object.entries({ 'empty cache': runs.empty, 'no trees kept': runs.cold, 'trees kept': runs.kept })) {
     console.log(`  ${name.padEnd(15)}${timeText(least(times), checker)}`);
   }
   for (const it of counts) console.log(`  ${it}`);
@@ -140,5 +142,5 @@ const { values, positionals } = parseArgs({ allowPositionals: true, options: {
   rounds: { type: 'string', default: '5' }, symq: { type: 'string', default: fileURLToPath(new URL('../crates/symq/out/symq', import.meta.url)) }, ask: { type: 'string' } } });
 const folders = positionals.map((it) => path.resolve(it));
 if (values.ask === 'checker') console.log(JSON.stringify(askChecker(folders[0])));
-else if (values.ask) console.log(JSON.stringify(await askSymdir(folders[0], values.symq)));
-else for (const it of folders) compare(it, Number(values.rounds), values.symq);
+else if (values.ask) console.log(JSON.stringify(await askSymdir(folders[0], String(values.symq))));
+else for (const it of folders) compare(it, Number(values.rounds), String(values.symq));

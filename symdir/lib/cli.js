@@ -149,6 +149,12 @@ function version() {
   return JSON.parse(readFileSync(new URL('../package.json', import.meta.url), 'utf8')).version;
 }
 
+/** @param {string} name @param {string[]} rest @returns {string | null} what is told without a folder: help, and the version */
+function toldOf(name, rest) {
+  if (['--help', '-h', 'help'].includes(name)) return help(rest.find(known));
+  return ['--version', 'version'].includes(name) ? `symdir ${version()}` : null;
+}
+
 /**
  * Runs the command.
  * @param {string[]} args behind its name
@@ -163,12 +169,9 @@ export async function main(args) {
       process.stderr.write(`${help()}\n`);
       return 2;
     }
-    if (name === '--version' || name === 'version') {
-      print(`symdir ${version()}`);
-      return 0;
-    }
-    if (['--help', '-h', 'help'].includes(name)) {
-      print(help(rest.find(known)));
+    const told = toldOf(name, rest);
+    if (told !== null) {
+      print(told);
       return 0;
     }
     known(name);

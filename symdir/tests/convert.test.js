@@ -8,7 +8,7 @@ import { languageOf } from '../lib/language.js';
 
 const PLAIN = { bodies: false, ambient: false };
 
-/** @param {string} text @param {string} [name] @param {object} [how] */
+/** @param {string} text @param {string} [name] @param {object} [how] @returns {any[]} */
 function nodes(text, name = 'a.ts', how = {}) {
   const made = convert(name, text, { ...languageOf(name), ...PLAIN, ...how });
   assert.equal(made.fault, null);

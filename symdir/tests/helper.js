@@ -25,9 +25,9 @@ export function folderOf(files) {
 }
 
 /** @param {string[]} words @param {{ cwd?: string, env?: Record<string, string> }} [how] */
-export function symdir(words, { cwd, env } = {}) {
-  const how = { cwd, env: { ...process.env, ...env }, timeout: SECONDS * 1000, encoding: /** @type {const} */ ('utf8') };
-  const { status, stdout, stderr, error } = spawnSync(process.execPath, [BIN, ...words], how);
+export function symdir(words, how = {}) {
+  const options = { cwd: how.cwd, env: { ...process.env, ...how.env }, timeout: SECONDS * 1000, encoding: /** @type {const} */ ('utf8') };
+  const { status, stdout, stderr, error } = spawnSync(process.execPath, [BIN, ...words], options);
   if (error) throw new Error(`symdir ${words.join(' ')}: ${error.message}\n${stdout}\n${stderr}`);
   return { status, stdout, stderr };
 }
