@@ -135,6 +135,9 @@ test('tsconfig: paths and baseUrl', () => {
 test('tsconfig: comments, what it extends, the nearest one, jsconfig', () => {
   const target = { 'src/a.ts': '', 'src/b.ts': '' };
   assert.equal(resolved({ ...target, 'tsconfig.json': '{ // a comment\n "compilerOptions": { "paths": { "@/*": ["./src/*"], }, }, }' }, 'src/a.ts', '@/b'), 'src/b.ts');
+  const text = '{ "$schema": "https://x.org/a", // "a", "b": [\n /* { */ "compilerOptions": { "baseUrl": ".", "paths": { "@/*": ["./none/*,}", /* , */ "./src/*", // "\n ], }, /* } */ }, }';
+  assert.equal(resolved({ ...target, 'tsconfig.json': text }, 'src/a.ts', '@/b'), 'src/b.ts');
+  assert.equal(resolved({ ...target, 'tsconfig.json': '{ // a comma lacks\n "extends": "./none" "compilerOptions": { "baseUrl": "src" } }' }, 'src/a.ts', 'b'), 'src/b.ts');
   assert.equal(resolved({ ...target, 'tsconfig.json': JSON_OF({ extends: './base' }), 'base.json': JSON_OF({ compilerOptions: { paths: { '@/*': ['./src/*'] } } }) }, 'src/a.ts', '@/b'), 'src/b.ts');
   assert.equal(resolved({ ...target, 'tsconfig.json': JSON_OF({ extends: '@s/conf' }), 'node_modules/@s/conf/tsconfig.json': JSON_OF({ compilerOptions: { baseUrl: '../../../src' } }) }, 'src/a.ts', 'b'), 'src/b.ts');
   assert.equal(resolved({ ...target, 'tsconfig.json': JSON_OF({ compilerOptions: { baseUrl: 'none' } }), 'src/tsconfig.json': JSON_OF({ compilerOptions: { baseUrl: '.' } }) }, 'src/a.ts', 'b'), 'src/b.ts');

@@ -8,19 +8,32 @@ import { withSlashes } from './files.js';
 
 const require = createRequire(import.meta.url);
 
+const COMMENTS = /("(?:[^"\\]|\\.)*")|\/\/.*|\/\*[^]*?\*\//g;
+const LAST_COMMAS = /("(?:[^"\\]|\\.)*")|,(?=\s*[\]}])/g;
+
+/** @param {string} text @returns {string} without comments, and without commas behind the last of a list */
+function plain(text) {
+  const outside = (/** @type {string} */ _, /** @type {string | undefined} */ string) => string ?? '';
+  return text.replace(COMMENTS, outside).replace(LAST_COMMAS, outside);
+}
+
 /**
  * @param {string} text
  * @param {string} file
  * @returns {any} null where it is no JSON, with comments or without
  */
 function parsed(text, file) {
-  try {
-    return JSON.parse(text);
-  } catch {
-    if (!/\/[/*]|,\s*[\]}]/.test(text)) return null;
-    const ts = require(findTypeScript(path.dirname(file)).file);
-    return ts.parseConfigFileTextToJson(file, text).config ?? null;
+  for (const made of [() => text, () => plain(text)]) {
+    try {
+      return JSON.parse(made());
+    } catch {
+      // the next
+    }
   }
+  if (!/\/[/*]|,\s*[\]}]/.test(text)) return null;
+  // what lacks a comma, say, is read as TypeScript reads it, which has to be loaded for that
+  const ts = require(findTypeScript(path.dirname(file)).file);
+  return ts.parseConfigFileTextToJson(file, text).config ?? null;
 }
 
 export class Configs {
