@@ -82,8 +82,9 @@ function pattern(text) {
   }
 }
 
-/** @param {Run} run @param {Progress} [progress] @returns {import('./folder/sources.js').Reading} */
-function reading({ words, options }, progress = new Progress()) {
+/** @param {Run} run @returns {import('./folder/sources.js').Reading} */
+function reading({ words, options }) {
+  const progress = new Progress();
   if (words.length === 0) throw new Failure('which folder? `symdir --help` shows how it is called', 2);
   if (/:\d+$/.test(words[0])) throw new Failure(`the folder goes first, as \`symdir where . ${words[0]}\``, 2);
   const folder = withSlashes(path.resolve(words[0]));
@@ -102,13 +103,11 @@ function reading({ words, options }, progress = new Progress()) {
 
 /** @param {Run} run @param {Command} command @returns {Promise<number>} */
 async function asked(run, command) {
-  const progress = new Progress();
-  const how = reading(run, progress);
+  const how = reading(run);
   command.check?.(run);
   // what answers has to be there before time is spent on files
   if (!run.options.unproved) findSymq(run.options.symq);
   const folder = await Folder.read(how, { entry: run.options.entry ?? [] });
-  progress.end();
   try {
     const faults = command.tellsFaults ? [] : folder.sources.faults();
     faults.forEach(run.warn);

@@ -64,8 +64,9 @@ export class Progress {
     this.isShown = false;
   }
 
-  /** @param {number} done @param {number} all */
+  /** @param {number} done @param {number} all of the files, of which the last takes the line away */
   tell(done, all) {
+    if (done === all) return this.end();
     const now = Date.now();
     if (!process.stderr.isTTY || now - this.began < 1000 || now - this.last < 100) return;
     this.last = now;
@@ -75,5 +76,6 @@ export class Progress {
 
   end() {
     if (this.isShown) process.stderr.write('\r\x1b[K');
+    this.isShown = false;
   }
 }
