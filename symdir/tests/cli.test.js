@@ -1,7 +1,7 @@
 import assert from 'node:assert/strict';
 import { spawn, spawnSync } from 'node:child_process';
 import { once } from 'node:events';
-import { cpSync, readdirSync, readFileSync, utimesSync, writeFileSync } from 'node:fs';
+import { cpSync, readdirSync, readFileSync, rmSync, utimesSync, writeFileSync } from 'node:fs';
 import path from 'node:path';
 import test from 'node:test';
 import { setTimeout } from 'node:timers/promises';
@@ -141,6 +141,11 @@ test('a folder that isn\'t there is told before a program that isn\'t', () => {
   assert.deepEqual(symdir(['api', '/none'], { env: { SYMQ: '/none/symq' } }), { status: 3, stdout: '', stderr: 'symdir: no folder /none\n' });
 });
 
+test('a temporary folder that can\'t be written', () => {
+  const { status, stderr } = symdir(['api', folderOf(FILES)], { env: { TMPDIR: '/none' } });
+  assert.deepEqual([status, stderr], [3, 'symdir: /none can\'t be written (ENOENT)\n']);
+});
+
 test('the program of SYMQ, and none', () => {
   const env = { SYMQ: '/none/symq' };
   assert.deepEqual(symdir(['api', folderOf(FILES)], { env }), { status: 3, stdout: '', stderr: 'symdir: no program /none/symq\n' });
@@ -175,6 +180,21 @@ test('trees are kept, and a changed file alone is parsed again', () => {
   writeFileSync(kept, 'no trees');
   assert.deepEqual(names(), ['k']);
   assert.notDeepEqual(readFileSync(kept), Buffer.from('no trees'));
+});
+
+test('what is made of TypeScript is kept, and made anew where it is none', () => {
+  const cache = folderOf({});
+  const folder = folderOf(FILES);
+  const run = () => symdir(['api', folder], { env: { XDG_CACHE_HOME: cache } });
+  const first = run();
+  assert.deepEqual([first.status, first.stderr], [0, '']);
+  const files = readdirSync(path.join(cache, 'symdir')).sort((a, b) => path.extname(a).localeCompare(path.extname(b)));
+  assert.deepEqual(files.map((it) => path.extname(it)), ['.compiled', '.js', '.trees']);
+  const [compiled, , trees] = files.map((it) => path.join(cache, 'symdir', it));
+  writeFileSync(compiled, 'no compiled form');
+  rmSync(trees);
+  assert.deepEqual(run(), first);
+  assert.notDeepEqual(readFileSync(compiled), Buffer.from('no compiled form'));
 });
 
 test('--no-cache keeps nothing, and a cache folder that can\'t be written does no harm', () => {
