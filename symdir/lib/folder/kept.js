@@ -1,7 +1,7 @@
 // Trees that are kept from run to run, under the user's cache folder: one file for a folder of sources and how it is read.
 import { createHash } from 'node:crypto';
 import { readFileSync, readdirSync, rmSync, statSync } from 'node:fs';
-import { mkdir, open, rename } from 'node:fs/promises';
+import { mkdir, rename, writeFile } from 'node:fs/promises';
 import os from 'node:os';
 import path from 'node:path';
 import { fileURLToPath } from 'node:url';
@@ -95,12 +95,7 @@ export class Kept {
     try {
       await mkdir(path.dirname(this.file), { recursive: true });
       const part = `${this.file}.${process.pid}`;
-      const file = await open(part, 'w');
-      try {
-        for (const it of [length, header, ...[...modules.values()].map(({ text }) => text)]) await file.write(it);
-      } finally {
-        await file.close();
-      }
+      await writeFile(part, Buffer.concat([length, header, ...[...modules.values()].map(({ text }) => text)]));
       await rename(part, this.file);
       prune(path.dirname(this.file));
     } catch {
