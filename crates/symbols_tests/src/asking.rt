@@ -253,7 +253,10 @@ fn tells_two(answer: &Answer<'_>) -> bool {
             _ => false,
         },
         Answer::Definitions(definitions) => definitions.len() == 2,
-        Answer::Names(names) => names.len() == 2,
+        Answer::Names(names) => match names.as_slice() {
+            [first, second] => first.name.as_str() == "n" && second.name.as_str() == "o",
+            _ => false,
+        },
         _ => false,
     }
 }
