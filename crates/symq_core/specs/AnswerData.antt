@@ -37,7 +37,7 @@ entry_data entry =
 -- a public name: the exported name, and behind it the member, if it has one
 abbrev pub member_items : Option (List ℕ) → Items
 member_items None = no_items
-member_items (Some member) = item (string member) no_items
+member_items (Some name) = item (string name) no_items
 
 abbrev pub public_name_data : NameItem → Data
 public_name_data public = array (item (string public.name) (member_items public.member))
