@@ -74,9 +74,10 @@ class Program:
     def row(self, case, is_wanted, **how):
         """What is wrong where the calls of a case are refused one after the other; nothing where all is right. Without a
         refusal the outcome is that of the case."""
-        words, number, wrong = case.words, 0, []
-        if words is None:
-            words = [self.graph(case.graph)]
+        words, number, wrong = ['graph.json'] if case.words is None else case.words, 0, []
+        if case.graph is not None:
+            graph = self.graph(case.graph)
+            words = [graph if it == 'graph.json' else it for it in words]
         while not wrong:
             got, refused = self.run(words, case.given, NUMBER=number, **how)
             if number and not refused:
