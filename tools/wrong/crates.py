@@ -182,9 +182,10 @@ def libraries_of(top):
     """Each crate of crates.txt with the libraries that its line names."""
     found = {}
     for line in read(os.path.join(top, 'crates.txt')).split('\n'):
+        # (behind the name stands the word 'staticlib', if it is one)
         name, _, libraries = line.partition('#')[0].partition(':')
         if name.strip():
-            found[name.strip()] = libraries.split()
+            found[name.split()[0]] = libraries.split()
     return found
 
 

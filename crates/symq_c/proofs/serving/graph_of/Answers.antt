@@ -1,0 +1,11 @@
+use Rattle.symq_c.proofs.Refusals.{accepted_told, refused_told}
+use Rattle.symq_c.proofs.serving.graph_of.Goals as goal
+
+pub returns-clause-accepted : goal.returns-clause-accepted
+returns-clause-accepted c =
+    let made = c.new.ensures in
+    accepted_told c.args.text.now c.in_ok-raw.raw c.new.result c.map_err.result c.in_ok-raw.ensures.read made.faultless made.modules made.redirects made.resolutions c.map_err.ensures.cases
+
+pub returns-clause-refused : goal.returns-clause-refused
+returns-clause-refused c =
+    refused_told c.args.text.now c.in_ok-raw.raw c.new.result c.map_err.result c.in_ok-raw.ensures.read c.new.ensures.refused c.map_err.ensures.cases
