@@ -6,12 +6,13 @@ FOLDER ?= examples/first
 SYMQ ?= crates/symq/out/symq
 SEEDS ?= 0..2000
 
-.PHONY: help run try test symq wrong packages evidence crate clean setup
+.PHONY: help run try test symq lib wrong packages evidence crate clean setup
 
 help:
 	@echo 'make run [FOLDER=src]            the public names of a folder, by a build that waits for no proof: a minute'
 	@echo 'make try GRAPH=g.json QUERIES=q  the answers to the lines of q on a graph of your own, by that build: a minute'
 	@echo 'make symq                        proves and builds the program, as ./symq: 45 minutes on four processors'
+	@echo 'make lib                         proves and builds the library for C, Rust and Python into lib/: docs/LIBRARY.md'
 	@echo 'make test                        the whole gate; the last line is N passed, M failed: over an hour'
 	@echo 'make wrong                       tries all wrong bodies, not those alone that are due, and records them: hours'
 	@echo 'make packages                    holds symdir to the checker of TypeScript on packages of Debian: minutes'
@@ -49,6 +50,10 @@ symq: setup
 	@cd crates/symq && rt run -- ../../examples/first/graph.json < /dev/null
 	@cp crates/symq/out/symq symq
 
+lib: setup
+	@cd crates/symq_c && rt lib
+	@python3 tools/pack_library.py lib
+
 evidence:
 	@test -x '$(SYMQ)' || { echo '$(SYMQ) is not there: `make symq` builds it, or say SYMQ=PROGRAM'; exit 1; }
 	@python3 evidence/model/compare.py '$(SYMQ)' --seeds '$(SEEDS)'
@@ -58,4 +63,4 @@ crate:
 	@python3 evidence/crate/build.py '$(FROM)'
 
 clean:
-	@rm -rf symq crates/*/out symdir/node_modules evidence/crate/out
+	@rm -rf symq lib bindings/rust/target crates/*/out symdir/node_modules evidence/crate/out

@@ -7,7 +7,8 @@ names, and the stored cases on the proved programs.
 `rt ci` proves the crates from the lowest on. The wrong bodies of a crate are tried while it goes on, as soon as the
 libraries below the crate are proved, over copies of what it built of them: those that are due, as `wrong_bodies.py` says,
 by the number of commits. Beside them the model of `evidence/` is held to what it was read from. What needs the proved
-programs comes last: random graphs, the command over folders, calls that are refused in turn, long ways, the cases. Behind all
+programs comes last: random graphs, the command over folders, calls that are refused in turn, long ways, the library from other
+languages, the cases. Behind all
 a line for each part says what it took, on the clock and of the processors; the last line is 'N passed, M failed'.
 """
 import os
@@ -162,6 +163,7 @@ def all_parts():
     parts += [Part('public names').run(tool('public_names.py')), Part('plain graphs').run(tool('run_plain.py'))]
     parts += [model_part('program'), Part('symdir').run(tool('run_symdir.py'))]
     parts += [Part('refused calls').run(tool('run_refusing.py')), Part('long ways').run(tool('run_deep.py'))]
+    parts.append(Part('from C, Python and Rust').run(tool('run_bindings.py')))
     return parts + [Part('cases').run(tool('run_cases.py', '--proved'))]
 
 

@@ -8,7 +8,7 @@ import shutil
 import subprocess
 import sys
 
-PACKAGES = {'node': 'nodejs', 'tsc': 'node-typescript', 'dot': 'graphviz', 'cc': 'build-essential'}
+PACKAGES = {'node': 'nodejs', 'tsc': 'node-typescript', 'dot': 'graphviz', 'cc': 'build-essential', 'ar': 'build-essential', 'cargo': 'cargo'}
 
 
 # nothing that is run here may wait for an answer of people

@@ -68,13 +68,11 @@ fn session(
 {
     let mut input = Descriptor::new(from);
     let mut output = Descriptor::new(to);
-    match serve(alloc, graph, &mut input, &mut output) {
-        Ok(()) => {
-            hand_out(b"", out, needed);
-            0
-        }
-        Err(fault) => hand_out_line(alloc, &Stop::Engine(fault), out, needed),
-    }
+    let Err(fault) = serve(alloc, graph, &mut input, &mut output) else {
+        hand_out(b"", out, needed);
+        return 0;
+    };
+    hand_out_line(alloc, &Stop::Engine(fault), out, needed)
 }
 
 /// Answers lines from one descriptor on another until the first ends, as the program does on its standard streams: a

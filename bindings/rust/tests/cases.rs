@@ -1,0 +1,119 @@
+//! The stored cases of tests/cases by both calls, byte for byte the program's, and what a host needs besides.
+
+use std::fs;
+use std::path::{Path, PathBuf};
+use std::thread;
+use symq::{answer, Error, Session, Stop};
+
+/// A stored case: its graph, its lines, and the program's status, output and error line.
+struct Case {
+    name: String,
+    graph: Vec<u8>,
+    given: Vec<u8>,
+    want: (u8, Vec<u8>, Vec<u8>),
+}
+
+fn case(folder: &Path) -> Option<Case> {
+    let read = |name: &str| fs::read(folder.join(name)).unwrap_or_default();
+    if folder.join("args").exists() {
+        return None;
+    }
+    let status = String::from_utf8(read("status")).unwrap().trim().parse().unwrap_or(0);
+    Some(Case {
+        name: folder.display().to_string(),
+        graph: fs::read(folder.join("graph.json")).ok()?,
+        given: read("queries"),
+        want: (status, read("lines"), read("stderr")),
+    })
+}
+
+fn cases() -> Vec<Case> {
+    let folder = Path::new(env!("CARGO_MANIFEST_DIR")).join("../../tests/cases");
+    let mut paths: Vec<PathBuf> = fs::read_dir(folder).unwrap().map(|it| it.unwrap().path()).collect();
+    paths.sort();
+    let found: Vec<Case> = paths.iter().filter_map(|it| case(it)).collect();
+    assert!(found.iter().filter(|it| it.want.0 == 0 && !it.given.is_empty()).count() > 20);
+    assert!(found.iter().any(|it| it.want.0 == 4) && found.iter().any(|it| it.want.0 == 5));
+    found
+}
+
+fn of_stop(stop: Stop) -> (u8, Vec<u8>, Vec<u8>) {
+    (stop.status, Vec::new(), format!("{}\n", stop.line).into_bytes())
+}
+
+fn by_call(case: &Case) -> (u8, Vec<u8>, Vec<u8>) {
+    match answer(&case.graph, &case.given) {
+        Ok(answers) => (0, answers, Vec::new()),
+        Err(stop) => of_stop(stop),
+    }
+}
+
+fn asked(case: &Case) -> Result<Vec<u8>, Error> {
+    let (mut session, mut told) = (Session::open(case.graph.clone())?, Vec::new());
+    let given = case.given.strip_suffix(b"\n").unwrap_or(&case.given);
+    if !case.given.is_empty() {
+        for line in given.split(|&byte| byte == b'\n') {
+            told.extend(session.ask_bytes(line)?);
+            told.push(b'\n');
+        }
+    }
+    Ok(told)
+}
+
+fn by_session(case: &Case) -> (u8, Vec<u8>, Vec<u8>) {
+    match asked(case) {
+        Ok(told) => (0, told, Vec::new()),
+        Err(Error::Stop(stop)) => of_stop(stop),
+        Err(error) => panic!("{}: {error}", case.name),
+    }
+}
+
+/// The names of the cases that end otherwise than the program does.
+fn wrong(end: fn(&Case) -> (u8, Vec<u8>, Vec<u8>)) -> Vec<String> {
+    cases().into_iter().filter(|it| end(it) != it.want).map(|it| it.name).collect()
+}
+
+#[test]
+fn answers_are_the_programs() {
+    assert_eq!(wrong(by_call), Vec::<String>::new());
+}
+
+#[test]
+fn sessions_are_the_programs() {
+    assert_eq!(wrong(by_session), Vec::<String>::new());
+}
+
+#[test]
+fn four_threads_at_once() {
+    let threads: Vec<_> = (0..4).map(|n| thread::spawn(move || wrong(if n % 2 == 0 { by_call } else { by_session }))).collect();
+    for it in threads {
+        assert_eq!(it.join().unwrap(), Vec::<String>::new());
+    }
+}
+
+#[test]
+fn long_answers_and_lines() {
+    let lines = "x\n".repeat(20_000);
+    assert_eq!(answer(b"{}", lines.as_bytes()).unwrap(), "{\"fault\":\"bad query\"}\n".repeat(20_000).as_bytes());
+    let mut session = Session::open(b"{}".to_vec()).unwrap();
+    assert_eq!(session.ask(&format!("[\"module\",\"{}\"]", "a".repeat(300_000))).unwrap(), "null");
+    assert!(matches!(session.ask("a\nb"), Err(Error::Io(_))));
+    assert_eq!(session.ask("x").unwrap(), "{\"fault\":\"bad query\"}");
+}
+
+#[test]
+fn a_long_error_line() {
+    let module = format!("{{\"specifier\":\"{}\",\"kind\":\"external\"}}", "a".repeat(100_000));
+    let graph = format!("{{\"modules\":[{module},{module}]}}").into_bytes();
+    let want = Stop { status: 5, line: format!("symq: graph refused: 3 {}", "a".repeat(100_000)) };
+    assert_eq!(answer(&graph, b"").unwrap_err(), want);
+    assert!(matches!(Session::open(graph), Err(Error::Stop(stop)) if stop == want));
+}
+
+#[cfg(feature = "json")]
+#[test]
+fn values() {
+    let mut session = Session::open(b"{}".to_vec()).unwrap();
+    let query = serde_json::from_str("[\"module\",\"a\"]").unwrap();
+    assert_eq!(session.ask_value(&query).unwrap().to_string(), "null");
+}

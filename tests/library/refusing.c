@@ -1,0 +1,96 @@
+/* A host with an allocator of its own, which refuses one call after the other: refusing GRAPH QUERIES.
+ *
+ * It defines the three functions that the library takes its memory by. The numbers of refused calls go up until none is
+ * refused, each alone and with all behind it. What is wanted: status 7 and its line, or the status and the bytes of the
+ * call without a refusal; and nothing that was allocated is left. It prints how many calls there were, and ends with 0. */
+#include <stdint.h>
+#include <stdio.h>
+#include <stdlib.h>
+#include <string.h>
+
+#include "symq.h"
+
+/* whether memory was given, and where; where none was, the pointer isn't null */
+struct given {
+    unsigned char is_given;
+    void *at;
+};
+
+static size_t calls, refused, held;
+static int is_each_behind;
+
+static int refuses(void) {
+    calls++;
+    return is_each_behind ? refused <= calls : refused == calls;
+}
+
+struct given rattle_alloc(size_t size, size_t align);
+struct given rattle_realloc(void *old, size_t kept, size_t size, size_t align);
+void rattle_dealloc(void *old);
+
+struct given rattle_alloc(size_t size, size_t align) {
+    void *at = refuses() ? NULL : malloc(size ? size : align);
+    held += at != NULL;
+    return (struct given){at != NULL, at ? at : &held};
+}
+
+struct given rattle_realloc(void *old, size_t kept, size_t size, size_t align) {
+    void *at = refuses() ? NULL : realloc(old, size ? size : align);
+    (void)kept;
+    return (struct given){at != NULL, at ? at : &held};
+}
+
+void rattle_dealloc(void *old) {
+    held--;
+    free(old);
+}
+
+struct bytes {
+    uint8_t items[1 << 20];
+    size_t length;
+};
+
+static struct bytes text, lines, wanted, told;
+
+static void read_file(const char *path, struct bytes *to) {
+    FILE *file = fopen(path, "rb");
+    if (!file)
+        exit(2);
+    to->length = fread(to->items, 1, sizeof to->items, file);
+    fclose(file);
+}
+
+static uint8_t answer(struct bytes *to) {
+    calls = 0;
+    uint8_t status = symq_answer(text.items, text.length, lines.items, lines.length, to->items, sizeof to->items, &to->length);
+    if (held != 0) {
+        printf("%zu blocks are left where call %zu is refused\n", held, refused);
+        exit(1);
+    }
+    return status;
+}
+
+static int is_line(const struct bytes *it, const char *line) {
+    return it->length == strlen(line) && memcmp(it->items, line, it->length) == 0;
+}
+
+int main(int count, char **words) {
+    if (count != 3)
+        return 2;
+    read_file(words[1], &text);
+    read_file(words[2], &lines);
+    refused = SIZE_MAX;
+    uint8_t status = answer(&wanted);
+    size_t all = calls;
+    for (is_each_behind = 0; is_each_behind < 2; is_each_behind++)
+        for (refused = 1; refused <= all; refused++) {
+            uint8_t got = answer(&told);
+            int is_same = got == status && told.length == wanted.length && memcmp(told.items, wanted.items, told.length) == 0;
+            if (!is_same && !(got == SYMQ_NO_MEMORY && is_line(&told, "symq: out of memory"))) {
+                printf("status %d where call %zu is refused\n", got, refused);
+                return 1;
+            }
+        }
+    printf("%zu\n", all);
+    return 0;
+}
