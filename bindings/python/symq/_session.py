@@ -38,14 +38,19 @@ class Session:
         self.ask_line(b"")
 
     def ask_line(self, line: bytes) -> bytes:
-        """The line that answers a line, both without their ends."""
+        """The line that answers a line, both without their ends. Where it raises anything but ValueError, the session is over."""
         if b"\n" in line:
             raise ValueError("a line has no line end in it")
         with self._asking:
             if not self._thread:
                 raise ValueError("the session is closed")
-            self._socket.sendall(line + b"\n")
-            told = self._answers.readline()
+            try:
+                self._socket.sendall(line + b"\n")
+                told = self._answers.readline()
+            except BaseException:
+                # (what isn't read now would be taken for the answer to the next line)
+                self._finish(self._thread)
+                raise
             if not told.endswith(b"\n"):
                 self._finish(self._thread)
                 raise _calls.Stop(*self._ended[0])

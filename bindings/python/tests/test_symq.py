@@ -3,11 +3,11 @@
     SYMQ_LIBRARY=lib/libsymq.so python3 -m unittest discover bindings/python/tests
 """
 import os
-import signal
 import subprocess
 import sys
 import threading
 import unittest
+import unittest.mock
 
 PACKAGE = os.path.dirname(os.path.dirname(os.path.abspath(__file__)))
 TOP = os.path.dirname(os.path.dirname(PACKAGE))
@@ -116,6 +116,15 @@ class Hosts(unittest.TestCase):
             session.ask_line(b"")
         with symq.Session(b"{}") as session, self.assertRaises(ValueError):
             session.ask_line(b"a\nb")
+
+    def test_an_interrupted_question_ends_the_session(self):
+        session = symq.Session(b"{}")
+        with unittest.mock.patch.object(session, "_answers", wraps=session._answers) as answers:
+            answers.readline.side_effect = KeyboardInterrupt
+            with self.assertRaises(KeyboardInterrupt):
+                session.ask_line(b"")
+        with self.assertRaises(ValueError):
+            session.ask_line(b"")
 
     def test_no_thread_and_no_descriptor_stays(self):
         threads, descriptors = threading.active_count(), len(os.listdir("/proc/self/fd"))

@@ -35,7 +35,15 @@ fn answered(graph: &[u8], lines: &[u8]) -> (u8, Vec<u8>) {
         // SAFETY: each pointer and length are those of one slice, which is borrowed for the call and isn't null; `out` and `needed`
         // are borrowed alone
         let status = unsafe {
-            c::symq_answer(graph.as_ptr(), graph.len(), lines.as_ptr(), lines.len(), out.as_mut_ptr(), out.len(), &mut needed)
+            c::symq_answer(
+                graph.as_ptr(),
+                graph.len(),
+                lines.as_ptr(),
+                lines.len(),
+                out.as_mut_ptr(),
+                out.len(),
+                &mut needed,
+            )
         };
         if needed <= out.len() {
             out.truncate(needed);
@@ -60,7 +68,15 @@ pub(crate) fn serve(graph: &[u8], descriptor: i32) -> Stop {
     let (mut out, mut needed) = (vec![0; ROOM], 0);
     // SAFETY: as in `answered`; the caller keeps the descriptor open
     let status = unsafe {
-        c::symq_serve(graph.as_ptr(), graph.len(), descriptor, descriptor, out.as_mut_ptr(), out.len(), &mut needed)
+        c::symq_serve(
+            graph.as_ptr(),
+            graph.len(),
+            descriptor,
+            descriptor,
+            out.as_mut_ptr(),
+            out.len(),
+            &mut needed,
+        )
     };
     if needed <= out.len() {
         return Stop::new(status, &out[..needed]);

@@ -13,7 +13,10 @@ pub struct Stop {
 
 impl Stop {
     pub(crate) fn new(status: u8, line: &[u8]) -> Stop {
-        Stop { status, line: String::from_utf8_lossy(line).into_owned() }
+        Stop {
+            status,
+            line: String::from_utf8_lossy(line).into_owned(),
+        }
     }
 }
 

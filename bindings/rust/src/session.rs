@@ -27,8 +27,14 @@ impl Session {
     /// `Stop` where the text is no graph or the graph is refused, `Io` where a thread or a socket is.
     pub fn open(graph: Vec<u8>) -> Result<Session, Error> {
         let (ours, theirs) = UnixStream::pair()?;
-        let thread = Builder::new().name("symq".into()).stack_size(STACK).spawn(move || run(&graph, theirs))?;
-        let mut session = Session { answers: BufReader::new(ours), thread: Some(thread) };
+        let thread = Builder::new()
+            .name("symq".into())
+            .stack_size(STACK)
+            .spawn(move || run(&graph, theirs))?;
+        let mut session = Session {
+            answers: BufReader::new(ours),
+            thread: Some(thread),
+        };
         // (an empty line is answered once the graph is accepted)
         session.ask_bytes(b"")?;
         Ok(session)
@@ -37,26 +43,45 @@ impl Session {
     /// The line that answers a line, both without their ends.
     pub fn ask(&mut self, line: &str) -> Result<String, Error> {
         let told = self.ask_bytes(line.as_bytes())?;
-        String::from_utf8(told).map_err(|error| io::Error::new(io::ErrorKind::InvalidData, error).into())
+        String::from_utf8(told)
+            .map_err(|error| io::Error::new(io::ErrorKind::InvalidData, error).into())
     }
 
     /// The same of a line that may be no UTF-8.
     pub fn ask_bytes(&mut self, line: &[u8]) -> Result<Vec<u8>, Error> {
         if line.contains(&b'\n') {
-            return Err(io::Error::new(io::ErrorKind::InvalidInput, "a line has no line end in it").into());
+            return Err(io::Error::new(
+                io::ErrorKind::InvalidInput,
+                "a line has no line end in it",
+            )
+            .into());
         }
         if self.thread.is_none() {
             return Err(io::Error::new(io::ErrorKind::NotConnected, "the session is over").into());
         }
-        let mut asked = Vec::with_capacity(line.len() + 1);
+        let exchanged = self.exchange(line);
+        let mut told = exchanged.map_err(|error| {
+            // (what isn't read now would be taken for the answer to the next line)
+            self.finish();
+            error
+        })?;
+        if told.pop() == Some(b'\n') {
+            return Ok(told);
+        }
+        let stop = self.finish();
+        Err(stop.map_or_else(
+            || io::Error::from(io::ErrorKind::NotConnected).into(),
+            Error::Stop,
+        ))
+    }
+
+    /// Sends a line, and reads to the next line end.
+    fn exchange(&mut self, line: &[u8]) -> io::Result<Vec<u8>> {
+        let (mut asked, mut told) = (Vec::with_capacity(line.len() + 1), Vec::new());
         asked.extend_from_slice(line);
         asked.push(b'\n');
         self.answers.get_mut().write_all(&asked)?;
-        let mut told = Vec::new();
         self.answers.read_until(b'\n', &mut told)?;
-        if told.pop() != Some(b'\n') {
-            return Err(self.finish().map_or_else(|| Error::Io(io::ErrorKind::NotConnected.into()), Error::Stop));
-        }
         Ok(told)
     }
 

@@ -5,12 +5,15 @@ use std::path::{Path, PathBuf};
 use std::thread;
 use symq::{answer, Error, Session, Stop};
 
+/// How a run ends: status, output and error line.
+type End = (u8, Vec<u8>, Vec<u8>);
+
 /// A stored case: its graph, its lines, and the program's status, output and error line.
 struct Case {
     name: String,
     graph: Vec<u8>,
     given: Vec<u8>,
-    want: (u8, Vec<u8>, Vec<u8>),
+    want: End,
 }
 
 fn case(folder: &Path) -> Option<Case> {
@@ -18,7 +21,11 @@ fn case(folder: &Path) -> Option<Case> {
     if folder.join("args").exists() {
         return None;
     }
-    let status = String::from_utf8(read("status")).unwrap().trim().parse().unwrap_or(0);
+    let status = String::from_utf8(read("status"))
+        .unwrap()
+        .trim()
+        .parse()
+        .unwrap_or(0);
     Some(Case {
         name: folder.display().to_string(),
         graph: fs::read(folder.join("graph.json")).ok()?,
@@ -29,19 +36,32 @@ fn case(folder: &Path) -> Option<Case> {
 
 fn cases() -> Vec<Case> {
     let folder = Path::new(env!("CARGO_MANIFEST_DIR")).join("../../tests/cases");
-    let mut paths: Vec<PathBuf> = fs::read_dir(folder).unwrap().map(|it| it.unwrap().path()).collect();
+    let mut paths: Vec<PathBuf> = fs::read_dir(folder)
+        .unwrap()
+        .map(|it| it.unwrap().path())
+        .collect();
     paths.sort();
     let found: Vec<Case> = paths.iter().filter_map(|it| case(it)).collect();
-    assert!(found.iter().filter(|it| it.want.0 == 0 && !it.given.is_empty()).count() > 20);
+    assert!(
+        found
+            .iter()
+            .filter(|it| it.want.0 == 0 && !it.given.is_empty())
+            .count()
+            > 20
+    );
     assert!(found.iter().any(|it| it.want.0 == 4) && found.iter().any(|it| it.want.0 == 5));
     found
 }
 
-fn of_stop(stop: Stop) -> (u8, Vec<u8>, Vec<u8>) {
-    (stop.status, Vec::new(), format!("{}\n", stop.line).into_bytes())
+fn of_stop(stop: Stop) -> End {
+    (
+        stop.status,
+        Vec::new(),
+        format!("{}\n", stop.line).into_bytes(),
+    )
 }
 
-fn by_call(case: &Case) -> (u8, Vec<u8>, Vec<u8>) {
+fn by_call(case: &Case) -> End {
     match answer(&case.graph, &case.given) {
         Ok(answers) => (0, answers, Vec::new()),
         Err(stop) => of_stop(stop),
@@ -60,7 +80,7 @@ fn asked(case: &Case) -> Result<Vec<u8>, Error> {
     Ok(told)
 }
 
-fn by_session(case: &Case) -> (u8, Vec<u8>, Vec<u8>) {
+fn by_session(case: &Case) -> End {
     match asked(case) {
         Ok(told) => (0, told, Vec::new()),
         Err(Error::Stop(stop)) => of_stop(stop),
@@ -69,8 +89,12 @@ fn by_session(case: &Case) -> (u8, Vec<u8>, Vec<u8>) {
 }
 
 /// The names of the cases that end otherwise than the program does.
-fn wrong(end: fn(&Case) -> (u8, Vec<u8>, Vec<u8>)) -> Vec<String> {
-    cases().into_iter().filter(|it| end(it) != it.want).map(|it| it.name).collect()
+fn wrong(end: fn(&Case) -> End) -> Vec<String> {
+    cases()
+        .into_iter()
+        .filter(|it| end(it) != it.want)
+        .map(|it| it.name)
+        .collect()
 }
 
 #[test]
@@ -85,7 +109,9 @@ fn sessions_are_the_programs() {
 
 #[test]
 fn four_threads_at_once() {
-    let threads: Vec<_> = (0..4).map(|n| thread::spawn(move || wrong(if n % 2 == 0 { by_call } else { by_session }))).collect();
+    let threads: Vec<_> = (0..4)
+        .map(|n| thread::spawn(move || wrong(if n % 2 == 0 { by_call } else { by_session })))
+        .collect();
     for it in threads {
         assert_eq!(it.join().unwrap(), Vec::<String>::new());
     }
@@ -94,18 +120,32 @@ fn four_threads_at_once() {
 #[test]
 fn long_answers_and_lines() {
     let lines = "x\n".repeat(20_000);
-    assert_eq!(answer(b"{}", lines.as_bytes()).unwrap(), "{\"fault\":\"bad query\"}\n".repeat(20_000).as_bytes());
+    assert_eq!(
+        answer(b"{}", lines.as_bytes()).unwrap(),
+        "{\"fault\":\"bad query\"}\n".repeat(20_000).as_bytes()
+    );
     let mut session = Session::open(b"{}".to_vec()).unwrap();
-    assert_eq!(session.ask(&format!("[\"module\",\"{}\"]", "a".repeat(300_000))).unwrap(), "null");
+    assert_eq!(
+        session
+            .ask(&format!("[\"module\",\"{}\"]", "a".repeat(300_000)))
+            .unwrap(),
+        "null"
+    );
     assert!(matches!(session.ask("a\nb"), Err(Error::Io(_))));
     assert_eq!(session.ask("x").unwrap(), "{\"fault\":\"bad query\"}");
 }
 
 #[test]
 fn a_long_error_line() {
-    let module = format!("{{\"specifier\":\"{}\",\"kind\":\"external\"}}", "a".repeat(100_000));
+    let module = format!(
+        "{{\"specifier\":\"{}\",\"kind\":\"external\"}}",
+        "a".repeat(100_000)
+    );
     let graph = format!("{{\"modules\":[{module},{module}]}}").into_bytes();
-    let want = Stop { status: 5, line: format!("symq: graph refused: 3 {}", "a".repeat(100_000)) };
+    let want = Stop {
+        status: 5,
+        line: format!("symq: graph refused: 3 {}", "a".repeat(100_000)),
+    };
     assert_eq!(answer(&graph, b"").unwrap_err(), want);
     assert!(matches!(Session::open(graph), Err(Error::Stop(stop)) if stop == want));
 }
