@@ -2,6 +2,7 @@
 
     SYMQ_LIBRARY=lib/libsymq.so python3 -m unittest discover bindings/python/tests
 """
+import json
 import os
 import subprocess
 import sys
@@ -41,6 +42,21 @@ def by_session(case):
             return 0, b"".join(session.ask_line(it) + b"\n" for it in lines_of(case.given)), b""
     except symq.Stop as stop:
         return stop.status, b"", stop.line.encode() + b"\n"
+
+
+def tree_of(*nodes):
+    return {"nodes": [{"kind": "Program", "range": [0, 1], "body": [1]}, *({"range": [0, 1], **it} for it in nodes)]}
+
+
+def passed_on(count):
+    """The text of a graph of modules in a row, each of which passes on a name of the next one; the last declares it."""
+    name, last = {"kind": "Ident", "sym": ["x", 1]}, "m%d" % (count - 1)
+    texts = [("m%d" % n, tree_of({"kind": "ExportNamed", "specifiers": [2], "src": "m%d" % (n + 1)},
+                                 {"kind": "ExportSpecifier", "orig": 3}, name)) for n in range(count - 1)]
+    texts.append((last, tree_of({"kind": "ExportDecl", "decl": 2}, {"kind": "VarDecl", "decls": [3]},
+                                {"kind": "VarDeclarator", "name": 4}, {**name, "kind": "BindingIdent"})))
+    modules = [{"specifier": it, "kind": "esm", "text": " ", "tree": tree} for it, tree in texts]
+    return json.dumps({"modules": modules, "resolutions": [["m%d" % n, *["m%d" % (n + 1)] * 2] for n in range(count - 1)]}).encode()
 
 
 class Cases(unittest.TestCase):
@@ -93,6 +109,11 @@ class Hosts(unittest.TestCase):
                          b"null\n" + b'{"fault":"bad query"}\n' * 20000)
         with symq.Session(b"{}") as session:
             self.assertEqual(session.ask_line(lines[:-1]), b"null")
+
+    def test_a_session_has_the_stack_for_long_ways(self):
+        with symq.Session(passed_on(20000)) as session:
+            found = session.ask("definitions", "m0", 1)["definitions"]
+        self.assertEqual([it["module"] for it in found], ["m19999"])
 
     def test_a_long_error_line(self):
         name = "a" * 100000

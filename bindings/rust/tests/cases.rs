@@ -135,6 +135,41 @@ fn long_answers_and_lines() {
     assert_eq!(session.ask("x").unwrap(), "{\"fault\":\"bad query\"}");
 }
 
+/// The text of a graph of modules in a row, each of which passes on a name of the next one; the last declares it.
+fn passed_on(count: usize) -> String {
+    let module = |n: usize, nodes: String| {
+        let program = r#"{"kind":"Program","range":[0,1],"body":[1]}"#;
+        format!(
+            r#"{{"specifier":"m{n}","kind":"esm","text":" ","tree":{{"nodes":[{program},{nodes}]}}}}"#
+        )
+    };
+    let passing = |n: usize| {
+        let next = n + 1;
+        let first =
+            format!(r#"{{"kind":"ExportNamed","range":[0,1],"specifiers":[2],"src":"m{next}"}}"#);
+        let second = r#"{"kind":"ExportSpecifier","range":[0,1],"orig":3},{"kind":"Ident","range":[0,1],"sym":["x",1]}"#;
+        module(n, format!("{first},{second}"))
+    };
+    let declared = r#"{"kind":"ExportDecl","range":[0,1],"decl":2},{"kind":"VarDecl","range":[0,1],"decls":[3]},
+        {"kind":"VarDeclarator","range":[0,1],"name":4},{"kind":"BindingIdent","range":[0,1],"sym":["x",1]}"#;
+    let mut modules: Vec<String> = (0..count - 1).map(passing).collect();
+    modules.push(module(count - 1, declared.into()));
+    let resolution = |n: usize| format!(r#"["m{n}","m{0}","m{0}"]"#, n + 1);
+    let resolutions: Vec<String> = (0..count - 1).map(resolution).collect();
+    format!(
+        r#"{{"modules":[{}],"resolutions":[{}]}}"#,
+        modules.join(","),
+        resolutions.join(",")
+    )
+}
+
+#[test]
+fn a_session_has_the_stack_for_long_ways() {
+    let mut session = Session::open(passed_on(20_000).into_bytes()).unwrap();
+    let found = session.ask(r#"["definitions","m0",1]"#).unwrap();
+    assert!(found.contains(r#""module":"m19999""#), "{found}");
+}
+
 #[test]
 fn a_long_error_line() {
     let module = format!(
