@@ -6,10 +6,10 @@ names, and the stored cases on the proved programs.
 
 `rt ci` proves the crates from the lowest on. The wrong bodies of a crate are tried while it goes on, as soon as the
 libraries below the crate are proved, over copies of what it built of them: those that are due, as `wrong_bodies.py` says,
-by the number of commits. Beside them the model of `evidence/` is held to what it was read from. What needs the proved
-programs comes last: random graphs, the command over folders, calls that are refused in turn, long ways, the library from other
-languages, the cases. Behind all
-a line for each part says what it took, on the clock and of the processors; the last line is 'N passed, M failed'.
+by the number of commits. Beside them the model of `evidence/` is held to what it was read from, and the static library is built and
+called from other languages. What needs the proved programs comes last: random graphs, the command over folders, calls that are refused
+in turn, long ways, the cases. Behind all a line for each part says what it took, on the clock and of the processors; the last line is
+'N passed, M failed'.
 """
 import os
 import re
@@ -127,6 +127,14 @@ def borrows_part(proofs):
     return part.run(tool('run_borrows.py', '--libraries', proofs.folder))
 
 
+def bindings_part(proofs):
+    """Builds the static library, and calls it from other languages, once the libraries below it are proved."""
+    part = Part('from C, Python and Rust')
+    if not proofs.has(libraries_below('symq_c', libraries_of(TOP))):
+        return part
+    return part.run(tool('run_bindings.py', '--libraries', proofs.folder))
+
+
 def tests_part(name):
     return Part('tests of tools/' + name).run(tool('test_' + name))
 
@@ -153,9 +161,9 @@ def all_parts():
     os.environ.setdefault('RT_JOBS', str(max(2, processors // 2)))
     edits = {name: len(Crate(TOP, name, libraries).names()) for name in libraries}
     names = sorted((name for name in libraries if edits[name]), key=lambda it: -edits[it])
-    with tempfile.TemporaryDirectory(prefix='gate-') as folder, ThreadPoolExecutor(len(names) + 5) as pool:
+    with tempfile.TemporaryDirectory(prefix='gate-') as folder, ThreadPoolExecutor(len(names) + 6) as pool:
         proofs, lanes = Proofs(laid(folder, 'built')), laid(folder, 'lanes', max(2, processors - 1))
-        tasks = [pool.submit(proofs_part, proofs), pool.submit(borrows_part, proofs)]
+        tasks = [pool.submit(proofs_part, proofs), pool.submit(borrows_part, proofs), pool.submit(bindings_part, proofs)]
         tasks += [pool.submit(tests_part, name) for name in ('wrong_bodies.py', 'public_names.py')]
         tasks.append(pool.submit(model_part, 'model'))
         tasks += [pool.submit(wrong_bodies_part, name, libraries, proofs, lanes, turn) for name in names]
@@ -163,7 +171,6 @@ def all_parts():
     parts += [Part('public names').run(tool('public_names.py')), Part('plain graphs').run(tool('run_plain.py'))]
     parts += [model_part('program'), Part('symdir').run(tool('run_symdir.py'))]
     parts += [Part('refused calls').run(tool('run_refusing.py')), Part('long ways').run(tool('run_deep.py'))]
-    parts.append(Part('from C, Python and Rust').run(tool('run_bindings.py')))
     return parts + [Part('cases').run(tool('run_cases.py', '--proved'))]
 
 

@@ -1,14 +1,16 @@
 #!/usr/bin/env python3
 """The proved library from C, Python and Rust: the header against the exports, and all stored cases of symq through each.
 
-    python3 tools/run_bindings.py               crates/symq_c/out/libsymq_c.a, which `rt ci` and `make lib` build
-    python3 tools/run_bindings.py ARCHIVE       the library at this path
+    python3 tools/run_bindings.py                       crates/symq_c/out/libsymq_c.a, which `make lib` builds
+    python3 tools/run_bindings.py ARCHIVE               the library at this path
+    python3 tools/run_bindings.py --libraries FOLDER    proves and builds it, over the built libraries in this folder
 
 The library is packed into a folder of its own. `symq.h` has to declare what the crate exports, by the types of the arguments;
 `bindings/c/example.c` is compiled with every warning as an error and answers the cases; so do the tests in Python and in Rust, which
 is built without and with its feature. `tests/library/refusing.c` is a host whose allocator refuses call after call. The last line is
 'N passed, M failed'.
 """
+import argparse
 import os
 import re
 import shutil
@@ -17,10 +19,12 @@ import sys
 import tempfile
 from concurrent.futures import ThreadPoolExecutor
 
-from pack_library import ARCHIVE, HEADER, TOP, pack
+from pack_library import ARCHIVE, HEADER, TOP, kit_folder, pack
 from run_cases import SORTS, TESTS, all_cases, run_program
 from run_refusing import OF_MEMORY
 from set_up import ensure
+from wrong.crates import Crate, libraries_of
+from wrong.rooms import words_of
 
 SOURCES = os.path.join(TOP, 'crates', 'symq_c', 'src')
 BINDINGS = os.path.join(TOP, 'bindings')
@@ -120,11 +124,31 @@ def through_rust(folder):
     return found
 
 
+def built(path, libraries):
+    """The static library, proved and built at the path over the built libraries of a folder."""
+    crate, kit = Crate(TOP, 'symq_c', libraries_of(TOP)), kit_folder()
+    program, _, *words = words_of(crate, kit, libraries)
+    words = [it for it in words if it != '--allow-holes']
+    toolchain = ['--toolchain', os.path.join(kit, 'toolchain'), '--backend', 'llvm', '--crate-type', 'staticlib']
+    run = subprocess.run([program, 'build', *words, *toolchain, '-o', path], cwd=crate.folder, stdin=subprocess.DEVNULL,
+                         stdout=subprocess.PIPE, stderr=subprocess.STDOUT, text=True, errors='replace')
+    if run.returncode:
+        sys.exit(run.stdout[-3000:])
+    return path
+
+
+def arguments(words):
+    parser = argparse.ArgumentParser(description='The proved library from C, Python and Rust.')
+    parser.add_argument('--libraries', metavar='FOLDER', type=os.path.abspath, help='where the built libraries are')
+    parser.add_argument('archive', nargs='?', metavar='ARCHIVE', type=os.path.abspath, default=ARCHIVE)
+    return parser.parse_args(words)
+
+
 def main(words):
-    archive = os.path.abspath(words[0]) if words else ARCHIVE
+    args = arguments(words)
     ensure(['cc', 'cargo'])
     with tempfile.TemporaryDirectory(prefix='symq-') as folder:
-        pack(folder, archive)
+        pack(folder, built(os.path.join(folder, 'libsymq_c.a'), args.libraries) if args.libraries else args.archive)
         found = differences()
         for part in (through_c, refused, through_python, through_rust):
             found.update(part(folder))

@@ -6,7 +6,7 @@ from dataclasses import dataclass
 
 TOP = os.path.dirname(os.path.dirname(os.path.dirname(os.path.abspath(__file__))))
 
-FUNCTION = re.compile(r'( *)(?:pub(?:\([a-z]+\))? )?(?:const )?(?:unsafe )?fn (\w+)')
+FUNCTION = re.compile(r'( *)(?:pub(?:\([a-z]+\))? )?(?:const )?(?:unsafe )?(?:extern "C" )?fn (\w+)')
 TYPE = re.compile(r'^(?:pub(?:\([a-z]+\))? )?(?:struct|enum|union) (\w+)', re.M)
 IMPL = re.compile(r'impl(?:<.*?>)? (?:(?P<trait>\w.*) for )?(?P<type>\w+)')
 CYCLE = re.compile(r' *#\[cycle\((\w+)\)\]')
