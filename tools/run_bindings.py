@@ -28,10 +28,10 @@ from wrong.rooms import words_of
 
 SOURCES = os.path.join(TOP, 'crates', 'symq_c', 'src')
 BINDINGS = os.path.join(TOP, 'bindings')
-WARNINGS = ['-std=c99', '-D_POSIX_C_SOURCE=200809L', '-Wall', '-Wextra', '-Wpedantic', '-Werror', '-O1']
+WARNINGS = ['-std=c99', '-Wall', '-Wextra', '-Wpedantic', '-Werror', '-O1']
 # how a type of an export crosses to C
 TYPES = {'Global': [], '&[u8]': ['const uint8_t *', 'size_t'], '&mut [u8]': ['uint8_t *', 'size_t'],
-         '&mut usize': ['size_t *'], 'i32': ['int32_t'], 'u8': ['uint8_t']}
+         '&mut usize': ['size_t *'], 'u8': ['uint8_t']}
 
 
 def read(path):
@@ -70,7 +70,7 @@ def differences():
 def compiled(folder, source, name):
     """A program in C over the packed library. What it defines itself stands in place of what the library has."""
     path = os.path.join(folder, name)
-    subprocess.run(['cc', *WARNINGS, '-o', path, source, '-I', folder, os.path.join(folder, 'libsymq.a'), '-lpthread'], check=True)
+    subprocess.run(['cc', *WARNINGS, '-o', path, source, '-I', folder, os.path.join(folder, 'libsymq.a')], check=True)
     return path
 
 

@@ -1,4 +1,4 @@
-"""The library's calls, as bindings/c/symq.h declares them."""
+"""The library's call, as bindings/c/symq.h declares it."""
 import ctypes
 import os
 from typing import Tuple
@@ -12,8 +12,7 @@ def _library() -> ctypes.CDLL:
     found = ctypes.CDLL(os.environ.get("SYMQ_LIBRARY") or os.path.join(_HERE, "libsymq.so"))
     text, out = [ctypes.c_char_p, ctypes.c_size_t], [ctypes.c_void_p, ctypes.c_size_t, ctypes.POINTER(ctypes.c_size_t)]
     found.symq_answer.argtypes = [*text, *text, *out]
-    found.symq_serve.argtypes = [*text, ctypes.c_int32, ctypes.c_int32, *out]
-    found.symq_answer.restype = found.symq_serve.restype = ctypes.c_uint8
+    found.symq_answer.restype = ctypes.c_uint8
     return found
 
 
@@ -23,7 +22,7 @@ _LIBRARY = _library()
 class Stop(Exception):
     """Why there are no answers: the status of the program, and its line.
 
-    4: the text is no graph. 5: the graph is refused. 6: a session's stream failed. 7: memory was refused.
+    4: the text is no graph. 5: the graph is refused. 7: memory was refused.
     """
 
     def __init__(self, status: int, line: str) -> None:
@@ -51,14 +50,3 @@ def answer(graph: bytes, lines: bytes) -> bytes:
     if status:
         raise Stop(status, told.decode("utf-8", "replace"))
     return told
-
-
-def serve(graph: bytes, descriptor: int) -> Tuple[int, str]:
-    """Answers the lines of a descriptor on it until they end, and returns the status and the line of the end."""
-    out, needed = ctypes.create_string_buffer(_ROOM), ctypes.c_size_t()
-    status = _LIBRARY.symq_serve(graph, len(graph), descriptor, descriptor, out, len(out), needed)
-    told = out.raw[: needed.value]
-    if needed.value > len(out):
-        # (a line that is longer than the room is about a graph that is refused)
-        status, told = _answered(graph, b"")
-    return status, told.decode("utf-8", "replace")

@@ -1,6 +1,10 @@
-//! The library's calls, as `bindings/c/symq.h` declares them.
+//! The library's call, as `bindings/c/symq.h` declares it.
 
+#[cfg(feature = "json")]
+use crate::error::Error;
 use crate::error::Stop;
+#[cfg(feature = "json")]
+use serde_json::Value;
 
 mod c {
     extern "C" {
@@ -9,16 +13,6 @@ mod c {
             text_length: usize,
             lines: *const u8,
             lines_length: usize,
-            out: *mut u8,
-            out_length: usize,
-            needed: *mut usize,
-        ) -> u8;
-
-        pub fn symq_serve(
-            text: *const u8,
-            text_length: usize,
-            from: i32,
-            to: i32,
             out: *mut u8,
             out_length: usize,
             needed: *mut usize,
@@ -63,25 +57,14 @@ pub fn answer(graph: &[u8], lines: &[u8]) -> Result<Vec<u8>, Stop> {
     }
 }
 
-/// Answers the lines of a descriptor on it until they end, and tells how that ended.
-pub(crate) fn serve(graph: &[u8], descriptor: i32) -> Stop {
-    let (mut out, mut needed) = (vec![0; ROOM], 0);
-    // SAFETY: as in `answered`; the caller keeps the descriptor open
-    let status = unsafe {
-        c::symq_serve(
-            graph.as_ptr(),
-            graph.len(),
-            descriptor,
-            descriptor,
-            out.as_mut_ptr(),
-            out.len(),
-            &mut needed,
-        )
-    };
-    if needed <= out.len() {
-        return Stop::new(status, &out[..needed]);
-    }
-    // (a line that is longer than the room is about a graph that is refused)
-    let (status, line) = answered(graph, b"");
-    Stop::new(status, &line)
+/// The answers to queries of `docs/QUERIES.md` as values, one to each.
+///
+/// The graph is read as of `answer`.
+#[cfg(feature = "json")]
+pub fn answer_values(graph: &[u8], queries: &[Value]) -> Result<Vec<Value>, Error> {
+    let lines: String = queries.iter().map(|it| format!("{it}\n")).collect();
+    answer(graph, lines.as_bytes())?
+        .split_inclusive(|&byte| byte == b'\n')
+        .map(|it| serde_json::from_slice(it).map_err(Error::Json))
+        .collect()
 }

@@ -1,9 +1,9 @@
-//! The stored cases of tests/cases by both calls, byte for byte the program's, and what a host needs besides.
+//! The stored cases of tests/cases by the call, byte for byte the program's, and what a host needs besides.
 
 use std::fs;
 use std::path::{Path, PathBuf};
 use std::thread;
-use symq::{answer, Error, Session, Stop};
+use symq::{answer, Stop};
 
 /// How a run ends: status, output and error line.
 type End = (u8, Vec<u8>, Vec<u8>);
@@ -53,65 +53,34 @@ fn cases() -> Vec<Case> {
     found
 }
 
-fn of_stop(stop: Stop) -> End {
-    (
-        stop.status,
-        Vec::new(),
-        format!("{}\n", stop.line).into_bytes(),
-    )
-}
-
 fn by_call(case: &Case) -> End {
     match answer(&case.graph, &case.given) {
         Ok(answers) => (0, answers, Vec::new()),
-        Err(stop) => of_stop(stop),
-    }
-}
-
-fn asked(case: &Case) -> Result<Vec<u8>, Error> {
-    let (mut session, mut told) = (Session::open(case.graph.clone())?, Vec::new());
-    let given = case.given.strip_suffix(b"\n").unwrap_or(&case.given);
-    if !case.given.is_empty() {
-        for line in given.split(|&byte| byte == b'\n') {
-            told.extend(session.ask_bytes(line)?);
-            told.push(b'\n');
-        }
-    }
-    Ok(told)
-}
-
-fn by_session(case: &Case) -> End {
-    match asked(case) {
-        Ok(told) => (0, told, Vec::new()),
-        Err(Error::Stop(stop)) => of_stop(stop),
-        Err(error) => panic!("{}: {error}", case.name),
+        Err(stop) => (
+            stop.status,
+            Vec::new(),
+            format!("{}\n", stop.line).into_bytes(),
+        ),
     }
 }
 
 /// The names of the cases that end otherwise than the program does.
-fn wrong(end: fn(&Case) -> End) -> Vec<String> {
+fn wrong() -> Vec<String> {
     cases()
         .into_iter()
-        .filter(|it| end(it) != it.want)
+        .filter(|it| by_call(it) != it.want)
         .map(|it| it.name)
         .collect()
 }
 
 #[test]
 fn answers_are_the_programs() {
-    assert_eq!(wrong(by_call), Vec::<String>::new());
-}
-
-#[test]
-fn sessions_are_the_programs() {
-    assert_eq!(wrong(by_session), Vec::<String>::new());
+    assert_eq!(wrong(), Vec::<String>::new());
 }
 
 #[test]
 fn four_threads_at_once() {
-    let threads: Vec<_> = (0..4)
-        .map(|n| thread::spawn(move || wrong(if n % 2 == 0 { by_call } else { by_session })))
-        .collect();
+    let threads: Vec<_> = (0..4).map(|_| thread::spawn(wrong)).collect();
     for it in threads {
         assert_eq!(it.join().unwrap(), Vec::<String>::new());
     }
@@ -119,20 +88,10 @@ fn four_threads_at_once() {
 
 #[test]
 fn long_answers_and_lines() {
-    let lines = "x\n".repeat(20_000);
-    assert_eq!(
-        answer(b"{}", lines.as_bytes()).unwrap(),
-        "{\"fault\":\"bad query\"}\n".repeat(20_000).as_bytes()
-    );
-    let mut session = Session::open(b"{}".to_vec()).unwrap();
-    assert_eq!(
-        session
-            .ask(&format!("[\"module\",\"{}\"]", "a".repeat(300_000)))
-            .unwrap(),
-        "null"
-    );
-    assert!(matches!(session.ask("a\nb"), Err(Error::Io(_))));
-    assert_eq!(session.ask("x").unwrap(), "{\"fault\":\"bad query\"}");
+    let line = format!("[\"module\",\"{}\"]\n", "a".repeat(300_000));
+    let lines = line + &"x\n".repeat(20_000);
+    let want = format!("null\n{}", "{\"fault\":\"bad query\"}\n".repeat(20_000));
+    assert_eq!(answer(b"{}", lines.as_bytes()).unwrap(), want.as_bytes());
 }
 
 /// The text of a graph of modules in a row, each of which passes on a name of the next one; the last declares it.
@@ -164,9 +123,11 @@ fn passed_on(count: usize) -> String {
 }
 
 #[test]
-fn a_session_has_the_stack_for_long_ways() {
-    let mut session = Session::open(passed_on(20_000).into_bytes()).unwrap();
-    let found = session.ask(r#"["definitions","m0",1]"#).unwrap();
+fn a_thread_has_the_stack_for_long_ways() {
+    let graph = passed_on(20_000).into_bytes();
+    let asked = move || answer(&graph, b"[\"definitions\",\"m0\",1]\n").unwrap();
+    let thread = thread::Builder::new().stack_size(64 << 20).spawn(asked);
+    let found = String::from_utf8(thread.unwrap().join().unwrap()).unwrap();
     assert!(found.contains(r#""module":"m19999""#), "{found}");
 }
 
@@ -182,13 +143,16 @@ fn a_long_error_line() {
         line: format!("symq: graph refused: 3 {}", "a".repeat(100_000)),
     };
     assert_eq!(answer(&graph, b"").unwrap_err(), want);
-    assert!(matches!(Session::open(graph), Err(Error::Stop(stop)) if stop == want));
 }
 
 #[cfg(feature = "json")]
 #[test]
 fn values() {
-    let mut session = Session::open(b"{}".to_vec()).unwrap();
-    let query = serde_json::from_str("[\"module\",\"a\"]").unwrap();
-    assert_eq!(session.ask_value(&query).unwrap().to_string(), "null");
+    let query = serde_json::from_slice(b"[\"module\",\"a\"]").unwrap();
+    let found = symq::answer_values(b"{}", &[query, serde_json::from_slice(b"[]").unwrap()]);
+    let texts: Vec<String> = found.unwrap().iter().map(|it| it.to_string()).collect();
+    assert_eq!(texts, ["null", "{\"fault\":\"bad query\"}"]);
+    assert!(
+        matches!(symq::answer_values(b"{", &[]), Err(symq::Error::Stop(stop)) if stop.status == 4)
+    );
 }

@@ -1,22 +1,19 @@
-//! The calls that cross.
+//! The call that crosses.
 
-ghost use Rattle.std.specs.Prelude.{◌≡◌, ◌⊎◌, []};
+ghost use Rattle.std.specs.Prelude.{◌≡◌, ◌⊎◌};
 ghost use Rattle.symbols_syntax.specs.Graph.{GraphView};
 ghost use Rattle.symbols_syntax.specs.declared.graph.faults.GraphFault.{GraphFault};
 ghost use Rattle.symq_reader.specs.declared.faults.FormatFault.{FormatFault};
 ghost use Rattle.symq_core.specs.AnswerTexts.{answer_text};
 ghost use Rattle.symq_core.specs.Lines.{output_of};
-ghost use Rattle.symq_core.specs.StopLines.{engine_line, format_line, graph_line, memory_line};
-ghost use Rattle.symq_core.specs.declared.program.fault.EngineFault.{EngineFault};
+ghost use Rattle.symq_core.specs.StopLines.{format_line, graph_line, memory_line};
 ghost use Rattle.symq_c.specs.GraphTexts.{IsGraphOf, IsFormatFaultOf, IsGraphFaultOf};
 ghost use Rattle.symq_c.specs.Handing.{Hands};
 
-use crate::descriptor::Descriptor;
 use crate::handing::{hand_out, hand_out_line};
 use crate::serving::{answers, graph_of};
 use std::alloc::Global;
-use symbols_tree::check::ModuleGraph;
-use symq_core::program::{Stop, serve};
+use symq_core::program::Stop;
 
 /// Answers query lines over the text of a graph (own rule). The status is 0, and the answers stand at the front of
 /// `out`; or it is the program's, 4 where the text is no graph, 5 where the graph is refused, 7 where memory is, and
@@ -50,58 +47,4 @@ pub extern "C" fn symq_answer(
         }
         Err(fault) => hand_out_line(alloc, &Stop::Engine(fault), out, needed),
     }
-}
-
-/// Serves the lines of one descriptor on another, and tells how that ended.
-fn session(
-    alloc: Global,
-    graph: &ModuleGraph,
-    from: i32,
-    to: i32,
-    out: &mut [u8],
-    needed: &mut usize,
-) -> u8
-    ensures served { result ≡ 0 → Hands [] out.old out.new needed.new }
-    ensures broken { result ≡ 6 → (fault : EngineFault) × Hands (engine_line fault) out.old out.new needed.new }
-    ensures memory { result ≡ 7 → Hands memory_line out.old out.new needed.new }
-    ensures no_other { (result ≡ 0) ⊎ (result ≡ 6) ⊎ (result ≡ 7) }
-{
-    let mut input = Descriptor::new(from);
-    let mut output = Descriptor::new(to);
-    let Err(fault) = serve(alloc, graph, &mut input, &mut output) else {
-        hand_out(b"", out, needed);
-        return 0;
-    };
-    hand_out_line(alloc, &Stop::Engine(fault), out, needed)
-}
-
-/// Answers lines from one descriptor on another until the first ends, as the program does on its standard streams: a
-/// thread of the caller's runs it, so that a graph stays open between lines (own rule). The status is the program's,
-/// and its line stands in `out` as of `symq_answer`: no bytes for status 0; 4 and 5 as there, before anything is read;
-/// 6 where a read or a write failed; 7 where memory was refused. The descriptors stay open.
-#[unsafe(no_mangle)]
-pub extern "C" fn symq_serve(
-    alloc: Global,
-    text: &[u8],
-    from: i32,
-    to: i32,
-    out: &mut [u8],
-    needed: &mut usize,
-) -> u8
-    ensures served { result ≡ 0 → (graph : GraphView) × IsGraphOf text.now graph
-        × Hands [] out.old out.new needed.new }
-    ensures no_graph { result ≡ 4 → (fault : FormatFault) × IsFormatFaultOf text.now fault
-        × Hands (format_line fault) out.old out.new needed.new }
-    ensures refused { result ≡ 5 → (fault : GraphFault) × IsGraphFaultOf text.now fault
-        × Hands (graph_line fault) out.old out.new needed.new }
-    ensures broken { result ≡ 6 → (graph : GraphView) × IsGraphOf text.now graph
-        × ((fault : EngineFault) × Hands (engine_line fault) out.old out.new needed.new) }
-    ensures memory { result ≡ 7 → Hands memory_line out.old out.new needed.new }
-    ensures no_other { (result ≡ 0) ⊎ (result ≡ 4) ⊎ (result ≡ 5) ⊎ (result ≡ 6) ⊎ (result ≡ 7) }
-{
-    let graph = match graph_of(alloc, text) {
-        Ok(graph) => graph,
-        Err(stop) => return hand_out_line(alloc, &stop, out, needed),
-    };
-    session(alloc, &graph, from, to, out, needed)
 }

@@ -1,10 +1,9 @@
-//! Calls for other languages: the answers to lines over the text of a graph, and a session over two descriptors.
-//! Bytes and numbers cross, and nothing stays behind a call: what it takes of memory it gives back.
+//! A call for other languages: the answers to lines over the text of a graph. Bytes and numbers cross, and nothing stays
+//! behind a call: what it takes of memory it gives back.
 //!
-//! `symq.h` declares these calls for C.
+//! `symq.h` declares it for C.
 #![tactic(auto)]
 
 mod calls;
-mod descriptor;
 mod handing;
 mod serving;

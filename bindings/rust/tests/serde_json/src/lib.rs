@@ -22,6 +22,7 @@ impl fmt::Display for Error {
 
 impl std::error::Error for Error {}
 
-pub fn from_str(text: &str) -> Result<Value, Error> {
-    Ok(Value(text.to_string()))
+pub fn from_slice(text: &[u8]) -> Result<Value, Error> {
+    let text = std::str::from_utf8(text).map_err(|_| Error)?;
+    Ok(Value(text.trim().to_string()))
 }
