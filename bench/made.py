@@ -124,6 +124,18 @@ def webs_of(n):
     return {'modules': [it for specifiers in webs for it in web(specifiers, 5)], 'resolutions': resolutions}
 
 
+def sharing_of(n):
+    """n modules in tens: a module that re-exports nine others, which each own the same five names."""
+    modules = []
+    for at in range(0, n, 10):
+        first, owners = Tree(), ['m%d' % i for i in range(at + 1, at + 10)]
+        modules.append(first.module('m%d' % at, [first.add('ExportAll', src=it) for it in owners]))
+        for specifier in owners:
+            tree = Tree()
+            modules.append(tree.module(specifier, [variable(tree, 'name%d' % i) for i in range(5)]))
+    return resolved(modules)
+
+
 def taking(specifier, statement, name, src):
     """A module that imports or re-exports a name from a text."""
     tree = Tree()

@@ -77,7 +77,7 @@ def compiled(folder, source, name):
 def through_c(folder):
     """The stored cases of symq by the example in C."""
     example = compiled(folder, os.path.join(BINDINGS, 'c', 'example.c'), 'example')
-    cases = [it for it in all_cases()[0] if it.program == 'symq' and it.words is None and it.graph is not None]
+    cases = [it for it in all_cases()[0] if it.program == 'symq' and it.words in (None, ['--strict', 'graph.json']) and it.graph is not None]
     with ThreadPoolExecutor(os.cpu_count()) as pool:
         found = pool.map(lambda it: run_program(example, it), cases)
     return {'C: ' + case.name: text for case, text in zip(cases, found)}

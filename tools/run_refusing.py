@@ -1,16 +1,22 @@
 #!/usr/bin/env python3
 """Refuses calls of the programs in turn: whichever fails, they say so, and what they have written is a beginning of the answers.
 
-    python3 tools/run_refusing.py                     the proved programs, crates/NAME/out/NAME
-    python3 tools/run_refusing.py SYMQ SYMQ_TABLES    the programs at these paths
+    python3 tools/run_refusing.py                                   the proved programs, crates/NAME/out/NAME
+    python3 tools/run_refusing.py SYMQ SYMQ_TABLES REFUSED_CALLS    the programs at these paths; the last may be left out
 
 `tests/refusing/refuse.c`, which `cc` builds here and which is preloaded, refuses the call of a number: of those for memory,
 each alone and with all behind it, over stored cases; a read of the graph's file or of the queries, or a write of the answers,
-which also may take nothing. The numbers go up until there is no such call. What is wanted is the table of statuses in
-`docs/DEFINITIONS.md`: where memory is refused, the outcome of the stored case, or the status 7; after a read that failed the
-answers to the lines that were read, after a write that failed what was written before, and neither is tried again. Behind these
-come streams that fail by themselves: a full device, a pipe that nobody reads, a folder, a stream that is closed. A check is a
-row of refusals, or such a stream. The last line is 'N passed, M failed'.
+which also may take nothing, or be interrupted. The numbers go up until there is no such call. What is wanted is the table of
+statuses in `docs/DEFINITIONS.md`: where memory is refused, the outcome of the stored case, or the status 7; after a read that
+failed the answers to the lines that were read, after a write that failed what was written before, and neither is tried again,
+also where a signal interrupted it; of the file such a read is. Behind these come a graph's text that is cut off, after each of its
+bytes, and streams that fail by themselves: a full device, a pipe that nobody reads, a folder, a stream that is closed.
+
+`refused_calls` calls the library: memory is refused to one call at a time. That call gives what it gives with ample memory, or tells
+that memory was refused; then the modules that it needs are stored, each whole or not at all, in the order in which it needs them;
+and all calls behind it give what they give on a fresh root. The calls that take no memory ask for none.
+
+A check is a row of refusals or of cut texts, or such a stream. The last line is 'N passed, M failed'.
 """
 import os
 import subprocess
@@ -18,7 +24,7 @@ import sys
 import tempfile
 from concurrent.futures import ThreadPoolExecutor
 
-from run_cases import PROGRAMS, ROOT, SECONDS, TESTS, Outcome, folder_cases, show, write
+from run_cases import PROGRAMS, ROOT, SECONDS, TESTS, Case, Outcome, folder_cases, show, write
 from set_up import ensure
 
 # queries of each form on a small graph; declarations with much below them, long ways, other modules; graphs with a fault; no graph
@@ -27,8 +33,10 @@ OF_MEMORY = ('each_form_of_query', 'dependencies_in_both_modes', 'paths_to_defin
              'no_file', 'no_words')
 # tables of declarations of all sorts, of a JSON text, of no module; graphs with a fault
 OF_TABLES = ('tests_of_declarations', 'json_objects', 'no_modules', 'refused_shape', 'refused_half_a_text', 'no_words')
-ALL_FORMS, FEW_LINES = 'each_form_of_query', 'line_that_is_not_utf8'
-NO_GRAPH = Outcome(3, b'', b'symq: cannot read graph\n')
+ALL_FORMS, FEW_LINES, SMALL = 'each_form_of_query', 'line_that_is_not_utf8', 'one_variable'
+# the program that calls the library; its steps that may be refused memory, of which the one that stores modules; the one that takes none
+CALLS, STEPS, STORING, VIEWS = 'refused_calls', ('read_graph', 'ModuleGraph::new', 'run', 'run once more'), 'run', 'views'
+NO_GRAPH, NO_JSON = Outcome(3, b'', b'symq: cannot read graph\n'), Outcome(4, b'', b'symq: not a graph: json\n')
 NO_INPUT, NO_OUTPUT, NO_MEMORY = b'symq: input failed\n', b'symq: output failed\n', b'symq: out of memory\n'
 
 
@@ -40,6 +48,12 @@ def stored(name):
 def stored_tables(name):
     """A stored case of tables."""
     return folder_cases('tables', name, 'symq_tables', 'tables')[0]
+
+
+def stored_calls():
+    """What the program that calls the library prints."""
+    with open(os.path.join(ROOT, 'crates', CALLS, 'stdout'), 'rb') as file:
+        return file.read()
 
 
 class Program:
@@ -102,14 +116,19 @@ def of_file(program, case):
     return program.row(case, lambda _, got: got == NO_GRAPH, REFUSED='file')
 
 
-def of_input(program, case):
+def of_interrupted_file(program, case):
+    """A read of the graph that is interrupted is tried again."""
+    return program.row(case, lambda _, got: got == case.want, REFUSED='file', INTERRUPT=1)
+
+
+def of_input(program, case, **how):
     """Of the queries, which come byte by byte, those that end before the byte that isn't read are answered."""
     answers = case.want.output.splitlines(True)
 
     def is_wanted(number, got):
         lines = case.given[:number - 1].count(b'\n')
         return got == Outcome(6, b''.join(answers[:lines]), NO_INPUT)
-    return program.row(case, is_wanted, REFUSED='input', PIECES=1)
+    return program.row(case, is_wanted, REFUSED='input', PIECES=1, **how)
 
 
 def of_output(program, case, **how):
@@ -117,6 +136,15 @@ def of_output(program, case, **how):
     def is_wanted(number, got):
         return got == Outcome(6, case.want.output[:number - 1], NO_OUTPUT)
     return program.row(case, is_wanted, REFUSED='output', PIECES=1, **how)
+
+
+def of_cut_texts(program, text, front=b''):
+    """Each proper beginning of a graph's text is no JSON, nor is any beginning behind bytes that are no text."""
+    for end in range(len(text) + bool(front)):
+        got, _ = program.run([program.graph(front + text[:end])], b'')
+        if got != NO_JSON:
+            return ['%d bytes: %s' % (end, show(got))]
+    return []
 
 
 def rows_of(program):
@@ -131,8 +159,14 @@ def rows_of(program):
     found.append(('memory, a graph of another form', lambda: of_memory(program, other)))
     found.append(('memory from there on, a graph of another form', lambda: of_memory(program, other, REST=1)))
     found += [('reads of the graph', lambda: of_file(program, case)), ('reads of queries', lambda: of_input(program, case))]
+    found.append(('reads of the graph that are interrupted', lambda: of_interrupted_file(program, case)))
+    found.append(('reads of queries that are interrupted', lambda: of_input(program, case, INTERRUPT=1)))
     found.append(('writes of answers', lambda: of_output(program, few)))
-    return found + [('writes that take nothing', lambda: of_output(program, few, EMPTY=1))]
+    found.append(('writes of answers that are interrupted', lambda: of_output(program, few, INTERRUPT=1)))
+    found.append(('writes that take nothing', lambda: of_output(program, few, EMPTY=1)))
+    text = stored(SMALL).graph.strip()
+    found.append(('beginnings of a graph', lambda: of_cut_texts(program, text)))
+    return found + [('beginnings of a graph behind a byte that is no text', lambda: of_cut_texts(program, text, b'\xff'))]
 
 
 def rows_of_tables(program):
@@ -142,6 +176,64 @@ def rows_of_tables(program):
         found.append(('memory, tables, ' + name, lambda case=stored_tables(name): of_memory(program, case)))
         found.append(('memory from there on, tables, ' + name, lambda case=stored_tables(name): of_memory(program, case, REST=1)))
     return found
+
+
+def steps_of(output):
+    """The steps of the program that calls the library: what each is called, and the lines that tell what it gave."""
+    steps = []
+    for line in output.decode('utf-8', 'replace').splitlines():
+        if line.startswith(' ') and steps:
+            steps[-1][1].append(line)
+        else:
+            steps.append((line, []))
+    return steps
+
+
+def parts_of(lines):
+    """What a call gave, and the table of each module that is stored then."""
+    parts = [[]]
+    for line in lines:
+        if line.startswith('  module '):
+            parts.append([])
+        parts[-1].append(line)
+    return parts
+
+
+def is_refused(step, got, wanted):
+    """Whether a step tells that memory was refused, with each module that it needs whole or absent, in their order."""
+    (answer, *modules), (_, *needed) = parts_of(got), parts_of(wanted)
+    return answer == ['  out of memory'] and modules == (needed[:len(modules)] if step == STORING else needed)
+
+
+def of_calls(program, step, **how):
+    """Memory is refused to one step: this step alone may tell so."""
+    want = Outcome(0, stored_calls(), b'')
+    steps, met = steps_of(want.output), set()
+
+    def is_wanted(_, got):
+        found = steps_of(got.output)
+        met.add(len(parts_of(dict(found).get(step, ()))))
+        return got == want or (got.status == 0 and not got.error and len(found) == len(steps) and all(
+            name == wanted_name and (lines == wanted or name == step and is_refused(step, lines, wanted))
+            for (name, lines), (wanted_name, wanted) in zip(found, steps)))
+    wrong = program.row(Case(CALLS, CALLS, None, [], b'', want), is_wanted, REFUSED='memory', STEP=step, UNTIL=1, **how)
+    whole = len(parts_of(dict(steps)[step]))
+    return wrong or ([] if step != STORING or met >= set(range(1, whole)) else ['not each beginning of the modules was met'])
+
+
+def of_views(program):
+    """With all memory refused, the calls that take none give what they give, and ask for none."""
+    got, refused = program.run([], b'', REFUSED='memory', STEP=VIEWS, NUMBER=1, REST=1)
+    return [] if got == Outcome(0, stored_calls(), b'') and not refused else [('memory was asked for: ' if refused else '') + show(got)]
+
+
+def rows_of_calls(program):
+    """The rows of refusals of memory to calls of the library."""
+    found = []
+    for step in STEPS:
+        found.append(('memory, call, ' + step, lambda step=step: of_calls(program, step)))
+        found.append(('memory up to its end, call, ' + step, lambda step=step: of_calls(program, step, REST=1)))
+    return found + [('all memory, calls that take none', lambda: of_views(program))]
 
 
 def unread_pipe():
@@ -189,14 +281,15 @@ def folder_as_graph(program):
 
 
 def main(words):
-    paths = words or [os.path.join(ROOT, 'crates', name, 'out', name) for name in PROGRAMS]
+    paths = words or [os.path.join(ROOT, 'crates', name, 'out', name) for name in (*PROGRAMS, CALLS)]
     for path in paths:
         if not os.access(path, os.X_OK):
             sys.exit('%s is not there: `rt ci` builds it' % path)
     ensure(['cc'])
     with tempfile.TemporaryDirectory(prefix='refusing-') as folder, ThreadPoolExecutor(os.cpu_count()) as pool:
-        program, tables = (Program(path, folder) for path in paths)
-        checks = rows_of(program) + rows_of_tables(tables)
+        programs = [Program(path, folder) for path in paths]
+        program, *_ = programs
+        checks = [row for rows, it in zip((rows_of, rows_of_tables, rows_of_calls), programs) for row in rows(it)]
         found = list(zip([name for name, _ in checks], pool.map(lambda check: check[1](), checks)))
         found += [(name, of_stream(program, *rest)) for name, *rest in streams_of(folder)]
         found.append(('a folder as graph', folder_as_graph(program)))

@@ -1,8 +1,13 @@
 #!/bin/sh
-# symq as a build that waits for no proof: tools/unproved_symq.sh GRAPH < QUERIES. It takes about a minute, and is not kept.
+# symq as a build that waits for no proof: tools/unproved_symq.sh [--strict] GRAPH < QUERIES. It takes about a minute, and is not kept.
 # The answers go to standard output; what the kit says of the build goes to standard error where the run fails, and away else.
+strict=
+if [ $# -eq 2 ] && [ "$1" = --strict ]; then
+    strict=--strict
+    shift
+fi
 if [ $# -ne 1 ]; then
-    echo 'usage: tools/unproved_symq.sh GRAPH < QUERIES' >&2
+    echo 'usage: tools/unproved_symq.sh [--strict] GRAPH < QUERIES' >&2
     exit 2
 fi
 if ! command -v rt > /dev/null; then
@@ -17,7 +22,7 @@ graph=$(realpath "$1")
 said=$(mktemp)
 trap 'rm -f "$said"' EXIT
 cd "$(dirname "$0")/../crates/symq" || exit 3
-rt try --data graph.json="$graph" -- graph.json 2> "$said"
+rt try --data graph.json="$graph" -- $strict graph.json 2> "$said"
 status=$?
 if [ $status -ne 0 ]; then
     grep '^symq:' "$said" >&2 || cat "$said" >&2

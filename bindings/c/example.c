@@ -1,11 +1,12 @@
 /* Answers the lines of standard input over the graph of a file, by one call.
  *
  *     cc -o example example.c -I../../lib ../../lib/libsymq.a
- *     ./example graph.json < queries
+ *     ./example graph.json < queries                or --strict graph.json, by strict rules
  *
  * It ends with the status of the call, as symq does. */
 #include <stdio.h>
 #include <stdlib.h>
+#include <string.h>
 
 #include "symq.h"
 
@@ -30,12 +31,12 @@ static struct bytes read_all(FILE *stream) {
 }
 
 /* One call, and a second one where the answers don't fit. */
-static int answer(struct bytes text, struct bytes lines) {
+static int answer(int is_strict, struct bytes text, struct bytes lines) {
     size_t room = 1 << 16, needed;
     uint8_t *out = malloc(room);
     uint8_t status = SYMQ_NO_MEMORY;
     while (out) {
-        status = symq_answer(text.items, text.length, lines.items, lines.length, out, room, &needed);
+        status = (is_strict ? symq_strict_answer : symq_answer)(text.items, text.length, lines.items, lines.length, out, room, &needed);
         if (needed <= room)
             break;
         free(out);
@@ -52,13 +53,14 @@ static int answer(struct bytes text, struct bytes lines) {
 }
 
 int main(int count, char **words) {
-    FILE *file = count == 2 ? fopen(words[1], "rb") : NULL;
+    int is_strict = count == 3 && !strcmp(words[1], "--strict");
+    FILE *file = count == 2 || is_strict ? fopen(words[count - 1], "rb") : NULL;
     if (!file) {
-        fputs("usage: example GRAPH < QUERIES\n", stderr);
+        fputs("usage: example [--strict] GRAPH < QUERIES\n", stderr);
         return 2;
     }
     struct bytes text = read_all(file), lines = read_all(stdin);
-    int status = answer(text, lines);
+    int status = answer(is_strict, text, lines);
     fclose(file);
     free(text.items);
     free(lines.items);

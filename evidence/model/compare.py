@@ -6,7 +6,8 @@
     python3 evidence/model/compare.py 'python3 evidence/model/symq.py' --seeds 0..100
 
 PROGRAM is one word of the shell. A seed is one graph with up to 160 queries, in one run: 12 of 20 are accepted, the others
-broken in a tree, a list, a field, a value or the text. The first difference is made small and printed, and the status is 1.
+broken in a tree, a list, a field, a value or the text; three in ten are asked by strict rules, with `--strict`. A program that
+has none is told as one failure, and asked by Deno's rules alone. The first difference is made small and printed, and the status is 1.
 --every takes, in place of random graphs, each field of each kind with each wrong value, each kind in each place of a child,
 and so on. The last line is `N passed, M failed`.
 """
@@ -14,18 +15,21 @@ import argparse
 import sys
 
 from differ.comparing import compare
-from differ.running import Program
+from differ.running import NO_STRICT_RULES, Program, has_strict_rules
 from differ.words import command_of, seeds_of
 from graphs.cases import case_of_seed
 from graphs.every import every_case
 from rules.stack import with_big_stack
 
 
-def cases_of(a):
-    if not a.every:
-        return ((seed, case_of_seed(seed, a.accepted)) for seed in a.seeds or range(1000))
-    cases = every_case()
-    return ((at, cases[at]) for at in (a.seeds or range(len(cases))) if at < len(cases))
+def cases_of(a, rules):
+    """The cases with their seeds; with rules, all of them are asked by these."""
+    if a.every:
+        every = every_case()
+        cases = ((at, every[at]) for at in (a.seeds or range(len(every))) if at < len(every))
+    else:
+        cases = ((seed, case_of_seed(seed, a.accepted)) for seed in a.seeds or range(1000))
+    return ((seed, case.by(rules == 'strict') if rules else case) for seed, case in cases)
 
 
 def main() -> int:
@@ -35,17 +39,21 @@ def main() -> int:
     p.add_argument('--seconds', type=float, help='stop after so long')
     p.add_argument('--accepted', action='store_true', help='graphs that are accepted alone')
     p.add_argument('--every', action='store_true', help='every small case, about 13,700')
+    p.add_argument('--rules', choices=['Deno', 'strict'], help='by these rules all graphs')
     p.add_argument('--go-on', action='store_true', help='tell each difference in one line, and go on')
     p.add_argument('--shrink-seconds', type=float, default=30)
     p.add_argument('--keep', metavar='FOLDER', help='keep the files of a difference')
     a = p.parse_args()
+    lacks_strict = a.rules != 'Deno' and not has_strict_rules(a.program)
+    if lacks_strict:
+        print(NO_STRICT_RULES, flush=True)
     program = Program(a.program)
-    counts = compare(program, cases_of(a), a.seconds, a.go_on, a.shrink_seconds, a.keep,
+    counts = compare(program, cases_of(a, 'Deno' if lacks_strict else a.rules), a.seconds, a.go_on, a.shrink_seconds, a.keep,
                      lambda text: print(text, flush=True))
     program.close()
     print(counts.told())
-    print(counts.last_line())
-    return 1 if counts.differ or not counts.graphs else 0
+    print('%d passed, %d failed' % (counts.graphs - counts.differ, counts.differ + lacks_strict))
+    return 1 if counts.differ or lacks_strict or not counts.graphs else 0
 
 
 if __name__ == '__main__':

@@ -2,7 +2,7 @@
 """What the gate runs of the model.
 
     python3 evidence/model/gate.py model                  the model's rows and self-check, and the differ's own test
-    python3 evidence/model/gate.py program [PROGRAM]      the program beside the rows, a fault around it, and random graphs
+    python3 evidence/model/gate.py program [PROGRAM]      the program beside the rows, faults around it, and random graphs
     python3 evidence/model/gate.py all [PROGRAM]          both
 
 PROGRAM is `crates/symq/out/symq` unless said; the first form needs none. The seeds come from the number of commits, so that
@@ -51,7 +51,7 @@ def of_model(seeds) -> list:
 
 def of_program(seeds, program, seconds) -> list:
     return [part('worked rows, the program', 'run_rows.py', program),
-            part('a fault around the program', 'test_differ.py', program),
+            part('faults around the program', 'test_differ.py', program),
             part('random graphs', 'compare.py', program, '--seeds', seeds, '--seconds', seconds)]
 
 

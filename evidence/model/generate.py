@@ -3,6 +3,8 @@
 
     python3 evidence/model/generate.py --seed 7 --graph GRAPH --queries QUERIES
     python3 evidence/model/generate.py --large ring 10000 --graph GRAPH --queries QUERIES
+
+Of a seed it prints by which rules it is asked.
 """
 import argparse
 
@@ -13,10 +15,12 @@ from rules.stack import with_big_stack
 
 
 def made(a) -> 'tuple[bytes, list[bytes]]':
+    """The text of a graph, and lines; printed is the rules."""
     if a.large:
         value, queries = large(a.large[0], int(a.large[1]))
         return compact(value), [compact(query) for query in queries]
     case = case_of_seed(a.seed, a.accepted)
+    print('symq --strict GRAPH' if case.strict else 'symq GRAPH')
     return case.graph, case.lines
 
 

@@ -12,6 +12,7 @@ import os
 import re
 import sys
 
+from differ.running import STRICT
 from rules.answers import run
 from rules.json_text import text_of
 from rules.kinds import ALL_KINDS, FIELDS
@@ -66,10 +67,10 @@ def fields_of(cell, categories) -> list:
 
 
 def examples_of(page):
-    """Each graph of the page with the lines that it is asked and the answers."""
+    """Each graph of the page with the lines that it is asked and the answers, and whether it is by strict rules."""
     for graph, console in re.findall(r'```json\n(.*?)```.*?```console\n(.*?)```', page, re.S):
         lines = [line for line in console.split('\n') if line and not line.startswith('$')]
-        yield json.loads(graph), lines[0::2], lines[1::2]
+        yield json.loads(graph), lines[0::2], lines[1::2], STRICT in console.split('\n')[0]
 
 
 def checks(page):
@@ -79,8 +80,8 @@ def checks(page):
     yield 'the kinds', sorted(told), sorted(ALL_KINDS)
     for kind, cell in told.items():
         yield kind, fields_of(cell, categories), FIELDS[kind]
-    for graph, lines, answers in examples_of(page):
-        output = run(text_of(graph).encode(), [line.encode() for line in lines])[1].decode().split('\n')[:-1]
+    for graph, lines, answers, strict in examples_of(page):
+        output = run(text_of(graph).encode(), [line.encode() for line in lines], strict)[1].decode().split('\n')[:-1]
         yield 'the graph with %s' % lines[0], answers, output
 
 

@@ -4,8 +4,8 @@
     python3 evidence/model/run_rows.py crates/symq/out/symq
     python3 evidence/model/run_rows.py
 
-Of the model, which is run without PROGRAM, it is also asked what rows say of calls: steps, what is stored, limits, overload
-flags, tables. The last line is `N passed, M failed`.
+What a row says by strict rules is a check of its own, with `--strict`. Of the model, which is run without PROGRAM, it is also
+asked what rows say of calls: steps, what is stored, limits, overload flags, tables. The last line is `N passed, M failed`.
 """
 import argparse
 import json
@@ -15,6 +15,7 @@ import subprocess
 import sys
 import tempfile
 
+from differ.running import NO_STRICT_RULES, STRICT
 from differ.words import command_of
 from rows import all_rows
 from rules.answers import answer, run
@@ -45,29 +46,32 @@ def run_program(command, words, lines):
     return done.returncode, done.stdout, done.stderr
 
 
-def runs_of(command, row, lines) -> list:
+def runs_of(command, row, lines, strict) -> list:
     """What is given for a row: by a program, or by the model, which takes no words."""
     if 'words' in row:
         return [run_program(command, row['words'], lines)] if command else []
     if not command:
-        return [run(text, lines) for text in texts_of(row)]
+        return [run(text, lines, strict) for text in texts_of(row)]
     found = []
     with tempfile.TemporaryDirectory(prefix='evidence-') as folder:
         path = os.path.join(folder, 'graph.json')
         for text in texts_of(row):
             with open(path, 'wb') as file:
                 file.write(text)
-            found.append(run_program(command, [path], lines))
+            found.append(run_program(command, [STRICT, path] if strict else [path], lines))
     return found
 
 
-def answers_differ(command, row) -> 'list[str]':
-    """What is given otherwise than the row says."""
+def answers_differ(command, row, strict=False) -> 'list[str]':
+    """What is given otherwise than the row says, by strict rules or by Deno's."""
     asked, error = row.get('asked', ()), row.get('error', '')
+    if strict and row['strict'] is not True:
+        asked = row['strict']
     lines = [bytes.fromhex(it['hex']) if type(it) is dict else text_of(it).encode() for it, _ in asked]
     output = b''.join(text_of(it).encode() + b'\n' for _, it in asked)
     wanted = (row.get('status', 0), output, (error + '\n').encode() if error else b'')
-    return ['found %.2000r, want %.2000r' % (it, wanted) for it in runs_of(command, row, lines) if it != wanted]
+    wrong = [it for it in runs_of(command, row, lines, strict) if it != wanted]
+    return [NO_STRICT_RULES if strict and it[0] == 2 else 'found %.2000r, want %.2000r' % (it, wanted) for it in wrong]
 
 
 class Calls:
@@ -82,7 +86,7 @@ class Calls:
 
     def call_root(self, call) -> None:
         limits = {'max_' + key: call[key] for key in ('modules', 'symbols') if key in call}
-        self.root = Root(self.graph, **limits)
+        self.root = Root(self.graph, **limits, strict=call.get('strict', False))
 
     def call_module_from_specifier(self, call):
         found = self.root.module_from_specifier(call['specifier'])
@@ -144,6 +148,8 @@ def checks_of(command, row) -> list:
     found = []
     if row.keys() & {'asked', 'status'} and (command or 'words' not in row):
         found.append(lambda: answers_differ(command, row))
+    if 'strict' in row:
+        found.append(lambda: answers_differ(command, row, True))
     if 'calls' in row and not command:
         found.append(lambda: calls_differ(row))
     return found

@@ -3,8 +3,8 @@
 
     python3 evidence/model/self_check.py --seeds 0..2000
 
-Tables are compared with filters over the events of the tree; exports, what is stored and both counts of steps with all
-simple chains, enumerated and sorted; each list of paths has to be derived, its leaves to stand in the least relations, and
+Three in ten graphs are asked by strict rules. Tables are compared with filters over the events of the tree; exports, shared
+names, what is stored and both counts of steps with all simple chains, enumerated and sorted; each list of paths has to be derived, its leaves to stand in the least relations, and
 no leaf to be lost that mustn't be. It stops at the first seed that fails, and ends with a line `N passed, M failed`.
 """
 import argparse
@@ -22,10 +22,11 @@ from rules.stack import with_big_stack
 
 
 def check_seed(seed: int, counts: Counter) -> None:
-    graph = check_graph(graph_of_value(case_of_seed(seed, accepted_only=True).value))
+    case = case_of_seed(seed, accepted_only=True)
+    graph = check_graph(graph_of_value(case.value))
     check_tables(graph, counts)
-    check_exports(graph, counts)
-    PathChecks(graph, random.Random(seed), counts).check()
+    check_exports(graph, case.strict, counts)
+    PathChecks(graph, case.strict, random.Random(seed), counts).check()
 
 
 def check_seeds(seeds, seconds=None, go_on=False) -> int:

@@ -1,7 +1,7 @@
 #!/usr/bin/env python3
-"""The model of `symq` as a program: the same word, lines, statuses and standard error.
+"""The model of `symq` as a program: the same words, lines, statuses and standard error.
 
-    python3 evidence/model/symq.py GRAPH < QUERIES
+    python3 evidence/model/symq.py [--strict] GRAPH < QUERIES
 """
 import os
 import sys
@@ -50,15 +50,16 @@ def serve(root: Root) -> int:
 
 
 def main(words: 'list[str]') -> int:
-    if len(words) != 1:
-        return stop(2, 'usage: symq GRAPH')
+    strict = len(words) == 2 and words[0] == '--strict'
+    if len(words) != 1 and not strict:
+        return stop(2, 'usage: symq [--strict] GRAPH')
     try:
-        with open(words[0], 'rb') as file:
+        with open(words[-1], 'rb') as file:
             data = file.read()
     except (OSError, ValueError):
         return stop(3, 'symq: cannot read graph')
     try:
-        root = Root(check_graph(read_graph(data)))
+        root = Root(check_graph(read_graph(data)), strict=strict)
     except (FormatFault, GraphFault) as fault:
         return stop(4 if isinstance(fault, FormatFault) else 5, fault.line())
     return serve(root)

@@ -1,46 +1,67 @@
 #!/usr/bin/env python3
-"""The differ's own test: programs with a planted fault are told within 300 graphs each, and right ones aren't.
+"""The differ's own test: programs with a planted fault are told within 500 graphs each, and right ones aren't.
 
     python3 evidence/model/test_differ.py             faults in copies of the model
-    python3 evidence/model/test_differ.py PROGRAM     a fault around a program
+    python3 evidence/model/test_differ.py PROGRAM     faults around a program
 
-Each fault is planted into a copy of the model, which is compared as a program with the model. With PROGRAM it is a program
-around that one, which gives two unresolved statements in the other order. What is told has to differ still when it is
-small. Of a fault in what the readings of the definitions say, the self-check of the copy has to fail, too. The last line is
-`N passed, M failed`.
+Each fault is planted into a copy of the model, which first says itself which case it answers otherwise than the model, and is
+compared as a program on that. With PROGRAM it is a program
+around that one, which changes its answers. Only graphs of families and rules are tried in which the fault may show. What is
+told has to differ still when it is small. Of a fault in what the readings of the definitions say, the self-check of the copy
+has to fail, too. The last line is `N passed, M failed`.
 """
 import argparse
 import os
+import pickle
 import subprocess
 import sys
 import tempfile
 import time
+from functools import lru_cache
 
 from differ.comparing import compare
-from differ.planted import FAULTS, MODEL, plant, write_wrapper
-from differ.running import Program
+from differ.planted import BOTH, DENO, FAULTS, MODEL, WRAPPED, plant, wrapped
+from differ.running import NO_STRICT_RULES, Program, has_strict_rules, of_model
 from differ.shrinking import shrink
 from differ.words import command_of
-from graphs.cases import case_of_seed
+from graphs.cases import FAMILIES, case_of_seed
 from rules.stack import with_big_stack
 
-# how many graphs may hide a fault, which take 25 seconds; how long a case is made small, in seconds; the seeds of the
-# self-check of a copy
-LIMIT, SHRINK, SELF_CHECK = 300, 1, '0..1000'
-RIGHT_GRAPHS = 40
+# how many graphs may hide a fault; how long a case is made small, in seconds; the seeds of the self-check of a copy
+LIMIT, SHRINK, SELF_CHECK = 500, 1, '0..1000'
+RIGHT_GRAPHS = 20
 
 
-def found_in(command) -> 'tuple[str, float]':
+@lru_cache(maxsize=None)
+def kept_case(seed):
+    return case_of_seed(seed)
+
+
+def cases_for(families, rules) -> list:
+    """The seeds and cases in which a fault may show."""
+    cases = ((seed, kept_case(seed)) for seed in range(LIMIT) if FAMILIES[seed % len(FAMILIES)] in families.split())
+    return [(seed, case) for seed, case in cases if case.strict in rules]
+
+
+def first_of_copy(top, cases) -> list:
+    """From the first case on that a copy of the model answers otherwise, as it says itself."""
+    asked = [(it.graph, it.lines, it.strict, tuple(of_model(it.graph, tuple(it.lines), it.strict))) for _, it in cases]
+    done = subprocess.run([sys.executable, os.path.join(top, 'differ', 'first_told.py')], input=pickle.dumps(asked),
+                          stdout=subprocess.PIPE)
+    return cases[int(done.stdout):] if done.stdout else []
+
+
+def found_in(command, cases) -> 'tuple[str, float]':
     """Compares until a graph differs, and makes it small; returns what was wrong, or nothing, and how long it took to see."""
     program, began = Program(command), time.monotonic()
-    cases = ((seed, case_of_seed(seed)) for seed in range(LIMIT))
-    seed, case = next(((at, it) for at, it in cases if program.difference(it.graph, it.lines) is not None), (LIMIT, None))
+    seed, case = next(((at, it) for at, it in cases if program.difference(it.graph, it.lines, it.strict) is not None),
+                      (LIMIT, None))
     took = time.monotonic() - began
     if case is None:
         program.close()
         return 'no difference in %d graphs' % LIMIT, took
     graph, lines = shrink(program, case, SHRINK)
-    still = program.difference(graph, lines) is not None and len(graph) <= len(case.graph)
+    still = program.difference(graph, lines, case.strict) is not None and len(graph) <= len(case.graph)
     program.close()
     print('  seed %d, %d bytes of %d, %d lines of %d' % (seed, len(graph), len(case.graph), len(lines), len(case.lines)))
     return '' if still else 'the small case of seed %d is none' % seed, took
@@ -52,10 +73,11 @@ def self_check_sees(top) -> str:
     return '' if done.returncode == 1 else 'the self-check ended with status %d' % done.returncode
 
 
-def right(name, command):
+def right(name, command, rules=BOTH):
     """That a program without a fault isn't told."""
     program = Program(command)
-    counts = compare(program, ((seed, case_of_seed(seed)) for seed in range(RIGHT_GRAPHS)))
+    cases = ((seed, kept_case(seed)) for seed in range(RIGHT_GRAPHS))
+    counts = compare(program, ((seed, case if case.strict in rules else case.by(rules[0])) for seed, case in cases))
     program.close()
     wrong = '' if counts.differ == 0 and counts.graphs == RIGHT_GRAPHS else counts.told()
     return name, wrong, counts.seconds()
@@ -66,16 +88,22 @@ def results(folder):
     yield right('the model itself', [sys.executable, os.path.join(MODEL, 'symq.py')])
     for fault in FAULTS:
         top = plant(fault, folder)
-        yield (fault.name, *found_in([sys.executable, os.path.join(top, 'symq.py')]))
+        cases = first_of_copy(top, cases_for(fault.families, fault.rules))
+        yield (fault.name, *found_in([sys.executable, os.path.join(top, 'symq.py')], cases))
         if fault.readings:
             began = time.monotonic()
             yield fault.name + ', by the readings', self_check_sees(top), time.monotonic() - began
 
 
-def results_around(folder, program):
-    """The same of a program, and of one around it."""
-    yield right('the program itself', program)
-    yield ('unresolved_reversed, around the program', *found_in([sys.executable, write_wrapper(folder), *program]))
+def results_around(program):
+    """The same of a program, and of those around it."""
+    known = BOTH if has_strict_rules(program) else DENO
+    if known is DENO:
+        yield 'strict rules', NO_STRICT_RULES, 0
+    yield right('the program itself', program, known)
+    for name, (families, rules) in WRAPPED.items():
+        if rules[0] in known:
+            yield (name + ', around the program', *found_in(wrapped(name, program), cases_for(families, rules)))
 
 
 def main() -> int:
@@ -84,7 +112,7 @@ def main() -> int:
     a = p.parse_args()
     passed = failed = 0
     with tempfile.TemporaryDirectory(prefix='evidence-') as folder:
-        for name, wrong, took in results_around(folder, a.program) if a.program else results(folder):
+        for name, wrong, took in results_around(a.program) if a.program else results(folder):
             passed, failed = passed + (not wrong), failed + bool(wrong)
             print('%s: %s' % (name, wrong or 'as it should be, %.1f s' % took), flush=True)
     print('%d passed, %d failed' % (passed, failed))

@@ -8,13 +8,6 @@ import { Folder } from './folder/folder.js';
 import { checkFolder, withSlashes } from './folder/files.js';
 import { Paint, Progress } from './output.js';
 import { findSymq } from './symq.js';
-import { api } from './commands/api.js';
-import { graph } from './commands/graph.js';
-import { leaks } from './commands/leaks.js';
-import { missing } from './commands/missing.js';
-import { spotOf, where } from './commands/where.js';
-import { formOf, web } from './commands/web.js';
-import { checkGraph } from './commands/check.js';
 import { help } from './help.js';
 
 /**
@@ -52,7 +45,7 @@ const OUT = /** @type {const} */ ({ type: 'string', short: 'o' });
  * @property {NonNullable<import('node:util').ParseArgsConfig['options']>} options
  * @property {number} words how many it takes at most
  * @property {string[][]} [apart] options that don't go together
- * @property {(run: Run) => void} [check] what its words have to be, told before files are read
+ * @property {(run: Run) => Promise<void>} [check] what its words have to be, told before files are read
  * @property {boolean} [tellsFaults] whether what can't be parsed is told with its answer
  * @property {boolean} [isLookUp] whether its status is by its answer alone, and no other file's fault is a finding
  * @property {(run: Run, folder: Folder) => Promise<number>} [ask]
@@ -61,16 +54,25 @@ const OUT = /** @type {const} */ ({ type: 'string', short: 'o' });
 
 const APART = [['strict', 'unproved'], ['symq', 'unproved']];
 
+// What a command alone needs is loaded where it is called: that is most of what a run on trees that are kept waits for.
 /** @type {Record<string, Command>} */
 const COMMANDS = {
   graph: { options: { ...COMMON, out: OUT, bodies: { type: 'boolean' }, check: { type: 'string' }, symq: { type: 'string' } }, words: 1,
     apart: [['check', 'out']],
-    act: (run) => (run.options.check ? checkGraph(run) : graph(run, reading(run))) },
-  api: { options: { ...ASKING, save: { type: 'string' }, check: { type: 'string' } }, words: 1, apart: [...APART, ['save', 'check']], ask: api },
-  leaks: { options: ASKING, words: 1, apart: APART, ask: leaks },
-  missing: { options: ASKING, words: 1, apart: APART, tellsFaults: true, ask: missing },
-  where: { options: ASKING, words: 3, apart: APART, check: (run) => void spotOf(run.words[1]), isLookUp: true, ask: where },
-  web: { options: { ...ASKING, out: OUT }, words: 1, apart: APART, check: (run) => void (run.options.out && formOf(run.options.out)), ask: web },
+    act: async (run) => (run.options.check ? (await import('./commands/check.js')).checkGraph(run)
+      : (await import('./commands/graph.js')).graph(run, reading(run))) },
+  api: { options: { ...ASKING, save: { type: 'string' }, check: { type: 'string' } }, words: 1, apart: [...APART, ['save', 'check']],
+    ask: async (run, folder) => (await import('./commands/api.js')).api(run, folder) },
+  leaks: { options: ASKING, words: 1, apart: APART,
+    ask: async (run, folder) => (await import('./commands/leaks.js')).leaks(run, folder) },
+  missing: { options: ASKING, words: 1, apart: APART, tellsFaults: true,
+    ask: async (run, folder) => (await import('./commands/missing.js')).missing(run, folder) },
+  where: { options: ASKING, words: 3, apart: APART, isLookUp: true,
+    check: async (run) => void (await import('./commands/where.js')).spotOf(run.words[1]),
+    ask: async (run, folder) => (await import('./commands/where.js')).where(run, folder) },
+  web: { options: { ...ASKING, out: OUT }, words: 1, apart: APART,
+    check: async (run) => void (run.options.out && (await import('./commands/web.js')).formOf(run.options.out)),
+    ask: async (run, folder) => (await import('./commands/web.js')).web(run, folder) },
 };
 
 /** @param {string} text @returns {RegExp} */
@@ -104,7 +106,7 @@ function reading({ words, options }) {
 /** @param {Run} run @param {Command} command @returns {Promise<number>} */
 async function asked(run, command) {
   const how = reading(run);
-  command.check?.(run);
+  await command.check?.(run);
   // what answers has to be there before time is spent on files
   if (!run.options.unproved) findSymq(run.options.symq);
   const folder = await Folder.read(how, { entry: run.options.entry ?? [] });

@@ -10,6 +10,8 @@ const COMMON = `  --skip REGEX         leaves modules out, by their paths below 
 const ASKING = `  --entry FILE         a module that users import, in place of what package.json or deno.json says;
                        may be repeated
   --json               the answer as JSON
+  --strict             by strict rules: \`default\` never comes along \`export *\`, and names that come
+                       along it from several modules are told (api, missing)
 ${COMMON}
   --symq FILE          the program that answers (else SYMQ, the repository's, or symq on the PATH)
   --unproved           builds symq without waiting for its proof: a minute a run, and the Rattle kit`;

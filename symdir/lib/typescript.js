@@ -55,10 +55,12 @@ function rank(version) {
  */
 export function findTypeScript(folder) {
   const own = path.dirname(fileURLToPath(import.meta.url));
-  const files = [importedFrom(folder), importedFrom(own), ...commands()].filter((it) => it !== null);
-  const all = files.map((it) => found(/** @type {string} */ (it))).filter((it) => it !== null && rank(it.version) >= 0);
+  const files = [importedFrom(folder), importedFrom(own), ...commands()];
+  const there = files.flatMap((it) => (it === null ? null : found(it)) ?? []);
+  const all = there.filter((it) => rank(it.version) >= 0);
   if (all.length === 0) {
-    throw new Failure('TypeScript isn\'t there: `npm install typescript`, or on Debian `apt-get install node-typescript` (4.8 to 6)');
+    const what = there.length > 0 ? `TypeScript ${there[0].version} (${there[0].file}) isn't taken` : 'TypeScript isn\'t there';
+    throw new Failure(`${what}: \`npm install typescript@5\`, or on Debian \`apt-get install node-typescript\` (4.8 to 6)`);
   }
-  return /** @type {Found} */ (all.reduce((a, b) => (rank(/** @type {Found} */ (b).version) > rank(/** @type {Found} */ (a).version) ? b : a)));
+  return all.reduce((a, b) => (rank(b.version) > rank(a.version) ? b : a));
 }

@@ -1,7 +1,7 @@
 import assert from 'node:assert/strict';
 import { spawn, spawnSync } from 'node:child_process';
 import { once } from 'node:events';
-import { cpSync, readdirSync, readFileSync, rmSync, utimesSync, writeFileSync } from 'node:fs';
+import { cpSync, mkdirSync, readdirSync, readFileSync, rmSync, utimesSync, writeFileSync } from 'node:fs';
 import path from 'node:path';
 import test from 'node:test';
 import { setTimeout } from 'node:timers/promises';
@@ -132,7 +132,15 @@ test('the package by itself: what it needs is told', () => {
   assert.deepEqual(said({ PATH: '/none' }, 'api', folder), [
     3, 'symdir: the program symq isn\'t there: `make symq` builds it, --symq FILE names it, and --unproved does without its proof\n']);
   assert.deepEqual(said({ PATH: '/none' }, 'api', folder, '--symq', program({}, 'symq', '')), [
-    3, 'symdir: TypeScript isn\'t there: `npm install typescript`, or on Debian `apt-get install node-typescript` (4.8 to 6)\n']);
+    3, 'symdir: TypeScript isn\'t there: `npm install typescript@5`, or on Debian `apt-get install node-typescript` (4.8 to 6)\n']);
+  const typescript = path.join(alone, 'node_modules', 'typescript');
+  for (const version of ['4.7.4', '7.0.0']) {
+    mkdirSync(path.join(typescript, 'lib'), { recursive: true });
+    writeFileSync(path.join(typescript, 'package.json'), JSON.stringify({ name: 'typescript', version }));
+    writeFileSync(path.join(typescript, 'lib', 'typescript.js'), '');
+    assert.deepEqual(said({ PATH: '/none' }, 'api', folder, '--symq', program({}, 'symq', '')), [
+      3, `symdir: TypeScript ${version} (${typescript}/lib/typescript.js) isn't taken: \`npm install typescript@5\`, or on Debian \`apt-get install node-typescript\` (4.8 to 6)\n`]);
+  }
   assert.deepEqual(said({ PATH: process.env.PATH ?? '' }, 'api', folder, '--unproved'), [
     2, 'symdir: --unproved works in the repository of deno_symbols alone\n']);
 });

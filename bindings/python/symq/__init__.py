@@ -4,7 +4,7 @@
 
     symq.answer(graph, b'["exports","file:///a.ts"]\\n')      the lines of answers to lines of queries, as bytes
 
-`graph` is the text of a graph as bytes. Where there are no answers, `Stop` has the program's status and line.
+`graph` is the text of a graph as bytes. `strict=True` answers by strict rules. Where there are no answers, `Stop` has the program's status and line.
 """
 from ._calls import Stop, answer
 

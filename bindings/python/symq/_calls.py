@@ -1,4 +1,4 @@
-"""The library's call, as bindings/c/symq.h declares it."""
+"""The library's calls, as bindings/c/symq.h declares them."""
 import ctypes
 import os
 from typing import Tuple
@@ -11,8 +11,9 @@ def _library() -> ctypes.CDLL:
     """The library: the one that SYMQ_LIBRARY names, or the one in this package."""
     found = ctypes.CDLL(os.environ.get("SYMQ_LIBRARY") or os.path.join(_HERE, "libsymq.so"))
     text, out = [ctypes.c_char_p, ctypes.c_size_t], [ctypes.c_void_p, ctypes.c_size_t, ctypes.POINTER(ctypes.c_size_t)]
-    found.symq_answer.argtypes = [*text, *text, *out]
-    found.symq_answer.restype = ctypes.c_uint8
+    for call in (found.symq_answer, found.symq_strict_answer):
+        call.argtypes = [*text, *text, *out]
+        call.restype = ctypes.c_uint8
     return found
 
 
@@ -31,22 +32,23 @@ class Stop(Exception):
         self.line = line
 
 
-def _answered(graph: bytes, lines: bytes) -> Tuple[int, bytes]:
+def _answered(graph: bytes, lines: bytes, strict: bool) -> Tuple[int, bytes]:
+    call = _LIBRARY.symq_strict_answer if strict else _LIBRARY.symq_answer
     room, needed = _ROOM, ctypes.c_size_t()
     while True:
         out = ctypes.create_string_buffer(room)
-        status = _LIBRARY.symq_answer(graph, len(graph), lines, len(lines), out, room, needed)
+        status = call(graph, len(graph), lines, len(lines), out, room, needed)
         if needed.value <= room:
             return status, out.raw[: needed.value]
         room = needed.value
 
 
-def answer(graph: bytes, lines: bytes) -> bytes:
-    """The answers to lines of queries over the text of a graph, each with its line end.
+def answer(graph: bytes, lines: bytes, *, strict: bool = False) -> bytes:
+    """The answers to lines of queries over the text of a graph, each with its line end; by strict rules where asked to.
 
     The graph is read anew at each call, and maybe twice where the answers are long. Other threads go on meanwhile.
     """
-    status, told = _answered(graph, lines)
+    status, told = _answered(graph, lines, strict)
     if status:
         raise Stop(status, told.decode("utf-8", "replace"))
     return told

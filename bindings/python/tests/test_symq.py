@@ -15,7 +15,8 @@ sys.path[:0] = [PACKAGE, os.path.join(TOP, "tools")]
 import symq  # noqa: E402
 from run_cases import all_cases  # noqa: E402
 
-CASES = [it for it in all_cases()[0] if it.program == "symq" and it.words is None and it.graph is not None]
+STRICT = ["--strict", "graph.json"]
+CASES = [it for it in all_cases()[0] if it.program == "symq" and it.words in (None, STRICT) and it.graph is not None]
 SERVED = [it for it in CASES if it.want.status == 0 and it.given]
 REFUSED = [it for it in CASES if it.want.status != 0]
 
@@ -23,7 +24,7 @@ REFUSED = [it for it in CASES if it.want.status != 0]
 def by_call(case):
     """The status, the output and the error line of the program, by one call."""
     try:
-        return 0, symq.answer(case.graph, case.given), b""
+        return 0, symq.answer(case.graph, case.given, strict=case.words == STRICT), b""
     except symq.Stop as stop:
         return stop.status, b"", stop.line.encode() + b"\n"
 
@@ -47,6 +48,7 @@ class Cases(unittest.TestCase):
     def test_there_are_cases(self):
         self.assertGreater(len(SERVED), 50)
         self.assertEqual({it.want.status for it in REFUSED}, {4, 5})
+        self.assertTrue(any(it.words == STRICT for it in SERVED))
 
     def test_answers_are_the_programs(self):
         for case in CASES:

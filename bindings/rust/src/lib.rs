@@ -11,9 +11,9 @@
 mod calls;
 mod error;
 
-pub use calls::answer;
+pub use calls::{answer, strict_answer};
 #[cfg(feature = "json")]
-pub use calls::answer_values;
+pub use calls::{answer_values, strict_answer_values};
 #[cfg(feature = "json")]
 pub use error::Error;
 pub use error::Stop;

@@ -3,7 +3,7 @@
 use std::fs;
 use std::path::{Path, PathBuf};
 use std::thread;
-use symq::{answer, Stop};
+use symq::{answer, strict_answer, Stop};
 
 /// How a run ends: status, output and error line.
 type End = (u8, Vec<u8>, Vec<u8>);
@@ -11,6 +11,7 @@ type End = (u8, Vec<u8>, Vec<u8>);
 /// A stored case: its graph, its lines, and the program's status, output and error line.
 struct Case {
     name: String,
+    is_strict: bool,
     graph: Vec<u8>,
     given: Vec<u8>,
     want: End,
@@ -18,7 +19,8 @@ struct Case {
 
 fn case(folder: &Path) -> Option<Case> {
     let read = |name: &str| fs::read(folder.join(name)).unwrap_or_default();
-    if folder.join("args").exists() {
+    let is_strict = read("args") == b"--strict\ngraph.json\n";
+    if folder.join("args").exists() && !is_strict {
         return None;
     }
     let status = String::from_utf8(read("status"))
@@ -28,6 +30,7 @@ fn case(folder: &Path) -> Option<Case> {
         .unwrap_or(0);
     Some(Case {
         name: folder.display().to_string(),
+        is_strict,
         graph: fs::read(folder.join("graph.json")).ok()?,
         given: read("queries"),
         want: (status, read("lines"), read("stderr")),
@@ -49,12 +52,18 @@ fn cases() -> Vec<Case> {
             .count()
             > 20
     );
+    assert!(found.iter().any(|it| it.is_strict));
     assert!(found.iter().any(|it| it.want.0 == 4) && found.iter().any(|it| it.want.0 == 5));
     found
 }
 
 fn by_call(case: &Case) -> End {
-    match answer(&case.graph, &case.given) {
+    let call = if case.is_strict {
+        strict_answer
+    } else {
+        answer
+    };
+    match call(&case.graph, &case.given) {
         Ok(answers) => (0, answers, Vec::new()),
         Err(stop) => (
             stop.status,

@@ -1,8 +1,9 @@
 -- Which modules are stored once a query is answered.
-use Rattle.std.specs.Prelude.{ℕ, List, [], ◌∷◌, ◌++◌, map, flat_map, All, Contains, IfSome}
+use Rattle.std.specs.Prelude.{ℕ, List, [], ◌∷◌, ◌++◌, map, flat_map, All, Contains, Option, Some, None, IfSome}
 use Rattle.symbols_root.specs.Roots.{RootView}
 use Rattle.symbols_root.specs.TypesChains.{stands_for}
 use Rattle.symbols_exports.specs.Chains.{IsReached}
+use Rattle.symbols_exports.specs.Shared.{Shared}
 use Rattle.symbols_exports.specs.StarStatements.{statements_of}
 use Rattle.symbols_exports.specs.Told.{ToldExport, ToldStatement}
 use Rattle.symbols_paths.specs.Trees.{Defined, Leaf, definition, unresolved, Tree, Forest, leaf, link, none, more}
@@ -18,6 +19,14 @@ referrer statement = statement.0
 
 abbrev pub modules_of_export : ToldExport → List (List ℕ)
 modules_of_export export = export.owner ∷ map referrer export.statements
+
+-- of the names that modules share those of their owners
+abbrev pub modules_of_shared : Shared ToldExport → List (List ℕ)
+modules_of_shared shared = flat_map modules_of_export shared.owners
+
+abbrev pub modules_of_sharing : Option (List (Shared ToldExport)) → List (List ℕ)
+modules_of_sharing None = []
+modules_of_sharing (Some shared) = flat_map modules_of_shared shared
 
 -- of a definition and of a leaf the module in which it is, of a link those of its symbol and its declaration
 abbrev pub module_of_defined : Defined → List ℕ
@@ -45,7 +54,7 @@ modules_of_standing (a_module specifier) = specifier ∷ []
 abbrev pub modules_told : AnswerView → List (List ℕ)
 modules_told tells_nothing = []
 modules_told (tells_module specifier) = specifier ∷ []
-modules_told (tells_exports exports statements) = flat_map modules_of_export exports ++ map referrer statements
+modules_told (tells_exports exports shared statements) = flat_map modules_of_export exports ++ (modules_of_sharing shared ++ map referrer statements)
 modules_told (tells_names names) = []
 modules_told (tells_symbol symbol) = []
 modules_told (tells_name name) = []

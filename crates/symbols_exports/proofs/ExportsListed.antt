@@ -21,14 +21,14 @@ use Rattle.symbols_exports.proofs.Ways.{ComesBefore, ways_sorted}
 
 -- ---- lists of lists
 
-flat_from : {A B : Type 0} (f : A → List B) (xs : List A) (y : B) → Contains (flat_map f xs) y → (x : A) × Contains xs x × Contains (f x) y
+pub flat_from : {A B : Type 0} (f : A → List B) (xs : List A) (y : B) → Contains (flat_map f xs) y → (x : A) × Contains xs x × Contains (f x) y
 flat_from f [] y has = absurd (contains_nothing y has)
 flat_from f (x ∷ xs) y has = elim (contains_either (f x) (flat_map f xs) y has) [
   | inl here ↦ (x, contains_first x xs, here)
   | inr later ↦ let from = flat_from f xs y later in (from.0, contains_later x xs from.0 from.1, from.2)
 ]
 
-contains_flat : {A B : Type 0} (f : A → List B) (xs : List A) (x : A) (y : B) → Contains xs x → Contains (f x) y → Contains (flat_map f xs) y
+pub contains_flat : {A B : Type 0} (f : A → List B) (xs : List A) (x : A) (y : B) → Contains xs x → Contains (f x) y → Contains (flat_map f xs) y
 contains_flat f [] x y has has_y = absurd (contains_nothing x has)
 contains_flat f (w ∷ xs) x y has has_y = elim (first_or_later w xs x has) [
   | inl same ↦ contains_left (f w) (flat_map f xs) y (subst (λ z. Contains (f z) y) (sym same) has_y)
@@ -44,11 +44,11 @@ flat_sorted {A} {B} R S f each across (x ∷ xs) sorted = sorted_both S (f x) (f
 
 -- ---- what a way offers
 
-passes : (chain : List ℕ) (own : List ℕ × SymbolId) → is_passed_by chain own ≡ true → own.0 ≡ default_name → chain ≡ []
+pub passes : (chain : List ℕ) (own : List ℕ × SymbolId) → is_passed_by chain own ≡ true → own.0 ≡ default_name → chain ≡ []
 passes [] own is same = refl
 passes (k ∷ chain) own is same = absurd (true≢false (sym is ∙ ap not (subst (λ q. bytes_eq own.0 q ≡ true) same (nat_list_eq_equiv.refl own.0))))
 
-is_passed : (chain : List ℕ) (own : List ℕ × SymbolId) → (own.0 ≡ default_name → chain ≡ []) → is_passed_by chain own ≡ true
+pub is_passed : (chain : List ℕ) (own : List ℕ × SymbolId) → (own.0 ≡ default_name → chain ≡ []) → is_passed_by chain own ≡ true
 is_passed [] own passed = refl
 is_passed (k ∷ chain) own passed = by (bytes_eq own.0 default_name) refl
   where
@@ -59,10 +59,10 @@ is_passed (k ∷ chain) own passed = by (bytes_eq own.0 default_name) refl
     by true is = absurd (never (passed ((bytes_eq-Decides own.0 default_name).0 is)))
     by false is = refl
 
-abbrev entry_by : List ℕ → List ℕ → List ℕ × SymbolId → Entry
+abbrev pub entry_by : List ℕ → List ℕ → List ℕ × SymbolId → Entry
 entry_by chain end x = record { name = x.0; chain = chain; owner = end; symbol = x.1 }
 
-stands_before : {A : Type 0} (xs : List A) → AllPairs (StandsBefore xs) xs
+pub stands_before : {A : Type 0} (xs : List A) → AllPairs (StandsBefore xs) xs
 stands_before xs i j d less within = (j, slice_get-get_or xs j d within, front xs j i d less within)
   where
     front : {B : Type 0} (ys : List B) (n k : ℕ) (e : B) → k < n → n < length ys → Contains (take n ys) (get_or ys k e)
@@ -72,7 +72,7 @@ stands_before xs i j d less within = (j, slice_get-get_or xs j d within, front x
     front (y ∷ ys) (suc n) (suc k) e below short = contains_later y (take n ys) (get_or ys k e) (front ys n k e (omega (arith, below)) (omega (arith, short)))
 
 module _ (owned : Owned) where
-  offered_from : (w : Way) (e : Entry) → Contains (offered_at owned w) e → (w.nowhere ≡ None) × (e.chain ≡ w.chain) × (e.owner ≡ w.end) × Contains (owned w.end) (e.name, e.symbol) × (e.name ≡ default_name → w.chain ≡ [])
+  pub offered_from : (w : Way) (e : Entry) → Contains (offered_at owned w) e → (w.nowhere ≡ None) × (e.chain ≡ w.chain) × (e.owner ≡ w.end) × Contains (owned w.end) (e.name, e.symbol) × (e.name ≡ default_name → w.chain ≡ [])
   offered_from w e has = by w.nowhere refl has
     where
       by : (nowhere : Option ℕ) → w.nowhere ≡ nowhere → Contains (option_map_or (λ (k : ℕ). []) nowhere (offered_by w.chain w.end (owned w.end))) e → (w.nowhere ≡ None) × (e.chain ≡ w.chain) × (e.owner ≡ w.end) × Contains (owned w.end) (e.name, e.symbol) × (e.name ≡ default_name → w.chain ≡ [])
@@ -83,10 +83,10 @@ module _ (owned : Owned) where
           subst (λ (x : Entry). (w.nowhere ≡ None) × (x.chain ≡ w.chain) × (x.owner ≡ w.end) × Contains (owned w.end) (x.name, x.symbol) × (x.name ≡ default_name → w.chain ≡ [])) from.2
           (is, refl, refl, kept.0, passes w.chain from.0 kept.1)
 
-  offered_there : (chain end name : List ℕ) (symbol : SymbolId) → Contains (owned end) (name, symbol) → (name ≡ default_name → chain ≡ []) → Contains (offered_at owned (record { chain = chain; end = end; nowhere = None })) (record { name = name; chain = chain; owner = end; symbol = symbol })
+  pub offered_there : (chain end name : List ℕ) (symbol : SymbolId) → Contains (owned end) (name, symbol) → (name ≡ default_name → chain ≡ []) → Contains (offered_at owned (record { chain = chain; end = end; nowhere = None })) (record { name = name; chain = chain; owner = end; symbol = symbol })
   offered_there chain end name symbol owns passed = contains_mapped (entry_by chain end) (filter (is_passed_by chain) (owned end)) (name, symbol) (contains_filtered (is_passed_by chain) (owned end) (name, symbol) owns (is_passed chain (name, symbol) passed))
 
-  offered_sorted : (w : Way) → IsSorted (InOrder owned) (offered_at owned w)
+  pub offered_sorted : (w : Way) → IsSorted (InOrder owned) (offered_at owned w)
   offered_sorted w = by w.nowhere
     where
       in_order : (x y : List ℕ × SymbolId) → StandsBefore (owned w.end) x y → InOrder owned (entry_by w.chain w.end x) (entry_by w.chain w.end y)
@@ -101,6 +101,27 @@ module _ (owned : Owned) where
       let from_a = offered_from x a has_a in
       let from_b = offered_from y b has_b in
       inl (subst (λ c. IsBefore c b.chain) (sym from_a.1) (subst (IsBefore x.chain) (sym from_b.1) before))
+
+-- what stands before, by its place
+in_front : {A : Type 0} (xs : List A) (n : ℕ) (a : A) → Contains (take n xs) a → (k : ℕ) × (k < n) × (k < length xs) × (get_or xs k a ≡ a)
+in_front [] zero a has = absurd (contains_nothing a has)
+in_front [] (suc n) a has = absurd (contains_nothing a has)
+in_front (z ∷ xs) zero a has = absurd (contains_nothing a has)
+in_front (z ∷ xs) (suc n) a has = elim (first_or_later z (take n xs) a has) [
+  | inl is ↦ (0, omega arith, omega arith, is)
+  | inr later ↦ let from = in_front xs n a later in (suc from.0, omega (arith, from.1), omega (arith, from.2), from.3)
+]
+
+-- no two of a list stand both before one another, where each has one place
+both_ways : {A : Type 0} (xs : List A) → ((i j : ℕ) (d : A) → i < length xs → j < length xs → get_or xs i d ≡ get_or xs j d → i ≡ j) → (a b : A) → StandsBefore xs a b → StandsBefore xs b a → ⊥
+both_ways xs place a b before behind =
+    let a_at = in_front xs before.0 a before.2 in
+    let b_at = in_front xs behind.0 b behind.2 in
+    let b_in : before.0 < length xs = slice_get_within xs before.0 b before.1 in
+    let a_in : behind.0 < length xs = slice_get_within xs behind.0 a behind.1 in
+    let same_a : a_at.0 ≡ behind.0 = place a_at.0 behind.0 a a_at.2 a_in (a_at.3 ∙ sym (get_or_from_slice_get xs behind.0 a a behind.1)) in
+    let same_b : b_at.0 ≡ before.0 = place b_at.0 before.0 b b_at.2 b_in (b_at.3 ∙ sym (get_or_from_slice_get xs before.0 b b before.1)) in
+    omega (arith, a_at.1, b_at.1, same_a, same_b)
 
 -- ---- the first of each name
 
@@ -128,10 +149,10 @@ module _ (graph : GraphView) (start : List ℕ) where
   abbrev name_of : Entry → List ℕ
   name_of e = e.name
 
-  covered : (e : Entry) → IsOffered (statements_of graph) (owned_of graph) start e → (f : Entry) × Contains (exports_of graph start) f × (f.name ≡ e.name) × ((f ≡ e) ⊎ InOrder (owned_of graph) f e)
+  pub covered : (e : Entry) → IsOffered (statements_of graph) (owned_of graph) start e → (f : Entry) × Contains (exports_of graph start) f × (f.name ≡ e.name) × ((f ≡ e) ⊎ InOrder (owned_of graph) f e)
   covered e offer = first_covers same_name name_of (λ x y. bytes_eq-Decides x.name y.name) (InOrder (owned_of graph)) offers offers_sorted e (offered_is_there e offer)
 
-  up_to : (f e : Entry) → (f ≡ e) ⊎ InOrder (owned_of graph) f e → IsUpTo f.chain e.chain
+  pub up_to : (f e : Entry) → (f ≡ e) ⊎ InOrder (owned_of graph) f e → IsUpTo f.chain e.chain
   up_to f e (inl same) = inl (ap (λ (x : Entry). x.chain) same)
   up_to f e (inr (inl before)) = inr before
   up_to f e (inr (inr along)) = inl along.0
@@ -139,7 +160,7 @@ module _ (graph : GraphView) (start : List ℕ) where
   was_offered : (e : Entry) → Contains (exports_of graph start) e → IsOffered (statements_of graph) (owned_of graph) start e
   was_offered e has = is_offered e (first_is_one same_name name_of (λ x y. bytes_eq-Decides x.name y.name) offers e has)
 
-  is_export : (e : Entry) → Contains (exports_of graph start) e → IsExport (statements_of graph) (owned_of graph) start e
+  pub is_export : (e : Entry) → Contains (exports_of graph start) e → IsExport (statements_of graph) (owned_of graph) start e
   is_export e has = record { offered = was_offered e has; least = least }
     where
       least : (other : Entry) → IsOffered (statements_of graph) (owned_of graph) start other → other.name ≡ e.name → IsUpTo e.chain other.chain
@@ -174,32 +195,16 @@ module _ (graph : GraphView) (start : List ℕ) where
 
   -- ---- one list
 
-  apart : (x y : Entry) → IsExport (statements_of graph) (owned_of graph) start x → IsExport (statements_of graph) (owned_of graph) start y → InOrder (owned_of graph) x y → InOrder (owned_of graph) y x → ⊥
+  pub apart : (x y : Entry) → IsExport (statements_of graph) (owned_of graph) start x → IsExport (statements_of graph) (owned_of graph) start y → InOrder (owned_of graph) x y → InOrder (owned_of graph) y x → ⊥
   apart x y export_x export_y (inl before) (inl behind) = never_before_itself x.chain (before_then_before x.chain y.chain x.chain before behind)
   apart x y export_x export_y (inl before) (inr along) = never_before_itself x.chain (subst (IsBefore x.chain) along.0 before)
   apart x y export_x export_y (inr along) (inl behind) = never_before_itself y.chain (subst (IsBefore y.chain) along.0 behind)
   apart x y export_x export_y (inr there) (inr back) =
       let owners : y.owner ≡ x.owner = same_module y.owner x.owner (sym export_y.offered.leads.leads ∙ (ap (chain_end (statements_of graph) start) back.0 ∙ export_x.offered.leads.leads)) in
       both_ways (owned_of graph x.owner) (λ i j d i_in j_in same. owned_place graph x.owner i j d i_in j_in (ap (λ (p : List ℕ × SymbolId). p.0) same)) (x.name, x.symbol) (y.name, y.symbol) there.1 (subst (λ u. StandsBefore (owned_of graph u) (y.name, y.symbol) (x.name, x.symbol)) owners back.1)
-    where
-      in_front : {A : Type 0} (xs : List A) (n : ℕ) (a : A) → Contains (take n xs) a → (k : ℕ) × (k < n) × (k < length xs) × (get_or xs k a ≡ a)
-      in_front [] zero a has = absurd (contains_nothing a has)
-      in_front [] (suc n) a has = absurd (contains_nothing a has)
-      in_front (z ∷ xs) zero a has = absurd (contains_nothing a has)
-      in_front (z ∷ xs) (suc n) a has = elim (first_or_later z (take n xs) a has) [
-        | inl is ↦ (0, omega arith, omega arith, is)
-        | inr later ↦ let from = in_front xs n a later in (suc from.0, omega (arith, from.1), omega (arith, from.2), from.3)
-      ]
 
-      both_ways : {A : Type 0} (xs : List A) → ((i j : ℕ) (d : A) → i < length xs → j < length xs → get_or xs i d ≡ get_or xs j d → i ≡ j) → (a b : A) → StandsBefore xs a b → StandsBefore xs b a → ⊥
-      both_ways xs place a b before behind =
-          let a_at = in_front xs before.0 a before.2 in
-          let b_at = in_front xs behind.0 b behind.2 in
-          let b_in : before.0 < length xs = slice_get_within xs before.0 b before.1 in
-          let a_in : behind.0 < length xs = slice_get_within xs behind.0 a behind.1 in
-          let same_a : a_at.0 ≡ behind.0 = place a_at.0 behind.0 a a_at.2 a_in (a_at.3 ∙ sym (get_or_from_slice_get xs behind.0 a a behind.1)) in
-          let same_b : b_at.0 ≡ before.0 = place b_at.0 before.0 b b_at.2 b_in (b_at.3 ∙ sym (get_or_from_slice_get xs before.0 b b before.1)) in
-          omega (arith, a_at.1, b_at.1, same_a, same_b)
+  pub apart_itself : (x : Entry) → StandsBefore (owned_of graph x.owner) (x.name, x.symbol) (x.name, x.symbol) → ⊥
+  apart_itself x stands = both_ways (owned_of graph x.owner) (λ i j d i_in j_in same. owned_place graph x.owner i j d i_in j_in (ap (λ (p : List ℕ × SymbolId). p.0) same)) (x.name, x.symbol) (x.name, x.symbol) stands stands
 
   pub exports_are_one : (entries : List Entry) → AreExports (statements_of graph) (owned_of graph) start entries → entries ≡ exports_of graph start
   exports_are_one entries are = same_sorted (InOrder (owned_of graph)) entries (exports_of graph start) (λ x y has_x has_y. apart x y ((are.all x).0 has_x) ((are.all y).0 has_y)) (pairs_sorted (InOrder (owned_of graph)) entries are.ordered) (pairs_sorted (InOrder (owned_of graph)) (exports_of graph start) exports_are_listed.ordered) (λ e. (λ has. (exports_are_listed.all e).1 ((are.all e).0 has), λ has. (are.all e).1 ((exports_are_listed.all e).0 has)))

@@ -21,6 +21,12 @@ mod Distinct
 mod Numbers
 mod TakingNames
 mod Telling
+mod Offering
+mod Together
+mod OfferMap
+mod SharedTold
+mod ReachedListed
+mod SharedListed
 mod Wanting
 mod WantedNames
 mod Walking

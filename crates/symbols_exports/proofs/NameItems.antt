@@ -1,8 +1,6 @@
 -- The items that are listed of exports: those of the graph's entries, each once, and of symbols that the modules have.
-use Rattle.std.proofs.Common.{◌≡◌, ℕ, ◌≤◌, inl, inr, Bool, not, List, [], ◌∷◌, length, map, get_or, Option, None, Some, sym, ap, subst, ◌∙◌, arith}
+use Rattle.std.proofs.Common.{◌≡◌, ℕ, inl, inr, not, List, map, get_or, Some, None, sym, ap, subst, ◌∙◌}
 use Rattle.std.specs.Prelude.{◌≢◌, Contains, All, AllPairs, filter, flat_map}
-use Rattle.std.specs.Bool.{Decides}
-use Rattle.std.specs.Str.{bytes_eq}
 use Rattle.std.proofs.lemmas.List.{get_or_default}
 use Rattle.std.proofs.lemmas.List.Folds.{flat_map-map}
 use Rattle.std.proofs.lemmas.Map.Made.{AllPairs-from_IsDistinct}
@@ -12,16 +10,18 @@ use Rattle.symbols_syntax.specs.declared.ids.ModuleId.{ModuleId}
 use Rattle.symbols_syntax.specs.declared.ids.SymbolId.{SymbolId}
 use Rattle.symbols_syntax.specs.Graph.{GraphView}
 use Rattle.symbols_table.specs.declared.info.fault.SymbolsFault.TheVariants.{OutOfMemory}
-use Rattle.symbols_root.specs.Roots.{RootView, specifier_in}
+use Rattle.symbols_root.specs.Roots.{RootView}
 use Rattle.symbols_exports.specs.Answers.{IsAnswer, IsFault, AreListed}
 use Rattle.symbols_exports.specs.Exports.{Entry}
 use Rattle.symbols_exports.specs.PublicNames.{NameItem, is_nameless, exported_by, members_under, items_under, public_names_of, IsOwned, items_of}
-use Rattle.symbols_exports.specs.StarStatements.{statements_of, owned_of}
+use Rattle.symbols_exports.specs.Shared.{Shared}
+use Rattle.symbols_exports.specs.StarStatements.{owned_of}
 use Rattle.symbols_exports.specs.Taking.{NameView}
 use Rattle.symbols_exports.specs.Told.{ToldExport, told_export, told_name, AllNumbered}
 use Rattle.symbols_exports.specs.Ways.{ways_of, offered_at, same_name, exports_of, exports_told}
 use Rattle.symbols_exports.proofs.Distinct.{exported_once}
 use Rattle.symbols_exports.proofs.ExportsListed.{flat_sorted}
+use Rattle.symbols_exports.proofs.WalkingEnd.{answer_broken}
 use Rattle.symbols_exports.proofs.Sorted.{IsSorted, sorted_pairs, pairs_sorted, sorted_map, sorted_mapped, sorted_filter, first_apart, contains_mapped, mapped_from, first_or_later}
 
 abbrev Setting : Type 0
@@ -88,17 +88,7 @@ all_owned new graph start names same listed numbered tell k d within =
     let owns : owns_told graph (told_export graph start from.0) = ((listed.are_exports.all from.0).0 from.1).offered.owns in
     record { stored = (numbered k d within).export_in; name = name.name; owned = subst (λ g. owns_told g (told_name new name)) (sym same) (subst (owns_told graph) from.2 owns) }
 
--- ---- where memory was refused for the list: all modules that are reached are stored, and each of their statements was asked for
+-- ---- where memory was refused for the list
 
-pub refused_behind : (old new : RootView) (start : ModuleId) (names : List NameView) (unresolved : List (ModuleId × List ℕ)) (asked : ℕ) → IsAnswer old new start names unresolved asked → IsFault old new start OutOfMemory asked
-refused_behind old new start names unresolved asked is = inr (record {
-  known = is.known;
-  reached = is.reached;
-  are_least = λ chain end has. (is.are_reached.all chain end).0 has;
-  ordered = is.are_reached.ordered;
-  stored = is.stored;
-  asked_once = omega (arith, is.asked_once);
-  needed = None;
-  is_reached = λ specifier some. absurd (none-some specifier some);
-  refused = tt;
-})
+pub refused_behind : {old new : RootView} {start : ModuleId} {names : List NameView} {shared : List (Shared NameView)} {unresolved : List (ModuleId × List ℕ)} {asked : ℕ} → IsAnswer old new start names shared unresolved asked → IsFault old new start OutOfMemory asked
+refused_behind is = inr (answer_broken is)

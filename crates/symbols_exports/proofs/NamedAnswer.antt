@@ -8,8 +8,8 @@ use Rattle.symbols_syntax.specs.declared.ids.ModuleId.{ModuleId}
 use Rattle.symbols_root.specs.Roots.{RootView, specifier_in}
 use Rattle.symbols_exports.specs.declared.exports.path.ResolvedExportOrReExportAllPath.{ResolvedExportOrReExportAllPath}
 use Rattle.symbols_exports.specs.Exports.{Entry}
-use Rattle.symbols_exports.specs.OneName.{IsNameAnswer, export_named, named_way}
-use Rattle.symbols_exports.specs.Taking.{NameView, name_view, names_view}
+use Rattle.symbols_exports.specs.OneName.{IsNameAnswer, export_named}
+use Rattle.symbols_exports.specs.Taking.{NameView, name_view, names_view, named_way}
 use Rattle.symbols_exports.specs.Told.{ToldExport, told_export, told_name}
 use Rattle.symbols_exports.specs.Ways.{exports_of}
 use Rattle.symbols_exports.proofs.NamedExport.{found_there}

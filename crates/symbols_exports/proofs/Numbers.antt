@@ -51,6 +51,10 @@ pub graph_kept : (root : RootView) (specifiers : List (List ℕ)) → ((all_stor
 graph_kept root [] = (refl, refl)
 graph_kept root (first ∷ rest) = graph_kept (with_stored root (Some first)) rest
 
+pub rules_kept : (root : RootView) (specifiers : List (List ℕ)) → (all_stored root specifiers).rules ≡ root.rules
+rules_kept root [] = refl
+rules_kept root (first ∷ rest) = rules_kept (with_stored root (Some first)) rest
+
 -- ---- numbers and specifiers, where no module is stored twice
 
 module _ (root : RootView) (once : IsDistinct bytes_eq root.stored) where

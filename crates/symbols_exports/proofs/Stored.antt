@@ -7,7 +7,6 @@ use Rattle.symbols_syntax.specs.declared.ids.ModuleId.{ModuleId}
 use Rattle.symbols_syntax.specs.declared.ids.SymbolId.{SymbolId}
 use Rattle.symbols_table.specs.declared.decl.symbol.Symbol.{Symbol}
 use Rattle.symbols_table.specs.declared.info.module_info.ModuleInfoRef.{ModuleInfoRef}
-use Rattle.symbols_table.specs.declared.info.module_info.ModuleInfoRef.TheVariants as ModuleInfoRef
 use Rattle.symbols_table.specs.Changes.{parents_after, exports_after}
 use Rattle.symbols_table.specs.Laws.{AreLawful}
 use Rattle.symbols_table.specs.Modules.{Table, lent_table}

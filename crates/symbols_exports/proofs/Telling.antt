@@ -48,7 +48,7 @@ numbered_push root statements statement are within i d i_in = elim (short_or_las
   | inr last ↦ rw (get_or_push statements statement d i last) within
 ]
 
-names_push : (root : RootView) (names : List NameView) (name : NameView) → AllNumbered root names → IsNumbered root name → AllNumbered root (names ++ name ∷ [])
+pub names_push : (root : RootView) (names : List NameView) (name : NameView) → AllNumbered root names → IsNumbered root name → AllNumbered root (names ++ name ∷ [])
 names_push root names name are is i d i_in = elim (short_or_last names name i i_in) [
   | inl short ↦ rw (get_or_append_left names (name ∷ []) d i short) (are i d short)
   | inr last ↦ rw (get_or_push names name d i last) is

@@ -19,10 +19,10 @@ use Rattle.symbols_exports.proofs.Ways.{ComesBefore, ways_sorted}
 
 -- ---- the same stop
 
-abbrev Stop : Type 0
+abbrev pub Stop : Type 0
 Stop = List ℕ × Option ℕ
 
-abbrev stop_of : Way → Stop
+abbrev pub stop_of : Way → Stop
 stop_of way = (way.end, way.nowhere)
 
 positions : (x y : Option ℕ) → Decides (same_position x y) (x ≡ y)
@@ -34,7 +34,7 @@ positions (Some j) (Some k) = (λ is. ap (λ n. Some n) (eqb-true j k is), λ sa
     inside : Some j ≡ Some k → j ≡ k
     inside same = cc
 
-stops : (x y : Way) → Decides (same_stop x y) (◌≡◌ {A = Stop} (stop_of x) (stop_of y))
+pub stops : (x y : Way) → Decides (same_stop x y) (◌≡◌ {A = Stop} (stop_of x) (stop_of y))
 stops x y = (λ is. to (bytes_eq x.end y.end) (same_position x.nowhere y.nowhere) refl refl is, λ same. and_from (bytes_eq x.end y.end) (same_position x.nowhere y.nowhere) ((bytes_eq-Decides x.end y.end).1 (ap (λ (s : Stop). s.0) same)) ((positions x.nowhere y.nowhere).1 (ap (λ (s : Stop). s.1) same)))
   where
     to : (b c : Bool) → bytes_eq x.end y.end ≡ b → same_position x.nowhere y.nowhere ≡ c → (b && c) ≡ true → ◌≡◌ {A = Stop} (stop_of x) (stop_of y)
@@ -87,13 +87,13 @@ statements_sorted R S (w ∷ ways) keeps sorted = by w.nowhere refl (statements_
 -- ---- the unresolved statements
 
 module _ (graph : GraphView) (start : List ℕ) where
-  abbrev firsts : List Way
+  abbrev pub firsts : List Way
   firsts = first_of_each same_stop (ways_of graph start)
 
-  all_sorted : IsSorted ComesBefore (ways_of graph start)
+  pub all_sorted : IsSorted ComesBefore (ways_of graph start)
   all_sorted = ways_sorted (statements_of graph) (length graph.modules + 1) [] start
 
-  was_way : (w : Way) → Contains firsts w → Contains (ways_of graph start) w
+  pub was_way : (w : Way) → Contains firsts w → Contains (ways_of graph start) w
   was_way w has = first_is_one same_stop stop_of stops (ways_of graph start) w has
 
   is_unresolved : (at : Statement) → Contains (unresolved_of graph start) at → IsUnresolved (statements_of graph) start at
@@ -103,7 +103,7 @@ module _ (graph : GraphView) (start : List ℕ) where
       ((dead.0, dead.2), dead.3, dead.4)
 
   -- what comes first to a stop is up to each way there
-  first_way : (chain end : List ℕ) (nowhere : Option ℕ) → Contains (ways_of graph start) (record { chain = chain; end = end; nowhere = nowhere }) → (f : Way) × Contains firsts f × ◌≡◌ {A = Stop} (stop_of f) (end, nowhere) × IsUpTo f.chain chain
+  pub first_way : (chain end : List ℕ) (nowhere : Option ℕ) → Contains (ways_of graph start) (record { chain = chain; end = end; nowhere = nowhere }) → (f : Way) × Contains firsts f × ◌≡◌ {A = Stop} (stop_of f) (end, nowhere) × IsUpTo f.chain chain
   first_way chain end nowhere has =
       let found = first_covers same_stop stop_of stops ComesBefore (ways_of graph start) all_sorted (record { chain = chain; end = end; nowhere = nowhere }) has in
       (found.0, found.1, found.2, by found.0 found.3)
@@ -154,18 +154,19 @@ module _ (graph : GraphView) (start : List ℕ) where
     ordered = sorted_pairs (StatementsInOrder (statements_of graph) start) (unresolved_of graph start) listed_sorted;
   }
 
+  -- what comes first to a module is up to each simple chain there
+  pub first_up_to : (f : Way) → Contains firsts f → {u : List ℕ} → ◌≡◌ {A = Stop} (stop_of f) (u, None) → (other : List ℕ) → IsSimpleChain (statements_of graph) start other u → IsUpTo f.chain other
+  first_up_to f has {u} same other simple =
+      let first = first_way other u None (arrival_there graph start other u simple) in
+      let is_f : first.0 ≡ f = first_once same_stop stop_of stops (ways_of graph start) first.0 f first.1 has (first.2 ∙ sym same) in
+      subst (λ (w : Way). IsUpTo w.chain other) is_f first.3
+
   -- each module that is reached has a least chain
-  least_there : (u : List ℕ) → IsReached (statements_of graph) start u → (c : List ℕ) × IsLeastChain (statements_of graph) start c u
+  pub least_there : (u : List ℕ) → IsReached (statements_of graph) start u → (c : List ℕ) × IsLeastChain (statements_of graph) start c u
   least_there u reached =
       let found = first_way reached.0 u None (arrival_there graph start reached.0 u reached.1) in
       let arrives_so : found.0 ≡ record { chain = found.0.chain; end = u; nowhere = None } = (λ i. record { chain = found.0.chain; end = (found.2 i).0; nowhere = (found.2 i).1 }) in
-      (found.0.chain, record { is_chain = arrives graph start found.0.chain u (subst (Contains (ways_of graph start)) arrives_so (was_way found.0 found.1)); least = least found.0 found.1 found.2 })
-    where
-      least : (f : Way) → Contains firsts f → ◌≡◌ {A = Stop} (stop_of f) (u, None) → (other : List ℕ) → IsSimpleChain (statements_of graph) start other u → IsUpTo f.chain other
-      least f has same other simple =
-          let first = first_way other u None (arrival_there graph start other u simple) in
-          let is_f : first.0 ≡ f = first_once same_stop stop_of stops (ways_of graph start) first.0 f first.1 has (first.2 ∙ sym same) in
-          subst (λ (w : Way). IsUpTo w.chain other) is_f first.3
+      (found.0.chain, record { is_chain = arrives graph start found.0.chain u (subst (Contains (ways_of graph start)) arrives_so (was_way found.0 found.1)); least = first_up_to found.0 found.1 found.2 })
 
   -- no other list has them
   pub unresolved_are_one : (missed : List Statement) → AreUnresolved (statements_of graph) start missed → missed ≡ unresolved_of graph start

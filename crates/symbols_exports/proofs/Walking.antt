@@ -1,5 +1,5 @@
 -- The walk of `exports` over a root that stores what it reaches.
-use Rattle.std.proofs.Common.{◌≡◌, ℕ, zero, suc, true, ◌+◌, ◌-◌, ◌<◌, ◌≤◌, ◌^◌, ◌⊎◌, inl, inr, List, [], ◌∷◌, ◌++◌, length, map, get_or, slice_get, Option, None, Some, Result, Ok, Err, IfSome, IfOk, OnOk, option_and_then, refl, sym, ap, subst, ◌∙◌, arith, sum_by}
+use Rattle.std.proofs.Common.{◌≡◌, ℕ, zero, suc, true, false, Bool, ◌+◌, ◌-◌, ◌<◌, ◌≤◌, ◌^◌, ◌⊎◌, inl, inr, List, [], ◌∷◌, ◌++◌, length, map, get_or, slice_get, Option, None, Some, Result, Ok, Err, IfSome, IfOk, OnOk, option_and_then, refl, sym, ap, subst, ◌∙◌, arith, sum_by}
 use Rattle.std.specs.Prelude.{Contains}
 use Rattle.std.specs.Option.{option_map}
 use Rattle.std.proofs.lemmas.List.{length-map}
@@ -13,13 +13,14 @@ use Rattle.symbols_exports.specs.declared.exports.turn.Turn.{Turn}
 use Rattle.symbols_exports.specs.declared.exports.wanted.Wanted.{Wanted}
 use Rattle.symbols_exports.specs.Chains.{Statements, target, IsBefore}
 use Rattle.symbols_exports.specs.Exports.{Entry, Statement}
-use Rattle.symbols_exports.specs.StarStatements.{star_texts, text_target, statements_of}
-use Rattle.symbols_exports.specs.Taking.{NameView, turn_told, with_names}
+use Rattle.symbols_exports.specs.StarStatements.{star_texts, text_target, statements_of, owned_of}
+use Rattle.symbols_exports.specs.Taking.{TakenView, NameView, turn_told, with_names, with_owners}
 use Rattle.symbols_exports.specs.Told.{told_statement, told_chain, told_export, told_number, told_name, AreNumbered, AllNumbered}
-use Rattle.symbols_exports.specs.Wanted.{owned_for, is_done, is_default}
+use Rattle.symbols_exports.specs.Wanted.{owned_for, is_done, is_default, keeps_offers, offers_for, with_module}
 use Rattle.symbols_exports.proofs.Places.{Meeting, start_alone}
 use Rattle.symbols_exports.proofs.Found.{AreFound, nothing_found, module_done, found_here}
 use Rattle.symbols_exports.proofs.Missed.{IsThere, LeadsNowhere, AreKept, kept_none}
+use Rattle.symbols_exports.proofs.Offering.{offers_met, offers_more, offers_numbered}
 use Rattle.symbols_exports.proofs.TakingNames.{all_taken}
 use Rattle.symbols_exports.proofs.Telling.{none_numbered, no_names_numbered, taken_numbered}
 use Rattle.symbols_exports.proofs.Walks.{Fork, chain_of, place_of, IsAt, at_first}
@@ -31,12 +32,12 @@ abbrev pub forks_in : RootView → List Turn → List Fork
 forks_in root above = map (fork_in root) above
 
 -- the walk's numbers are those of stored modules
-pub record AreStored (root : RootView) (here : ModuleId) (above : List Turn) (ids : List ModuleId) (names : List NameView) (unresolved : List (ModuleId × List ℕ)) : Type 0 where
+pub record AreStored (root : RootView) (here : ModuleId) (above : List Turn) (ids : List ModuleId) (taken : TakenView) : Type 0 where
   pub here_in : here.0 < length root.stored
   pub above_in : AreNumbered root (map turn_told above)
   pub ids_in : (i : ℕ) (d : ModuleId) → i < length ids → (get_or ids i d).0 < length root.stored
-  pub names_in : AllNumbered root names
-  pub unresolved_in : AreNumbered root unresolved
+  pub names_in : AllNumbered root taken.names
+  pub unresolved_in : AreNumbered root taken.unresolved
 
 -- how many statements of the modules on the way are still to be asked for
 abbrev pub left_at : Statements → Fork → ℕ
@@ -54,31 +55,35 @@ pub record HasStopped (wanted : Wanted) (next : ℕ) (forks : List Fork) (found 
   pub found_here : (entry : Entry) → Contains found entry → entry.chain ≡ chain_of forks
   pub at_start : is_default wanted ≡ true → forks ≡ []
 
--- what the walk has met, found and missed, told by the numbers of the root
-pub record IsWalking (wanted : Wanted) (old : RootView) (start : ModuleId) (root : RootView) (here : ModuleId) (next : ℕ) (above : List Turn) (ids : List ModuleId) (names : List NameView) (unresolved : List (ModuleId × List ℕ)) (asked : ℕ) : Type 0 where
+-- what the walk has met, found and missed, and what it was offered, told by the numbers of the root
+pub record IsWalking (wanted : Wanted) (old : RootView) (start : ModuleId) (root : RootView) (here : ModuleId) (next : ℕ) (above : List Turn) (ids : List ModuleId) (taken : TakenView) (asked : ℕ) : Type 0 where
   pub known : start.0 < length old.stored
   pub stored : root ≡ all_stored old (map (specifier_in root) ids)
-  pub inside : AreStored root here above ids names unresolved
+  pub inside : AreStored root here above ids taken
   pub met : List Meeting
   pub met_are : map (λ (m : Meeting). m.1) met ≡ map (specifier_in root) ids
   pub at : IsAt (statements_of old.graph) (specifier_in old start) (specifier_in root here) next (forks_in root above) met
   pub way : told_chain old.graph (specifier_in old start) (chain_of (forks_in root above)) ≡ map (told_number root) (map turn_told above)
   pub found : List Entry
   pub found_are : (now : Meeting) → AreFound (owned_for wanted old.graph) met now 0 found
-  pub found_told : map (told_export old.graph (specifier_in old start)) found ≡ map (told_name root) names
+  pub found_told : map (told_export old.graph (specifier_in old start)) found ≡ map (told_name root) taken.names
   pub missed : List Statement
   pub missed_are : AreKept (LeadsNowhere (statements_of old.graph)) (place_of (forks_in root above) next) met missed
-  pub missed_told : map (told_statement old.graph) missed ≡ map (told_number root) unresolved
+  pub missed_told : map (told_statement old.graph) missed ≡ map (told_number root) taken.unresolved
+  pub offered : List NameView
+  pub offered_are : taken.offers ≡ with_owners [] offered
+  pub offered_in : AllNumbered root offered
+  pub offered_told : map (told_export old.graph (specifier_in old start)) (offers_met (keeps_offers wanted old.rules) (owned_of old.graph) met) ≡ map (told_name root) offered
   pub behind : List Statement
   pub behind_are : AreKept (IsThere (statements_of old.graph)) (place_of (forks_in root above) next) met behind
   pub behind_counted : asked ≡ length behind
-  pub stops : is_done wanted names ≡ true → HasStopped wanted next (forks_in root above) found
+  pub stops : is_done wanted taken.names ≡ true → HasStopped wanted next (forks_in root above) found
   pub next_in : next ≤ length (statements_of old.graph (specifier_in root here))
   pub few : (c u : List ℕ) → Contains met (c, u) → (u ≡ specifier_in root here) ⊎ (length (statements_of old.graph u) < 2 ^ 63)
   pub counted : asked + left (statements_of old.graph) (specifier_in root here) next (forks_in root above) ≡ count_met (statements_of old.graph) met
 
 -- each module that was met has fewer statements than that, where the module here does
-pub all_few : {wanted : Wanted} {old : RootView} {start : ModuleId} {root : RootView} {here : ModuleId} {next : ℕ} {above : List Turn} {ids : List ModuleId} {names : List NameView} {unresolved : List (ModuleId × List ℕ)} {asked : ℕ} (walk : IsWalking wanted old start root here next above ids names unresolved asked) → length (statements_of old.graph (specifier_in root here)) < 2 ^ 63 → (c u : List ℕ) → Contains walk.met (c, u) → length (statements_of old.graph u) < 2 ^ 63
+pub all_few : {wanted : Wanted} {old : RootView} {start : ModuleId} {root : RootView} {here : ModuleId} {next : ℕ} {above : List Turn} {ids : List ModuleId} {taken : TakenView} {asked : ℕ} (walk : IsWalking wanted old start root here next above ids taken asked) → length (statements_of old.graph (specifier_in root here)) < 2 ^ 63 → (c u : List ℕ) → Contains walk.met (c, u) → length (statements_of old.graph u) < 2 ^ 63
 all_few {wanted} {old} {start} {root} {here} walk few_here c u cu = elim (walk.few c u cu) [
   | inl is_here ↦ subst (λ w. length (statements_of old.graph w) < 2 ^ 63) (sym is_here) few_here
   | inr few ↦ few
@@ -117,7 +122,11 @@ names_taken wanted old root start met now above here names found behind way at_h
     let taken = all_taken old.graph root start (owned_for wanted old.graph) met now behind (map turn_told above) here way at_here own 0 names (λ j x at. let same : j ≡ 0 + j = omega arith in subst (λ n. slice_get own n ≡ Some x) same at) (found, are, told) in
     (taken.0, λ next. module_done (owned_for wanted old.graph) met now next (0 + length own) taken.0 (omega arith) taken.1, taken.2, λ none. found_here (owned_for wanted old.graph) met now (0 + length own) taken.0 (subst (AreFound (owned_for wanted old.graph) met now 0) none are) taken.1)
 
-pub walking_first : (wanted : Wanted) (old : RootView) (start : ModuleId) → start.0 < length old.stored → with_stored old (Some (specifier_in old start)) ≡ old → IsWalking wanted old start old start 0 [] (start ∷ []) (with_names [] start (owned_for wanted old.graph (specifier_in old start)) []) [] 0
+-- before the first module
+abbrev pub nothing_taken : TakenView
+nothing_taken = record { names = []; offers = []; unresolved = [] }
+
+pub walking_first : (wanted : Wanted) (old : RootView) (start : ModuleId) → start.0 < length old.stored → with_stored old (Some (specifier_in old start)) ≡ old → IsWalking wanted old start old start 0 [] (start ∷ []) (with_module wanted old [] start nothing_taken) 0
 walking_first wanted old start known is_stored =
     let s0 = specifier_in old start in
     let first = names_taken wanted old old s0 [] ([], s0) [] start [] [] (λ c u cu. absurd (omega (arith, cu.1))) refl refl (nothing_found (owned_for wanted old.graph) ([], s0)) refl in
@@ -141,6 +150,10 @@ walking_first wanted old start known is_stored =
       missed = [];
       missed_are = kept_none (LeadsNowhere (statements_of old.graph)) s0;
       missed_told = refl;
+      offered = offers_for wanted old [] start;
+      offered_are = refl;
+      offered_in = offers_numbered old (keeps_offers wanted old.rules) [] start (owned_of old.graph s0) (none_numbered old) known;
+      offered_told = offers_more old.graph old s0 ([], s0) [] start refl refl (keeps_offers wanted old.rules) (owned_of old.graph) [] [] (none_offered (keeps_offers wanted old.rules));
       behind = [];
       behind_are = kept_none (IsThere (statements_of old.graph)) s0;
       behind_counted = refl;
@@ -153,3 +166,7 @@ walking_first wanted old start known is_stored =
     start_in : (i : ℕ) (d : ModuleId) → i < 1 → (get_or (start ∷ []) i d).0 < length old.stored
     start_in zero d within = known
     start_in (suc i) d within = absurd (omega (arith, within))
+
+    none_offered : (keeps : Bool) → map (told_export old.graph (specifier_in old start)) (offers_met keeps (owned_of old.graph) []) ≡ map (told_name old) []
+    none_offered true = refl
+    none_offered false = refl

@@ -20,21 +20,21 @@ use Rattle.symbols_root.specs.Roots.{RootView, with_stored, specifier_under, IsR
 use Rattle.symbols_exports.specs.declared.exports.turn.Turn.{Turn}
 use Rattle.symbols_exports.specs.declared.exports.wanted.Wanted.{Wanted}
 use Rattle.symbols_exports.specs.StarStatements.{star_texts, text_target, statements_of}
-use Rattle.symbols_exports.specs.Taking.{NameView, is_number, turn_told, with_names}
-use Rattle.symbols_exports.specs.Wanted.{owned_for, is_done}
+use Rattle.symbols_exports.specs.Taking.{TakenView, is_number, turn_told}
+use Rattle.symbols_exports.specs.Wanted.{is_done, with_module}
 use Rattle.symbols_exports.proofs.MetModules.{met_modules, among_is_met, among_stored, stored_already, still_once}
 use Rattle.symbols_exports.proofs.Numbers.{number_kept, number_among, same_under, still_within}
 use Rattle.symbols_exports.proofs.Places.{Meeting}
-use Rattle.symbols_exports.proofs.Walking.{IsWalking, walking_first, all_few, statements_counted}
-use Rattle.symbols_exports.proofs.WalkingOn.{walking_graph, is_one, walking_nowhere, walking_met}
-use Rattle.symbols_exports.proofs.WalkingEntered.{walking_entered}
+use Rattle.symbols_exports.proofs.Walking.{IsWalking, nothing_taken, walking_first, all_few, statements_counted}
+use Rattle.symbols_exports.proofs.WalkingOn.{walking_graph, walking_rules, is_one, walking_nowhere, walking_met}
+use Rattle.symbols_exports.proofs.WalkingEntered.{module_taken, walking_entered}
 use Rattle.symbols_exports.proofs.WalkingCut.{IsCut, cut_first, cut_refused, cut_nowhere, cut_stored}
 use Rattle.symbols_exports.proofs.WalkingEnd.{not_met}
 use Rattle.symbols_exports.proofs.WalkingLess.{work_left, next_less, entered_less}
 
 -- ---- the start
 
-pub begun : (wanted : Wanted) (old : RootView) (start : ModuleId) → start.0 < length old.stored → IsWalking wanted old start old start 0 [] (start ∷ []) (with_names [] start (owned_for wanted old.graph (specifier_in old start)) []) [] 0
+pub begun : (wanted : Wanted) (old : RootView) (start : ModuleId) → start.0 < length old.stored → IsWalking wanted old start old start 0 [] (start ∷ []) (with_module wanted old [] start nothing_taken) 0
 begun wanted old start known = walking_first wanted old start known (stored_already old (specifier_in old start) (list_any_at (bytes_eq (specifier_in old start)) old.stored start.0 [] known (nat_list_eq_equiv.refl (specifier_in old start))))
 
 pub begun_cut : (wanted : Wanted) (old : RootView) (start : ModuleId) → start.0 < length old.stored → IsCut wanted old old start OutOfMemory 0
@@ -100,7 +100,7 @@ ended_past [] n none = omega arith
 ended_past (x ∷ xs) zero none = absurd (none-some x (sym none))
 ended_past (x ∷ xs) (suc n) none = omega (arith, ended_past xs n none)
 
-module _ {wanted : Wanted} {old : RootView} {start : ModuleId} {root : RootView} {here : ModuleId} {next : ℕ} {above : List Turn} {ids : List ModuleId} {names : List NameView} {unresolved : List (ModuleId × List ℕ)} {asked : ℕ} (walk : IsWalking wanted old start root here next above ids names unresolved asked) (few : length (star_texts root.graph (specifier_in root here)) < 2 ^ 63) where
+module _ {wanted : Wanted} {old : RootView} {start : ModuleId} {root : RootView} {here : ModuleId} {next : ℕ} {above : List Turn} {ids : List ModuleId} {taken : TakenView} {asked : ℕ} (walk : IsWalking wanted old start root here next above ids taken asked) (few : length (star_texts root.graph (specifier_in root here)) < 2 ^ 63) where
   pub few_here : length (statements_of old.graph (specifier_in root here)) < 2 ^ 63
   few_here = omega (arith, statements_counted old.graph (specifier_in root here), subst (λ g. length (star_texts g (specifier_in root here)) < 2 ^ 63) (walking_graph walk) few)
 
@@ -130,7 +130,7 @@ module _ {wanted : Wanted} {old : RootView} {start : ModuleId} {root : RootView}
         at_most m has = omega (arith, all_few walk few_here m.0 m.1 has)
 
     -- the root refused
-    pub asked_refused : is_done wanted names ≡ false → (after : RootView) (fault : SymbolsFault) → after ≡ root → IsRefusal root (text_target root.graph (specifier_in root here) text.now) fault → IsCut wanted old after start fault (asked + 1)
+    pub asked_refused : is_done wanted taken.names ≡ false → (after : RootView) (fault : SymbolsFault) → after ≡ root → IsRefusal root (text_target root.graph (specifier_in root here) text.now) fault → IsCut wanted old after start fault (asked + 1)
     asked_refused goes after fault same refused = subst (λ r. IsCut wanted old r start fault (asked + 1)) (sym same) (cut_refused wanted turn walk goes text_is few_here fault (subst (λ g. IsRefusal root (text_target g (specifier_in root here) text.now) fault) (walking_graph walk) refused))
 
     -- it leads nowhere
@@ -141,10 +141,10 @@ module _ {wanted : Wanted} {old : RootView} {start : ModuleId} {root : RootView}
       same_root : after ≡ root
       same_root = stored ∙ ap (with_stored root) leads_nowhere
 
-      pub asked_nowhere : is_done wanted names ≡ false → IsWalking wanted old start after here (next + 1) above ids names (unresolved ++ (here, text.now) ∷ []) (asked + 1)
-      asked_nowhere goes = subst (λ r. IsWalking wanted old start r here (next + 1) above ids names (unresolved ++ (here, text.now) ∷ []) (asked + 1)) (sym same_root) (walking_nowhere walk text.now text_is goes (subst (λ g. text_target g (specifier_in root here) text.now ≡ None) (walking_graph walk) leads_nowhere))
+      pub asked_nowhere : is_done wanted taken.names ≡ false → IsWalking wanted old start after here (next + 1) above ids (record taken { unresolved = taken.unresolved ++ (here, text.now) ∷ [] }) (asked + 1)
+      asked_nowhere goes = subst (λ r. IsWalking wanted old start r here (next + 1) above ids (record taken { unresolved = taken.unresolved ++ (here, text.now) ∷ [] }) (asked + 1)) (sym same_root) (walking_nowhere walk text.now text_is goes (subst (λ g. text_target g (specifier_in root here) text.now ≡ None) (walking_graph walk) leads_nowhere))
 
-      pub nowhere_cut : is_done wanted names ≡ false → IsCut wanted old after start OutOfMemory (asked + 1)
+      pub nowhere_cut : is_done wanted taken.names ≡ false → IsCut wanted old after start OutOfMemory (asked + 1)
       nowhere_cut goes = subst (λ r. IsCut wanted old r start OutOfMemory (asked + 1)) (sym same_root) (cut_nowhere wanted turn walk goes text_is few_here)
 
       pub nowhere_less : work_left old.graph after here (next + 1) above ids < work_left old.graph root here next above ids
@@ -167,7 +167,7 @@ module _ {wanted : Wanted} {old : RootView} {start : ModuleId} {root : RootView}
       pub number_in : number.0 < length after.stored
       number_in = slice_get_within after.stored number.0 led.0 led.2
 
-      pub somewhere_cut : is_done wanted names ≡ false → IsCut wanted old after start OutOfMemory (asked + 1)
+      pub somewhere_cut : is_done wanted taken.names ≡ false → IsCut wanted old after start OutOfMemory (asked + 1)
       somewhere_cut goes = subst (λ r. IsCut wanted old r start OutOfMemory (asked + 1)) (sym more_is) (cut_stored wanted turn walk goes text_is few_here led.0 leads)
 
       module _ (once : IsDistinct bytes_eq root.stored) where
@@ -188,10 +188,10 @@ module _ {wanted : Wanted} {old : RootView} {start : ModuleId} {root : RootView}
           root_stays : after ≡ root
           root_stays = more_is ∙ stored_already root led.0 (among_stored root ids led.0 walk.inside.ids_in (subst (λ xs. is_among xs led.0 ≡ true) walk.met_are was_met))
 
-          pub asked_met : is_done wanted names ≡ false → IsWalking wanted old start after here (next + 1) above ids names unresolved (asked + 1)
+          pub asked_met : is_done wanted taken.names ≡ false → IsWalking wanted old start after here (next + 1) above ids taken (asked + 1)
           asked_met goes =
               let by = among_is_met walk.met led.0 was_met in
-              subst (λ r. IsWalking wanted old start r here (next + 1) above ids names unresolved (asked + 1)) (sym root_stays) (walking_met walk text.now text_is goes led.0 leads by.0 by.1)
+              subst (λ r. IsWalking wanted old start r here (next + 1) above ids taken (asked + 1)) (sym root_stays) (walking_met walk text.now text_is goes led.0 leads by.0 by.1)
 
           pub met_less : work_left old.graph after here (next + 1) above ids < work_left old.graph root here next above ids
           met_less = subst (λ r. work_left old.graph r here (next + 1) above ids < work_left old.graph root here next above ids) (sym root_stays) (next_less old.graph root here next above ids (is_one walk text.now text_is))
@@ -200,17 +200,17 @@ module _ {wanted : Wanted} {old : RootView} {start : ModuleId} {root : RootView}
           fresh : is_among (met_modules walk.met) led.0 ≡ false
           fresh = sym met_is ∙ new
 
-          abbrev names_too : RootView → List NameView
-          names_too r = with_names (map turn_told (above ++ turn ∷ [])) number (owned_for wanted r.graph (specifier_in r number)) names
+          abbrev way_too : List (ModuleId × List ℕ)
+          way_too = map turn_told (above ++ turn ∷ [])
 
-          pub asked_entered : is_done wanted names ≡ false → IsWalking wanted old start after number 0 (above ++ turn ∷ []) (ids ++ number ∷ []) (names_too after) unresolved (asked + 1)
+          pub asked_entered : is_done wanted taken.names ≡ false → IsWalking wanted old start after number 0 (above ++ turn ∷ []) (ids ++ number ∷ []) (with_module wanted after way_too number taken) (asked + 1)
           asked_entered goes =
               let more : RootView = with_stored root (Some led.0) in
               let called : specifier_in more number ≡ led.0 = get_or_from_slice_get more.stored number.0 led.0 [] number_under in
               let entered = walking_entered turn walk text_is few_here led.0 leads (not_met turn walk text_is few_here led.0 fresh) number number_under goes in
-              let owned : owned_for wanted old.graph led.0 ≡ owned_for wanted more.graph (specifier_in more number) = (λ i. owned_for wanted (sym (walking_graph walk) i) (sym called i)) in
-              subst (λ r. IsWalking wanted old start r number 0 (above ++ turn ∷ []) (ids ++ number ∷ []) (names_too r) unresolved (asked + 1)) (sym more_is)
-              (subst (λ own. IsWalking wanted old start more number 0 (above ++ turn ∷ []) (ids ++ number ∷ []) (with_names (map turn_told (above ++ turn ∷ [])) number own names) unresolved (asked + 1)) owned entered)
+              let same : module_taken wanted old.rules old.graph led.0 way_too number taken ≡ with_module wanted more way_too number taken = (λ i. module_taken wanted (sym (walking_rules walk) i) (sym (walking_graph walk) i) (sym called i) way_too number taken) in
+              subst (λ r. IsWalking wanted old start r number 0 (above ++ turn ∷ []) (ids ++ number ∷ []) (with_module wanted r way_too number taken) (asked + 1)) (sym more_is)
+              (subst (λ t. IsWalking wanted old start more number 0 (above ++ turn ∷ []) (ids ++ number ∷ []) t (asked + 1)) same entered)
 
           pub asked_less : ((v : List ℕ) → text_target root.graph (specifier_in root here) text.now ≡ Some v → (m : ModuleView) × (module_under root.graph v ≡ Some m)) → work_left old.graph after number 0 (above ++ turn ∷ []) (ids ++ number ∷ []) < work_left old.graph root here next above ids
           asked_less there =

@@ -8,7 +8,7 @@ use Rattle.symbols_exports.specs.declared.exports.turn.Turn.{Turn}
 use Rattle.symbols_exports.specs.declared.exports.wanted.Wanted.{Wanted}
 use Rattle.symbols_exports.specs.Chains.{chain_end}
 use Rattle.symbols_exports.specs.StarStatements.{statements_of}
-use Rattle.symbols_exports.specs.Taking.{NameView, turn_told}
+use Rattle.symbols_exports.specs.Taking.{TakenView, turn_told}
 use Rattle.symbols_exports.specs.Told.{told_chain, told_number, AreNumbered}
 use Rattle.symbols_exports.specs.Wanted.{is_done}
 use Rattle.symbols_exports.proofs.Ends.{same_module, leads_back, place_is_there}
@@ -28,7 +28,7 @@ numbered_last root statements last are =
     let there : length statements < length (statements ++ last ∷ []) = omega (arith, length_push statements last) in
     rw (get_or_push statements last last (length statements) refl) at (are (length statements) last there)
 
-module _ {wanted : Wanted} {old : RootView} {start : ModuleId} {root : RootView} {here : ModuleId} {next : ℕ} (above : List Turn) (turn : Turn) {ids : List ModuleId} {names : List NameView} {unresolved : List (ModuleId × List ℕ)} {asked : ℕ} (walk : IsWalking wanted old start root here next (above ++ turn ∷ []) ids names unresolved asked) (ended : length (statements_of old.graph (specifier_in root here)) ≤ next) (few_here : length (statements_of old.graph (specifier_in root here)) < 2 ^ 63) where
+module _ {wanted : Wanted} {old : RootView} {start : ModuleId} {root : RootView} {here : ModuleId} {next : ℕ} (above : List Turn) (turn : Turn) {ids : List ModuleId} {taken : TakenView} {asked : ℕ} (walk : IsWalking wanted old start root here next (above ++ turn ∷ []) ids taken asked) (ended : length (statements_of old.graph (specifier_in root here)) ≤ next) (few_here : length (statements_of old.graph (specifier_in root here)) < 2 ^ 63) where
   pub forks_are : forks_in root (above ++ turn ∷ []) ≡ forks_in root above ++ fork_in root turn ∷ []
   forks_are = map-append (fork_in root) above (turn ∷ [])
 
@@ -68,7 +68,7 @@ module _ {wanted : Wanted} {old : RootView} {start : ModuleId} {root : RootView}
   pub turn_fits : turn.position + 1 < 2 ^ 64
   turn_fits = omega (arith, led_here, all_few walk few_here (chain_of (forks_in root above)) (specifier_in root turn.referrer) is_back.here_met)
 
-  pub walking_back : is_done wanted names ≡ false → IsWalking wanted old start root turn.referrer (turn.position + 1) above ids names unresolved asked
+  pub walking_back : is_done wanted taken.names ≡ false → IsWalking wanted old start root turn.referrer (turn.position + 1) above ids taken asked
   walking_back goes = record {
     known = walk.known;
     stored = walk.stored;
@@ -89,6 +89,10 @@ module _ {wanted : Wanted} {old : RootView} {start : ModuleId} {root : RootView}
     missed = walk.missed;
     missed_are = kept_at_back (forks_in root above) (fork_in root turn) stood_at ended (LeadsNowhere (statements_of old.graph)) (λ u k none. none.0) walk.missed (rw forks_are at walk.missed_are);
     missed_told = walk.missed_told;
+    offered = walk.offered;
+    offered_are = walk.offered_are;
+    offered_in = walk.offered_in;
+    offered_told = walk.offered_told;
     behind = walk.behind;
     behind_are = kept_at_back (forks_in root above) (fork_in root turn) stood_at ended (IsThere (statements_of old.graph)) (λ u k there. there) walk.behind (rw forks_are at walk.behind_are);
     behind_counted = walk.behind_counted;

@@ -16,8 +16,10 @@ use Rattle.symbols_exports.specs.declared.exports.wanted.Wanted.{Wanted}
 use Rattle.symbols_exports.specs.declared.exports.wanted.Wanted.TheVariants.{AllNames, OneName}
 use Rattle.symbols_exports.specs.Answers.{IsAnswer, IsBrokenOff}
 use Rattle.symbols_exports.specs.Chains.{IsReached}
+use Rattle.symbols_exports.specs.Shared.{Shared}
+use Rattle.symbols_exports.specs.Sharing.{shared_only, comes_along, told_sharing, AllShareNumbered}
 use Rattle.symbols_exports.specs.StarStatements.{star_texts, text_target, statements_of, owned_of}
-use Rattle.symbols_exports.specs.Taking.{NameView}
+use Rattle.symbols_exports.specs.Taking.{TakenView, NameView}
 use Rattle.symbols_exports.specs.Told.{told_statement, told_export}
 use Rattle.symbols_exports.specs.Answers.{AreListed, IsFault}
 use Rattle.symbols_exports.specs.OneName.{IsWalkFault}
@@ -29,6 +31,8 @@ use Rattle.symbols_exports.proofs.Least.{met_are_least}
 use Rattle.symbols_exports.proofs.MetModules.{met_modules, met_is_among, among_is_met, among_stored, stored_already}
 use Rattle.symbols_exports.proofs.Numbers.{stored_one_more}
 use Rattle.symbols_exports.proofs.Places.{Meeting}
+use Rattle.symbols_exports.proofs.SharedListed.{shared_are_listed, shared_are_one}
+use Rattle.symbols_exports.proofs.SharedTold.{shared_tell, shared_numbered}
 use Rattle.symbols_exports.proofs.Walking.{IsWalking, forks_in, count_met}
 use Rattle.symbols_exports.proofs.WalkingOn.{is_one, leads_to}
 use Rattle.symbols_exports.proofs.Walks.{chain_of, place_of, at_entered, all_reached, all_unresolved}
@@ -37,7 +41,7 @@ met_push : (met : List Meeting) (place v : List ℕ) → met_modules (met ++ (pl
 met_push [] place v = refl
 met_push (m ∷ met) place v = ap (λ xs. m.1 ∷ xs) (met_push met place v)
 
-module _ {wanted : Wanted} {old : RootView} {start : ModuleId} {root : RootView} {here : ModuleId} {next : ℕ} {above : List Turn} {ids : List ModuleId} {names : List NameView} {unresolved : List (ModuleId × List ℕ)} {asked : ℕ} (walk : IsWalking wanted old start root here next above ids names unresolved asked) where
+module _ {wanted : Wanted} {old : RootView} {start : ModuleId} {root : RootView} {here : ModuleId} {next : ℕ} {above : List Turn} {ids : List ModuleId} {taken : TakenView} {asked : ℕ} (walk : IsWalking wanted old start root here next above ids taken asked) where
   pub stored_is : root ≡ all_stored old (met_modules walk.met)
   stored_is = walk.stored ∙ ap (all_stored old) (sym walk.met_are)
 
@@ -60,8 +64,8 @@ module _ {wanted : Wanted} {old : RootView} {start : ModuleId} {root : RootView}
   broken_here = broken OutOfMemory None asked (omega (arith, walk.counted)) (λ v some. absurd (none-some v some)) tt
 
 -- behind the last statement, where all names were taken
-module _ {old : RootView} {start : ModuleId} {root : RootView} {here : ModuleId} {next : ℕ} {above : List Turn} {ids : List ModuleId} {names : List NameView} {unresolved : List (ModuleId × List ℕ)} {asked : ℕ} (walk : IsWalking AllNames old start root here next above ids names unresolved asked) where
-  pub walking_end : above ≡ [] → length (statements_of old.graph (specifier_in root here)) ≤ next → IsAnswer old root start names unresolved asked
+module _ {old : RootView} {start : ModuleId} {root : RootView} {here : ModuleId} {next : ℕ} {above : List Turn} {ids : List ModuleId} {taken : TakenView} {asked : ℕ} (walk : IsWalking AllNames old start root here next above ids taken asked) where
+  pub walking_end : above ≡ [] → length (statements_of old.graph (specifier_in root here)) ≤ next → IsAnswer old root start taken.names (shared_only comes_along taken.offers) taken.unresolved asked
   walking_end none_above ended =
       let no_turns : forks_in root above ≡ [] = ap (forks_in root) none_above in
       let reached = all_reached walk.at ended no_turns in
@@ -69,6 +73,8 @@ module _ {old : RootView} {start : ModuleId} {root : RootView} {here : ModuleId}
         known = walk.known;
         names_tell = sym walk.found_told ∙ ap (map (told_export old.graph (specifier_in old start))) (exports_are_one old.graph (specifier_in old start) walk.found (are_exports (statements_of old.graph) (owned_of old.graph) (specifier_in old start) walk.met ([], []) walk.found (owns_once old.graph) reached (walk.found_are ([], []))));
         names_stored = walk.inside.names_in;
+        shared_tell = ap (λ groups. map (told_sharing root) (shared_only comes_along groups)) walk.offered_are ∙ shared_tell old.graph root (specifier_in old start) old.rules walk.met reached walk.offered walk.offered_told;
+        shared_stored = subst (λ groups. AllShareNumbered root (shared_only comes_along groups)) (sym walk.offered_are) (shared_numbered root walk.offered walk.offered_in);
         unresolved_tell = sym walk.missed_told ∙ ap (map (told_statement old.graph)) (unresolved_are_one old.graph (specifier_in old start) walk.missed (all_unresolved walk.at ended no_turns walk.missed walk.missed_are));
         unresolved_stored = walk.inside.unresolved_in;
         reached = walk.met;
@@ -77,7 +83,7 @@ module _ {old : RootView} {start : ModuleId} {root : RootView} {here : ModuleId}
         asked_once = omega (arith, rw no_turns at walk.counted, ended);
       }
 
-module _ {wanted : Wanted} {old : RootView} {start : ModuleId} {root : RootView} (turn : Turn) {above : List Turn} {ids : List ModuleId} {names : List NameView} {unresolved : List (ModuleId × List ℕ)} {asked : ℕ} (walk : IsWalking wanted old start root turn.referrer turn.position above ids names unresolved asked) (text_is : slice_get (star_texts old.graph (specifier_in root turn.referrer)) turn.position ≡ Some turn.text.now) (few_here : length (statements_of old.graph (specifier_in root turn.referrer)) < 2 ^ 63) where
+module _ {wanted : Wanted} {old : RootView} {start : ModuleId} {root : RootView} (turn : Turn) {above : List Turn} {ids : List ModuleId} {taken : TakenView} {asked : ℕ} (walk : IsWalking wanted old start root turn.referrer turn.position above ids taken asked) (text_is : slice_get (star_texts old.graph (specifier_in root turn.referrer)) turn.position ≡ Some turn.text.now) (few_here : length (statements_of old.graph (specifier_in root turn.referrer)) < 2 ^ 63) where
   one_more : asked + 1 ≤ count_met (statements_of old.graph) walk.met
   one_more = omega (arith, walk.counted, is_one walk turn.text.now text_is)
 
@@ -125,6 +131,20 @@ module _ {wanted : Wanted} {old : RootView} {start : ModuleId} {root : RootView}
             refused = tt;
           }
 
+-- an answer for which memory was refused behind its end: all modules that are reached are stored, and each of their statements was asked for
+pub answer_broken : {old new : RootView} {start : ModuleId} {names : List NameView} {shared : List (Shared NameView)} {unresolved : List (ModuleId × List ℕ)} {asked : ℕ} → IsAnswer old new start names shared unresolved asked → IsBrokenOff old new start OutOfMemory asked
+answer_broken is = record {
+  known = is.known;
+  reached = is.reached;
+  are_least = λ chain end has. (is.are_reached.all chain end).0 has;
+  ordered = is.are_reached.ordered;
+  stored = is.stored;
+  asked_once = omega (arith, is.asked_once);
+  needed = None;
+  is_reached = λ specifier some. absurd (none-some specifier some);
+  refused = tt;
+}
+
 -- the lists are those of the definitions
 pub are_listed : (graph : GraphView) (start : List ℕ) → AreListed graph start
 are_listed graph start = record {
@@ -132,6 +152,8 @@ are_listed graph start = record {
   only_exports = exports_are_one graph start;
   are_unresolved = unresolved_are_listed graph start;
   only_unresolved = unresolved_are_one graph start;
+  are_shared = shared_are_listed graph start;
+  only_shared = shared_are_one graph start;
 }
 
 -- the root grows by what the walk stores
@@ -144,6 +166,6 @@ grown_fault AllNames old new start fault asked (inr broken) = grown_by old (met_
 grown_fault (OneName name) old new start fault asked (inl unknown) = subst (HasGrown old) (sym unknown.unchanged) (grown_not old)
 grown_fault (OneName name) old new start fault asked (inr broken) = grown_by old (met_modules broken.reached) new broken.stored
 
-pub all_grown : {A : Type 0} (r : Result A SymbolsFault) (old new : RootView) (start : ModuleId) (before now : ℕ) (names : A → List NameView) (unresolved : A → List (ModuleId × List ℕ)) → IfOk r (λ answer. (asked : ℕ) × (now ≡ before + asked) × IsAnswer old new start (names answer) (unresolved answer) asked) → IfErr r (λ fault. (asked : ℕ) × (now ≡ before + asked) × IsFault old new start fault asked) → HasGrown old new
-all_grown (Ok answer) old new start before now names unresolved is none = grown_by old (met_modules is.2.reached) new is.2.stored
-all_grown (Err fault) old new start before now names unresolved none is = grown_fault AllNames old new start fault is.0 is.2
+pub all_grown : {A : Type 0} (r : Result A SymbolsFault) (old new : RootView) (start : ModuleId) (before now : ℕ) (names : A → List NameView) (shared : A → List (Shared NameView)) (unresolved : A → List (ModuleId × List ℕ)) → IfOk r (λ answer. (asked : ℕ) × (now ≡ before + asked) × IsAnswer old new start (names answer) (shared answer) (unresolved answer) asked) → IfErr r (λ fault. (asked : ℕ) × (now ≡ before + asked) × IsFault old new start fault asked) → HasGrown old new
+all_grown (Ok answer) old new start before now names shared unresolved is none = grown_by old (met_modules is.2.reached) new is.2.stored
+all_grown (Err fault) old new start before now names shared unresolved none is = grown_fault AllNames old new start fault is.0 is.2

@@ -10,7 +10,7 @@ use Rattle.symbols_root.specs.Roots.{RootView, with_stored, specifier_under, spe
 use Rattle.symbols_exports.specs.declared.exports.turn.Turn.{Turn}
 use Rattle.symbols_exports.specs.declared.exports.wanted.Wanted.{Wanted}
 use Rattle.symbols_exports.specs.StarStatements.{star_texts, text_target, statements_of}
-use Rattle.symbols_exports.specs.Taking.{NameView}
+use Rattle.symbols_exports.specs.Taking.{TakenView}
 use Rattle.symbols_exports.proofs.MetModules.{met_modules}
 use Rattle.symbols_exports.proofs.Unmet.{unmet, unmet_entered}
 use Rattle.symbols_exports.proofs.Walking.{IsWalking, fork_in, forks_in, left, left_at}
@@ -32,7 +32,7 @@ pub back_less : (graph : GraphView) (root : RootView) (here : ModuleId) (next : 
 back_less graph root here next above turn ids =
     rw (map-append (fork_in root) above (turn ∷ [])) (omega (arith, length_push above turn, sum_by_push (left_at (statements_of graph)) (forks_in root above) (fork_in root turn)))
 
-module _ {wanted : Wanted} {old : RootView} {start : ModuleId} {root : RootView} (turn : Turn) {above : List Turn} {ids : List ModuleId} {names : List NameView} {unresolved : List (ModuleId × List ℕ)} {asked : ℕ} (walk : IsWalking wanted old start root turn.referrer turn.position above ids names unresolved asked) (text_is : slice_get (star_texts old.graph (specifier_in root turn.referrer)) turn.position ≡ Some turn.text.now) (few_here : length (statements_of old.graph (specifier_in root turn.referrer)) < 2 ^ 63) (v : List ℕ) (leads : text_target old.graph (specifier_in root turn.referrer) turn.text.now ≡ Some v) (is_fresh : is_among (met_modules walk.met) v ≡ false) (number : ModuleId) (number_is : specifier_under (with_stored root (Some v)) number ≡ Some v) (m : ModuleView) (there : module_under old.graph v ≡ Some m) where
+module _ {wanted : Wanted} {old : RootView} {start : ModuleId} {root : RootView} (turn : Turn) {above : List Turn} {ids : List ModuleId} {taken : TakenView} {asked : ℕ} (walk : IsWalking wanted old start root turn.referrer turn.position above ids taken asked) (text_is : slice_get (star_texts old.graph (specifier_in root turn.referrer)) turn.position ≡ Some turn.text.now) (few_here : length (statements_of old.graph (specifier_in root turn.referrer)) < 2 ^ 63) (v : List ℕ) (leads : text_target old.graph (specifier_in root turn.referrer) turn.text.now ≡ Some v) (is_fresh : is_among (met_modules walk.met) v ≡ false) (number : ModuleId) (number_is : specifier_under (with_stored root (Some v)) number ≡ Some v) (m : ModuleView) (there : module_under old.graph v ≡ Some m) where
   fresh : (c : List ℕ) → Contains walk.met (c, v) → ⊥
   fresh = not_met turn walk text_is few_here v is_fresh
 

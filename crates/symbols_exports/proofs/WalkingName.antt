@@ -17,7 +17,7 @@ use Rattle.symbols_exports.specs.Chains.{IsUpTo, IsLeastChain}
 use Rattle.symbols_exports.specs.Exports.{Entry, Statement, default_name, AreExports, StatementsInOrder}
 use Rattle.symbols_exports.specs.OneName.{export_named, last_chain, IsWithin, AreReachedUpTo, IsAskedFor, AreAskedFor, IsNameAnswer, IsNameBrokenOff}
 use Rattle.symbols_exports.specs.StarStatements.{star_texts, text_target, statements_of, owned_of}
-use Rattle.symbols_exports.specs.Taking.{NameView}
+use Rattle.symbols_exports.specs.Taking.{TakenView, NameView}
 use Rattle.symbols_exports.specs.Told.{told_export, told_name}
 use Rattle.symbols_exports.specs.Wanted.{is_done}
 use Rattle.symbols_exports.specs.Ways.{exports_of}
@@ -52,7 +52,7 @@ behind_nothing k c none up_to = by (subst (IsUpTo (k ∷ [])) none up_to)
     by (inl same) = cc
     by (inr before) = before
 
-module _ {name : Bor (List ℕ)} {old : RootView} {start : ModuleId} {root : RootView} {here : ModuleId} {next : ℕ} {above : List Turn} {ids : List ModuleId} {names : List NameView} {unresolved : List (ModuleId × List ℕ)} {asked : ℕ} (walk : IsWalking (OneName name) old start root here next above ids names unresolved asked) where
+module _ {name : Bor (List ℕ)} {old : RootView} {start : ModuleId} {root : RootView} {here : ModuleId} {next : ℕ} {above : List Turn} {ids : List ModuleId} {taken : TakenView} {asked : ℕ} (walk : IsWalking (OneName name) old start root here next above ids taken asked) where
   abbrev pub s0 : List ℕ
   s0 = specifier_in old start
 
@@ -63,7 +63,7 @@ module _ {name : Bor (List ℕ)} {old : RootView} {start : ModuleId} {root : Roo
   they = exports_are_listed old.graph s0
 
   -- an answer by what the entry is
-  answer_by : (entry : Option Entry) (last : Option (List ℕ)) → export_named old.graph s0 name.now ≡ entry → last_chain name.now entry ≡ last → map (told_name root) names ≡ option_to_list (option_map (told_export old.graph s0) entry) → AreReachedUpTo (statements_of old.graph) s0 last walk.met → AreAskedFor (statements_of old.graph) s0 last walk.behind → IsNameAnswer old root start name.now names asked
+  answer_by : (entry : Option Entry) (last : Option (List ℕ)) → export_named old.graph s0 name.now ≡ entry → last_chain name.now entry ≡ last → map (told_name root) taken.names ≡ option_to_list (option_map (told_export old.graph s0) entry) → AreReachedUpTo (statements_of old.graph) s0 last walk.met → AreAskedFor (statements_of old.graph) s0 last walk.behind → IsNameAnswer old root start name.now taken.names asked
   answer_by entry last is last_is told reached statements = record {
     known = walk.known;
     tells = told ∙ ap (λ (e : Option Entry). option_to_list (option_map (told_export old.graph s0) e)) (sym is);
@@ -77,7 +77,7 @@ module _ {name : Bor (List ℕ)} {old : RootView} {start : ModuleId} {root : Roo
   }
 
   -- it was found, or isn't looked for along `export *`
-  pub name_stopped : is_done (OneName name) names ≡ true → IsNameAnswer old root start name.now names asked
+  pub name_stopped : is_done (OneName name) taken.names ≡ true → IsNameAnswer old root start name.now taken.names asked
   name_stopped done = by walk.found refl
     where
       q : List ℕ
@@ -89,10 +89,10 @@ module _ {name : Bor (List ℕ)} {old : RootView} {start : ModuleId} {root : Roo
       kept : AreKept (IsThere (statements_of old.graph)) (q ++ 0 ∷ []) walk.met walk.behind
       kept = subst (λ k. AreKept (IsThere (statements_of old.graph)) (q ++ k ∷ []) walk.met walk.behind) (walk.stops done).first_statement walk.behind_are
 
-      answer : (entry : Option Entry) → export_named old.graph s0 name.now ≡ entry → last_chain name.now entry ≡ Some q → map (told_name root) names ≡ option_to_list (option_map (told_export old.graph s0) entry) → IsNameAnswer old root start name.now names asked
+      answer : (entry : Option Entry) → export_named old.graph s0 name.now ≡ entry → last_chain name.now entry ≡ Some q → map (told_name root) taken.names ≡ option_to_list (option_map (told_export old.graph s0) entry) → IsNameAnswer old root start name.now taken.names asked
       answer entry is last_is told = answer_by entry (Some q) is last_is told (reached_up_to (statements_of old.graph) s0 q walk.met stopped) (asked_up_to (statements_of old.graph) s0 q walk.met stopped walk.behind kept)
 
-      by : (found : List Entry) → walk.found ≡ found → IsNameAnswer old root start name.now names asked
+      by : (found : List Entry) → walk.found ≡ found → IsNameAnswer old root start name.now taken.names asked
       by (e ∷ rest) is =
           let at : Contains walk.found e = subst (λ xs. Contains xs e) (sym is) (0, omega arith, refl) in
           let alone : walk.found ≡ e ∷ [] = is ∙ ap (λ xs. e ∷ xs) (one_found (statements_of old.graph) (owned_of old.graph) s0 (owns_once old.graph) name.now (exports_of old.graph s0) they place walk.met walk.at.stands walk.found walk.found_are e rest is) in
@@ -100,7 +100,7 @@ module _ {name : Bor (List ℕ)} {old : RootView} {start : ModuleId} {root : Roo
           let called = is_named (statements_of old.graph) (owned_of old.graph) s0 (owns_once old.graph) name.now (exports_of old.graph s0) they place walk.met walk.at.stands walk.found walk.found_are e at in
           answer (Some e) (entry_is (statements_of old.graph) (owned_of old.graph) s0 (owns_once old.graph) name.now (exports_of old.graph s0) they e export called) (ap Some ((walk.stops done).found_here e at)) (sym walk.found_told ∙ ap (map (told_export old.graph s0)) alone)
       by [] is =
-          let none : names ≡ [] = nothing_told (told_name root) (told_export old.graph s0) names walk.found (sym walk.found_told) is in
+          let none : taken.names ≡ [] = nothing_told (told_name root) (told_export old.graph s0) taken.names walk.found (sym walk.found_told) is in
           let default : bytes_eq name.now default_name ≡ true = subst (λ xs. is_done (OneName name) xs ≡ true) none done in
           let begun : forks_in root above ≡ [] = (walk.stops done).at_start default in
           let at_first : place ≡ 0 ∷ [] = (λ i. place_of (begun i) ((walk.stops done).first_statement i)) in
@@ -108,21 +108,21 @@ module _ {name : Bor (List ℕ)} {old : RootView} {start : ModuleId} {root : Roo
           answer None no ((λ i. if default i then Some [] else None) ∙ ap (λ forks. Some (chain_of forks)) (sym begun)) (ap (map (told_name root)) none)
 
   -- all statements were asked for
-  pub name_ended : is_done (OneName name) names ≡ false → above ≡ [] → length (statements_of old.graph (specifier_in root here)) ≤ next → IsNameAnswer old root start name.now names asked
+  pub name_ended : is_done (OneName name) taken.names ≡ false → above ≡ [] → length (statements_of old.graph (specifier_in root here)) ≤ next → IsNameAnswer old root start name.now taken.names asked
   name_ended goes none_above ended =
-      let none = goes_on name names goes in
-      let nothing : walk.found ≡ [] = nothing_told (told_export old.graph s0) (told_name root) walk.found names walk.found_told none.0 in
+      let none = goes_on name taken.names goes in
+      let nothing : walk.found ≡ [] = nothing_told (told_export old.graph s0) (told_name root) walk.found taken.names walk.found_told none.0 in
       let no_turns : forks_in root above ≡ [] = ap (forks_in root) none_above in
       let no = no_entry (statements_of old.graph) (owned_of old.graph) s0 (owns_once old.graph) name.now (exports_of old.graph s0) they (λ e export called. never_before_itself place (up_to_then_before place e.chain place (not_before (statements_of old.graph) (owned_of old.graph) s0 (owns_once old.graph) name.now (exports_of old.graph s0) they place walk.met walk.at.stands walk.found walk.found_are nothing e export called) (ends_behind walk.at ended no_turns e.chain e.owner export.offered.leads.leads))) in
       answer_by None None no (λ i. if none.1 i then Some [] else None) (ap (map (told_name root)) none.0) (reached_all (statements_of old.graph) s0 walk.met (all_reached walk.at ended no_turns)) (all_asked walk.at ended no_turns walk.behind walk.behind_are)
 
   -- ---- broken off at a statement
 
-  module _ (goes : is_done (OneName name) names ≡ false) (text : List ℕ) (text_is : slice_get (star_texts old.graph (specifier_in root here)) next ≡ Some text) where
+  module _ (goes : is_done (OneName name) taken.names ≡ false) (text : List ℕ) (text_is : slice_get (star_texts old.graph (specifier_in root here)) next ≡ Some text) where
     within : (c : List ℕ) → IsUpTo c place → IsWithin (last_chain name.now (export_named old.graph s0 name.now)) c
     within c up_to =
-        let none = goes_on name names goes in
-        let nothing : walk.found ≡ [] = nothing_told (told_export old.graph s0) (told_name root) walk.found names walk.found_told none.0 in
+        let none = goes_on name taken.names goes in
+        let nothing : walk.found ≡ [] = nothing_told (told_export old.graph s0) (told_name root) walk.found taken.names walk.found_told none.0 in
         within_last (statements_of old.graph) (owned_of old.graph) s0 (owns_once old.graph) name.now (exports_of old.graph s0) they place walk.met walk.at.stands walk.found walk.found_are nothing none.1 c up_to
 
     abbrev pub this : Statement

@@ -8,6 +8,8 @@ use Rattle.symbols_table.specs.declared.info.fault.SymbolsFault.TheVariants.{Unk
 use Rattle.symbols_root.specs.Roots.{RootView, IsRefusal, specifier_in, all_stored}
 use Rattle.symbols_exports.specs.Chains.{IsBefore, IsLeastChain, IsReached, AreReached}
 use Rattle.symbols_exports.specs.Exports.{Entry, Statement, AreExports, AreUnresolved}
+use Rattle.symbols_exports.specs.Shared.{Shared, AreShared}
+use Rattle.symbols_exports.specs.Sharing.{shared_of, shared_by, told_sharing, AllShareNumbered}
 use Rattle.symbols_exports.specs.StarStatements.{statements_of, owned_of}
 use Rattle.symbols_exports.specs.Taking.{NameView}
 use Rattle.symbols_exports.specs.Told.{told_number, told_name, AreNumbered, AllNumbered}
@@ -23,12 +25,16 @@ pub record AreListed (graph : GraphView) (start : List ℕ) : Type 0 where
   pub only_exports : (entries : List Entry) → AreExports (statements_of graph) (owned_of graph) start entries → entries ≡ exports_of graph start
   pub are_unresolved : AreUnresolved (statements_of graph) start (unresolved_of graph start)
   pub only_unresolved : (missed : List Statement) → AreUnresolved (statements_of graph) start missed → missed ≡ unresolved_of graph start
+  pub are_shared : AreShared (statements_of graph) (owned_of graph) start (shared_of graph start)
+  pub only_shared : (names : List (Shared Entry)) → AreShared (statements_of graph) (owned_of graph) start names → names ≡ shared_of graph start
 
--- an answer: the exports and the unresolved statements of the stored module of this number, told by the numbers of the root as it is then. The modules that are reached are stored then, and the table of resolutions was asked so often: once for each statement of theirs
-pub record IsAnswer (old new : RootView) (start : ModuleId) (names : List NameView) (unresolved : List (ModuleId × List ℕ)) (asked : ℕ) : Type 0 where
+-- an answer: the exports, the shared names by the root's rules, and the unresolved statements of the stored module of this number, told by the numbers of the root as it is then. The modules that are reached are stored then, and the table of resolutions was asked so often: once for each statement of theirs
+pub record IsAnswer (old new : RootView) (start : ModuleId) (names : List NameView) (shared : List (Shared NameView)) (unresolved : List (ModuleId × List ℕ)) (asked : ℕ) : Type 0 where
   pub known : start.0 < length old.stored
   pub names_tell : map (told_name new) names ≡ exports_told old.graph (specifier_in old start)
   pub names_stored : AllNumbered new names
+  pub shared_tell : map (told_sharing new) shared ≡ shared_by old.rules old.graph (specifier_in old start)
+  pub shared_stored : AllShareNumbered new shared
   pub unresolved_tell : map (told_number new) unresolved ≡ unresolved_told_in old.graph (specifier_in old start)
   pub unresolved_stored : AreNumbered new unresolved
   pub reached : List (List ℕ × List ℕ)

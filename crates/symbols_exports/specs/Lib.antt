@@ -4,9 +4,11 @@ pub mod Exporting
 pub mod Taking
 pub mod Chains
 pub mod Exports
+pub mod Shared
 pub mod StarStatements
 pub mod Answers
 pub mod Ways
+pub mod Sharing
 pub mod Wanted
 pub mod OneName
 pub mod PublicNames

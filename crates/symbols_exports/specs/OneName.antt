@@ -5,13 +5,12 @@ use Rattle.symbols_syntax.specs.declared.ids.ModuleId.{ModuleId}
 use Rattle.symbols_syntax.specs.Graph.{GraphView}
 use Rattle.symbols_table.specs.declared.info.fault.SymbolsFault.{SymbolsFault}
 use Rattle.symbols_root.specs.Roots.{RootView, IsRefusal, specifier_in, all_stored}
-use Rattle.symbols_exports.specs.declared.exports.path.ResolvedExportOrReExportAllPath.{ResolvedExportOrReExportAllPath}
 use Rattle.symbols_exports.specs.declared.exports.wanted.Wanted.{Wanted}
 use Rattle.symbols_exports.specs.declared.exports.wanted.Wanted.TheVariants.{AllNames, OneName}
 use Rattle.symbols_exports.specs.Answers.{IsAnswer, IsFault, IsUnknown}
 use Rattle.symbols_exports.specs.Chains.{Statements, target, IsBefore, IsUpTo, IsLeastChain}
 use Rattle.symbols_exports.specs.Exports.{Entry, Statement, StatementsInOrder, default_name}
-use Rattle.symbols_exports.specs.Paths.{resolved_export, statements_on}
+use Rattle.symbols_exports.specs.Shared.{Shared}
 use Rattle.symbols_exports.specs.StarStatements.{statements_of}
 use Rattle.symbols_exports.specs.Taking.{NameView}
 use Rattle.symbols_exports.specs.Told.{told_export, told_name, AllNumbered}
@@ -73,14 +72,10 @@ pub record IsNameBrokenOff (old new : RootView) (start : ModuleId) (name : List 
 abbrev pub IsNameFault : RootView → RootView → ModuleId → List ℕ → SymbolsFault → ℕ → Type 0
 IsNameFault old new start name fault asked = IsUnknown old new start fault asked ⊎ IsNameBrokenOff old new start name fault asked
 
--- what a name came by
-abbrev pub named_way : List ℕ → ResolvedExportOrReExportAllPath → NameView
-named_way name path = record { name = name; statements = statements_on path; export = resolved_export path }
-
 -- what a walk gives by what is wanted of it
-abbrev pub IsWalked : Wanted → RootView → RootView → ModuleId → List NameView → List (ModuleId × List ℕ) → ℕ → Type 0
-IsWalked AllNames old new start names unresolved asked = IsAnswer old new start names unresolved asked
-IsWalked (OneName name) old new start names unresolved asked = IsNameAnswer old new start name.now names asked
+abbrev pub IsWalked : Wanted → RootView → RootView → ModuleId → List NameView → List (Shared NameView) → List (ModuleId × List ℕ) → ℕ → Type 0
+IsWalked AllNames old new start names shared unresolved asked = IsAnswer old new start names shared unresolved asked
+IsWalked (OneName name) old new start names shared unresolved asked = IsNameAnswer old new start name.now names asked
 
 abbrev pub IsWalkFault : Wanted → RootView → RootView → ModuleId → SymbolsFault → ℕ → Type 0
 IsWalkFault AllNames old new start fault asked = IsFault old new start fault asked

@@ -1,13 +1,17 @@
 -- Which names a walk takes: all that it comes by, or one.
-use Rattle.std.specs.Prelude.{ℕ, Bool, true, false, List, [], ◌∷◌, find, option_to_list}
+use Rattle.std.specs.Prelude.{ℕ, Bool, true, false, List, [], ◌∷◌, find, option_to_list, if◌then◌else◌}
 use Rattle.std.specs.Str.{bytes_eq}
+use Rattle.symbols_syntax.specs.declared.ids.ModuleId.{ModuleId}
 use Rattle.symbols_syntax.specs.declared.ids.SymbolId.{SymbolId}
 use Rattle.symbols_syntax.specs.Graph.{GraphView}
+use Rattle.symbols_root.specs.Roots.{RootView, specifier_in}
+use Rattle.symbols_root.specs.declared.root.rules.Rules.{Rules}
+use Rattle.symbols_root.specs.declared.root.rules.Rules.TheVariants.{Deno, Strict}
 use Rattle.symbols_exports.specs.declared.exports.wanted.Wanted.{Wanted}
 use Rattle.symbols_exports.specs.declared.exports.wanted.Wanted.TheVariants.{AllNames, OneName}
 use Rattle.symbols_exports.specs.Exports.{Owned, default_name}
 use Rattle.symbols_exports.specs.StarStatements.{owned_of}
-use Rattle.symbols_exports.specs.Taking.{NameView}
+use Rattle.symbols_exports.specs.Taking.{NameView, TakenView, with_names, offers_along, with_owners}
 
 -- of the names that a module owns those that are wanted
 abbrev pub wanted_of : Wanted → List (List ℕ × SymbolId) → List (List ℕ × SymbolId)
@@ -26,3 +30,20 @@ is_done (OneName name) (found ∷ rest) = true
 abbrev pub is_default : Wanted → Bool
 is_default AllNames = false
 is_default (OneName name) = bytes_eq name.now default_name
+
+-- whether what modules offer is kept, for the shared names
+abbrev pub keeps_offers : Wanted → Rules → Bool
+keeps_offers AllNames Strict = true
+keeps_offers AllNames Deno = false
+keeps_offers (OneName name) rules = false
+
+abbrev pub offers_for : Wanted → RootView → List (ModuleId × List ℕ) → ModuleId → List NameView
+offers_for wanted root way owner = if keeps_offers wanted root.rules then offers_along way owner (owned_of root.graph (specifier_in root owner)) else []
+
+-- what is taken of one more module
+abbrev pub with_module : Wanted → RootView → List (ModuleId × List ℕ) → ModuleId → TakenView → TakenView
+with_module wanted root way owner taken = record {
+  names = with_names way owner (owned_for wanted root.graph (specifier_in root owner)) taken.names;
+  offers = with_owners taken.offers (offers_for wanted root way owner);
+  unresolved = taken.unresolved;
+}

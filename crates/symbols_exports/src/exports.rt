@@ -2,10 +2,13 @@
 
 mod module_exports;
 mod names;
+mod offers;
 mod path;
 mod public;
+mod shared_name;
 mod statements;
 mod steps;
+mod taken;
 mod turn;
 mod walk;
 mod wanted;
@@ -15,5 +18,6 @@ pub use path::{
     PathIter, ResolvedExport, ResolvedExportOrReExportAllPath, ResolvedReExportAllPath,
 };
 pub use public::{PublicName, public_names};
+pub use shared_name::SharedName;
 pub use steps::Steps;
 pub use walk::{export_of, export_of_counted, exports, exports_counted};

@@ -11,6 +11,7 @@ use Rattle.symbols_table.specs.declared.decl.symbol.Symbol.{Symbol}
 use Rattle.symbols_table.specs.declared.info.fault.SymbolsFault.TheVariants.{OutOfMemory}
 use Rattle.symbols_table.specs.Modules.{Table}
 use Rattle.symbols_table.specs.SymbolViews.{symbol_view}
+use Rattle.symbols_root.specs.declared.root.rules.Rules.{Rules}
 use Rattle.symbols_root.specs.Roots.{RootView, IsStoredTable, specifier_in}
 use Rattle.symbols_root.specs.Growing.{HasGrown}
 use Rattle.symbols_root.specs.laws.Growing.{grown_not, same_specifier}
@@ -45,48 +46,48 @@ changed_in : {links : Links} {limit : ℕ} {running : List NamedDecl} {met after
 changed_in (under {mid = mid} {f = f} x y) = (mid, (f, (x, y)))
 
 -- what each leaf of first reach comes to
-first_given : (graph : GraphView) (limit : ℕ) (s : NamedSymbol) (ps : Parts) (f : Forest) (after : List NamedSymbol) → Walks (links_of graph) limit [] [] s ps f after → (x y : Leaf) → IsNearLeaf (links_of graph) s x → GivesUnder (links_of graph) ps x y → Contains (leaves_in f) y
-first_given graph limit s [] f after x y z near is = by x
+first_given : (rules : Rules) (graph : GraphView) (limit : ℕ) (s : NamedSymbol) (ps : Parts) (f : Forest) (after : List NamedSymbol) → Walks (links_of rules graph) limit [] [] s ps f after → (x y : Leaf) → IsNearLeaf (links_of rules graph) s x → GivesUnder (links_of rules graph) ps x y → Contains (leaves_in f) y
+first_given rules graph limit s [] f after x y z near is = by x
   where
-    by : Walks (links_of graph) limit [] [] s [] f after → Contains (leaves_in f) z
+    by : Walks (links_of rules graph) limit [] [] s [] f after → Contains (leaves_in f) z
     by w = subst (Contains (leaves_in f)) (sym is) (near_given (found_in w) y near)
-first_given graph limit s (p ∷ ps) f after x y z near is = by x
+first_given rules graph limit s (p ∷ ps) f after x y z near is = by x
   where
-    by : Walks (links_of graph) limit [] [] s (p ∷ ps) f after → Contains (leaves_in f) z
-    by w = let u = changed_in w in changes_gives (links_of graph) limit u.1.1.1 y z (near_given u.1.1.0 y near) is
+    by : Walks (links_of rules graph) limit [] [] s (p ∷ ps) f after → Contains (leaves_in f) z
+    by w = let u = changed_in w in changes_gives (links_of rules graph) limit u.1.1.1 y z (near_given u.1.1.0 y near) is
 
-are_paths_under : (graph : GraphView) (limit : ℕ) (s : NamedSymbol) (ps : Parts) (f : Forest) (after : List NamedSymbol) → Walks (links_of graph) limit [] [] s ps f after → ArePathsUnder graph s ps f
-are_paths_under graph limit s ps f after x = record {
-  derived = walks_derived (links_of graph) limit x;
-  leaves = (walks_leaf (links_of graph) limit x).each;
-  first = first_given graph limit s ps f after x;
-  lossless = λ apart rests. no_leaf_lost (links_of graph) limit s ps apart rests f after x;
-  all_without_alias = λ plain rest. no_leaf_lost (links_of graph) limit s ps (plain_apart plain) (plain_rest plain rest) f after x;
+are_paths_under : (rules : Rules) (graph : GraphView) (limit : ℕ) (s : NamedSymbol) (ps : Parts) (f : Forest) (after : List NamedSymbol) → Walks (links_of rules graph) limit [] [] s ps f after → ArePathsUnder rules graph s ps f
+are_paths_under rules graph limit s ps f after x = record {
+  derived = walks_derived (links_of rules graph) limit x;
+  leaves = (walks_leaf (links_of rules graph) limit x).each;
+  first = first_given rules graph limit s ps f after x;
+  lossless = λ apart rests. no_leaf_lost (links_of rules graph) limit s ps apart rests f after x;
+  all_without_alias = λ plain rest. no_leaf_lost (links_of rules graph) limit s ps (plain_apart plain) (plain_rest plain rest) f after x;
   chosen = (limit, after, x);
 }
 
-are_paths : (graph : GraphView) (limit : ℕ) (s : NamedSymbol) (f : Forest) (after : List NamedSymbol) → Finds (links_of graph) limit [] [] s f after → ArePaths graph s f
-are_paths graph limit s f after x = record {
-  derived = finds_derived (links_of graph) limit x;
-  leaves = (finds_leaf (links_of graph) limit x).each;
+are_paths : (rules : Rules) (graph : GraphView) (limit : ℕ) (s : NamedSymbol) (f : Forest) (after : List NamedSymbol) → Finds (links_of rules graph) limit [] [] s f after → ArePaths rules graph s f
+are_paths rules graph limit s f after x = record {
+  derived = finds_derived (links_of rules graph) limit x;
+  leaves = (finds_leaf (links_of rules graph) limit x).each;
   first = near_given x;
-  once = λ plain. given_once (links_of graph) limit plain x;
-  parts = part_last graph limit x;
-  lossless = λ apart rests y h. no_leaf_lost (links_of graph) limit s [] apart rests f after (no_parts x) y (first_walk h);
-  all_without_alias = λ plain y h. no_leaf_lost (links_of graph) limit s [] (plain_apart plain) (plain_rest plain (one_rest_without_parts (links_of graph) s)) f after (no_parts x) y (first_walk h);
+  once = λ plain. given_once (links_of rules graph) limit plain x;
+  parts = part_last rules graph limit x;
+  lossless = λ apart rests y h. no_leaf_lost (links_of rules graph) limit s [] apart rests f after (no_parts x) y (first_walk h);
+  all_without_alias = λ plain y h. no_leaf_lost (links_of rules graph) limit s [] (plain_apart plain) (plain_rest plain (one_rest_without_parts (links_of rules graph) s)) f after (no_parts x) y (first_walk h);
   chosen = (limit, after, no_parts x);
 }
   where
-    first_walk : {y : Leaf} → IsFirstLeaf (links_of graph) s y → IsFirstWalk (links_of graph) s [] y
+    first_walk : {y : Leaf} → IsFirstLeaf (links_of rules graph) s y → IsFirstWalk (links_of rules graph) s [] y
     first_walk h = searches.no_parts h
 
-are_paths_for : (graph : GraphView) (limit : ℕ) (s : NamedSymbol) (ps : Parts) (f : Forest) (after : List NamedSymbol) → Walks (links_of graph) limit [] [] s ps f after → ArePathsFor graph s ps f
-are_paths_for graph limit s [] f after x = are_paths graph limit s f after (found_in x)
-are_paths_for graph limit s (p ∷ ps) f after x = are_paths_under graph limit s (p ∷ ps) f after x
+are_paths_for : (rules : Rules) (graph : GraphView) (limit : ℕ) (s : NamedSymbol) (ps : Parts) (f : Forest) (after : List NamedSymbol) → Walks (links_of rules graph) limit [] [] s ps f after → ArePathsFor rules graph s ps f
+are_paths_for rules graph limit s [] f after x = are_paths rules graph limit s f after (found_in x)
+are_paths_for rules graph limit s (p ∷ ps) f after x = are_paths_under rules graph limit s (p ∷ ps) f after x
 
-is_computed : (graph : GraphView) (s : NamedSymbol) (ps : Parts) (f : Forest) (after : List NamedSymbol) → Walks (links_of graph) enough [] [] s ps f after → length after ≤ 2 ^ 64 → f ≡ paths_under graph s ps
+is_computed : (rules : Rules) (graph : GraphView) (s : NamedSymbol) (ps : Parts) (f : Forest) (after : List NamedSymbol) → Walks (links_of rules graph) enough [] [] s ps f after → length after ≤ 2 ^ 64 → f ≡ paths_under rules graph s ps
 unfolding paths_under
-is_computed graph s ps f after x few = sym (walks_computed (links_of graph) enough (omega arith) enough enough x (omega arith) (omega (arith, few))).0
+is_computed rules graph s ps f after x few = sym (walks_computed (links_of rules graph) enough (omega arith) enough enough x (omega arith) (omega (arith, few))).0
 
 -- what was found from no met symbols, as it is told before more was stored
 module _ {old new : RootView} {module_id : ModuleId} {s : SymbolId} {u : UniqueSymbolId} (trails : List Trail) {after : List UniqueSymbolId} (known : module_id.0 < length old.stored) (in_module : u.module_id ≡ module_id) (number : u.symbol_id ≡ s) (grown : HasGrown old new) (found : IsFound new [] [] u trails after) (searched_it : HasSearched new [] after (modules_of_trails trails)) where
@@ -96,11 +97,11 @@ module _ {old new : RootView} {module_id : ModuleId} {s : SymbolId} {u : UniqueS
       subst (λ links. Finds links enough [] [] (named_in old module_id s) (trails_told new trails) (met_told new after)) (same_links grown)
       (subst (λ n. Finds (links_in new) enough [] [] n (trails_told new trails) (met_told new after)) called (found new (grown_not new)))
 
-  pub paths_found : ArePaths old.graph (named_in old module_id s) (trails_told new trails)
-  paths_found = are_paths old.graph enough (named_in old module_id s) (trails_told new trails) (met_told new after) found_before
+  pub paths_found : ArePaths old.rules old.graph (named_in old module_id s) (trails_told new trails)
+  paths_found = are_paths old.rules old.graph enough (named_in old module_id s) (trails_told new trails) (met_told new after) found_before
 
-  pub paths_listed : trails_told new trails ≡ paths_of old.graph (named_in old module_id s)
-  paths_listed = is_computed old.graph (named_in old module_id s) [] (trails_told new trails) (met_told new after) (no_parts found_before) (omega (arith, length-map after (named new), searched_it.few (omega arith)))
+  pub paths_listed : trails_told new trails ≡ paths_of old.rules old.graph (named_in old module_id s)
+  paths_listed = is_computed old.rules old.graph (named_in old module_id s) [] (trails_told new trails) (met_told new after) (no_parts found_before) (omega (arith, length-map after (named new), searched_it.few (omega arith)))
 
 -- the same under parts
 module _ {old new : RootView} (u : UniqueSymbolId) (parts : Parts) (trails : List Trail) {after : List UniqueSymbolId} (known : u.module_id.0 < length old.stored) (grown : HasGrown old new) (walked_it : IsWalked new [] [] u parts trails after) (searched_it : HasSearched new [] after (modules_of_trails trails)) where
@@ -110,11 +111,11 @@ module _ {old new : RootView} (u : UniqueSymbolId) (parts : Parts) (trails : Lis
       subst (λ links. Walks links enough [] [] (named old u) parts (trails_told new trails) (met_told new after)) (same_links grown)
       (subst (λ n. Walks (links_in new) enough [] [] n parts (trails_told new trails) (met_told new after)) called (walked_it new (grown_not new)))
 
-  pub walked_found : ArePathsFor old.graph (named old u) parts (trails_told new trails)
-  walked_found = are_paths_for old.graph enough (named old u) parts (trails_told new trails) (met_told new after) walked_before
+  pub walked_found : ArePathsFor old.rules old.graph (named old u) parts (trails_told new trails)
+  walked_found = are_paths_for old.rules old.graph enough (named old u) parts (trails_told new trails) (met_told new after) walked_before
 
-  pub walked_listed : trails_told new trails ≡ paths_under old.graph (named old u) parts
-  walked_listed = is_computed old.graph (named old u) parts (trails_told new trails) (met_told new after) walked_before (omega (arith, length-map after (named new), searched_it.few (omega arith)))
+  pub walked_listed : trails_told new trails ≡ paths_under old.rules old.graph (named old u) parts
+  walked_listed = is_computed old.rules old.graph (named old u) parts (trails_told new trails) (met_told new after) walked_before (omega (arith, length-map after (named new), searched_it.few (omega arith)))
 
 -- ---- what is refused once the paths are found is memory
 

@@ -11,6 +11,7 @@ use Rattle.symbols_syntax.specs.Graph.{GraphView}
 use Rattle.symbols_syntax.specs.Ids.{IdView}
 use Rattle.symbols_nodes.specs.References.{import_type}
 use Rattle.symbols_table.specs.declared.info.fault.SymbolsFault.{SymbolsFault}
+use Rattle.symbols_root.specs.declared.root.rules.Rules.{Rules}
 use Rattle.symbols_root.specs.Roots.{RootView, IsRefusal, specifier_in}
 use Rattle.symbols_root.specs.Growing.{HasGrown}
 use Rattle.symbols_root.specs.laws.Growing.{same_specifier}
@@ -63,39 +64,39 @@ modules_last entries rest paths over so = sym (append-nil (modules_of_entries en
 
 -- ---- what a reference asks for, and what was found of it
 
-pub id_found : (graph : GraphView) (specifier : List ℕ) (name : IdView) (parts : Parts) (t : SymbolId) (paths : Forest) → symbol_of_id graph specifier name ≡ Some t → ArePathsFor graph (record { specifier = specifier; number = t }) parts paths → paths ≡ paths_under graph (record { specifier = specifier; number = t }) parts → ArePathsOf graph (asked_by_id graph specifier name parts) (missing_id specifier name parts) paths
-id_found graph specifier name parts t paths is found listed = subst (λ (o : Option SymbolId). ArePathsOf graph (option_map (λ (u : SymbolId). (record { specifier = specifier; number = u }, parts)) o) (missing_id specifier name parts) paths) (sym is) (found, listed)
+pub id_found : (rules : Rules) (graph : GraphView) (specifier : List ℕ) (name : IdView) (parts : Parts) (t : SymbolId) (paths : Forest) → symbol_of_id graph specifier name ≡ Some t → ArePathsFor rules graph (record { specifier = specifier; number = t }) parts paths → paths ≡ paths_under rules graph (record { specifier = specifier; number = t }) parts → ArePathsOf rules graph (asked_by_id graph specifier name parts) (missing_id specifier name parts) paths
+id_found rules graph specifier name parts t paths is found listed = subst (λ (o : Option SymbolId). ArePathsOf rules graph (option_map (λ (u : SymbolId). (record { specifier = specifier; number = u }, parts)) o) (missing_id specifier name parts) paths) (sym is) (found, listed)
 
-pub id_missing : (graph : GraphView) (specifier : List ℕ) (name : IdView) (parts : Parts) (paths : Forest) → symbol_of_id graph specifier name ≡ None → paths ≡ missing_id specifier name parts → ArePathsOf graph (asked_by_id graph specifier name parts) (missing_id specifier name parts) paths
-id_missing graph specifier name parts paths is same = subst (λ (o : Option SymbolId). ArePathsOf graph (option_map (λ (u : SymbolId). (record { specifier = specifier; number = u }, parts)) o) (missing_id specifier name parts) paths) (sym is) same
+pub id_missing : (rules : Rules) (graph : GraphView) (specifier : List ℕ) (name : IdView) (parts : Parts) (paths : Forest) → symbol_of_id graph specifier name ≡ None → paths ≡ missing_id specifier name parts → ArePathsOf rules graph (asked_by_id graph specifier name parts) (missing_id specifier name parts) paths
+id_missing rules graph specifier name parts paths is same = subst (λ (o : Option SymbolId). ArePathsOf rules graph (option_map (λ (u : SymbolId). (record { specifier = specifier; number = u }, parts)) o) (missing_id specifier name parts) paths) (sym is) same
 
-pub way_found : (graph : GraphView) (rest : Parts) (w : PartWay) (t : NamedSymbol) (paths : Forest) → to t ≡ w → ArePathsFor graph t rest paths → paths ≡ paths_under graph t rest → ArePathsOf graph (asked_by_way rest w) (missing_way w) paths
-way_found graph rest w t paths is found listed = subst (λ v. ArePathsOf graph (asked_by_way rest v) (missing_way v) paths) is (found, listed)
+pub way_found : (rules : Rules) (graph : GraphView) (rest : Parts) (w : PartWay) (t : NamedSymbol) (paths : Forest) → to t ≡ w → ArePathsFor rules graph t rest paths → paths ≡ paths_under rules graph t rest → ArePathsOf rules graph (asked_by_way rest w) (missing_way w) paths
+way_found rules graph rest w t paths is found listed = subst (λ v. ArePathsOf rules graph (asked_by_way rest v) (missing_way v) paths) is (found, listed)
 
-pub way_missing : (graph : GraphView) (rest : Parts) (w : PartWay) (m : Missing) (paths : Forest) → lacks m ≡ w → paths ≡ one (leaf (unresolved m)) → ArePathsOf graph (asked_by_way rest w) (missing_way w) paths
-way_missing graph rest w m paths is same = subst (λ v. ArePathsOf graph (asked_by_way rest v) (missing_way v) paths) is same
+pub way_missing : (rules : Rules) (graph : GraphView) (rest : Parts) (w : PartWay) (m : Missing) (paths : Forest) → lacks m ≡ w → paths ≡ one (leaf (unresolved m)) → ArePathsOf rules graph (asked_by_way rest w) (missing_way w) paths
+way_missing rules graph rest w m paths is same = subst (λ v. ArePathsOf rules graph (asked_by_way rest v) (missing_way v) paths) is same
 
 -- the entries are those of what was found
-pub entries_answer : (graph : GraphView) (asked : Option Asked) (otherwise paths : Forest) (entries others : List EntryView) → ArePathsOf graph asked otherwise paths → entries ≡ entries_in paths → entries_in otherwise ≡ others → MatchOption asked (entries ≡ others) (λ it. (f : Forest) × ArePathsFor graph it.0 it.1 f × (entries ≡ entries_in f))
-entries_answer graph None otherwise paths entries others same told other = told ∙ (ap entries_in same ∙ other)
-entries_answer graph (Some it) otherwise paths entries others found told other = (paths, found.0, told)
+pub entries_answer : (rules : Rules) (graph : GraphView) (asked : Option Asked) (otherwise paths : Forest) (entries others : List EntryView) → ArePathsOf rules graph asked otherwise paths → entries ≡ entries_in paths → entries_in otherwise ≡ others → MatchOption asked (entries ≡ others) (λ it. (f : Forest) × ArePathsFor rules graph it.0 it.1 f × (entries ≡ entries_in f))
+entries_answer rules graph None otherwise paths entries others same told other = told ∙ (ap entries_in same ∙ other)
+entries_answer rules graph (Some it) otherwise paths entries others found told other = (paths, found.0, told)
 
-pub entries_listed : (graph : GraphView) (asked : Option Asked) (otherwise paths : Forest) (entries others : List EntryView) → ArePathsOf graph asked otherwise paths → entries ≡ entries_in paths → entries_in otherwise ≡ others → entries ≡ option_map_or (λ (it : Asked). entries_in (paths_under graph it.0 it.1)) asked others
-entries_listed graph None otherwise paths entries others same told other = told ∙ (ap entries_in same ∙ other)
-entries_listed graph (Some it) otherwise paths entries others found told other = told ∙ ap entries_in found.1
+pub entries_listed : (rules : Rules) (graph : GraphView) (asked : Option Asked) (otherwise paths : Forest) (entries others : List EntryView) → ArePathsOf rules graph asked otherwise paths → entries ≡ entries_in paths → entries_in otherwise ≡ others → entries ≡ option_map_or (λ (it : Asked). entries_in (paths_under rules graph it.0 it.1)) asked others
+entries_listed rules graph None otherwise paths entries others same told other = told ∙ (ap entries_in same ∙ other)
+entries_listed rules graph (Some it) otherwise paths entries others found told other = told ∙ ap entries_in found.1
 
 -- ---- parts of a module
 
 -- what the first part leads to is a symbol, and its paths were found under the others, once its module was stored
-pub import_found : (old mid : RootView) (rest : Parts) (w : PartWay) (target : UniqueSymbolId) (texts : Parts) (paths : Forest) → HasGrown old mid → to (named mid target) ≡ w → texts ≡ rest → ArePathsFor mid.graph (named mid target) texts paths → paths ≡ paths_under mid.graph (named mid target) texts → ArePathsOf old.graph (asked_by_way rest w) (missing_way w) paths
+pub import_found : (old mid : RootView) (rest : Parts) (w : PartWay) (target : UniqueSymbolId) (texts : Parts) (paths : Forest) → HasGrown old mid → to (named mid target) ≡ w → texts ≡ rest → ArePathsFor mid.rules mid.graph (named mid target) texts paths → paths ≡ paths_under mid.rules mid.graph (named mid target) texts → ArePathsOf old.rules old.graph (asked_by_way rest w) (missing_way w) paths
 import_found old mid rest w target texts paths grown is same found listed =
     let t = named mid target in
-    let found_here : ArePathsFor old.graph t rest paths = subst (λ g. ArePathsFor g t rest paths) grown.graph (subst (λ ps. ArePathsFor mid.graph t ps paths) same found) in
-    let listed_here : paths ≡ paths_under old.graph t rest = subst (λ g. paths ≡ paths_under g t rest) grown.graph (subst (λ ps. paths ≡ paths_under mid.graph t ps) same listed) in
-    way_found old.graph rest w t paths is found_here listed_here
+    let found_here : ArePathsFor old.rules old.graph t rest paths = subst (λ r. ArePathsFor r old.graph t rest paths) grown.rules (subst (λ g. ArePathsFor mid.rules g t rest paths) grown.graph (subst (λ ps. ArePathsFor mid.rules mid.graph t ps paths) same found)) in
+    let listed_here : paths ≡ paths_under old.rules old.graph t rest = subst (λ r. paths ≡ paths_under r old.graph t rest) grown.rules (subst (λ g. paths ≡ paths_under mid.rules g t rest) grown.graph (subst (λ ps. paths ≡ paths_under mid.rules mid.graph t ps) same listed)) in
+    way_found old.rules old.graph rest w t paths is found_here listed_here
 
-pub way_itself : (graph : GraphView) (rest : Parts) (w : PartWay) (paths : Forest) → itself ≡ w → paths ≡ none → ArePathsOf graph (asked_by_way rest w) (missing_way w) paths
-way_itself graph rest w paths is same = subst (λ v. ArePathsOf graph (asked_by_way rest v) (missing_way v) paths) is same
+pub way_itself : (rules : Rules) (graph : GraphView) (rest : Parts) (w : PartWay) (paths : Forest) → itself ≡ w → paths ≡ none → ArePathsOf rules graph (asked_by_way rest w) (missing_way w) paths
+way_itself rules graph rest w paths is same = subst (λ v. ArePathsOf rules graph (asked_by_way rest v) (missing_way v) paths) is same
 
 -- what was refused on from there is needed on from the module that the text stands for
 pub import_refused : (old mid new : RootView) (m text p : List ℕ) (ps : Parts) (target : UniqueSymbolId) (fault : SymbolsFault) → HasGrown old mid → HasGrown mid new → to (named mid target) ≡ text_part old.graph m text p ps (text_target old.graph m text) → IsRefused new (specifier_in mid target.module_id) fault
@@ -121,17 +122,17 @@ some_left (suc n) e = omega arith
 
 -- ---- the entries of an import type
 
-pub import_answer : (graph : GraphView) (m text : List ℕ) (parts : Parts) (paths : Forest) (entries : List EntryView) → 0 < length parts → ArePathsOf graph (asked_by_way (later_parts parts) (text_part graph m text (first_part parts) (later_parts parts) (text_target graph m text))) (missing_way (text_part graph m text (first_part parts) (later_parts parts) (text_target graph m text))) paths → entries ≡ entries_in paths
-    → IsDepAnswer graph m (import_type text parts) entries × (entries ≡ entries_of graph m (import_type text parts))
-import_answer graph m text parts paths entries some found told =
+pub import_answer : (rules : Rules) (graph : GraphView) (m text : List ℕ) (parts : Parts) (paths : Forest) (entries : List EntryView) → 0 < length parts → ArePathsOf rules graph (asked_by_way (later_parts parts) (text_part graph m text (first_part parts) (later_parts parts) (text_target graph m text))) (missing_way (text_part graph m text (first_part parts) (later_parts parts) (text_target graph m text))) paths → entries ≡ entries_in paths
+    → IsDepAnswer rules graph m (import_type text parts) entries × (entries ≡ entries_of rules graph m (import_type text parts))
+import_answer rules graph m text parts paths entries some found told =
     let w = text_part graph m text (first_part parts) (later_parts parts) (text_target graph m text) in
     let asked = asked_by_way (later_parts parts) w in
-    subst (λ ps. IsDepAnswer graph m (import_type text ps) entries × (entries ≡ entries_of graph m (import_type text ps))) (sym (some_parts parts some))
-    (entries_answer graph asked (missing_way w) paths entries (entries_in (missing_way w)) found told refl, entries_listed graph asked (missing_way w) paths entries (entries_in (missing_way w)) found told refl)
+    subst (λ ps. IsDepAnswer rules graph m (import_type text ps) entries × (entries ≡ entries_of rules graph m (import_type text ps))) (sym (some_parts parts some))
+    (entries_answer rules graph asked (missing_way w) paths entries (entries_in (missing_way w)) found told refl, entries_listed rules graph asked (missing_way w) paths entries (entries_in (missing_way w)) found told refl)
 
-pub module_answer : (graph : GraphView) (m text : List ℕ) (parts : Parts) (entries : List EntryView) → length parts ≡ 0 → entries ≡ other_entries graph m (import_type text [])
-    → IsDepAnswer graph m (import_type text parts) entries × (entries ≡ entries_of graph m (import_type text parts))
-module_answer graph m text parts entries none_left told = subst (λ ps. IsDepAnswer graph m (import_type text ps) entries × (entries ≡ entries_of graph m (import_type text ps))) (sym (no_part_left parts none_left)) (told, told)
+pub module_answer : (rules : Rules) (graph : GraphView) (m text : List ℕ) (parts : Parts) (entries : List EntryView) → length parts ≡ 0 → entries ≡ other_entries graph m (import_type text [])
+    → IsDepAnswer rules graph m (import_type text parts) entries × (entries ≡ entries_of rules graph m (import_type text parts))
+module_answer rules graph m text parts entries none_left told = subst (λ ps. IsDepAnswer rules graph m (import_type text ps) entries × (entries ≡ entries_of rules graph m (import_type text ps))) (sym (no_part_left parts none_left)) (told, told)
 
 -- the module, or one unresolved entry
 pub module_there : (m text : List ℕ) (found : Option (List ℕ)) (v : List ℕ) (entries : List EntryView) → found ≡ Some v → entries ≡ a_module v ∷ [] → entries ≡ module_entry m text found ∷ []

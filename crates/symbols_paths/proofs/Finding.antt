@@ -8,6 +8,7 @@ use Rattle.std.proofs.lemmas.List.{length-append}
 use Rattle.indexmap.specs.IndexSet.{insert_key}
 use Rattle.symbols_syntax.specs.declared.ids.UniqueSymbolId.{UniqueSymbolId}
 use Rattle.symbols_table.specs.DeclViews.{Declaration}
+use Rattle.symbols_root.specs.declared.root.rules.Rules.{Rules}
 use Rattle.symbols_root.specs.Roots.{RootView}
 use Rattle.symbols_root.specs.Growing.{HasGrown}
 use Rattle.symbols_root.specs.laws.Growing.{grown_not, grown_on, same_specifier, still_stored}
@@ -94,33 +95,33 @@ finding_first root running begun symbol numbered within fresh few = record {
 }
 
 -- the declaration at the index leads as it was read
-stands_told : (graph : _) (s : NamedSymbol) (index : ℕ) (lead : ReadLead) → IsRead graph s index lead → slice_get (leads_of graph s) index ≡ Some (lead_told graph s lead)
-stands_told graph s index lead read = by (declarations_of graph s) index read.stands ∙ ap Some (sym read.leads_so)
+stands_told : (rules : Rules) (graph : _) (s : NamedSymbol) (index : ℕ) (lead : ReadLead) → IsRead rules graph s index lead → slice_get (leads_of rules graph s) index ≡ Some (lead_told rules graph s lead)
+stands_told rules graph s index lead read = by (declarations_of graph s) index read.stands ∙ ap Some (sym read.leads_so)
   where
-    by : (decls : List Declaration) (i : ℕ) → slice_get decls i ≡ Some read.decl → slice_get (map (λ (decl : Declaration). lead_of graph s decl.range decl.kind) decls) i ≡ Some (lead_of graph s read.decl.range read.decl.kind)
+    by : (decls : List Declaration) (i : ℕ) → slice_get decls i ≡ Some read.decl → slice_get (map (λ (decl : Declaration). lead_of rules graph s decl.range decl.kind) decls) i ≡ Some (lead_of rules graph s read.decl.range read.decl.kind)
     by [] i e = absurd cc
     by (decl ∷ decls) zero e = cc
     by (decl ∷ decls) (suc i) e = by decls i e
 
 -- what was read of a root reads so of each later one
-read_later : {root later : RootView} → HasGrown root later → (symbol : UniqueSymbolId) → symbol.module_id.0 < length root.stored → (index : ℕ) (lead : ReadLead) → IsRead root.graph (named root symbol) index lead → IsRead later.graph (named later symbol) index lead
+read_later : {root later : RootView} → HasGrown root later → (symbol : UniqueSymbolId) → symbol.module_id.0 < length root.stored → (index : ℕ) (lead : ReadLead) → IsRead root.rules root.graph (named root symbol) index lead → IsRead later.rules later.graph (named later symbol) index lead
 read_later {root = root} {later = later} grown symbol within index lead read =
     let name : named later symbol ≡ named root symbol = (λ i. record { specifier = same_specifier grown symbol.module_id within i; number = symbol.symbol_id }) in
-    subst (λ g. IsRead g (named later symbol) index lead) (sym grown.graph) (subst (λ n. IsRead root.graph n index lead) (sym name) read)
+    subst (λ r. IsRead r later.graph (named later symbol) index lead) (sym grown.rules) (subst (λ g. IsRead root.rules g (named later symbol) index lead) (sym grown.graph) (subst (λ n. IsRead root.rules root.graph n index lead) (sym name) read))
 
 same_declarations : {root later : RootView} → HasGrown root later → (symbol : UniqueSymbolId) → symbol.module_id.0 < length root.stored → declarations_of later.graph (named later symbol) ≡ declarations_of root.graph (named root symbol)
 same_declarations grown symbol within = λ i. declarations_of (grown.graph i) (record { specifier = same_specifier grown symbol.module_id within i; number = symbol.symbol_id })
 
-past_later : {root later : RootView} → HasGrown root later → (symbol : UniqueSymbolId) → symbol.module_id.0 < length root.stored → (index : ℕ) → slice_get (declarations_of root.graph (named root symbol)) index ≡ None → slice_get (leads_of later.graph (named later symbol)) index ≡ None
-past_later {root = root} {later = later} grown symbol within index past = by later.graph (named later symbol) (declarations_of later.graph (named later symbol)) index (ap (λ decls. slice_get decls index) (same_declarations grown symbol within) ∙ past)
+past_later : {root later : RootView} → HasGrown root later → (symbol : UniqueSymbolId) → symbol.module_id.0 < length root.stored → (index : ℕ) → slice_get (declarations_of root.graph (named root symbol)) index ≡ None → slice_get (leads_of later.rules later.graph (named later symbol)) index ≡ None
+past_later {root = root} {later = later} grown symbol within index past = by later.rules later.graph (named later symbol) (declarations_of later.graph (named later symbol)) index (ap (λ decls. slice_get decls index) (same_declarations grown symbol within) ∙ past)
   where
-    by : (graph : _) (s : NamedSymbol) (decls : List Declaration) (i : ℕ) → slice_get decls i ≡ None → slice_get (map (λ (decl : Declaration). lead_of graph s decl.range decl.kind) decls) i ≡ None
-    by graph s [] i e = refl
-    by graph s (decl ∷ decls) zero e = absurd cc
-    by graph s (decl ∷ decls) (suc i) e = by graph s decls i e
+    by : (rules : Rules) (graph : _) (s : NamedSymbol) (decls : List Declaration) (i : ℕ) → slice_get decls i ≡ None → slice_get (map (λ (decl : Declaration). lead_of rules graph s decl.range decl.kind) decls) i ≡ None
+    by rules graph s [] i e = refl
+    by rules graph s (decl ∷ decls) zero e = absurd cc
+    by rules graph s (decl ∷ decls) (suc i) e = by rules graph s decls i e
 
 -- the place of what was read
-pub index_within : {graph : _} {s : NamedSymbol} {index : ℕ} {lead : ReadLead} → IsRead graph s index lead → index < length (declarations_of graph s)
+pub index_within : {rules : _} {graph : _} {s : NamedSymbol} {index : ℕ} {lead : ReadLead} → IsRead rules graph s index lead → index < length (declarations_of graph s)
 index_within {graph = graph} {s = s} {index = index} read = by (declarations_of graph s) index read.stands
   where
     by : (decls : List Declaration) (i : ℕ) → slice_get decls i ≡ Some read.decl → i < length decls
@@ -129,19 +130,19 @@ index_within {graph = graph} {s = s} {index = index} read = by (declarations_of 
     by (decl ∷ decls) (suc i) e = omega (arith, by decls i e)
 
 -- the declaration that was read stands there
-pub stands_among : {graph : _} {s : NamedSymbol} {index : ℕ} {lead : ReadLead} (read : IsRead graph s index lead) → Contains (declarations_of graph s) read.decl
+pub stands_among : {rules : _} {graph : _} {s : NamedSymbol} {index : ℕ} {lead : ReadLead} (read : IsRead rules graph s index lead) → Contains (declarations_of graph s) read.decl
 stands_among {graph = graph} {s = s} {index = index} read = (index, index_within read, get_or_from_slice_get (declarations_of graph s) index read.decl read.decl read.stands)
 
 module _ {old : RootView} {running : List AliasDecl} {begun : List UniqueSymbolId} {symbol : UniqueSymbolId} {root : RootView} {now : List AliasDecl} {index : ℕ} {met : List UniqueSymbolId} {paths : List Trail} (is : IsFinding old running begun symbol root now index met paths) (known : symbol.module_id.0 < length old.stored) where
   pub now_within : symbol.module_id.0 < length root.stored
   now_within = still_stored is.grown symbol.module_id.0 known
 
-  told_next : {after : RootView} (mid : List UniqueSymbolId) (lead : ReadLead) → IsRead root.graph (named root symbol) index lead → HasGrown root after → (path : Option Trail) → IsFollowed after now met symbol index lead path mid → (later : RootView) → HasGrown after later → IsExpanding (links_in later) enough (running_told later running) (met_told later begun) (named later symbol) (index + 1) (met_told later mid) (join (trails_told later paths) (trails_of_option later path))
+  told_next : {after : RootView} (mid : List UniqueSymbolId) (lead : ReadLead) → IsRead root.rules root.graph (named root symbol) index lead → HasGrown root after → (path : Option Trail) → IsFollowed after now met symbol index lead path mid → (later : RootView) → HasGrown after later → IsExpanding (links_in later) enough (running_told later running) (met_told later begun) (named later symbol) (index + 1) (met_told later mid) (join (trails_told later paths) (trails_of_option later path))
   told_next {after = after} mid lead read kept path followed later grown =
       let whole = grown_on kept grown in
-      expanding_next (links_in later) enough (running_told later running) (lead_told later.graph (named later symbol) lead) (is.told later whole) (stands_told later.graph (named later symbol) index lead (read_later whole symbol now_within index lead read)) (subst (λ r. IsFollowed after r met symbol index lead path mid) is.same followed later grown)
+      expanding_next (links_in later) enough (running_told later running) (lead_told later.rules later.graph (named later symbol) lead) (is.told later whole) (stands_told later.rules later.graph (named later symbol) index lead (read_later whole symbol now_within index lead read)) (subst (λ r. IsFollowed after r met symbol index lead path mid) is.same followed later grown)
 
-  pub finding_on : {after : RootView} {mid : List UniqueSymbolId} (lead : ReadLead) → IsRead root.graph (named root symbol) index lead → HasGrown root after → IsFollowed after now met symbol index lead None mid → (onward : List AliasDecl) → onward ≡ now → HasSearched after met mid [] → IsFinding old running begun symbol after onward (index + 1) mid paths
+  pub finding_on : {after : RootView} {mid : List UniqueSymbolId} (lead : ReadLead) → IsRead root.rules root.graph (named root symbol) index lead → HasGrown root after → IsFollowed after now met symbol index lead None mid → (onward : List AliasDecl) → onward ≡ now → HasSearched after met mid [] → IsFinding old running begun symbol after onward (index + 1) mid paths
   finding_on {after = after} {mid = mid} lead read kept followed onward on searched = record {
     grown = grown_on is.grown kept;
     same = on ∙ is.same;
@@ -153,7 +154,7 @@ module _ {old : RootView} {running : List AliasDecl} {begun : List UniqueSymbolI
     told = λ later grown. subst (λ f. IsExpanding (links_in later) enough (running_told later running) (met_told later begun) (named later symbol) (index + 1) (met_told later mid) f) (join_none (trails_told later paths)) (told_next mid lead read kept None followed later grown);
   }
 
-  pub finding_more : {after : RootView} {mid : List UniqueSymbolId} (lead : ReadLead) → IsRead root.graph (named root symbol) index lead → HasGrown root after → (path : Trail) → IsFollowed after now met symbol index lead (Some path) mid → (onward : List AliasDecl) → onward ≡ now → HasSearched after met mid (modules_of_trails (path ∷ [])) → IsFinding old running begun symbol after onward (index + 1) mid (paths ++ path ∷ [])
+  pub finding_more : {after : RootView} {mid : List UniqueSymbolId} (lead : ReadLead) → IsRead root.rules root.graph (named root symbol) index lead → HasGrown root after → (path : Trail) → IsFollowed after now met symbol index lead (Some path) mid → (onward : List AliasDecl) → onward ≡ now → HasSearched after met mid (modules_of_trails (path ∷ [])) → IsFinding old running begun symbol after onward (index + 1) mid (paths ++ path ∷ [])
   finding_more {after = after} {mid = mid} lead read kept path followed onward on searched = record {
     grown = grown_on is.grown kept;
     same = on ∙ is.same;
@@ -165,12 +166,12 @@ module _ {old : RootView} {running : List AliasDecl} {begun : List UniqueSymbolI
     told = λ later grown. subst (λ f. IsExpanding (links_in later) enough (running_told later running) (met_told later begun) (named later symbol) (index + 1) (met_told later mid) f) (sym (told_with_trail later paths path)) (told_next mid lead read kept (Some path) followed later grown);
   }
 
-  pub finding_next : {after : RootView} {mid : List UniqueSymbolId} (lead : ReadLead) → IsRead root.graph (named root symbol) index lead → HasGrown root after → (path : Option Trail) → IsFollowed after now met symbol index lead path mid → (onward : List AliasDecl) → onward ≡ now → HasSearched after met mid (modules_of_trails (option_to_list path)) → IsFinding old running begun symbol after onward (index + 1) mid (paths ++ option_to_list path)
+  pub finding_next : {after : RootView} {mid : List UniqueSymbolId} (lead : ReadLead) → IsRead root.rules root.graph (named root symbol) index lead → HasGrown root after → (path : Option Trail) → IsFollowed after now met symbol index lead path mid → (onward : List AliasDecl) → onward ≡ now → HasSearched after met mid (modules_of_trails (option_to_list path)) → IsFinding old running begun symbol after onward (index + 1) mid (paths ++ option_to_list path)
   finding_next {after = after} {mid = mid} lead read kept None followed onward on searched = subst (λ ps. IsFinding old running begun symbol after onward (index + 1) mid ps) (sym (append-nil paths)) (finding_on lead read kept followed onward on searched)
   finding_next lead read kept (Some path) followed onward on searched = finding_more lead read kept path followed onward on searched
 
   -- the declarations are those of before
-  pub index_before : (lead : ReadLead) → IsRead root.graph (named root symbol) index lead → index < length (declarations_of old.graph (named old symbol))
+  pub index_before : (lead : ReadLead) → IsRead root.rules root.graph (named root symbol) index lead → index < length (declarations_of old.graph (named old symbol))
   index_before lead read = omega (arith, index_within read, ap length (same_declarations is.grown symbol known))
 
   pub finding_last : IsDistinct bytes_eq old.stored → AreNumbered old begun → slice_get (declarations_of root.graph (named root symbol)) index ≡ None → IsFound root running begun symbol paths met

@@ -1,6 +1,6 @@
 -- What a declaration that leads on comes to, as later roots tell it.
-use Rattle.std.proofs.Common.{◌≡◌, ℕ, ◌<◌, List, [], ◌∷◌, length, Option, None, Some, option_to_list, refl, sym, ap, subst, ◌∙◌, arith, append-nil}
-use Rattle.std.specs.Prelude.{IfSome}
+use Rattle.std.proofs.Common.{◌≡◌, ℕ, ◌<◌, Bool, true, false, List, [], ◌∷◌, length, Option, None, Some, option_to_list, refl, sym, ap, subst, ◌∙◌, arith, append-nil}
+use Rattle.std.specs.Prelude.{IfSome, if◌then◌else◌}
 use Rattle.std.specs.Borrow.{Bor}
 use Rattle.symbols_syntax.specs.declared.ids.ModuleId.{ModuleId}
 use Rattle.symbols_syntax.specs.declared.ids.SymbolId.{SymbolId}
@@ -9,6 +9,7 @@ use Rattle.symbols_syntax.specs.declared.tree.arena.SourceRange.{SourceRange}
 use Rattle.symbols_syntax.specs.declared.tree.arena.Id.{Id}
 use Rattle.symbols_syntax.specs.Graph.{GraphView}
 use Rattle.symbols_syntax.specs.Ids.{IdView, id_view}
+use Rattle.symbols_root.specs.declared.root.rules.Rules.{Rules}
 use Rattle.symbols_root.specs.Roots.{RootView, specifier_in}
 use Rattle.symbols_root.specs.Growing.{HasGrown}
 use Rattle.symbols_root.specs.laws.Growing.{grown_on, same_specifier}
@@ -20,7 +21,7 @@ use Rattle.symbols_paths.specs.declared.paths.resolving.AliasDecl.{AliasDecl}
 use Rattle.symbols_paths.specs.declared.paths.shared_parts.SharedParts.{SharedParts}
 use Rattle.symbols_paths.specs.declared.paths.trail.Trail.{Trail}
 use Rattle.symbols_paths.specs.Trees.{NamedSymbol, NamedDecl, Parts, no_symbol, definition, Forest, leaf, none, more, one, link_to}
-use Rattle.symbols_paths.specs.Leads.{Ways, defines, leads, alias, nowhere, to_missing, target_ways, import_ways, ways_into, own_export}
+use Rattle.symbols_paths.specs.Leads.{Ways, defines, leads, alias, nowhere, to_missing, target_ways, import_ways, ways_into, own_export, exports_along, passes_on, holding}
 use Rattle.symbols_paths.specs.PartWays.{Links, links_in}
 use Rattle.symbols_paths.specs.Derived.{decl_at, head_at, alias_head}
 use Rattle.symbols_paths.specs.Choice.{Finds, Follows, by_itself, by_ways, by_running, by_alias, Tries, no_more, first_with, passes, missing_in}
@@ -28,6 +29,7 @@ use Rattle.symbols_paths.specs.Computed.{enough}
 use Rattle.symbols_paths.specs.Views.{named, named_in, decl_told, star_of, AreStored}
 use Rattle.symbols_paths.specs.Trails.{parts_told, trail_told, trails_told, trails_of_option, modules_of_trail, modules_of_trails}
 use Rattle.symbols_paths.specs.Searching.{met_told, running_told, Resolves, while_running, by_walk, IsFound, IsFollowed, IsTried, IsResolved, ways_of_import, ways_along}
+use Rattle.symbols_paths.proofs.Trying.{no_export}
 
 -- one candidate alone
 pub tries_one : {links : Links} {limit : ℕ} {running : List NamedDecl} {met after : List NamedSymbol} {c : NamedSymbol} (f : Forest) → Finds links limit running met c f after → Tries links limit running met (c ∷ []) None f after
@@ -81,11 +83,11 @@ followed_target root running met after symbol target t index next path in_module
 
 -- ---- along an import
 
-import_head : (graph : GraphView) (s : NamedSymbol) (index : ℕ) (name text : List ℕ) (found : Option (List ℕ)) → head_at s index (import_ways graph s name text found) ≡ record { symbol = s; decl = record { symbol = s; index = index }; parts = [] }
-import_head graph s index name text None = refl
-import_head graph s index name text (Some specifier) = by (own_export graph specifier name)
+import_head : (rules : Rules) (graph : GraphView) (s : NamedSymbol) (index : ℕ) (name text : List ℕ) (found : Option (List ℕ)) → head_at s index (import_ways rules graph s name text found) ≡ record { symbol = s; decl = record { symbol = s; index = index }; parts = [] }
+import_head rules graph s index name text None = refl
+import_head rules graph s index name text (Some specifier) = by (own_export graph specifier name)
   where
-    by : (owned : Option SymbolId) → head_at s index (ways_into graph s name specifier owned) ≡ record { symbol = s; decl = record { symbol = s; index = index }; parts = [] }
+    by : (owned : Option SymbolId) → head_at s index (ways_into rules graph s name specifier owned) ≡ record { symbol = s; decl = record { symbol = s; index = index }; parts = [] }
     by None = refl
     by (Some u) = refl
 
@@ -93,8 +95,8 @@ pub followed_import : (root : RootView) (running : List AliasDecl) (met after : 
 followed_import root running met after symbol taken index next path tried told = λ later grown.
     let s = named later symbol in
     let found = text_target later.graph s.specifier taken.text.now in
-    let ways = import_ways later.graph s taken.name.now taken.text.now found in
-    let is : trails_of_option later path ≡ link_to (head_at s index ways) (trails_told later next) = told later ∙ sym (ap (λ head. link_to head (trails_told later next)) (import_head later.graph s index taken.name.now taken.text.now found)) in
+    let ways = import_ways later.rules later.graph s taken.name.now taken.text.now found in
+    let is : trails_of_option later path ≡ link_to (head_at s index ways) (trails_told later next) = told later ∙ sym (ap (λ head. link_to head (trails_told later next)) (import_head later.rules later.graph s index taken.name.now taken.text.now found)) in
     subst (λ f. Follows (links_in later) enough (running_told later running) (met_told later met) s index (leads ways) f (met_told later after)) (sym is) (by_ways {ways = ways} (tried later grown))
 
 -- ---- what an import comes to
@@ -103,12 +105,12 @@ pub target_later : {root later : RootView} → HasGrown root later → (id : Mod
 target_later grown id within text = λ i. text_target (grown.graph i) (same_specifier grown id within i) text
 
 -- the text leads to no module
-pub tried_nowhere : (root : RootView) (running : List AliasDecl) (met : List UniqueSymbolId) (symbol : UniqueSymbolId) (name text : List ℕ) (paths : List Trail) → symbol.module_id.0 < length root.stored → text_target root.graph (specifier_in root symbol.module_id) text ≡ None → ((later : RootView) → trails_told later paths ≡ missing_in (import_ways later.graph (named later symbol) name text None).otherwise) → IsTried root running met (ways_of_import symbol name text) paths met
+pub tried_nowhere : (root : RootView) (running : List AliasDecl) (met : List UniqueSymbolId) (symbol : UniqueSymbolId) (name text : List ℕ) (paths : List Trail) → symbol.module_id.0 < length root.stored → text_target root.graph (specifier_in root symbol.module_id) text ≡ None → ((later : RootView) → trails_told later paths ≡ missing_in (import_ways later.rules later.graph (named later symbol) name text None).otherwise) → IsTried root running met (ways_of_import symbol name text) paths met
 tried_nowhere root running met symbol name text paths within leads_nowhere told = λ later grown.
     let s = named later symbol in
     let none_there : text_target later.graph s.specifier text ≡ None = target_later grown symbol.module_id within text ∙ leads_nowhere in
-    subst (λ (found : Option (List ℕ)). Tries (links_in later) enough (running_told later running) (met_told later met) (import_ways later.graph s name text found).candidates (import_ways later.graph s name text found).otherwise (trails_told later paths) (met_told later met)) (sym none_there)
-    (subst (λ f. Tries (links_in later) enough (running_told later running) (met_told later met) [] (import_ways later.graph s name text None).otherwise f (met_told later met)) (sym (told later)) no_more)
+    subst (λ (found : Option (List ℕ)). Tries (links_in later) enough (running_told later running) (met_told later met) (import_ways later.rules later.graph s name text found).candidates (import_ways later.rules later.graph s name text found).otherwise (trails_told later paths) (met_told later met)) (sym none_there)
+    (subst (λ f. Tries (links_in later) enough (running_told later running) (met_told later met) [] (import_ways later.rules later.graph s name text None).otherwise f (met_told later met)) (sym (told later)) no_more)
 
 -- the module exports the name itself
 pub tried_owned : (root : RootView) (running : List AliasDecl) (met after : List UniqueSymbolId) (symbol u : UniqueSymbolId) (id : ModuleId) (owned : SymbolId) (name text : List ℕ) (paths : List Trail) → symbol.module_id.0 < length root.stored → id.0 < length root.stored → text_target root.graph (specifier_in root symbol.module_id) text ≡ Some (specifier_in root id) → own_export root.graph (specifier_in root id) name ≡ Some owned → u.module_id ≡ id → u.symbol_id ≡ owned → (new : RootView) → HasGrown root new → IsFound new running met u paths after → IsTried new running met (ways_of_import symbol name text) paths after
@@ -120,17 +122,37 @@ tried_owned root running met after symbol u id owned name text paths within id_w
     let owns : own_export later.graph v name ≡ Some owned = (λ i. own_export (whole.graph i) (same_specifier whole id id_within i) name) ∙ own in
     let same : u ≡ record { module_id = id; symbol_id = owned } = (λ i. record { module_id = in_module i; symbol_id = number i }) in
     let to : Finds (links_in later) enough (running_told later running) (met_told later met) (named_in later id owned) (trails_told later paths) (met_told later after) = subst (λ (w : UniqueSymbolId). Finds (links_in later) enough (running_told later running) (met_told later met) (named later w) (trails_told later paths) (met_told later after)) same (found later grown) in
-    let at : Tries (links_in later) enough (running_told later running) (met_told later met) (ways_into later.graph s name v (Some owned)).candidates (ways_into later.graph s name v (Some owned)).otherwise (trails_told later paths) (met_told later after) = tries_one (trails_told later paths) to in
-    let here : Tries (links_in later) enough (running_told later running) (met_told later met) (ways_into later.graph s name v (own_export later.graph v name)).candidates (ways_into later.graph s name v (own_export later.graph v name)).otherwise (trails_told later paths) (met_told later after) = subst (λ (o : Option SymbolId). Tries (links_in later) enough (running_told later running) (met_told later met) (ways_into later.graph s name v o).candidates (ways_into later.graph s name v o).otherwise (trails_told later paths) (met_told later after)) (sym owns) at in
-    subst (λ (w : Option (List ℕ)). Tries (links_in later) enough (running_told later running) (met_told later met) (import_ways later.graph s name text w).candidates (import_ways later.graph s name text w).otherwise (trails_told later paths) (met_told later after)) (sym there) here
+    let at : Tries (links_in later) enough (running_told later running) (met_told later met) (ways_into later.rules later.graph s name v (Some owned)).candidates (ways_into later.rules later.graph s name v (Some owned)).otherwise (trails_told later paths) (met_told later after) = tries_one (trails_told later paths) to in
+    let here : Tries (links_in later) enough (running_told later running) (met_told later met) (ways_into later.rules later.graph s name v (own_export later.graph v name)).candidates (ways_into later.rules later.graph s name v (own_export later.graph v name)).otherwise (trails_told later paths) (met_told later after) = subst (λ (o : Option SymbolId). Tries (links_in later) enough (running_told later running) (met_told later met) (ways_into later.rules later.graph s name v o).candidates (ways_into later.rules later.graph s name v o).otherwise (trails_told later paths) (met_told later after)) (sym owns) at in
+    subst (λ (w : Option (List ℕ)). Tries (links_in later) enough (running_told later running) (met_told later met) (import_ways later.rules later.graph s name text w).candidates (import_ways later.rules later.graph s name text w).otherwise (trails_told later paths) (met_told later after)) (sym there) here
 
--- it doesn't: what the exports of its statements `export *` come to
-pub tried_along : (root : RootView) (running : List AliasDecl) (met after : List UniqueSymbolId) (symbol : UniqueSymbolId) (id : ModuleId) (name text : List ℕ) (paths : List Trail) → symbol.module_id.0 < length root.stored → id.0 < length root.stored → text_target root.graph (specifier_in root symbol.module_id) text ≡ Some (specifier_in root id) → own_export root.graph (specifier_in root id) name ≡ None → (new : RootView) → HasGrown root new → IsTried new running met (ways_along id name) paths after → IsTried new running met (ways_of_import symbol name text) paths after
-tried_along root running met after symbol id name text paths within id_within leads_to own new onward tried = λ later grown.
-    let whole = grown_on onward grown in
-    let s = named later symbol in
-    let v = specifier_in later id in
-    let there : text_target later.graph s.specifier text ≡ Some v = target_later whole symbol.module_id within text ∙ (leads_to ∙ ap Some (sym (same_specifier whole id id_within))) in
-    let owns : own_export later.graph v name ≡ None = (λ i. own_export (whole.graph i) (same_specifier whole id id_within i) name) ∙ own in
-    let here : Tries (links_in later) enough (running_told later running) (met_told later met) (ways_into later.graph s name v (own_export later.graph v name)).candidates (ways_into later.graph s name v (own_export later.graph v name)).otherwise (trails_told later paths) (met_told later after) = subst (λ (o : Option SymbolId). Tries (links_in later) enough (running_told later running) (met_told later met) (ways_into later.graph s name v o).candidates (ways_into later.graph s name v o).otherwise (trails_told later paths) (met_told later after)) (sym owns) (tried later grown) in
-    subst (λ (w : Option (List ℕ)). Tries (links_in later) enough (running_told later running) (met_told later met) (import_ways later.graph s name text w).candidates (import_ways later.graph s name text w).otherwise (trails_told later paths) (met_told later after)) (sym there) here
+-- it doesn't: what the exports that its statements `export *` pass on come to
+module _ (root : RootView) (running : List AliasDecl) (met after : List UniqueSymbolId) (symbol : UniqueSymbolId) (id : ModuleId) (name text : List ℕ) (paths : List Trail) (within : symbol.module_id.0 < length root.stored) (id_within : id.0 < length root.stored) (leads_to : text_target root.graph (specifier_in root symbol.module_id) text ≡ Some (specifier_in root id)) (own : own_export root.graph (specifier_in root id) name ≡ None) (new : RootView) (onward : HasGrown root new) where
+  abbrev TriesThese : RootView → List NamedSymbol → Type 0
+  TriesThese later cs = Tries (links_in later) enough (running_told later running) (met_told later met) cs (no_export later id name) (trails_told later paths) (met_told later after)
+
+  tried_passed : ((later : RootView) → HasGrown new later → TriesThese later (holding later.rules later.graph (specifier_in later id) name)) → IsTried new running met (ways_of_import symbol name text) paths after
+  tried_passed tried later grown =
+      let whole = grown_on onward grown in
+      let s = named later symbol in
+      let v = specifier_in later id in
+      let there : text_target later.graph s.specifier text ≡ Some v = target_later whole symbol.module_id within text ∙ (leads_to ∙ ap Some (sym (same_specifier whole id id_within))) in
+      let owns : own_export later.graph v name ≡ None = (λ i. own_export (whole.graph i) (same_specifier whole id id_within i) name) ∙ own in
+      let here : Tries (links_in later) enough (running_told later running) (met_told later met) (ways_into later.rules later.graph s name v (own_export later.graph v name)).candidates (ways_into later.rules later.graph s name v (own_export later.graph v name)).otherwise (trails_told later paths) (met_told later after) = subst (λ (o : Option SymbolId). Tries (links_in later) enough (running_told later running) (met_told later met) (ways_into later.rules later.graph s name v o).candidates (ways_into later.rules later.graph s name v o).otherwise (trails_told later paths) (met_told later after)) (sym owns) (tried later grown) in
+      subst (λ (w : Option (List ℕ)). Tries (links_in later) enough (running_told later running) (met_told later met) (import_ways later.rules later.graph s name text w).candidates (import_ways later.rules later.graph s name text w).otherwise (trails_told later paths) (met_told later after)) (sym there) here
+
+  -- as later roots answer whether the name is passed on
+  held_so : (b : Bool) → passes_on root.rules name ≡ b → (later : RootView) → HasGrown new later → holding later.rules later.graph (specifier_in later id) name ≡ (if b then exports_along later.graph (specifier_in later id) name else [])
+  held_so b so later grown = ap (λ (p : Bool). if p then exports_along later.graph (specifier_in later id) name else []) (ap (λ rules. passes_on rules name) (grown_on onward grown).rules ∙ so)
+
+  -- the rules let the name pass
+  pub tried_along : passes_on root.rules name ≡ true → IsTried new running met (ways_along id name) paths after → IsTried new running met (ways_of_import symbol name text) paths after
+  tried_along so tried = tried_passed (λ later grown. subst (TriesThese later) (sym (held_so true so later grown)) (tried later grown))
+
+  -- they don't: nothing is tried
+  pub tried_held : passes_on root.rules name ≡ false → after ≡ met → ((later : RootView) → trails_told later paths ≡ missing_in (no_export later id name)) → IsTried new running met (ways_of_import symbol name text) paths after
+  tried_held so same told = tried_passed (λ later grown. subst (TriesThese later) (sym (held_so false so later grown)) (nothing later))
+    where
+      nothing : (later : RootView) → TriesThese later []
+      nothing later = subst (λ (m : List UniqueSymbolId). Tries (links_in later) enough (running_told later running) (met_told later met) [] (no_export later id name) (trails_told later paths) (met_told later m)) (sym same)
+          (subst (λ f. Tries (links_in later) enough (running_told later running) (met_told later met) [] (no_export later id name) f (met_told later met)) (sym (told later)) no_more)

@@ -1,5 +1,5 @@
 -- Numbers of stored modules, as a root stores more.
-use Rattle.std.proofs.Common.{◌≡◌, ℕ, ◌<◌, inl, inr, true, List, [], length, get_or, sym, ap, subst, nat_eq}
+use Rattle.std.proofs.Common.{◌≡◌, ℕ, ◌<◌, inl, inr, true, List, [], length, get_or, sym, subst, nat_eq}
 use Rattle.std.specs.Bool.{Decides, one_answer}
 use Rattle.std.specs.List.{IsDistinct}
 use Rattle.std.specs.Str.{bytes_eq}
@@ -18,7 +18,7 @@ use Rattle.symbols_paths.specs.Searching.{AreNumbered}
 
 -- it searches by the same
 pub same_links : {root more : RootView} → HasGrown root more → links_in more ≡ links_in root
-same_links grown = ap links_of grown.graph
+same_links grown = λ i. links_of (grown.rules i) (grown.graph i)
 
 pub still_numbered : {root more : RootView} → HasGrown root more → (met : List UniqueSymbolId) → AreNumbered root met → AreNumbered more met
 still_numbered grown met numbered = λ k d within. still_stored grown (get_or met k d).module_id.0 (numbered k d within)

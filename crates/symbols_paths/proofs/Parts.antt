@@ -8,9 +8,10 @@ use Rattle.symbols_syntax.specs.declared.tree.arena.SourceRange.{SourceRange}
 use Rattle.symbols_syntax.specs.Graph.{GraphView}
 use Rattle.symbols_syntax.specs.Ids.{IdView}
 use Rattle.symbols_table.specs.DeclViews.{DeclKind, target, qualified_target, file_ref, definition as defines_node, all_names, one_name, Declaration}
+use Rattle.symbols_root.specs.declared.root.rules.Rules.{Rules}
 use Rattle.symbols_exports.specs.StarStatements.{text_target}
 use Rattle.symbols_paths.specs.Trees.{NamedSymbol, NamedDecl, Defined, Missing, no_symbol, no_module, no_part, LinkHead, Forest, Leaf, definition, unresolved, none, more, join, link_to, leaves_in}
-use Rattle.symbols_paths.specs.Leads.{Ways, Lead, Leads, defines, leads, alias, StandsAt, symbol_of_id, own_export, exports_along, to_missing, target_ways, alias_lead, import_ways, ways_into, declarations_of, lead_of}
+use Rattle.symbols_paths.specs.Leads.{Ways, Lead, Leads, defines, leads, alias, StandsAt, symbol_of_id, own_export, holding, to_missing, target_ways, alias_lead, import_ways, ways_into, declarations_of, lead_of}
 use Rattle.symbols_paths.specs.PartWays.{Links, links_of}
 use Rattle.symbols_paths.specs.Derived.{decl_at, defined_at, head_at, alias_head}
 use Rattle.symbols_paths.specs.Reach.{is_alias, is_alias_at, outer_leaves_in, IsPartLast}
@@ -123,18 +124,18 @@ module _ (links : Links) (limit : ℕ) where
         tried h m d (zero, lt, e) = subst (λ z. is_met after z ≡ true) e m
         tried h m d (suc k, lt, e) = h d (k, omega (arith, lt), e)
 
--- ---- in a graph, a part that isn't resolved is one of an import, whose candidates are the exports along `export *`
+-- ---- in a graph, a part that isn't resolved is one of an import, whose candidates are the exports that `export *` passes on
 
-abbrev IsOfPart : GraphView → Lead → Type 0
-IsOfPart graph lead = (ways : Ways) (specifier name : List ℕ) (parts : List (List ℕ)) → lead ≡ leads ways → ways.otherwise ≡ Some (record { specifier = specifier; reason = no_part name; parts = parts }) → ways.candidates ≡ exports_along graph specifier name
+abbrev IsOfPart : Rules → GraphView → Lead → Type 0
+IsOfPart rules graph lead = (ways : Ways) (specifier name : List ℕ) (parts : List (List ℕ)) → lead ≡ leads ways → ways.otherwise ≡ Some (record { specifier = specifier; reason = no_part name; parts = parts }) → ways.candidates ≡ holding rules graph specifier name
 
-defined_part : (graph : GraphView) (range : SourceRange) (star : _) → IsOfPart graph (defines range star)
-defined_part graph range star ways specifier name parts e o = absurd cc
+defined_part : (rules : Rules) (graph : GraphView) (range : SourceRange) (star : _) → IsOfPart rules graph (defines range star)
+defined_part rules graph range star ways specifier name parts e o = absurd cc
 
-led_part : (graph : GraphView) (ways : Ways) → ((specifier name : List ℕ) (parts : List (List ℕ)) → ways.otherwise ≡ Some (record { specifier = specifier; reason = no_part name; parts = parts }) → ways.candidates ≡ exports_along graph specifier name) → IsOfPart graph (leads ways)
-led_part graph ways h other specifier name parts e o =
+led_part : (rules : Rules) (graph : GraphView) (ways : Ways) → ((specifier name : List ℕ) (parts : List (List ℕ)) → ways.otherwise ≡ Some (record { specifier = specifier; reason = no_part name; parts = parts }) → ways.candidates ≡ holding rules graph specifier name) → IsOfPart rules graph (leads ways)
+led_part rules graph ways h other specifier name parts e o =
     let same : ways ≡ other = leads_same ways other e in
-    subst (λ (w : Ways). w.candidates ≡ exports_along graph specifier name) same (h specifier name parts (ap (λ (w : Ways). w.otherwise) same ∙ o))
+    subst (λ (w : Ways). w.candidates ≡ holding rules graph specifier name) same (h specifier name parts (ap (λ (w : Ways). w.otherwise) same ∙ o))
   where
     leads_same : (a b : Ways) → leads a ≡ leads b → a ≡ b
     leads_same a b e = cc
@@ -158,46 +159,46 @@ no_text text name e = cc
 same_name : (a b : List ℕ) → no_part a ≡ no_part b → a ≡ b
 same_name a b e = cc
 
-target_part : (graph : GraphView) (s : NamedSymbol) (t : Option SymbolId) → IsOfPart graph (leads (target_ways s t))
-target_part graph s None = led_part graph (target_ways s None) (λ specifier name parts o. absurd cc)
-target_part graph s (Some t) = led_part graph (target_ways s (Some t)) (λ specifier name parts o. absurd cc)
+target_part : (rules : Rules) (graph : GraphView) (s : NamedSymbol) (t : Option SymbolId) → IsOfPart rules graph (leads (target_ways s t))
+target_part rules graph s None = led_part rules graph (target_ways s None) (λ specifier name parts o. absurd cc)
+target_part rules graph s (Some t) = led_part rules graph (target_ways s (Some t)) (λ specifier name parts o. absurd cc)
 
-aliased_part : (graph : GraphView) (t : NamedSymbol) (ps : List (List ℕ)) → IsOfPart graph (alias t ps)
-aliased_part graph t ps ways specifier name parts e o = absurd cc
+aliased_part : (rules : Rules) (graph : GraphView) (t : NamedSymbol) (ps : List (List ℕ)) → IsOfPart rules graph (alias t ps)
+aliased_part rules graph t ps ways specifier name parts e o = absurd cc
 
-alias_part : (graph : GraphView) (s : NamedSymbol) (id : IdView) (ps : List (List ℕ)) (t : Option SymbolId) → IsOfPart graph (alias_lead s id ps t)
-alias_part graph s id ps None = led_part graph (to_missing s ps (record { specifier = s.specifier; reason = no_symbol id; parts = ps })) (λ specifier name parts o. absurd (no_id id name (same_reason (record { specifier = s.specifier; reason = no_symbol id; parts = ps }) (entry specifier name parts) o)))
-alias_part graph s id ps (Some t) = aliased_part graph (record { specifier = s.specifier; number = t }) ps
+alias_part : (rules : Rules) (graph : GraphView) (s : NamedSymbol) (id : IdView) (ps : List (List ℕ)) (t : Option SymbolId) → IsOfPart rules graph (alias_lead s id ps t)
+alias_part rules graph s id ps None = led_part rules graph (to_missing s ps (record { specifier = s.specifier; reason = no_symbol id; parts = ps })) (λ specifier name parts o. absurd (no_id id name (same_reason (record { specifier = s.specifier; reason = no_symbol id; parts = ps }) (entry specifier name parts) o)))
+alias_part rules graph s id ps (Some t) = aliased_part rules graph (record { specifier = s.specifier; number = t }) ps
 
-into_part : (graph : GraphView) (s : NamedSymbol) (n k : List ℕ) (owned : Option SymbolId) → IsOfPart graph (leads (ways_into graph s n k owned))
-into_part graph s n k (Some u) = led_part graph (ways_into graph s n k (Some u)) (λ specifier name parts o. absurd cc)
-into_part graph s n k None = led_part graph (ways_into graph s n k None) (λ specifier name parts o.
+into_part : (rules : Rules) (graph : GraphView) (s : NamedSymbol) (n k : List ℕ) (owned : Option SymbolId) → IsOfPart rules graph (leads (ways_into rules graph s n k owned))
+into_part rules graph s n k (Some u) = led_part rules graph (ways_into rules graph s n k (Some u)) (λ specifier name parts o. absurd cc)
+into_part rules graph s n k None = led_part rules graph (ways_into rules graph s n k None) (λ specifier name parts o.
     let same = some_same (entry k n []) (entry specifier name parts) o in
     let at : k ≡ specifier = ap (λ (m : Missing). m.specifier) same in
     let called : n ≡ name = same_name n name (ap (λ (m : Missing). m.reason) same) in
-    λ i. exports_along graph (at i) (called i))
+    λ i. holding rules graph (at i) (called i))
 
-import_part : (graph : GraphView) (s : NamedSymbol) (n text : List ℕ) (k : Option (List ℕ)) → IsOfPart graph (leads (import_ways graph s n text k))
-import_part graph s n text None = led_part graph (import_ways graph s n text None) (λ specifier name parts o. absurd (no_text text name (same_reason (record { specifier = s.specifier; reason = no_module text; parts = [] }) (entry specifier name parts) o)))
-import_part graph s n text (Some k) = into_part graph s n k (own_export graph k n)
+import_part : (rules : Rules) (graph : GraphView) (s : NamedSymbol) (n text : List ℕ) (k : Option (List ℕ)) → IsOfPart rules graph (leads (import_ways rules graph s n text k))
+import_part rules graph s n text None = led_part rules graph (import_ways rules graph s n text None) (λ specifier name parts o. absurd (no_text text name (same_reason (record { specifier = s.specifier; reason = no_module text; parts = [] }) (entry specifier name parts) o)))
+import_part rules graph s n text (Some k) = into_part rules graph s n k (own_export graph k n)
 
-lead_part : (graph : GraphView) (s : NamedSymbol) (range : SourceRange) (kind : DeclKind) → IsOfPart graph (lead_of graph s range kind)
-lead_part graph s range (defines_node x) = defined_part graph range None
-lead_part graph s range (file_ref all_names text) = defined_part graph range (Some (record { name = all_names; specifier = text }))
-lead_part graph s range (file_ref (one_name name) text) = import_part graph s name text (text_target graph s.specifier text)
-lead_part graph s range (target id) = target_part graph s (symbol_of_id graph s.specifier id)
-lead_part graph s range (qualified_target id parts) = alias_part graph s id parts (symbol_of_id graph s.specifier id)
+lead_part : (rules : Rules) (graph : GraphView) (s : NamedSymbol) (range : SourceRange) (kind : DeclKind) → IsOfPart rules graph (lead_of rules graph s range kind)
+lead_part rules graph s range (defines_node x) = defined_part rules graph range None
+lead_part rules graph s range (file_ref all_names text) = defined_part rules graph range (Some (record { name = all_names; specifier = text }))
+lead_part rules graph s range (file_ref (one_name name) text) = import_part rules graph s name text (text_target graph s.specifier text)
+lead_part rules graph s range (target id) = target_part rules graph s (symbol_of_id graph s.specifier id)
+lead_part rules graph s range (qualified_target id parts) = alias_part rules graph s id parts (symbol_of_id graph s.specifier id)
 
-at_place : (graph : GraphView) (s : NamedSymbol) (decls : List Declaration) (i : ℕ) (lead : Lead) → slice_get (map (λ (decl : Declaration). lead_of graph s decl.range decl.kind) decls) i ≡ Some lead → IsOfPart graph lead
-at_place graph s [] i lead e = absurd cc
-at_place graph s (decl ∷ decls) zero lead e = subst (IsOfPart graph) (same (lead_of graph s decl.range decl.kind) lead e) (lead_part graph s decl.range decl.kind)
+at_place : (rules : Rules) (graph : GraphView) (s : NamedSymbol) (decls : List Declaration) (i : ℕ) (lead : Lead) → slice_get (map (λ (decl : Declaration). lead_of rules graph s decl.range decl.kind) decls) i ≡ Some lead → IsOfPart rules graph lead
+at_place rules graph s [] i lead e = absurd cc
+at_place rules graph s (decl ∷ decls) zero lead e = subst (IsOfPart rules graph) (same (lead_of rules graph s decl.range decl.kind) lead e) (lead_part rules graph s decl.range decl.kind)
   where
     same : (a b : Lead) → Some a ≡ Some b → a ≡ b
     same a b e = cc
-at_place graph s (decl ∷ decls) (suc i) lead e = at_place graph s decls i lead e
+at_place rules graph s (decl ∷ decls) (suc i) lead e = at_place rules graph s decls i lead e
 
-pub part_last : (graph : GraphView) (limit : ℕ) {running : List NamedDecl} {after : List NamedSymbol} {start : NamedSymbol} {f : Forest} → Finds (links_of graph) limit running [] start f after → IsPartLast graph f (leaves_in f)
-part_last graph limit {after = after} x specifier name parts h c has y near =
-    let told = (finds_told (links_of graph) limit x).all (record { specifier = specifier; reason = no_part name; parts = parts }) h in
-    let same = at_place graph told.symbol (declarations_of graph told.symbol) told.index (leads told.ways) told.stands told.ways specifier name parts refl told.otherwise in
+pub part_last : (rules : Rules) (graph : GraphView) (limit : ℕ) {running : List NamedDecl} {after : List NamedSymbol} {start : NamedSymbol} {f : Forest} → Finds (links_of rules graph) limit running [] start f after → IsPartLast rules graph f (leaves_in f)
+part_last rules graph limit {after = after} x specifier name parts h c has y near =
+    let told = (finds_told (links_of rules graph) limit x).all (record { specifier = specifier; reason = no_part name; parts = parts }) h in
+    let same = at_place rules graph told.symbol (declarations_of graph told.symbol) told.index (leads told.ways) told.stands told.ways specifier name parts refl told.otherwise in
     met_given x c (told.met c (subst (λ cs. Contains cs c) (sym same) has)) y near

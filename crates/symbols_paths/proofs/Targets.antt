@@ -11,9 +11,10 @@ use Rattle.symbols_root.specs.laws.Numbers.{IsTarget}
 use Rattle.symbols_exports.specs.declared.exports.path.ResolvedExportOrReExportAllPath.{ResolvedExportOrReExportAllPath}
 use Rattle.symbols_exports.specs.Chains.{target, chain_end}
 use Rattle.symbols_exports.specs.Exports.{Entry}
-use Rattle.symbols_exports.specs.OneName.{export_named, IsNameAnswer, IsNameFault, named_way}
+use Rattle.symbols_exports.specs.OneName.{export_named, IsNameAnswer, IsNameFault}
 use Rattle.symbols_exports.specs.Paths.{resolved_export}
 use Rattle.symbols_exports.specs.StarStatements.{star_texts, text_target, statements_of}
+use Rattle.symbols_exports.specs.Taking.{named_way}
 use Rattle.symbols_exports.specs.Told.{ToldExport, told_export, told_name}
 use Rattle.symbols_paths.specs.Trees.{NamedSymbol}
 use Rattle.symbols_paths.specs.Leads.{export_along}

@@ -119,7 +119,7 @@ module _ {old : RootView} {running : List AliasDecl} {begun : List UniqueSymbolI
   pub asking_last : (paths : List Trail) → slice_get (star_texts root.graph (specifier_in root id)) position ≡ None → ((later : RootView) → trails_told later paths ≡ missing_in (no_export later id name)) → IsTried root running begun (ways_along id name) paths met
   asking_last paths past told = λ later grown.
       let over : slice_get (statements_of later.graph (specifier_in later id)) position ≡ None = leads_past (text_target later.graph (specifier_in later id)) (star_texts later.graph (specifier_in later id)) position (ap (λ texts. slice_get texts position) (texts_later grown id asking_within) ∙ past) in
-      subst (λ f. Tries (links_in later) enough (running_told later running) (met_told later begun) (ways_along id name later.graph later).candidates (ways_along id name later.graph later).otherwise f (met_told later met)) (sym (told later)) (trying_last (links_in later) enough (running_told later running) (is.told later grown) over)
+      subst (λ f. Tries (links_in later) enough (running_told later running) (met_told later begun) (ways_along id name later).candidates (ways_along id name later).otherwise f (met_told later met)) (sym (told later)) (trying_last (links_in later) enough (running_told later running) (is.told later grown) over)
 
   pub last_searched : (paths : List Trail) → AreStored root (modules_of_trails paths) → HasSearched root begun met (modules_of_trails paths)
   last_searched paths stored = record { numbered = is.numbered; longer = is.longer; few = is.few; stored = stored }

@@ -227,7 +227,7 @@ pub given_first : (root : RootView) (running : List AliasDecl) (before after : L
 given_first root running before after s paths xs found listed stored k d h =
     let y = get_or xs k d in
     let among : Contains (defined_within (trails_told root paths)) (definition_told root y) = subst (λ ys. Contains ys (definition_told root y)) listed (at_map (definition_told root) xs k d h) in
-    let is = leaf_given root.graph (named root s) (definition_told root y) ((finds_leaf (links_in root) enough (found root (grown_not root))).each (definition (definition_told root y)) (forest_leaves (trails_told root paths) (definition_told root y) among)) in
+    let is = leaf_given root.rules root.graph (named root s) (definition_told root y) ((finds_leaf (links_in root) enough (found root (grown_not root))).each (definition (definition_told root y)) (forest_leaves (trails_told root paths) (definition_told root y) among)) in
     record { within = at_mapped module_of_definition (λ (id : ModuleId). id.0 < length root.stored) xs k d h stored; needed = is.needed; declared = is.declared }
 
 -- ---- what is refused on the way

@@ -6,6 +6,7 @@ use Rattle.symbols_syntax.specs.Graph.{GraphView}
 use Rattle.symbols_table.specs.declared.info.fault.SymbolsFault.{SymbolsFault}
 use Rattle.symbols_table.specs.declared.info.fault.SymbolsFault.TheVariants.{UnknownModule, UnknownSymbol}
 use Rattle.symbols_table.specs.SymbolViews.{SymbolView}
+use Rattle.symbols_root.specs.declared.root.rules.Rules.{Rules}
 use Rattle.symbols_root.specs.Roots.{RootView, specifier_in}
 use Rattle.symbols_root.specs.GraphModules.{symbol_under}
 use Rattle.symbols_paths.specs.declared.paths.node.DefinitionPathNode.{DefinitionPathNode}
@@ -19,29 +20,29 @@ use Rattle.symbols_paths.specs.Views.{named_in, forest_told, modules_in, AreStor
 use Rattle.symbols_paths.specs.Needed.{IsRefused}
 
 -- the paths of a symbol under parts: each is derived, each leaf is one of the symbol's under the parts, and what a leaf of first reach comes to under the parts is there; no leaf is lost where no alias is met in its own search and no symbol reached with two different remaining parts in one, and so none where no alias is met at all and the search itself reaches no symbol with two; and of all such lists it is the choice
-pub record ArePathsUnder (graph : GraphView) (s : NamedSymbol) (ps : Parts) (paths : Forest) : Type 0 where
-  pub derived : IsDerivedUnder (links_of graph) s ps paths
-  pub leaves : (x : Leaf) → Contains (leaves_in paths) x → IsWalk (links_of graph) s ps x
-  pub first : (x y : Leaf) → IsNearLeaf (links_of graph) s x → GivesUnder (links_of graph) ps x y → Contains (leaves_in paths) y
-  pub lossless : IsApart (links_of graph) s ps → HasOneRest (links_of graph) s ps → (x : Leaf) → IsFirstWalk (links_of graph) s ps x → Contains (leaves_in paths) x
-  pub all_without_alias : MeetsNoAlias (links_of graph) s ps → HasOneRestItself (links_of graph) s ps → (x : Leaf) → IsFirstWalk (links_of graph) s ps x → Contains (leaves_in paths) x
-  pub chosen : IsChosenUnder (links_of graph) s ps paths
+pub record ArePathsUnder (rules : Rules) (graph : GraphView) (s : NamedSymbol) (ps : Parts) (paths : Forest) : Type 0 where
+  pub derived : IsDerivedUnder (links_of rules graph) s ps paths
+  pub leaves : (x : Leaf) → Contains (leaves_in paths) x → IsWalk (links_of rules graph) s ps x
+  pub first : (x y : Leaf) → IsNearLeaf (links_of rules graph) s x → GivesUnder (links_of rules graph) ps x y → Contains (leaves_in paths) y
+  pub lossless : IsApart (links_of rules graph) s ps → HasOneRest (links_of rules graph) s ps → (x : Leaf) → IsFirstWalk (links_of rules graph) s ps x → Contains (leaves_in paths) x
+  pub all_without_alias : MeetsNoAlias (links_of rules graph) s ps → HasOneRestItself (links_of rules graph) s ps → (x : Leaf) → IsFirstWalk (links_of rules graph) s ps x → Contains (leaves_in paths) x
+  pub chosen : IsChosenUnder (links_of rules graph) s ps paths
 
 -- the paths of a symbol: the same without parts; no leaf of first reach is lost, where no alias is met none is lost and no declaration is given twice, and a part that isn't resolved, behind no alias, stands only where all else is told
-pub record ArePaths (graph : GraphView) (s : NamedSymbol) (paths : Forest) : Type 0 where
-  pub derived : IsDerived (links_of graph) s paths
-  pub leaves : (x : Leaf) → Contains (leaves_in paths) x → IsLeaf (links_of graph) s x
-  pub first : (x : Leaf) → IsNearLeaf (links_of graph) s x → Contains (leaves_in paths) x
-  pub once : MeetsNoAlias (links_of graph) s [] → IsOnce (leaves_in paths)
-  pub parts : IsPartLast graph paths (leaves_in paths)
-  pub lossless : IsApart (links_of graph) s [] → HasOneRest (links_of graph) s [] → (x : Leaf) → IsFirstLeaf (links_of graph) s x → Contains (leaves_in paths) x
-  pub all_without_alias : MeetsNoAlias (links_of graph) s [] → (x : Leaf) → IsFirstLeaf (links_of graph) s x → Contains (leaves_in paths) x
-  pub chosen : IsChosen (links_of graph) s paths
+pub record ArePaths (rules : Rules) (graph : GraphView) (s : NamedSymbol) (paths : Forest) : Type 0 where
+  pub derived : IsDerived (links_of rules graph) s paths
+  pub leaves : (x : Leaf) → Contains (leaves_in paths) x → IsLeaf (links_of rules graph) s x
+  pub first : (x : Leaf) → IsNearLeaf (links_of rules graph) s x → Contains (leaves_in paths) x
+  pub once : MeetsNoAlias (links_of rules graph) s [] → IsOnce (leaves_in paths)
+  pub parts : IsPartLast rules graph paths (leaves_in paths)
+  pub lossless : IsApart (links_of rules graph) s [] → HasOneRest (links_of rules graph) s [] → (x : Leaf) → IsFirstLeaf (links_of rules graph) s x → Contains (leaves_in paths) x
+  pub all_without_alias : MeetsNoAlias (links_of rules graph) s [] → (x : Leaf) → IsFirstLeaf (links_of rules graph) s x → Contains (leaves_in paths) x
+  pub chosen : IsChosen (links_of rules graph) s paths
 
 -- the paths of a symbol under parts, of which there may be none
-abbrev pub ArePathsFor : GraphView → NamedSymbol → Parts → Forest → Type 0
-ArePathsFor graph s [] paths = ArePaths graph s paths
-ArePathsFor graph s (p ∷ ps) paths = ArePathsUnder graph s (p ∷ ps) paths
+abbrev pub ArePathsFor : Rules → GraphView → NamedSymbol → Parts → Forest → Type 0
+ArePathsFor rules graph s [] paths = ArePaths rules graph s paths
+ArePathsFor rules graph s (p ∷ ps) paths = ArePathsUnder rules graph s (p ∷ ps) paths
 
 -- the symbol of a stored module
 abbrev pub symbol_in : RootView → ModuleId → SymbolId → Option SymbolView
@@ -51,7 +52,7 @@ symbol_in root module_id s = symbol_under root.graph (specifier_in root module_i
 pub record IsPathsAnswer (old new : RootView) (module_id : ModuleId) (s : SymbolId) (paths : List DefinitionPathNode) : Type 0 where
   pub known : module_id.0 < length old.stored
   pub has_symbol : symbol_in old module_id s ≢ None
-  pub are_paths : ArePaths old.graph (named_in old module_id s) (forest_told new paths)
+  pub are_paths : ArePaths old.rules old.graph (named_in old module_id s) (forest_told new paths)
   pub stored : AreStored new (modules_in paths)
 
 -- no answer: no module of this number is stored, or it has no such symbol, and then nothing changes; else what was refused is a module that is needed, or memory

@@ -1,6 +1,7 @@
--- The choice as a function of the graph, for whoever computes with it.
+-- The choice as a function of the rules and the graph, for whoever computes with it.
 use Rattle.std.specs.Prelude.{ℕ, zero, suc, ◌+◌, ◌^◌, List, [], ◌∷◌, ◌++◌, Option, if◌then◌else◌}
 use Rattle.symbols_syntax.specs.Graph.{GraphView}
+use Rattle.symbols_root.specs.declared.root.rules.Rules.{Rules}
 use Rattle.symbols_paths.specs.Trees.{NamedSymbol, NamedDecl, Parts, Defined, Missing, definition, unresolved, Tree, Forest, leaf, link, none, more, one, join, link_to}
 use Rattle.symbols_paths.specs.Leads.{Lead, defines, leads, alias}
 use Rattle.symbols_paths.specs.PartWays.{PartWay, to, itself, lacks, Links, links_of}
@@ -84,9 +85,9 @@ resolved links zero running decl t ps = none
 resolved links (suc depth) running decl t ps = if is_running running decl then none else (walked links (searched links (resolved links depth (running ++ decl ∷ [])) enough) ps [] t).paths
 
 -- the paths of a symbol under parts: no other list is chosen
-unfoldable pub paths_under : GraphView → NamedSymbol → Parts → Forest
-paths_under graph s ps = (walked (links_of graph) (searched (links_of graph) (resolved (links_of graph) enough []) enough) ps [] s).paths
+unfoldable pub paths_under : Rules → GraphView → NamedSymbol → Parts → Forest
+paths_under rules graph s ps = (walked (links_of rules graph) (searched (links_of rules graph) (resolved (links_of rules graph) enough []) enough) ps [] s).paths
 
 -- those of a symbol
-abbrev pub paths_of : GraphView → NamedSymbol → Forest
-paths_of graph s = paths_under graph s []
+abbrev pub paths_of : Rules → GraphView → NamedSymbol → Forest
+paths_of rules graph s = paths_under rules graph s []

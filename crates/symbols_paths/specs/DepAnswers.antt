@@ -8,6 +8,7 @@ use Rattle.symbols_syntax.specs.Ids.{IdView}
 use Rattle.symbols_nodes.specs.References.{Reference, id, qualified_id, import_type}
 use Rattle.symbols_table.specs.declared.info.fault.SymbolsFault.{SymbolsFault}
 use Rattle.symbols_table.specs.declared.info.fault.SymbolsFault.TheVariants.{UnknownModule}
+use Rattle.symbols_root.specs.declared.root.rules.Rules.{Rules}
 use Rattle.symbols_root.specs.Roots.{RootView, specifier_in}
 use Rattle.symbols_exports.specs.StarStatements.{text_target}
 use Rattle.symbols_paths.specs.declared.paths.resolve.ResolvedSymbolDepEntry.{ResolvedSymbolDepEntry}
@@ -83,17 +84,17 @@ other_entries graph specifier (qualified_id name parts) = entries_in (missing_id
 other_entries graph specifier (import_type text []) = module_entry specifier text (text_target graph specifier text) ∷ []
 other_entries graph specifier (import_type text (part ∷ rest)) = entries_in (missing_way (text_part graph specifier text part rest (text_target graph specifier text)))
 
--- the entries as a function of the graph
-abbrev pub entries_of : GraphView → List ℕ → Reference → List EntryView
-entries_of graph specifier reference = option_map_or (λ (asked : Asked). entries_in (paths_under graph asked.0 asked.1)) (asked_for graph specifier reference) (other_entries graph specifier reference)
+-- the entries as a function of the rules and the graph
+abbrev pub entries_of : Rules → GraphView → List ℕ → Reference → List EntryView
+entries_of rules graph specifier reference = option_map_or (λ (asked : Asked). entries_in (paths_under rules graph asked.0 asked.1)) (asked_for graph specifier reference) (other_entries graph specifier reference)
 
 -- an answer: the paths of the symbol under the parts, where one is asked for
-abbrev pub IsDepAnswer : GraphView → List ℕ → Reference → List EntryView → Type 0
-IsDepAnswer graph specifier reference entries = MatchOption (asked_for graph specifier reference) (entries ≡ other_entries graph specifier reference) (λ asked. (paths : Forest) × ArePathsFor graph asked.0 asked.1 paths × (entries ≡ entries_in paths))
+abbrev pub IsDepAnswer : Rules → GraphView → List ℕ → Reference → List EntryView → Type 0
+IsDepAnswer rules graph specifier reference entries = MatchOption (asked_for graph specifier reference) (entries ≡ other_entries graph specifier reference) (λ asked. (paths : Forest) × ArePathsFor rules graph asked.0 asked.1 paths × (entries ≡ entries_in paths))
 
 -- for inner functions: the paths that were found of a symbol under parts, or the one unresolved entry
-abbrev pub ArePathsOf : GraphView → Option Asked → Forest → Forest → Type 0
-ArePathsOf graph asked otherwise paths = MatchOption asked (paths ≡ otherwise) (λ it. ArePathsFor graph it.0 it.1 paths × (paths ≡ paths_under graph it.0 it.1))
+abbrev pub ArePathsOf : Rules → GraphView → Option Asked → Forest → Forest → Type 0
+ArePathsOf rules graph asked otherwise paths = MatchOption asked (paths ≡ otherwise) (λ it. ArePathsFor rules graph it.0 it.1 paths × (paths ≡ paths_under rules graph it.0 it.1))
 
 -- no answer: no module of this number is stored, and nothing changes; else what was refused is a module that is needed on from the module, or from that which an import type stands for, or memory
 pub data IsDepRefused (root : RootView) (specifier : List ℕ) (reference : Reference) (fault : SymbolsFault) : Type 0 where

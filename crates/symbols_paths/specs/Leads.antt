@@ -1,5 +1,5 @@
 -- Where the declarations of symbols lead: a matter of the graph alone.
-use Rattle.std.specs.Prelude.{◌≡◌, ℕ, List, [], ◌∷◌, map, Option, Some, None, slice_get}
+use Rattle.std.specs.Prelude.{◌≡◌, ℕ, Bool, true, not, if◌then◌else◌, List, [], ◌∷◌, map, Option, Some, None, slice_get}
 use Rattle.std.specs.List.{filter_map}
 use Rattle.std.specs.Map.{lookup}
 use Rattle.std.specs.Option.{option_map, option_map_or, option_and_then}
@@ -11,8 +11,10 @@ use Rattle.symbols_syntax.specs.Ids.{IdView}
 use Rattle.symbols_table.specs.Changes.{mapped_after}
 use Rattle.symbols_table.specs.DeclViews.{all_names, one_name, DepView, DeclKind, target, qualified_target, file_ref, definition, Declaration}
 use Rattle.symbols_table.specs.SymbolViews.{SymbolView, symbol_after}
+use Rattle.symbols_root.specs.declared.root.rules.Rules.{Rules}
+use Rattle.symbols_root.specs.declared.root.rules.Rules.TheVariants.{Deno, Strict}
 use Rattle.symbols_root.specs.GraphModules.{changes_under}
-use Rattle.symbols_exports.specs.Exports.{Entry}
+use Rattle.symbols_exports.specs.Exports.{Entry, default_name}
 use Rattle.symbols_exports.specs.OneName.{export_named}
 use Rattle.symbols_exports.specs.StarStatements.{text_target, statements_of, owned_of}
 use Rattle.symbols_paths.specs.Trees.{NamedSymbol, Parts, Missing, no_symbol, no_module, no_part}
@@ -66,14 +68,23 @@ export_along graph name leads_to = option_map (λ (entry : Entry). record { spec
 abbrev pub exports_along : GraphView → List ℕ → List ℕ → List NamedSymbol
 exports_along graph specifier name = filter_map (export_along graph name) (statements_of graph specifier)
 
--- an import of a name from a module: the symbol that the module exports itself, else those along its statements `export *`
-abbrev pub ways_into : GraphView → NamedSymbol → List ℕ → List ℕ → Option SymbolId → Ways
-ways_into graph s name specifier (Some owned) = to_owned s (record { specifier = specifier; number = owned })
-ways_into graph s name specifier None = record { symbol = s; parts = []; candidates = exports_along graph specifier name; otherwise = Some (record { specifier = specifier; reason = no_part name; parts = [] }) }
+-- whether the statements `export *` pass a name on: by strict rules no `export *` passes `default` on
+abbrev pub passes_on : Rules → List ℕ → Bool
+passes_on Deno name = true
+passes_on Strict name = not (bytes_eq name default_name)
 
-abbrev pub import_ways : GraphView → NamedSymbol → List ℕ → List ℕ → Option (List ℕ) → Ways
-import_ways graph s name text None = to_missing s [] (record { specifier = s.specifier; reason = no_module text; parts = [] })
-import_ways graph s name text (Some specifier) = ways_into graph s name specifier (own_export graph specifier name)
+-- the exports of that name along the module's statements `export *` that the rules let pass
+abbrev pub holding : Rules → GraphView → List ℕ → List ℕ → List NamedSymbol
+holding rules graph specifier name = if passes_on rules name then exports_along graph specifier name else []
+
+-- an import of a name from a module: the symbol that the module exports itself, else those that its statements `export *` pass on
+abbrev pub ways_into : Rules → GraphView → NamedSymbol → List ℕ → List ℕ → Option SymbolId → Ways
+ways_into rules graph s name specifier (Some owned) = to_owned s (record { specifier = specifier; number = owned })
+ways_into rules graph s name specifier None = record { symbol = s; parts = []; candidates = holding rules graph specifier name; otherwise = Some (record { specifier = specifier; reason = no_part name; parts = [] }) }
+
+abbrev pub import_ways : Rules → GraphView → NamedSymbol → List ℕ → List ℕ → Option (List ℕ) → Ways
+import_ways rules graph s name text None = to_missing s [] (record { specifier = s.specifier; reason = no_module text; parts = [] })
+import_ways rules graph s name text (Some specifier) = ways_into rules graph s name specifier (own_export graph specifier name)
 
 -- another name of the module: the symbol that it stands for, which the link tells
 abbrev pub target_ways : NamedSymbol → Option SymbolId → Ways
@@ -85,16 +96,16 @@ abbrev pub alias_lead : NamedSymbol → IdView → Parts → Option SymbolId →
 alias_lead s id parts None = leads (to_missing s parts (record { specifier = s.specifier; reason = no_symbol id; parts = parts }))
 alias_lead s id parts (Some t) = alias (record { specifier = s.specifier; number = t }) parts
 
-abbrev pub lead_of : GraphView → NamedSymbol → SourceRange → DeclKind → Lead
-lead_of graph s range (definition _) = defines range None
-lead_of graph s range (file_ref all_names text) = defines range (Some (record { name = all_names; specifier = text }))
-lead_of graph s range (file_ref (one_name name) text) = leads (import_ways graph s name text (text_target graph s.specifier text))
-lead_of graph s range (target id) = leads (target_ways s (symbol_of_id graph s.specifier id))
-lead_of graph s range (qualified_target id parts) = alias_lead s id parts (symbol_of_id graph s.specifier id)
+abbrev pub lead_of : Rules → GraphView → NamedSymbol → SourceRange → DeclKind → Lead
+lead_of rules graph s range (definition _) = defines range None
+lead_of rules graph s range (file_ref all_names text) = defines range (Some (record { name = all_names; specifier = text }))
+lead_of rules graph s range (file_ref (one_name name) text) = leads (import_ways rules graph s name text (text_target graph s.specifier text))
+lead_of rules graph s range (target id) = leads (target_ways s (symbol_of_id graph s.specifier id))
+lead_of rules graph s range (qualified_target id parts) = alias_lead s id parts (symbol_of_id graph s.specifier id)
 
 -- the declarations of a symbol; none where the module has no such symbol
 abbrev pub declarations_of : GraphView → NamedSymbol → List Declaration
 declarations_of graph s = option_map_or (λ (symbol : SymbolView). symbol.decls) (symbol_after (changes_under graph s.specifier) s.number) []
 
-abbrev pub leads_of : GraphView → Leads
-leads_of graph s = map (λ (decl : Declaration). lead_of graph s decl.range decl.kind) (declarations_of graph s)
+abbrev pub leads_of : Rules → GraphView → Leads
+leads_of rules graph s = map (λ (decl : Declaration). lead_of rules graph s decl.range decl.kind) (declarations_of graph s)

@@ -8,6 +8,7 @@ use Rattle.symbols_syntax.specs.Graph.{GraphView}
 use Rattle.symbols_nodes.specs.NodeTests.{is_class}
 use Rattle.symbols_table.specs.DeclViews.{DepView, node_test}
 use Rattle.symbols_table.specs.SymbolViews.{SymbolView, symbol_after}
+use Rattle.symbols_root.specs.declared.root.rules.Rules.{Rules}
 use Rattle.symbols_root.specs.Roots.{RootView}
 use Rattle.symbols_root.specs.GraphModules.{changes_under}
 use Rattle.symbols_exports.specs.Exports.{Entry}
@@ -64,9 +65,9 @@ defined_part graph decl part rest None = own_part graph decl part rest (export_o
 abbrev pub part_of : GraphView → PartWays
 part_of graph x part rest = defined_part graph x.decl part rest x.star
 
-abbrev pub links_of : GraphView → Links
-links_of graph = record { leads = leads_of graph; part = part_of graph }
+abbrev pub links_of : Rules → GraphView → Links
+links_of rules graph = record { leads = leads_of rules graph; part = part_of graph }
 
--- that by which a root searches: its graph's
+-- those by which a root searches: by its rules, in its graph
 abbrev pub links_in : RootView → Links
-links_in root = links_of root.graph
+links_in root = links_of root.rules root.graph

@@ -2,8 +2,9 @@
 use Rattle.std.specs.Prelude.{◌≡◌, ℕ, List, [], ◌∷◌, ◌++◌, Bool, true, false, if◌then◌else◌, Some, slice_get, Contains}
 use Rattle.std.specs.Option.{option_map_or}
 use Rattle.symbols_syntax.specs.Graph.{GraphView}
+use Rattle.symbols_root.specs.declared.root.rules.Rules.{Rules}
 use Rattle.symbols_paths.specs.Trees.{NamedSymbol, NamedDecl, Parts, Defined, Missing, no_part, Leaf, definition, unresolved, Tree, Forest, leaf, link, none, more}
-use Rattle.symbols_paths.specs.Leads.{Lead, Leads, defines, leads, alias, StandsAt, exports_along, leads_of}
+use Rattle.symbols_paths.specs.Leads.{Lead, Leads, defines, leads, alias, StandsAt, holding, leads_of}
 use Rattle.symbols_paths.specs.PartWays.{to, itself, lacks, Links, links_of}
 use Rattle.symbols_paths.specs.Derived.{defined_at}
 
@@ -90,8 +91,8 @@ abbrev mutual
   outer_leaves_in table none = []
   outer_leaves_in table (more t f) = outer_leaves_of table t ++ outer_leaves_in table f
 
--- a part that isn't resolved in a module, behind no alias, stands only where all leaves of first reach of each of its exports along `export *` stand
-abbrev pub IsPartLast : GraphView → Forest → List Leaf → Type 0
-IsPartLast graph paths xs =
-    (specifier name : List ℕ) (parts : Parts) → Contains (outer_leaves_in (leads_of graph) paths) (unresolved (record { specifier = specifier; reason = no_part name; parts = parts })) →
-    (c : NamedSymbol) → Contains (exports_along graph specifier name) c → (x : Leaf) → IsNearLeaf (links_of graph) c x → Contains xs x
+-- a part that isn't resolved in a module, behind no alias, stands only where all leaves of first reach of each of its exports that `export *` passes on stand
+abbrev pub IsPartLast : Rules → GraphView → Forest → List Leaf → Type 0
+IsPartLast rules graph paths xs =
+    (specifier name : List ℕ) (parts : Parts) → Contains (outer_leaves_in (leads_of rules graph) paths) (unresolved (record { specifier = specifier; reason = no_part name; parts = parts })) →
+    (c : NamedSymbol) → Contains (holding rules graph specifier name) c → (x : Leaf) → IsNearLeaf (links_of rules graph) c x → Contains xs x

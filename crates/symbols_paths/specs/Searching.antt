@@ -6,6 +6,7 @@ use Rattle.symbols_syntax.specs.declared.ids.UniqueSymbolId.{UniqueSymbolId}
 use Rattle.symbols_syntax.specs.Graph.{GraphView}
 use Rattle.symbols_syntax.specs.Ids.{id_view}
 use Rattle.symbols_table.specs.DeclViews.{Declaration, file_ref, one_name}
+use Rattle.symbols_root.specs.declared.root.rules.Rules.{Rules}
 use Rattle.symbols_root.specs.Roots.{RootView, specifier_in}
 use Rattle.symbols_root.specs.Growing.{HasGrown}
 use Rattle.symbols_exports.specs.StarStatements.{text_target}
@@ -16,8 +17,8 @@ use Rattle.symbols_paths.specs.declared.paths.parts.PartWay.{PartWay as ReadWay}
 use Rattle.symbols_paths.specs.declared.paths.parts.PartWay.TheVariants as way
 use Rattle.symbols_paths.specs.declared.paths.resolving.AliasDecl.{AliasDecl}
 use Rattle.symbols_paths.specs.declared.paths.trail.Trail.{Trail}
-use Rattle.symbols_paths.specs.Trees.{NamedSymbol, NamedDecl, Parts, definition, Forest, leaf, none}
-use Rattle.symbols_paths.specs.Leads.{Ways, Lead, defines, leads, alias, nowhere, target_ways, alias_lead, import_ways, ways_into, declarations_of, lead_of}
+use Rattle.symbols_paths.specs.Trees.{NamedSymbol, NamedDecl, Parts, no_part, definition, Forest, leaf, none}
+use Rattle.symbols_paths.specs.Leads.{Ways, Lead, defines, leads, alias, nowhere, target_ways, alias_lead, exports_along, import_ways, declarations_of, lead_of}
 use Rattle.symbols_paths.specs.PartWays.{PartWay, to, itself, lacks, Links, links_in}
 use Rattle.symbols_paths.specs.Choice.{is_running, Finds, Follows, Tries, Walks, ChangesOne}
 use Rattle.symbols_paths.specs.Computed.{enough}
@@ -35,13 +36,13 @@ pub data Resolves (links : Links) (limit : ℕ) (running : List NamedDecl) (decl
   by_walk : {f : Forest} {after : List NamedSymbol} → is_running running decl ≡ false → length running < limit → length after ≤ limit → Walks links limit (running ++ decl ∷ []) [] t ps f after → Resolves links limit running decl t ps f
 
 -- where a declaration that was read leads
-abbrev pub lead_told : GraphView → NamedSymbol → ReadLead → Lead
-lead_told graph s (read.Defines kind range) = defines range (star_of kind)
-lead_told graph s read.Nowhere = leads (nowhere s)
-lead_told graph s (read.Target t) = leads (target_ways s (Some t))
-lead_told graph s (read.Unmapped id parts) = alias_lead s (id_view id.now) (parts_told parts) None
-lead_told graph s (read.Alias t parts) = alias (record { specifier = s.specifier; number = t }) (parts_told parts)
-lead_told graph s (read.Import taken) = leads (import_ways graph s taken.name.now taken.text.now (text_target graph s.specifier taken.text.now))
+abbrev pub lead_told : Rules → GraphView → NamedSymbol → ReadLead → Lead
+lead_told rules graph s (read.Defines kind range) = defines range (star_of kind)
+lead_told rules graph s read.Nowhere = leads (nowhere s)
+lead_told rules graph s (read.Target t) = leads (target_ways s (Some t))
+lead_told rules graph s (read.Unmapped id parts) = alias_lead s (id_view id.now) (parts_told parts) None
+lead_told rules graph s (read.Alias t parts) = alias (record { specifier = s.specifier; number = t }) (parts_told parts)
+lead_told rules graph s (read.Import taken) = leads (import_ways rules graph s taken.name.now taken.text.now (text_target graph s.specifier taken.text.now))
 
 -- an import that was read is one by this name and text
 abbrev pub IsImportOf : ReadLead → Declaration → Type 0
@@ -49,10 +50,10 @@ IsImportOf (read.Import taken) decl = decl.kind ≡ file_ref (one_name taken.nam
 IsImportOf _ decl = Unit {0}
 
 -- a declaration of a symbol, as it was read
-pub record IsRead (graph : GraphView) (s : NamedSymbol) (index : ℕ) (lead : ReadLead) : Type 0 where
+pub record IsRead (rules : Rules) (graph : GraphView) (s : NamedSymbol) (index : ℕ) (lead : ReadLead) : Type 0 where
   pub decl : Declaration
   pub stands : slice_get (declarations_of graph s) index ≡ Some decl
-  pub leads_so : lead_told graph s lead ≡ lead_of graph s decl.range decl.kind
+  pub leads_so : lead_told rules graph s lead ≡ lead_of rules graph s decl.range decl.kind
   pub imports : IsImportOf lead decl
 
 -- a declaration of the symbol is an import of this name from this text
@@ -101,18 +102,18 @@ abbrev pub IsFound : RootView → List AliasDecl → List UniqueSymbolId → Uni
 IsFound root running before s paths after = (later : RootView) → HasGrown root later → Finds (links_in later) enough (running_told later running) (met_told later before) (named later s) (trails_told later paths) (met_told later after)
 
 abbrev pub IsFollowed : RootView → List AliasDecl → List UniqueSymbolId → UniqueSymbolId → ℕ → ReadLead → Option Trail → List UniqueSymbolId → Type 0
-IsFollowed root running before s index lead path after = (later : RootView) → HasGrown root later → Follows (links_in later) enough (running_told later running) (met_told later before) (named later s) index (lead_told later.graph (named later s) lead) (trails_of_option later path) (met_told later after)
+IsFollowed root running before s index lead path after = (later : RootView) → HasGrown root later → Follows (links_in later) enough (running_told later running) (met_told later before) (named later s) index (lead_told later.rules later.graph (named later s) lead) (trails_of_option later path) (met_told later after)
 
 -- what the ways of an import came to
-abbrev pub IsTried : RootView → List AliasDecl → List UniqueSymbolId → (GraphView → RootView → Ways) → List Trail → List UniqueSymbolId → Type 0
-IsTried root running before ways paths after = (later : RootView) → HasGrown root later → Tries (links_in later) enough (running_told later running) (met_told later before) (ways later.graph later).candidates (ways later.graph later).otherwise (trails_told later paths) (met_told later after)
+abbrev pub IsTried : RootView → List AliasDecl → List UniqueSymbolId → (RootView → Ways) → List Trail → List UniqueSymbolId → Type 0
+IsTried root running before ways paths after = (later : RootView) → HasGrown root later → Tries (links_in later) enough (running_told later running) (met_told later before) (ways later).candidates (ways later).otherwise (trails_told later paths) (met_told later after)
 
-abbrev pub ways_of_import : UniqueSymbolId → List ℕ → List ℕ → GraphView → RootView → Ways
-ways_of_import s name text graph root = import_ways graph (named root s) name text (text_target graph (named root s).specifier text)
+abbrev pub ways_of_import : UniqueSymbolId → List ℕ → List ℕ → RootView → Ways
+ways_of_import s name text root = import_ways root.rules root.graph (named root s) name text (text_target root.graph (named root s).specifier text)
 
--- with a symbol of that module in the place of the importing one, which no candidate tells
-abbrev pub ways_along : ModuleId → List ℕ → GraphView → RootView → Ways
-ways_along module_id name graph root = ways_into graph (named_in root module_id (record { 0 = 0 })) name (specifier_in root module_id) None
+-- along the statements `export *`, with a symbol of that module in the place of the importing one, which no candidate tells
+abbrev pub ways_along : ModuleId → List ℕ → RootView → Ways
+ways_along module_id name root = record { symbol = named_in root module_id (record { 0 = 0 }); parts = []; candidates = exports_along root.graph (specifier_in root module_id) name; otherwise = Some (record { specifier = specifier_in root module_id; reason = no_part name; parts = [] }) }
 
 -- what a candidate came to; nothing where there is none
 abbrev pub IsOffered : RootView → List AliasDecl → List UniqueSymbolId → Option UniqueSymbolId → List Trail → List UniqueSymbolId → Type 0

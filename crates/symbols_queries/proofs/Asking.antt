@@ -19,6 +19,8 @@ use Rattle.symbols_table.specs.Modules.{Table, symbol_in}
 use Rattle.symbols_table.specs.QualifiedNames.{qualified_name, IsNameFault}
 use Rattle.symbols_table.specs.Symbols.{decls_in}
 use Rattle.symbols_table.specs.SymbolViews.{SymbolView, symbol_view}
+use Rattle.symbols_root.specs.declared.root.rules.Rules.{Rules}
+use Rattle.symbols_root.specs.declared.root.rules.Rules.TheVariants.{Deno, Strict}
 use Rattle.symbols_root.specs.GraphModules.{changes_under, symbol_under}
 use Rattle.symbols_root.specs.Growing.{HasGrown}
 use Rattle.symbols_root.specs.Roots.{RootView, IsRefusal, IsStoredTable, specifier_in}
@@ -30,6 +32,8 @@ use Rattle.symbols_exports.specs.PublicNames.{NameItem, IsNamesAnswer}
 use Rattle.symbols_exports.specs.StarStatements.{statements_of}
 use Rattle.symbols_exports.specs.Taking.{NameView}
 use Rattle.symbols_exports.specs.Told.{ToldExport, ToldStatement, told_name, told_number}
+use Rattle.symbols_exports.specs.Shared.{Shared}
+use Rattle.symbols_exports.specs.Sharing.{shared_of, told_sharing, shared_told, shared_by}
 use Rattle.symbols_exports.specs.Ways.{exports_of, unresolved_of}
 use Rattle.symbols_paths.specs.Answers.{symbol_in as symbol_stored, ArePaths, IsPathsFault}
 use Rattle.symbols_paths.specs.DepAnswers.{EntryView, IsDepAnswer, entries_of, IsDepRefused, on_the_way, of_import, IsDepFault}
@@ -38,7 +42,7 @@ use Rattle.symbols_paths.specs.Trees.{Forest}
 use Rattle.symbols_paths.specs.Views.{named_in}
 use Rattle.symbols_answers.specs.Questions.{QuestionView, asks_module, asks_exports, asks_names, asks_symbol, asks_name, asks_deps, asks_entries}
 use Rattle.symbols_answers.specs.Answers.{AnswerView, tells_module, tells_exports, tells_names, tells_symbol, tells_name, tells_deps, tells_entries}
-use Rattle.symbols_answers.specs.QueryAnswers.{paths_from, dependencies_told, told_of, module_answer}
+use Rattle.symbols_answers.specs.QueryAnswers.{by_strict, paths_from, dependencies_told, told_of, module_answer}
 use Rattle.symbols_answers.specs.Meanings.{TellsPaths, IsModuleAnswer}
 use Rattle.symbols_answers.specs.Stored.{modules_told, IsOnExports, HasStored}
 use Rattle.symbols_queries.specs.Given.{IsGiven}
@@ -64,10 +68,10 @@ answered answer given is = λ none_told. none-some given (sym none_told ∙ is)
 
 -- ---- faults
 
-pub out_of_memory : (old new : RootView) (specifier : List ℕ) (question : QuestionView) → module_answer old.graph specifier question ≢ None → IsQuestionFault old new specifier question fault.OutOfMemory
+pub out_of_memory : (old new : RootView) (specifier : List ℕ) (question : QuestionView) → module_answer old.rules old.graph specifier question ≢ None → IsQuestionFault old new specifier question fault.OutOfMemory
 out_of_memory old new specifier question has = inr (record { has_answer = has; needed = None; is_needed = λ v e. absurd (none-some v e); refused = tt })
 
-pub memory_refused : {A : Type 0} (r : Result A SymbolsFault) (old new : RootView) (specifier : List ℕ) (question : QuestionView) → module_answer old.graph specifier question ≢ None → IsErrAnd r (λ e. e ≡ fault.OutOfMemory) → IfErr r (IsQuestionFault old new specifier question)
+pub memory_refused : {A : Type 0} (r : Result A SymbolsFault) (old new : RootView) (specifier : List ℕ) (question : QuestionView) → module_answer old.rules old.graph specifier question ≢ None → IsErrAnd r (λ e. e ≡ fault.OutOfMemory) → IfErr r (IsQuestionFault old new specifier question)
 memory_refused (Ok x) old new specifier question has h = tt
 memory_refused (Err e) old new specifier question has h = subst (IsQuestionFault old new specifier question) (sym h) (out_of_memory old new specifier question has)
 
@@ -131,7 +135,7 @@ unnamed_symbol root module_id table stored s f is = by (symbol_in table s) f (sy
     by None fault.UnknownModule e w = absurd w
     by None fault.UnknownSymbol e w = inl (record { none_told = ap (λ o. told_of o (tells_name (qualified_name (symbol_under root.graph (specifier_in root module_id)) s))) e; fault_is = refl; unchanged = refl })
     by (Some symbol) fault.OutOfMemory e w =
-        out_of_memory root root (specifier_in root module_id) (asks_name s) (answered (module_answer root.graph (specifier_in root module_id) (asks_name s)) (tells_name (qualified_name (symbol_under root.graph (specifier_in root module_id)) s)) (ap (λ o. told_of o (tells_name (qualified_name (symbol_under root.graph (specifier_in root module_id)) s))) e))
+        out_of_memory root root (specifier_in root module_id) (asks_name s) (answered (module_answer root.rules root.graph (specifier_in root module_id) (asks_name s)) (tells_name (qualified_name (symbol_under root.graph (specifier_in root module_id)) s)) (ap (λ o. told_of o (tells_name (qualified_name (symbol_under root.graph (specifier_in root module_id)) s))) e))
     by (Some symbol) fault.TooManyModules e w = absurd w
     by (Some symbol) (fault.TooManySymbols text) e w = absurd w
     by (Some symbol) fault.UnknownModule e w = absurd w
@@ -140,20 +144,20 @@ unnamed_symbol root module_id table stored s f is = by (symbol_in table s) f (sy
 symbol_here : (root : RootView) (module_id : ModuleId) (table : Table) → IsStoredTable root module_id table → (s : SymbolId) (symbol : Symbol) → Some symbol ≡ slice_get table.symbols s.0 → Some (symbol_view symbol) ≡ symbol_under root.graph (specifier_in root module_id) s
 symbol_here root module_id table stored s symbol at = ap (option_map symbol_view) at ∙ stored_symbol root module_id table stored s
 
-deps_are : (root : RootView) (module_id : ModuleId) (table : Table) → IsStoredTable root module_id table → (s : SymbolId) (mode : ResolveDepsMode) (symbol : Symbol) → Some symbol ≡ slice_get table.symbols s.0 → module_answer root.graph (specifier_in root module_id) (asks_deps s mode) ≡ Some (tells_deps (map (decl_dependencies mode) (decls_in symbol)))
+deps_are : (root : RootView) (module_id : ModuleId) (table : Table) → IsStoredTable root module_id table → (s : SymbolId) (mode : ResolveDepsMode) (symbol : Symbol) → Some symbol ≡ slice_get table.symbols s.0 → module_answer root.rules root.graph (specifier_in root module_id) (asks_deps s mode) ≡ Some (tells_deps (map (decl_dependencies mode) (decls_in symbol)))
 deps_are root module_id table stored s mode symbol at = ap (option_map (dependencies_told mode)) (sym (symbol_here root module_id table stored s symbol at))
 
 pub deps_given : (root : RootView) (module_id : ModuleId) (table : Table) → module_id.0 < length root.stored → IsStoredTable root module_id table → (s : SymbolId) (mode : ResolveDepsMode) (symbol : Symbol) (deps : List (List Dependency)) → Some symbol ≡ slice_get table.symbols s.0 → deps ≡ map (decl_dependencies mode) (decls_in symbol) → IsGiven root root (specifier_in root module_id) (asks_deps s mode) (tells_deps deps)
 deps_given root module_id table known stored s mode symbol deps at same =
-    let answers : module_answer root.graph (specifier_in root module_id) (asks_deps s mode) ≡ Some (tells_deps deps) = deps_are root module_id table stored s mode symbol at ∙ ap (λ d. Some (tells_deps d)) (sym same) in
+    let answers : module_answer root.rules root.graph (specifier_in root module_id) (asks_deps s mode) ≡ Some (tells_deps deps) = deps_are root module_id table stored s mode symbol at ∙ ap (λ d. Some (tells_deps d)) (sym same) in
     record {
       answers = answers;
       means = sym answers;
       stored = stored_for root root module_id (asks_deps s mode) (tells_deps deps) (grown_not root) known (λ is. is) (All-nil (Contains root.stored));
     }
 
-pub deps_answered : (root : RootView) (module_id : ModuleId) (table : Table) → IsStoredTable root module_id table → (s : SymbolId) (mode : ResolveDepsMode) (symbol : Symbol) → Some symbol ≡ slice_get table.symbols s.0 → module_answer root.graph (specifier_in root module_id) (asks_deps s mode) ≢ None
-deps_answered root module_id table stored s mode symbol at = answered (module_answer root.graph (specifier_in root module_id) (asks_deps s mode)) (tells_deps (map (decl_dependencies mode) (decls_in symbol))) (deps_are root module_id table stored s mode symbol at)
+pub deps_answered : (root : RootView) (module_id : ModuleId) (table : Table) → IsStoredTable root module_id table → (s : SymbolId) (mode : ResolveDepsMode) (symbol : Symbol) → Some symbol ≡ slice_get table.symbols s.0 → module_answer root.rules root.graph (specifier_in root module_id) (asks_deps s mode) ≢ None
+deps_answered root module_id table stored s mode symbol at = answered (module_answer root.rules root.graph (specifier_in root module_id) (asks_deps s mode)) (tells_deps (map (decl_dependencies mode) (decls_in symbol))) (deps_are root module_id table stored s mode symbol at)
 
 pub no_deps : (root : RootView) (module_id : ModuleId) (table : Table) → IsStoredTable root module_id table → (s : SymbolId) (mode : ResolveDepsMode) → None ≡ slice_get table.symbols s.0 → IsQuestionFault root root (specifier_in root module_id) (asks_deps s mode) fault.UnknownSymbol
 no_deps root module_id table stored s mode at =
@@ -162,29 +166,41 @@ no_deps root module_id table stored s mode at =
 
 -- ---- exports
 
-pub exports_given : (old new : RootView) (module_id : ModuleId) (names : List NameView) (unresolved : List (ModuleId × List ℕ)) (steps : ℕ) (told : List ToldExport) (statements : List ToldStatement) → HasGrown old new → IsAnswer old new module_id names unresolved steps → AreListed old.graph (specifier_in old module_id) → told ≡ map (told_name new) names → statements ≡ map (told_number new) unresolved → IsGiven old new (specifier_in old module_id) asks_exports (tells_exports told statements)
-exports_given old new module_id names unresolved steps told statements grown is listed named stated = record {
-  answers = λ i. Some (tells_exports (sym (named ∙ is.names_tell) i) (sym (stated ∙ is.unresolved_tell) i));
-  means = record {
-    entries = exports_of old.graph (specifier_in old module_id);
-    are_exports = listed.are_exports;
-    missed = unresolved_of old.graph (specifier_in old module_id);
-    are_unresolved = listed.are_unresolved;
-    is = λ i. tells_exports ((named ∙ is.names_tell) i) ((stated ∙ is.unresolved_tell) i);
-  };
-  stored = record {
-    asked = still_there old new (specifier_in old module_id) grown (number_stored old module_id is.known);
-    reached = λ asked end w. reached_there old new module_id names unresolved steps grown.graph is end w;
-    named = subst (λ (given : AnswerView). All (Contains new.stored) (modules_told given)) (λ i. tells_exports (sym named i) (sym stated i)) (exports_there new names unresolved is.names_stored is.unresolved_stored);
-  };
-}
+-- by strict rules what is told of the shared names is what they are
+sharing_is : (rules : Rules) (graph : GraphView) (start : List ℕ) (told : List (Shared ToldExport)) → told ≡ shared_by rules graph start → by_strict rules told ≡ by_strict rules (shared_told graph start)
+sharing_is Deno graph start told is = refl
+sharing_is Strict graph start told is = ap Some is
 
-pub exports_answered : (graph : GraphView) (specifier : List ℕ) → module_answer graph specifier asks_exports ≢ None
-exports_answered graph specifier = λ none_told. let no : ⊥ = cc in no
+pub exports_given : (old new : RootView) (module_id : ModuleId) (names : List NameView) (shared : List (Shared NameView)) (unresolved : List (ModuleId × List ℕ)) (steps : ℕ) (told : List ToldExport) (sharing : Option (List (Shared ToldExport))) (statements : List ToldStatement)
+    → HasGrown old new → IsAnswer old new module_id names shared unresolved steps → AreListed old.graph (specifier_in old module_id)
+    → told ≡ map (told_name new) names → sharing ≡ by_strict new.rules (map (told_sharing new) shared) → statements ≡ map (told_number new) unresolved
+    → IsGiven old new (specifier_in old module_id) asks_exports (tells_exports told sharing statements)
+exports_given old new module_id names shared unresolved steps told sharing statements grown is listed named shares stated =
+    let tells : sharing ≡ by_strict old.rules (shared_told old.graph (specifier_in old module_id)) = shares ∙ (ap (λ rules. by_strict rules (map (told_sharing new) shared)) grown.rules ∙ sharing_is old.rules old.graph (specifier_in old module_id) (map (told_sharing new) shared) is.shared_tell) in
+    record {
+      answers = λ i. Some (tells_exports (sym (named ∙ is.names_tell) i) (sym tells i) (sym (stated ∙ is.unresolved_tell) i));
+      means = record {
+        entries = exports_of old.graph (specifier_in old module_id);
+        are_exports = listed.are_exports;
+        shared = shared_of old.graph (specifier_in old module_id);
+        are_shared = listed.are_shared;
+        missed = unresolved_of old.graph (specifier_in old module_id);
+        are_unresolved = listed.are_unresolved;
+        is = λ i. tells_exports ((named ∙ is.names_tell) i) (tells i) ((stated ∙ is.unresolved_tell) i);
+      };
+      stored = record {
+        asked = still_there old new (specifier_in old module_id) grown (number_stored old module_id is.known);
+        reached = λ asked end w. reached_there old new module_id names shared unresolved steps grown.graph is end w;
+        named = subst (λ (given : AnswerView). All (Contains new.stored) (modules_told given)) (λ i. tells_exports (sym named i) (sym shares i) (sym stated i)) (exports_there new new.rules names shared unresolved is.names_stored is.shared_stored is.unresolved_stored);
+      };
+    }
+
+pub exports_answered : (rules : Rules) (graph : GraphView) (specifier : List ℕ) → module_answer rules graph specifier asks_exports ≢ None
+exports_answered rules graph specifier = λ none_told. let no : ⊥ = cc in no
 
 pub exports_refused : (old new : RootView) (module_id : ModuleId) (f : SymbolsFault) (steps : ℕ) → module_id.0 < length old.stored → IsFault old new module_id f steps → IsQuestionFault old new (specifier_in old module_id) asks_exports f
 exports_refused old new module_id f steps known (inl is) = absurd (omega (arith, is.unknown, known))
-exports_refused old new module_id f steps known (inr is) = inr (record { has_answer = exports_answered old.graph (specifier_in old module_id); needed = is.needed; is_needed = is.is_reached; refused = is.refused })
+exports_refused old new module_id f steps known (inr is) = inr (record { has_answer = exports_answered old.rules old.graph (specifier_in old module_id); needed = is.needed; is_needed = is.is_reached; refused = is.refused })
 
 -- ---- public names
 
@@ -204,34 +220,34 @@ names_given old new module_id names grown is once listed = record {
   };
 }
 
-names_answered : (graph : GraphView) (specifier : List ℕ) → module_answer graph specifier asks_names ≢ None
-names_answered graph specifier = λ none_told. let no : ⊥ = cc in no
+names_answered : (rules : Rules) (graph : GraphView) (specifier : List ℕ) → module_answer rules graph specifier asks_names ≢ None
+names_answered rules graph specifier = λ none_told. let no : ⊥ = cc in no
 
 pub names_refused : (old new : RootView) (module_id : ModuleId) (f : SymbolsFault) (steps : ℕ) → module_id.0 < length old.stored → IsFault old new module_id f steps → IsQuestionFault old new (specifier_in old module_id) asks_names f
 names_refused old new module_id f steps known (inl is) = absurd (omega (arith, is.unknown, known))
-names_refused old new module_id f steps known (inr is) = inr (record { has_answer = names_answered old.graph (specifier_in old module_id); needed = is.needed; is_needed = is.is_reached; refused = is.refused })
+names_refused old new module_id f steps known (inr is) = inr (record { has_answer = names_answered old.rules old.graph (specifier_in old module_id); needed = is.needed; is_needed = is.is_reached; refused = is.refused })
 
 -- ---- where a symbol is defined
 
 -- a question on a symbol, which is answered by its paths if there is such a symbol, and needs what the search does
-module _ (question : QuestionView) (s : SymbolId) (told : Forest → AnswerView) (by_told : (graph : GraphView) (specifier : List ℕ) → module_answer graph specifier question ≡ told_of (symbol_under graph specifier s) (told (paths_from graph specifier s))) (by_means : (graph : GraphView) (specifier : List ℕ) (given : AnswerView) → TellsPaths graph specifier s told given → IsModuleAnswer graph specifier question given) (asks : (graph : GraphView) (specifier v : List ℕ) → IsNeeded graph specifier v → IsAskedFor graph specifier question v) (other : IsOther question) where
-  found_told : (old : RootView) (module_id : ModuleId) → symbol_stored old module_id s ≢ None → module_answer old.graph (specifier_in old module_id) question ≡ Some (told (paths_from old.graph (specifier_in old module_id) s))
-  found_told old module_id has = by_told old.graph (specifier_in old module_id) ∙ told_there (symbol_under old.graph (specifier_in old module_id) s) (told (paths_from old.graph (specifier_in old module_id) s)) has
+module _ (question : QuestionView) (s : SymbolId) (told : Forest → AnswerView) (by_told : (rules : Rules) (graph : GraphView) (specifier : List ℕ) → module_answer rules graph specifier question ≡ told_of (symbol_under graph specifier s) (told (paths_from rules graph specifier s))) (by_means : (rules : Rules) (graph : GraphView) (specifier : List ℕ) (given : AnswerView) → TellsPaths rules graph specifier s told given → IsModuleAnswer rules graph specifier question given) (asks : (graph : GraphView) (specifier v : List ℕ) → IsNeeded graph specifier v → IsAskedFor graph specifier question v) (other : IsOther question) where
+  found_told : (old : RootView) (module_id : ModuleId) → symbol_stored old module_id s ≢ None → module_answer old.rules old.graph (specifier_in old module_id) question ≡ Some (told (paths_from old.rules old.graph (specifier_in old module_id) s))
+  found_told old module_id has = by_told old.rules old.graph (specifier_in old module_id) ∙ told_there (symbol_under old.graph (specifier_in old module_id) s) (told (paths_from old.rules old.graph (specifier_in old module_id) s)) has
 
-  pub paths_given : (old new : RootView) (module_id : ModuleId) (given : AnswerView) (paths : Forest) → HasGrown old new → module_id.0 < length old.stored → symbol_stored old module_id s ≢ None → ArePaths old.graph (named_in old module_id s) paths → given ≡ told paths → given ≡ told (paths_from old.graph (specifier_in old module_id) s) → All (Contains new.stored) (modules_told given) → IsGiven old new (specifier_in old module_id) question given
+  pub paths_given : (old new : RootView) (module_id : ModuleId) (given : AnswerView) (paths : Forest) → HasGrown old new → module_id.0 < length old.stored → symbol_stored old module_id s ≢ None → ArePaths old.rules old.graph (named_in old module_id s) paths → given ≡ told paths → given ≡ told (paths_from old.rules old.graph (specifier_in old module_id) s) → All (Contains new.stored) (modules_told given) → IsGiven old new (specifier_in old module_id) question given
   paths_given old new module_id given paths grown known has are is listed named = record {
     answers = found_told old module_id has ∙ ap Some (sym listed);
-    means = by_means old.graph (specifier_in old module_id) given (record { paths = paths; are_paths = are; is = is });
+    means = by_means old.rules old.graph (specifier_in old module_id) given (record { paths = paths; are_paths = are; is = is });
     stored = stored_for old new module_id question given grown known other named;
   }
 
-  pub paths_answered : (old : RootView) (module_id : ModuleId) → symbol_stored old module_id s ≢ None → module_answer old.graph (specifier_in old module_id) question ≢ None
-  paths_answered old module_id has = answered (module_answer old.graph (specifier_in old module_id) question) (told (paths_from old.graph (specifier_in old module_id) s)) (found_told old module_id has)
+  pub paths_answered : (old : RootView) (module_id : ModuleId) → symbol_stored old module_id s ≢ None → module_answer old.rules old.graph (specifier_in old module_id) question ≢ None
+  paths_answered old module_id has = answered (module_answer old.rules old.graph (specifier_in old module_id) question) (told (paths_from old.rules old.graph (specifier_in old module_id) s)) (found_told old module_id has)
 
   pub paths_refused : (old new : RootView) (module_id : ModuleId) (f : SymbolsFault) → HasGrown old new → module_id.0 < length old.stored → IsPathsFault old new module_id s f → IsQuestionFault old new (specifier_in old module_id) question f
   paths_refused old new module_id f grown known (inl is) = absurd (omega (arith, is.unknown, known))
   paths_refused old new module_id f grown known (inr (inl is)) =
-      inl (record { none_told = by_told old.graph (specifier_in old module_id) ∙ ap (λ o. told_of o (told (paths_from old.graph (specifier_in old module_id) s))) is.unknown; fault_is = is.fault_is; unchanged = is.unchanged })
+      inl (record { none_told = by_told old.rules old.graph (specifier_in old module_id) ∙ ap (λ o. told_of o (told (paths_from old.rules old.graph (specifier_in old module_id) s))) is.unknown; fault_is = is.fault_is; unchanged = is.unchanged })
   paths_refused old new module_id f grown known (inr (inr is)) =
       inr (record {
         has_answer = paths_answered old module_id is.has_symbol;
@@ -247,15 +263,15 @@ paths_enough old new module_id s f known (inr (inr is)) enough = inl (enough is.
 
 -- ---- references
 
-pub entries_given : (old new : RootView) (module_id : ModuleId) (reference : Reference) (given : List EntryView) → HasGrown old new → module_id.0 < length old.stored → IsDepAnswer old.graph (specifier_in old module_id) reference given → given ≡ entries_of old.graph (specifier_in old module_id) reference → All (Contains new.stored) (modules_told (tells_entries given)) → IsGiven old new (specifier_in old module_id) (asks_entries reference) (tells_entries given)
+pub entries_given : (old new : RootView) (module_id : ModuleId) (reference : Reference) (given : List EntryView) → HasGrown old new → module_id.0 < length old.stored → IsDepAnswer old.rules old.graph (specifier_in old module_id) reference given → given ≡ entries_of old.rules old.graph (specifier_in old module_id) reference → All (Contains new.stored) (modules_told (tells_entries given)) → IsGiven old new (specifier_in old module_id) (asks_entries reference) (tells_entries given)
 entries_given old new module_id reference given grown known is listed named = record {
   answers = ap (λ e. Some (tells_entries e)) (sym listed);
   means = record { entries = given; are_entries = is; is = refl };
   stored = stored_for old new module_id (asks_entries reference) (tells_entries given) grown known (λ is. is) named;
 }
 
-pub entries_answered : (graph : GraphView) (specifier : List ℕ) (reference : Reference) → module_answer graph specifier (asks_entries reference) ≢ None
-entries_answered graph specifier reference = λ none_told. let no : ⊥ = cc in no
+pub entries_answered : (rules : Rules) (graph : GraphView) (specifier : List ℕ) (reference : Reference) → module_answer rules graph specifier (asks_entries reference) ≢ None
+entries_answered rules graph specifier reference = λ none_told. let no : ⊥ = cc in no
 
 needed_here : (graph : GraphView) (specifier : List ℕ) (reference : Reference) (v : List ℕ) → IsNeeded graph specifier v → IsNeededFor graph specifier reference v
 needed_here graph specifier (id name) v is = is
@@ -264,13 +280,13 @@ needed_here graph specifier (import_type text parts) v is = inl is
 
 refused_here : (old new : RootView) (specifier : List ℕ) (reference : Reference) (f : SymbolsFault) → new.graph ≡ old.graph → IsDepRefused new specifier reference f → IsBrokenOff old new specifier (asks_entries reference) f
 refused_here old new specifier reference f same (on_the_way is) = record {
-  has_answer = entries_answered old.graph specifier reference;
+  has_answer = entries_answered old.rules old.graph specifier reference;
   needed = is.needed;
   is_needed = λ v e. needed_here old.graph specifier reference v (subst (λ (g : GraphView). IsNeeded g specifier v) same (is.is_needed v e));
   refused = is.refused;
 }
 refused_here old new specifier reference f same (of_import text parts leads_to is_import stands is) = record {
-  has_answer = entries_answered old.graph specifier reference;
+  has_answer = entries_answered old.rules old.graph specifier reference;
   needed = is.needed;
   is_needed = λ v e. subst (λ (g : GraphView). IsNeededFor g specifier reference v) same (subst (λ (r : Reference). IsNeededFor new.graph specifier r v) (sym is_import) (inr (leads_to, stands, is.is_needed v e)));
   refused = is.refused;

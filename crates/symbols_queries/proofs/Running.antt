@@ -10,6 +10,7 @@ use Rattle.symbols_syntax.specs.declared.ids.ModuleId.{ModuleId}
 use Rattle.symbols_syntax.specs.Graph.{GraphView}
 use Rattle.symbols_table.specs.declared.info.fault.SymbolsFault.{SymbolsFault}
 use Rattle.symbols_table.specs.declared.info.fault.SymbolsFault.TheVariants as fault
+use Rattle.symbols_root.specs.declared.root.rules.Rules.{Rules}
 use Rattle.symbols_root.specs.Growing.{HasGrown}
 use Rattle.symbols_root.specs.Roots.{RootView, with_stored, specifier_under, specifier_in, IsRefusal}
 use Rattle.symbols_root.specs.TypesChains.{stands_for}
@@ -49,18 +50,18 @@ asked_first old mid module_id specifier query same stored gives =
       within = found.within;
     }
 
-answer_by : (graph : GraphView) (query : QueryView) (found : Option (List ℕ)) → stands_for graph query.specifier ≡ found → query_answer graph query ≡ option_map_or (λ (m : List ℕ). module_answer graph m query.question) found (Some tells_nothing)
-answer_by graph query found stands = ap (λ it. option_map_or (λ (m : List ℕ). module_answer graph m query.question) it (Some tells_nothing)) stands
+answer_by : (rules : Rules) (graph : GraphView) (query : QueryView) (found : Option (List ℕ)) → stands_for graph query.specifier ≡ found → query_answer rules graph query ≡ option_map_or (λ (m : List ℕ). module_answer rules graph m query.question) found (Some tells_nothing)
+answer_by rules graph query found stands = ap (λ it. option_map_or (λ (m : List ℕ). module_answer rules graph m query.question) it (Some tells_nothing)) stands
 
 -- the answer on the module is the answer to the query
-answer_is : (old mid : RootView) (query : QueryView) (specifier : List ℕ) → mid.graph ≡ old.graph → stands_for old.graph query.specifier ≡ Some specifier → query_answer old.graph query ≡ module_answer mid.graph specifier query.question
-answer_is old mid query specifier same stands = answer_by old.graph query (Some specifier) stands ∙ ap (λ (g : GraphView). module_answer g specifier query.question) (sym same)
+answer_is : (old mid : RootView) (query : QueryView) (specifier : List ℕ) → HasGrown old mid → stands_for old.graph query.specifier ≡ Some specifier → query_answer old.rules old.graph query ≡ module_answer mid.rules mid.graph specifier query.question
+answer_is old mid query specifier grown stands = answer_by old.rules old.graph query (Some specifier) stands ∙ (λ i. module_answer (sym grown.rules i) (sym grown.graph i) specifier query.question)
 
 pub query_given : (old mid new : RootView) (module_id : ModuleId) (query : QueryView) (given : AnswerView) → IsAsked old mid module_id query → HasGrown mid new → IsGiven mid new (specifier_in mid module_id) query.question given → IsGivenTo old new query given
 query_given old mid new module_id query given asked grown is =
     record {
-      answers = answer_is old mid query (specifier_in mid module_id) asked.grown.graph asked.stands ∙ is.answers;
-      means = subst (λ found. MatchOption found (given ≡ tells_nothing) (λ (m : List ℕ). IsModuleAnswer old.graph m query.question given)) (sym asked.stands) (subst (λ (g : GraphView). IsModuleAnswer g (specifier_in mid module_id) query.question given) asked.grown.graph is.means);
+      answers = answer_is old mid query (specifier_in mid module_id) asked.grown asked.stands ∙ is.answers;
+      means = subst (λ found. MatchOption found (given ≡ tells_nothing) (λ (m : List ℕ). IsModuleAnswer old.rules old.graph m query.question given)) (sym asked.stands) (subst (λ (g : GraphView). IsModuleAnswer old.rules g (specifier_in mid module_id) query.question given) asked.grown.graph (subst (λ (r : Rules). IsModuleAnswer r mid.graph (specifier_in mid module_id) query.question given) asked.grown.rules is.means));
       stored = subst (λ found. IfSome found (λ (m : List ℕ). HasStored new m query.question given)) (sym (ap (λ (g : GraphView). stands_for g query.specifier) (grown.graph ∙ asked.grown.graph) ∙ asked.stands)) is.stored;
     }
 
@@ -69,19 +70,19 @@ pub none_given : (old mid : RootView) (specifier : List ℕ) (query : QueryView)
 none_given old mid specifier query same grown gives =
     let stands : stands_for old.graph query.specifier ≡ None = subst (λ (text : List ℕ). stands_for old.graph text ≡ None) same (no_target (stands_for old.graph specifier) gives) in
     record {
-      answers = answer_by old.graph query None stands;
-      means = subst (λ found. MatchOption found (tells_nothing ≡ tells_nothing) (λ (m : List ℕ). IsModuleAnswer old.graph m query.question tells_nothing)) (sym stands) refl;
+      answers = answer_by old.rules old.graph query None stands;
+      means = subst (λ found. MatchOption found (tells_nothing ≡ tells_nothing) (λ (m : List ℕ). IsModuleAnswer old.rules old.graph m query.question tells_nothing)) (sym stands) refl;
       stored = subst (λ found. IfSome found (λ (m : List ℕ). HasStored mid m query.question tells_nothing)) (sym (ap (λ (g : GraphView). stands_for g query.specifier) grown.graph ∙ stands)) tt;
     }
 
 pub query_refused : (old mid new : RootView) (module_id : ModuleId) (query : QueryView) (f : SymbolsFault) → IsAsked old mid module_id query → HasGrown mid new → IsQuestionFault mid new (specifier_in mid module_id) query.question f → IsQueryFault old new query f
 query_refused old mid new module_id query f asked grown (inl is) = inl (record {
-  no_answer = answer_is old mid query (specifier_in mid module_id) asked.grown.graph asked.stands ∙ is.none_told;
+  no_answer = answer_is old mid query (specifier_in mid module_id) asked.grown asked.stands ∙ is.none_told;
   fault_is = is.fault_is;
   stored = is.unchanged ∙ asked.stored;
 })
 query_refused old mid new module_id query f asked grown (inr is) = inr (inr (record {
-  has_answer = λ none_told. is.has_answer (sym (answer_is old mid query (specifier_in mid module_id) asked.grown.graph asked.stands) ∙ none_told);
+  has_answer = λ none_told. is.has_answer (sym (answer_is old mid query (specifier_in mid module_id) asked.grown asked.stands) ∙ none_told);
   stored = subst (λ (root : RootView). HasGrown root new) asked.stored grown;
   needed = is.needed;
   is_needed = λ v e. (specifier_in mid module_id, asked.stands, subst (λ (g : GraphView). IsAskedFor g (specifier_in mid module_id) query.question v) asked.grown.graph (is.is_needed v e));
@@ -122,8 +123,8 @@ module _ {A B : Type 0} where
 abbrev pub answer_told : Answer → Option AnswerView
 answer_told given = Some (answer_view given)
 
-abbrev pub answer_to : GraphView → Query → Option AnswerView
-answer_to graph query = query_answer graph (query_view query)
+abbrev pub answer_to : Rules → GraphView → Query → Option AnswerView
+answer_to rules graph query = query_answer rules graph (query_view query)
 
 -- an answer that was given, in the root as it is now
 abbrev pub IsTold : RootView → RootView → Query → Answer → Type 0
@@ -152,10 +153,10 @@ still_told : (old now new : RootView) → HasGrown now new → (query : Query) (
 still_told old now new grown query given is = record { answers = is.answers; means = is.means; stored = still_stored_for now new (query_view query) (answer_view given) grown is.stored }
 
 -- given from the graph as it was at first
-told_at_first : (old now new : RootView) (query : Query) (given : Answer) → now.graph ≡ old.graph → IsTold now new query given → IsTold old new query given
-told_at_first old now new query given same is = record {
-  answers = subst (λ (g : GraphView). query_answer g (query_view query) ≡ Some (answer_view given)) same is.answers;
-  means = subst (λ (g : GraphView). IsAnswerTo g (query_view query) (answer_view given)) same is.means;
+told_at_first : (old now new : RootView) (query : Query) (given : Answer) → HasGrown old now → IsTold now new query given → IsTold old new query given
+told_at_first old now new query given grown is = record {
+  answers = (λ i. query_answer (sym grown.rules i) (sym grown.graph i) (query_view query)) ∙ is.answers;
+  means = subst (λ (g : GraphView). IsAnswerTo old.rules g (query_view query) (answer_view given)) grown.graph (subst (λ (r : Rules). IsAnswerTo r now.graph (query_view query) (answer_view given)) grown.rules is.means);
   stored = is.stored;
 }
 
@@ -165,21 +166,21 @@ answered_on old mid new answers further given queries index query is within at g
     let taken : take index queries ++ query ∷ [] ≡ take (index + 1) queries = ap (λ q. take index queries ++ q ∷ []) at ∙ sym (take_more queries index query within) in
     record {
       grown = grown_on is.grown grown;
-      told = subst (AllZip (IsTold old new) (take (index + 1) queries)) (sym put) (subst (λ (qs : List Query). AllZip (IsTold old new) qs (answers ++ given ∷ [])) taken (zip_more (IsTold old new) (take index queries) answers query given before (told_at_first old mid new query given is.grown.graph told)));
+      told = subst (AllZip (IsTold old new) (take (index + 1) queries)) (sym put) (subst (λ (qs : List Query). AllZip (IsTold old new) qs (answers ++ given ∷ [])) taken (zip_more (IsTold old new) (take index queries) answers query given before (told_at_first old mid new query given is.grown told)));
     }
 
 pub told_last : (old new : RootView) (answers : List Answer) (queries : List Query) (index : ℕ) → AreAnswered old new answers queries index → length queries ≤ index → AllZip (IsTold old new) queries answers
 told_last old new answers queries index is over = subst (λ (qs : List Query). AllZip (IsTold old new) qs answers) (take_all index queries over) is.told
 
-pub same_last : (old new : RootView) (answers : List Answer) (queries : List Query) → AllZip (IsTold old new) queries answers → map answer_told answers ≡ map (answer_to old.graph) queries
-same_last old new answers queries told = zip_same (answer_to old.graph) answer_told queries answers (zip_weaker (IsTold old new) (λ query given. answer_to old.graph query ≡ answer_told given) (λ query given is. is.answers) queries answers told)
+pub same_last : (old new : RootView) (answers : List Answer) (queries : List Query) → AllZip (IsTold old new) queries answers → map answer_told answers ≡ map (answer_to old.rules old.graph) queries
+same_last old new answers queries told = zip_same (answer_to old.rules old.graph) answer_told queries answers (zip_weaker (IsTold old new) (λ query given. answer_to old.rules old.graph query ≡ answer_told given) (λ query given is. is.answers) queries answers told)
 
 -- those before were answered
-all_answered : (old now : RootView) (queries : List Query) (answers : List Answer) → now.graph ≡ old.graph → AllZip (IsTold old now) queries answers → All (IsAnswered now) (map query_view queries)
-all_answered old now [] answers same told = All-nil (IsAnswered now)
-all_answered old now (query ∷ queries) [] same told = absurd told
-all_answered old now (query ∷ queries) (given ∷ answers) same told =
-    All-cons (IsAnswered now) (query_view query) (map query_view queries) (answer_view given, subst (λ (g : GraphView). query_answer g (query_view query) ≡ Some (answer_view given)) (sym same) told.0.answers, told.0.stored) (all_answered old now queries answers same told.1)
+all_answered : (old now : RootView) (queries : List Query) (answers : List Answer) → HasGrown old now → AllZip (IsTold old now) queries answers → All (IsAnswered now) (map query_view queries)
+all_answered old now [] answers grown told = All-nil (IsAnswered now)
+all_answered old now (query ∷ queries) [] grown told = absurd told
+all_answered old now (query ∷ queries) (given ∷ answers) grown told =
+    All-cons (IsAnswered now) (query_view query) (map query_view queries) (answer_view given, (λ i. query_answer (grown.rules i) (grown.graph i) (query_view query)) ∙ told.0.answers, told.0.stored) (all_answered old now queries answers grown told.1)
 
 pub run_refused : (old mid new : RootView) (answers : List Answer) (queries : List Query) (index : ℕ) (query : Query) (f : SymbolsFault) → AreAnswered old mid answers queries index → index < length queries → query ≡ get_or queries index query → IsQueryFault mid new (query_view query) f → IsRunFault old new (map query_view queries) f
 run_refused old mid new answers queries index query f is within at fails = record {
@@ -191,7 +192,7 @@ run_refused old mid new answers queries index query f is within at fails = recor
       ∙ map-append query_view (take index queries) (query ∷ drop (index + 1) queries);
   between = mid;
   grown = is.grown;
-  answered = all_answered old mid (take index queries) answers is.grown.graph is.told;
+  answered = all_answered old mid (take index queries) answers is.grown is.told;
   fails = fails;
 }
 

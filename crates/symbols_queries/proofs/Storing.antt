@@ -6,6 +6,8 @@ use Rattle.std.proofs.lemmas.List.Elements.{All-nil, All-cons, All-head, All-tai
 use Rattle.std.proofs.lemmas.Slice.Eq.{bytes_eq-Decides}
 use Rattle.symbols_syntax.specs.declared.ids.ModuleId.{ModuleId}
 use Rattle.symbols_syntax.specs.Graph.{GraphView}
+use Rattle.symbols_root.specs.declared.root.rules.Rules.{Rules}
+use Rattle.symbols_root.specs.declared.root.rules.Rules.TheVariants.{Deno, Strict}
 use Rattle.symbols_root.specs.Growing.{HasGrown}
 use Rattle.symbols_root.specs.Specifiers.{is_among}
 use Rattle.symbols_root.specs.Roots.{RootView, with_stored, all_stored, specifier_in}
@@ -13,10 +15,13 @@ use Rattle.symbols_root.specs.laws.Growing.{grown_by_all}
 use Rattle.symbols_exports.specs.Answers.{IsAnswer}
 use Rattle.symbols_exports.specs.Chains.{IsReached, AreReached}
 use Rattle.symbols_exports.specs.StarStatements.{statements_of}
+use Rattle.symbols_exports.specs.Shared.{Shared}
+use Rattle.symbols_exports.specs.Sharing.{told_sharing, AllShareNumbered}
 use Rattle.symbols_exports.specs.Taking.{NameView}
 use Rattle.symbols_exports.specs.Told.{told_name, told_number, AreNumbered, IsNumbered, AllNumbered}
 use Rattle.symbols_answers.specs.Answers.{AnswerView, tells_exports}
-use Rattle.symbols_answers.specs.Stored.{referrer, modules_of_export, modules_told}
+use Rattle.symbols_answers.specs.QueryAnswers.{by_strict}
+use Rattle.symbols_answers.specs.Stored.{referrer, modules_of_export, modules_of_shared, modules_of_sharing, modules_told}
 
 -- the module of a number is stored
 pub number_stored : (root : RootView) (id : ModuleId) → id.0 < length root.stored → Contains root.stored (specifier_in root id)
@@ -62,8 +67,8 @@ reached_stored old new module_id reached same are_reached stored end leads =
     let met = are_reached.reached end (subst (λ (g : GraphView). IsReached (statements_of g) (specifier_in old module_id) end) same leads) in
     subst (λ (root : RootView). Contains root.stored end) (sym stored) (All-contains (λ (m : List ℕ × List ℕ). Contains (all_stored old (map end_of reached)).stored m.1) reached (met.0, end) (ends_stored old reached) met.1)
 
-pub reached_there : (old new : RootView) (module_id : ModuleId) (names : List NameView) (unresolved : List (ModuleId × List ℕ)) (steps : ℕ) → new.graph ≡ old.graph → IsAnswer old new module_id names unresolved steps → (end : List ℕ) → IsReached (statements_of new.graph) (specifier_in old module_id) end → Contains new.stored end
-reached_there old new module_id names unresolved steps same is end leads = reached_stored old new module_id is.reached same is.are_reached is.stored end leads
+pub reached_there : (old new : RootView) (module_id : ModuleId) (names : List NameView) (shared : List (Shared NameView)) (unresolved : List (ModuleId × List ℕ)) (steps : ℕ) → new.graph ≡ old.graph → IsAnswer old new module_id names shared unresolved steps → (end : List ℕ) → IsReached (statements_of new.graph) (specifier_in old module_id) end → Contains new.stored end
+reached_there old new module_id names shared unresolved steps same is end leads = reached_stored old new module_id is.reached same is.are_reached is.stored end leads
 
 -- those that statements and exports name
 statements_there : (root : RootView) (statements : List (ModuleId × List ℕ)) → AreNumbered root statements → All (Contains root.stored) (map referrer (map (told_number root) statements))
@@ -79,6 +84,18 @@ names_there root (name ∷ rest) numbered =
     let first = All-cons (Contains root.stored) (specifier_in root name.export.«module») (map referrer (map (told_number root) name.statements)) (number_stored root name.export.«module» is.export_in) (statements_there root name.statements is.statements_in) in
     All-append (Contains root.stored) (modules_of_export (told_name root name)) (flat_map modules_of_export (map (told_name root) rest)) first (names_there root rest (All-tail (IsNumbered root) name rest numbered))
 
-pub exports_there : (root : RootView) (names : List NameView) (unresolved : List (ModuleId × List ℕ)) → AllNumbered root names → AreNumbered root unresolved → All (Contains root.stored) (modules_told (tells_exports (map (told_name root) names) (map (told_number root) unresolved)))
-exports_there root names unresolved names_in unresolved_in =
-    All-append (Contains root.stored) (flat_map modules_of_export (map (told_name root) names)) (map referrer (map (told_number root) unresolved)) (names_there root names names_in) (statements_there root unresolved unresolved_in)
+shared_there : (root : RootView) (shared : List (Shared NameView)) → AllShareNumbered root shared → All (Contains root.stored) (flat_map modules_of_shared (map (told_sharing root) shared))
+shared_there root [] numbered = All-nil (Contains root.stored)
+shared_there root (name ∷ rest) numbered =
+    All-append (Contains root.stored) (modules_of_shared (told_sharing root name)) (flat_map modules_of_shared (map (told_sharing root) rest)) (names_there root name.owners (All-head (λ (shared : Shared NameView). AllNumbered root shared.owners) name rest numbered)) (shared_there root rest (All-tail (λ (shared : Shared NameView). AllNumbered root shared.owners) name rest numbered))
+
+sharing_there : (root : RootView) (rules : Rules) (shared : List (Shared NameView)) → AllShareNumbered root shared → All (Contains root.stored) (modules_of_sharing (by_strict rules (map (told_sharing root) shared)))
+sharing_there root Deno shared numbered = All-nil (Contains root.stored)
+sharing_there root Strict shared numbered = shared_there root shared numbered
+
+pub exports_there : (root : RootView) (rules : Rules) (names : List NameView) (shared : List (Shared NameView)) (unresolved : List (ModuleId × List ℕ)) → AllNumbered root names → AllShareNumbered root shared → AreNumbered root unresolved
+    → All (Contains root.stored) (modules_told (tells_exports (map (told_name root) names) (by_strict rules (map (told_sharing root) shared)) (map (told_number root) unresolved)))
+exports_there root rules names shared unresolved names_in shared_in unresolved_in =
+    let sharing : List (List ℕ) = modules_of_sharing (by_strict rules (map (told_sharing root) shared)) in
+    let statements : List (List ℕ) = map referrer (map (told_number root) unresolved) in
+    All-append (Contains root.stored) (flat_map modules_of_export (map (told_name root) names)) (sharing ++ statements) (names_there root names names_in) (All-append (Contains root.stored) sharing statements (sharing_there root rules shared shared_in) (statements_there root unresolved unresolved_in))

@@ -6,6 +6,7 @@ use Rattle.symbols_nodes.specs.declared.deps.dep.ReferenceNamespace.{ReferenceNa
 use Rattle.symbols_nodes.specs.declared.deps.dep.SymbolNodeDep.{SymbolNodeDep}
 use Rattle.symbols_nodes.specs.References.{Dependency, dependency_view}
 use Rattle.symbols_exports.specs.PublicNames.{name_item}
+use Rattle.symbols_exports.specs.Shared.{Shared}
 use Rattle.symbols_exports.specs.Told.{ToldExport, ToldStatement}
 use Rattle.symbols_paths.specs.declared.paths.definition.DeclRef.{DeclRef}
 use Rattle.symbols_paths.specs.Trees.{NamedDecl, Defined, Missing, Leaf, definition, unresolved, Tree, Forest, leaf, link}
@@ -15,6 +16,8 @@ use Rattle.symbols_answers.specs.Answers.{AnswerView, tells_nothing, tells_modul
 use Rattle.symbols_queries.specs.declared.queries.answers.Answer.{Answer}
 use Rattle.symbols_queries.specs.declared.queries.exports.NamedExport.{NamedExport}
 use Rattle.symbols_queries.specs.declared.queries.exports.NamedStatement.{NamedStatement}
+use Rattle.symbols_queries.specs.declared.queries.shared.NamedOwner.{NamedOwner}
+use Rattle.symbols_queries.specs.declared.queries.shared.NamedShared.{NamedShared}
 use Rattle.symbols_queries.specs.declared.queries.paths.NamedDefinition.{NamedDefinition}
 use Rattle.symbols_queries.specs.declared.queries.paths.NamedEnd.{NamedEnd}
 use Rattle.symbols_queries.specs.declared.queries.paths.NamedEntry.{NamedEntry}
@@ -31,6 +34,16 @@ statement_view statement = (statement.referrer.now, statement.specifier.now)
 
 abbrev pub export_view : NamedExport → ToldExport
 export_view named = record { name = string_bytes named.name; statements = map statement_view named.chain.items; owner = named.«module».now; symbol = named.symbol }
+
+-- an owner of a shared name, with that name
+abbrev pub owner_view : List ℕ → NamedOwner → ToldExport
+owner_view name owner = record { name = name; statements = map statement_view owner.chain.items; owner = owner.«module».now; symbol = owner.symbol }
+
+abbrev pub shared_view : NamedShared → Shared ToldExport
+shared_view shared = record { name = string_bytes shared.name; owners = map (owner_view (string_bytes shared.name)) shared.owners.items }
+
+abbrev pub sharing_view : Vec NamedShared Global → List (Shared ToldExport)
+sharing_view shared = map shared_view shared.items
 
 -- ---- dependencies
 
@@ -79,7 +92,7 @@ entry_view (NamedEntry.ImportType specifier) = a_module specifier.now
 abbrev pub answer_view : Answer → AnswerView
 answer_view Answer.NoModule = tells_nothing
 answer_view (Answer.Module specifier) = tells_module specifier.now
-answer_view (Answer.Exports named) = tells_exports (map export_view named.exports.items) (map statement_view named.unresolved.items)
+answer_view (Answer.Exports named) = tells_exports (map export_view named.exports.items) (option_map sharing_view named.shared) (map statement_view named.unresolved.items)
 answer_view (Answer.Names names) = tells_names (map name_item names.items)
 answer_view (Answer.Symbol symbol) = tells_symbol symbol
 answer_view (Answer.Name name) = tells_name (option_map string_bytes name)

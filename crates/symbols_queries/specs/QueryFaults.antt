@@ -36,13 +36,13 @@ IsAskedFor graph specifier (asks_entries reference) v = IsNeededFor graph specif
 
 -- for inner functions, of a question on a stored module: it has no such symbol, and nothing changes
 pub record IsNoSymbol (old new : RootView) (specifier : List ℕ) (question : QuestionView) (fault : SymbolsFault) : Type 0 where
-  pub none_told : module_answer old.graph specifier question ≡ None
+  pub none_told : module_answer old.rules old.graph specifier question ≡ None
   pub fault_is : fault ≡ UnknownSymbol
   pub unchanged : new ≡ old
 
 -- or there is an answer, and what was refused is a module that it may need besides, or memory
 pub record IsBrokenOff (old new : RootView) (specifier : List ℕ) (question : QuestionView) (fault : SymbolsFault) : Type 0 where
-  pub has_answer : module_answer old.graph specifier question ≢ None
+  pub has_answer : module_answer old.rules old.graph specifier question ≢ None
   pub needed : Option (List ℕ)
   pub is_needed : (v : List ℕ) → needed ≡ Some v → IsAskedFor old.graph specifier question v
   pub refused : IsRefusal new needed fault
@@ -56,7 +56,7 @@ IsNeededBesides graph query v = (specifier : List ℕ) × (stands_for graph quer
 
 -- the module that the specifier stands for has no such symbol: it alone is stored, if it wasn't
 pub record IsUnknownSymbol (old new : RootView) (query : QueryView) (fault : SymbolsFault) : Type 0 where
-  pub no_answer : query_answer old.graph query ≡ None
+  pub no_answer : query_answer old.rules old.graph query ≡ None
   pub fault_is : fault ≡ UnknownSymbol
   pub stored : new ≡ with_stored old (stands_for old.graph query.specifier)
 
@@ -67,7 +67,7 @@ pub record IsModuleRefused (old new : RootView) (query : QueryView) (fault : Sym
 
 -- there is an answer, and that module is stored; what was refused is one that may be needed besides, or memory
 pub record IsAnswerRefused (old new : RootView) (query : QueryView) (fault : SymbolsFault) : Type 0 where
-  pub has_answer : query_answer old.graph query ≢ None
+  pub has_answer : query_answer old.rules old.graph query ≢ None
   pub stored : HasGrown (with_stored old (stands_for old.graph query.specifier)) new
   pub needed : Option (List ℕ)
   pub is_needed : (v : List ℕ) → needed ≡ Some v → IsNeededBesides old.graph query v
@@ -79,7 +79,7 @@ IsQueryFault old new query fault = IsUnknownSymbol old new query fault ⊎ IsMod
 
 -- a query was answered: it has an answer, and what that needs is stored
 abbrev pub IsAnswered : RootView → QueryView → Type 0
-IsAnswered root query = (answer : AnswerView) × (query_answer root.graph query ≡ Some answer) × HasStoredFor root query answer
+IsAnswered root query = (answer : AnswerView) × (query_answer root.rules root.graph query ≡ Some answer) × HasStoredFor root query answer
 
 -- of some queries: those before one were answered, in a root that has stored what they need, and in that root it has no answer, for this fault
 pub record IsRunFault (old new : RootView) (queries : List QueryView) (fault : SymbolsFault) : Type 0 where

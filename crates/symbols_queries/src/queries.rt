@@ -7,6 +7,7 @@ mod deps;
 mod exports;
 mod paths;
 mod query;
+mod shared;
 
 pub use answers::Answer;
 pub use asking::AnswerQueries;
@@ -14,3 +15,4 @@ pub use deps::DeclDeps;
 pub use exports::{NamedExport, NamedExports, NamedStatement};
 pub use paths::{NamedDefinition, NamedEnd, NamedEntry, NamedLink, NamedPath, NamedUnresolved};
 pub use query::Query;
+pub use shared::{NamedOwner, NamedShared};

@@ -8,6 +8,7 @@ use Rattle.std.proofs.lemmas.Option.{none-some, same_Some, slice_get-map}
 use Rattle.symbols_syntax.specs.Graph.{GraphView, ModuleView}
 use Rattle.symbols_tree.specs.GraphFaults.{specifiers}
 use Rattle.symbols_root.specs.declared.root.limits.Limits.{Limits}
+use Rattle.symbols_root.specs.declared.root.rules.Rules.{Rules}
 use Rattle.symbols_root.specs.Specifiers.{module_under, is_among}
 use Rattle.symbols_root.specs.Roots.{RootView, widest}
 use Rattle.symbols_root.specs.StoredModules.{StoredModule, stored_specifiers, AreWhole}
@@ -37,9 +38,9 @@ always_room root m wide few once inside under new full =
     omega (arith, more, length_push root.stored m.specifier, limit, few, full)
 
 -- the same of the view of a root that holds these modules
-pub room_within : (graph : GraphView) (limits : Limits) (entries : List StoredModule) (root : RootView) (m : ModuleView) → record { graph = graph; limits = limits; stored = stored_specifiers entries } ≡ root → AreWhole graph limits.symbols entries → IsDistinct bytes_eq (stored_specifiers entries)
+pub room_within : (graph : GraphView) (rules : Rules) (limits : Limits) (entries : List StoredModule) (root : RootView) (m : ModuleView) → record { graph = graph; rules = rules; limits = limits; stored = stored_specifiers entries } ≡ root → AreWhole graph limits.symbols entries → IsDistinct bytes_eq (stored_specifiers entries)
     → root.limits ≡ widest → length root.graph.modules < 4294967296 → module_under root.graph m.specifier ≡ Some m → is_among (stored_specifiers entries) m.specifier ≡ false → limits.modules ≤ length (stored_specifiers entries) → ⊥
-room_within graph limits entries root m view all once wide few under new full =
+room_within graph rules limits entries root m view all once wide few under new full =
     let inside = subst (λ (r : RootView). AreIn r.graph r.stored) view (stored_in graph limits.symbols entries all) in
     let once' = subst (λ (r : RootView). IsDistinct bytes_eq r.stored) view once in
     let new' = subst (λ (r : RootView). is_among r.stored m.specifier ≡ false) view new in

@@ -4,9 +4,10 @@ use Rattle.std.specs.List.{IsDistinct}
 use Rattle.std.specs.Str.{bytes_eq}
 use Rattle.symbols_root.specs.Roots.{RootView}
 
--- the same graph and limits; what was stored stays in its place, what is stored since comes behind, and no module is stored twice if none was
+-- the same graph, rules and limits; what was stored stays in its place, what is stored since comes behind, and no module is stored twice if none was
 pub record HasGrown (old new : RootView) : Type 0 where
   pub graph : new.graph ≡ old.graph
+  pub rules : new.rules ≡ old.rules
   pub limits : new.limits ≡ old.limits
   pub behind : List (List ℕ)
   pub stored : new.stored ≡ old.stored ++ behind

@@ -7,17 +7,19 @@ use Rattle.symbols_table.specs.declared.info.fault.SymbolsFault.TheVariants as f
 use Rattle.symbols_table.specs.Analysis.{IsAnalyzed, IsTooMany, symbol_count, source_changes}
 use Rattle.symbols_table.specs.Modules.{Source, Table, source_of}
 use Rattle.symbols_root.specs.declared.root.limits.Limits.{Limits}
+use Rattle.symbols_root.specs.declared.root.rules.Rules.{Rules}
 use Rattle.symbols_root.specs.Specifiers.{module_under, is_among}
 
--- a root as contracts see it: its graph, its limits, and the own specifiers of the stored modules in order of storing. The number of a module is its place among them, and its table is that of the graph's module
+-- a root as contracts see it: its graph, its rules, its limits, and the own specifiers of the stored modules in order of storing. The number of a module is its place among them, and its table is that of the graph's module
 pub record RootView : Type 0 where
   pub graph : GraphView
+  pub rules : Rules
   pub limits : Limits
   pub stored : List (List ℕ)
 
 -- a root with no module stored
-abbrev pub empty_root : GraphView → Limits → RootView
-empty_root graph limits = record { graph = graph; limits = limits; stored = [] }
+abbrev pub empty_root : GraphView → Rules → Limits → RootView
+empty_root graph rules limits = record { graph = graph; rules = rules; limits = limits; stored = [] }
 
 -- the widest limits: numbers are below 2 ^ 32
 abbrev pub widest : Limits

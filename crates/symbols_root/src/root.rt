@@ -2,7 +2,9 @@
 
 mod limits;
 mod root_symbol;
+mod rules;
 mod types_chain;
 
 pub use limits::Limits;
 pub use root_symbol::RootSymbol;
+pub use rules::Rules;

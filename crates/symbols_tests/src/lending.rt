@@ -5,7 +5,7 @@ use deno_symbols::analyze;
 use deno_symbols::check::ModuleGraph;
 use deno_symbols::ids::ModuleId;
 use deno_symbols::info::ModuleInfoRef;
-use deno_symbols::root::{Limits, RootSymbol};
+use deno_symbols::root::{Limits, RootSymbol, Rules};
 use std::alloc::Global;
 use symq_reader::read_graph;
 
@@ -126,5 +126,25 @@ pub(crate) fn of_limited<R: Told, F: FnOnce(&mut RootSymbol<'_>) -> R + Drop>(
         return R::nothing();
     };
     let mut root = RootSymbol::with_limits(alloc, &graph, limits);
+    told(&mut root)
+}
+
+/// What is told of a root by these rules, with the widest limits.
+pub(crate) fn of_root_by<R: Told, F: FnOnce(&mut RootSymbol<'_>) -> R + Drop>(
+    alloc: Global,
+    text: &str,
+    rules: Rules,
+    told: F,
+) -> R
+    requires { F.IsAlwaysCallable told }
+{
+    let Some(graph) = graph_of(alloc, text) else {
+        return R::nothing();
+    };
+    let limits = Limits {
+        modules: u32::MAX,
+        symbols: u32::MAX,
+    };
+    let mut root = RootSymbol::with_rules(alloc, &graph, rules, limits);
     told(&mut root)
 }

@@ -56,6 +56,8 @@ mod refusals;
 #[cfg(test)]
 mod roots;
 #[cfg(test)]
+mod rules;
+#[cfg(test)]
 mod symbols;
 #[cfg(test)]
 mod trees;

@@ -9,7 +9,7 @@ use deno_symbols::root::RootSymbol;
 use std::alloc::Global;
 
 /// `a` owns x and passes on b and c; `b` owns x, y and `default`, and passes on a; `c` owns y and z.
-const DIAMOND: &str = r#"{"modules": [
+pub(crate) const DIAMOND: &str = r#"{"modules": [
 {"specifier": "a", "kind": "esm", "text": "", "tree": {"nodes": [
     {"kind": "Program", "range": [0, 0], "body": [1, 5, 6]},
     {"kind": "ExportDecl", "range": [0, 0], "decl": 2},

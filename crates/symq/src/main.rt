@@ -1,17 +1,18 @@
-//! `symq GRAPH`: reads a graph of modules, then answers query lines from standard input.
+//! `symq [--strict] GRAPH`: reads a graph of modules, then answers query lines from standard input.
 #![tactic(auto)]
 
 use std::io;
 use std::process::ExitCode;
 use std::rt::{Env, Files};
 use symbols_tree::check::ModuleGraph;
-use symq_core::program::{ReaderInput, Stop, WriterOutput, read_graph_file, serve};
+use symq_core::program::{ReaderInput, Stop, WriterOutput, read_words, serve_with};
 
 fn run<R: Files + Env + AllocGlobal + Input + Print>(rt: &R) -> Result<(), Stop> {
-    let graph = ModuleGraph::new(rt.alloc(), read_graph_file(rt)?).map_err(Stop::Graph)?;
+    let (rules, raw) = read_words(rt)?;
+    let graph = ModuleGraph::new(rt.alloc(), raw).map_err(Stop::Graph)?;
     let mut input = ReaderInput::new(rt.reader());
     let mut output = WriterOutput::new(io::writer(rt));
-    serve(rt.alloc(), &graph, &mut input, &mut output).map_err(Stop::Engine)
+    serve_with(rt.alloc(), &graph, rules, &mut input, &mut output).map_err(Stop::Engine)
 }
 
 fn main(rt: HostRuntime) -> ExitCode {

@@ -1,7 +1,7 @@
-//! A call for other languages: the answers to lines over the text of a graph. Bytes and numbers cross, and nothing stays
+//! Calls for other languages: the answers to lines over the text of a graph. Bytes and numbers cross, and nothing stays
 //! behind a call: what it takes of memory it gives back.
 //!
-//! `symq.h` declares it for C.
+//! `symq.h` declares them for C.
 #![tactic(auto)]
 
 mod calls;

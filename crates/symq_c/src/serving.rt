@@ -7,8 +7,9 @@ ghost use Rattle.symq_core.specs.declared.program.fault.EngineFault.TheVariants.
 ghost use Rattle.symq_c.specs.GraphTexts.{IsRead, IsGraphOf, IsRefusalOf};
 
 use std::alloc::Global;
+use symbols_root::root::Rules;
 use symbols_tree::check::{ModuleGraph, RawGraph};
-use symq_core::program::{EngineFault, MemoryInput, MemoryOutput, Stop, read_graph, serve};
+use symq_core::program::{EngineFault, MemoryInput, MemoryOutput, Stop, read_graph, serve_with};
 
 /// The raw graph that a text is.
 #[tactic(auto, using(crate::proofs::Refusals::refused_format))]
@@ -32,19 +33,20 @@ pub(crate) fn graph_of(alloc: Global, text: &[u8]) -> Result<ModuleGraph, Stop>
     ModuleGraph::new(alloc, raw).map_err(Stop::Graph)
 }
 
-/// The answers to the lines, each with its line end. Input in memory doesn't fail, and output there fails only where
+/// The answers to the lines by these rules, each with its line end. Input in memory doesn't fail, and output there fails only where
 /// memory is refused.
 pub(crate) fn answers(
     alloc: Global,
+    rules: Rules,
     graph: &ModuleGraph,
     lines: &[u8],
 ) -> Result<Vec<u8>, EngineFault>
-    ensures answered { IfOk result (λ bytes. bytes.items ≡ output_of (answer_text graph.now) lines.now) }
+    ensures answered { IfOk result (λ bytes. bytes.items ≡ output_of (answer_text rules graph.now) lines.now) }
     ensures memory { IfErr result (λ fault. fault ≡ OutOfMemory) }
 {
     let mut input = MemoryInput { rest: lines };
     let mut output = MemoryOutput::new(alloc);
-    match serve(alloc, graph, &mut input, &mut output) {
+    match serve_with(alloc, graph, rules, &mut input, &mut output) {
         Ok(()) => Ok(output.bytes),
         Err(_) => Err(EngineFault::OutOfMemory),
     }

@@ -1,13 +1,15 @@
 -- The JSON value of an answer.
 use Rattle.std.specs.Prelude.{ℕ, List, map, Option, Some, None, codes}
-use Rattle.serde_json.specs.Data.{Data, null, number, unsigned, string, array, object, Items, no_items, item, no_members, member}
+use Rattle.serde_json.specs.Data.{Data, null, number, unsigned, string, array, object, Items, no_items, item, Members, no_members, member}
 use Rattle.serde_json.specs.View.{items_of}
 use Rattle.symbols_syntax.specs.declared.ids.SymbolId.{SymbolId}
 use Rattle.symbols_syntax.specs.Graph.{GraphView}
 use Rattle.symbols_nodes.specs.declared.deps.dep.ReferenceNamespace.{ReferenceNamespace}
 use Rattle.symbols_nodes.specs.declared.deps.dep.ReferenceNamespace.TheVariants as In
 use Rattle.symbols_nodes.specs.References.{Reference, id, qualified_id, import_type, Dependency}
+use Rattle.symbols_root.specs.declared.root.rules.Rules.{Rules}
 use Rattle.symbols_exports.specs.PublicNames.{NameItem}
+use Rattle.symbols_exports.specs.Shared.{Shared}
 use Rattle.symbols_exports.specs.Told.{ToldExport, ToldStatement}
 use Rattle.symbols_answers.specs.Questions.{QueryView}
 use Rattle.symbols_answers.specs.Answers.{AnswerView, tells_nothing, tells_module, tells_exports, tells_names, tells_symbol, tells_name, tells_deps, tells_paths, tells_definitions, tells_leaves, tells_entries}
@@ -33,6 +35,22 @@ entry_data entry =
     (member (codes "module") (string entry.owner)
     (member (codes "name") (string entry.name)
     (member (codes "symbol") (number (unsigned entry.symbol.0)) no_members))))
+
+-- an owner of a shared name: the statements that lead to it, itself, and its symbol
+abbrev pub owner_data : ToldExport → Data
+owner_data owner =
+    object (member (codes "chain") (statements_data owner.statements)
+    (member (codes "module") (string owner.owner)
+    (member (codes "symbol") (number (unsigned owner.symbol.0)) no_members)))
+
+-- a name that modules share, and its owners
+abbrev pub shared_data : Shared ToldExport → Data
+shared_data shared = object (member (codes "name") (string shared.name) (member (codes "owners") (array (items_of (map owner_data shared.owners))) no_members))
+
+-- the member of the shared names, where they are told, before others
+abbrev pub with_sharing : Option (List (Shared ToldExport)) → Members → Members
+with_sharing None rest = rest
+with_sharing (Some shared) rest = member (codes "shared") (array (items_of (map shared_data shared))) rest
 
 -- a public name: the exported name, and behind it the member, if it has one
 abbrev pub member_items : Option (List ℕ) → Items
@@ -72,7 +90,7 @@ dependencies_data dependencies = array (items_of (map dependency_data dependenci
 abbrev pub answer_data : AnswerView → Data
 answer_data tells_nothing = null
 answer_data (tells_module specifier) = object (member (codes "module") (string specifier) no_members)
-answer_data (tells_exports entries unresolved) = object (member (codes "exports") (array (items_of (map entry_data entries))) (member (codes "unresolved") (statements_data unresolved) no_members))
+answer_data (tells_exports entries shared unresolved) = object (member (codes "exports") (array (items_of (map entry_data entries))) (with_sharing shared (member (codes "unresolved") (statements_data unresolved) no_members)))
 answer_data (tells_names names) = object (member (codes "names") (array (items_of (map public_name_data names))) no_members)
 answer_data (tells_symbol found) = object (member (codes "symbol") (symbol_number found) no_members)
 answer_data (tells_name name) = object (member (codes "name") (name_text name) no_members)
@@ -88,6 +106,6 @@ found_data None = fault_data (codes "unknown symbol")
 found_data (Some answer) = answer_data answer
 
 -- the value of the answer to what a line asks; a fault where it asks nothing
-abbrev pub asked_data : GraphView → Option QueryView → Data
-asked_data graph None = fault_data (codes "bad query")
-asked_data graph (Some query) = found_data (query_answer graph query)
+abbrev pub asked_data : Rules → GraphView → Option QueryView → Data
+asked_data rules graph None = fault_data (codes "bad query")
+asked_data rules graph (Some query) = found_data (query_answer rules graph query)

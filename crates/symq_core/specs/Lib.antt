@@ -12,3 +12,4 @@ pub mod Serving
 pub mod Sessions
 pub mod Stopping
 pub mod StopLines
+pub mod Words

@@ -1,9 +1,15 @@
 -- For inner functions and proofs alone: what a session has read and written between two lines.
 use Rattle.std.specs.Prelude.{◌≡◌, ℕ, ◌+◌, List, [], ◌∷◌, ◌++◌, Option}
 use Rattle.std.specs.Io.KnownBytes.{Appends}
+use Rattle.symbols_root.specs.Roots.{RootView}
+use Rattle.symq_core.specs.AnswerTexts.{answer_text}
 use Rattle.symq_core.specs.Lines.{parts_of}
 use Rattle.symq_core.specs.declared.program.fault.EngineFault.{EngineFault}
 use Rattle.symq_core.specs.declared.program.fault.EngineFault.TheVariants.{OutOfMemory, InputFailed, OutputFailed, InputTooLong}
+
+-- how a root answers a line: by its rules and its graph
+abbrev pub answering : RootView → List ℕ → List ℕ
+answering root = answer_text root.rules root.graph
 
 -- the text came behind what waited, of which a beginning was written and the rest waits
 abbrev pub Sends : Option (List ℕ) → Option (List ℕ) → List ℕ → List ℕ → List ℕ → Type 0

@@ -48,7 +48,7 @@ graph_line (graph.DuplicateResolution referrer text) = codes "symq: graph refuse
 graph_line (graph.Tree specifier fault) = codes "symq: graph refused: 7 " ++ (string_bytes specifier ++ (codes " " ++ tree_fault_text fault))
 
 abbrev pub line_of : Stop → List ℕ
-line_of Stop.Usage = codes "usage: symq GRAPH"
+line_of Stop.Usage = codes "usage: symq [--strict] GRAPH"
 line_of Stop.NotRead = codes "symq: cannot read graph"
 line_of (Stop.Format fault) = format_line fault
 line_of (Stop.Graph fault) = graph_line fault

@@ -7,20 +7,19 @@ from differ.shrinking import shrink
 
 
 class Counts:
-    """What was compared: graphs, queries, and how many graphs differ; and how long it took, in seconds."""
+    """What was compared: graphs, how many of them by strict rules, queries, and how many graphs differ; and how long it took,
+    in seconds."""
 
     def __init__(self):
-        self.graphs = self.queries = self.differ = 0
+        self.graphs = self.strict = self.queries = self.differ = 0
         self.began = time.monotonic()
 
     def seconds(self) -> float:
         return time.monotonic() - self.began
 
     def told(self) -> str:
-        return '%d graphs, %d queries, %d differ, %.1f s' % (self.graphs, self.queries, self.differ, self.seconds())
-
-    def last_line(self) -> str:
-        return '%d passed, %d failed' % (self.graphs - self.differ, self.differ)
+        return '%d graphs, %d of them by strict rules, %d queries, %d differ, %.1f s' % (
+            self.graphs, self.strict, self.queries, self.differ, self.seconds())
 
 
 def compare(program: Program, cases, seconds=None, go_on=False, shrink_seconds=30, folder=None, tell=print) -> Counts:
@@ -30,8 +29,9 @@ def compare(program: Program, cases, seconds=None, go_on=False, shrink_seconds=3
     for seed, case in cases:
         if seconds is not None and counts.seconds() > seconds:
             break
-        found = program.difference(case.graph, case.lines)
+        found = program.difference(case.graph, case.lines, case.strict)
         counts.graphs += 1
+        counts.strict += case.strict
         counts.queries += len(case.lines)
         if found is None:
             continue
@@ -41,7 +41,7 @@ def compare(program: Program, cases, seconds=None, go_on=False, shrink_seconds=3
             continue
         tell('seed %d differs; it is made small ..' % seed)
         graph, lines = shrink(program, case, shrink_seconds)
-        tell(in_full(seed, case, graph, lines, program.difference(graph, lines)))
+        tell(in_full(seed, case, graph, lines, program.difference(graph, lines, case.strict)))
         if folder:
             keep(folder, seed, case, graph, lines)
         break

@@ -1,51 +1,64 @@
-"""Faults that are planted into a copy of the model, one at a time: a file, a piece of its text, and what stands there then.
-`readings` says whether the readings of the definitions see the fault, too; they say nothing of the others."""
+"""Faults that are planted, one at a time: into a copy of the model, or around a program (`wrapper.py`)."""
 import os
 import shutil
+import sys
 from typing import NamedTuple
 
 HERE = os.path.dirname(os.path.abspath(__file__))
 MODEL = os.path.dirname(HERE)
 
 
+# by which rules a fault may show, as cases tell them
+DENO, STRICT, BOTH = (False,), (True,), (False, True)
+
+
 class Fault(NamedTuple):
+    """A file of the model, a piece of its text, and what stands there then. `families` are those of random graphs in which it
+    may show, and `rules` those by which. `readings` says whether the readings of the definitions see it, too: they say nothing
+    of the others."""
     name: str
+    families: str
     readings: bool
     file: str
     old: str
     new: str
+    rules: tuple = BOTH
 
 
 FAULTS = [
-    Fault('default_passed_up', True, 'rules/exports.py',
-          "name not in resolved and (name != 'default' or module is start)", 'name not in resolved'),
-    Fault('later_overwrites_earlier', True, 'rules/exports.py', 'if name not in resolved and (', 'if ('),
-    Fault('redirects_are_ignored', False, 'rules/graph.py',
+    Fault('default_passed_up', 'stars', True, 'rules/exports.py',
+          "if name != 'default' or module is start:", 'if True:'),
+    Fault('later_overwrites_earlier', 'stars', True, 'rules/exports.py', '{name: found[0] for', '{name: found[-1] for'),
+    Fault('redirects_are_ignored', 'mixed', False, 'rules/graph.py',
           'self.by_specifier.get(self.redirects.get(specifier, specifier))', 'self.by_specifier.get(specifier)'),
-    Fault('export_moves_to_end', True, 'rules/builder.py',
+    Fault('export_moves_to_end', 'mixed stars', True, 'rules/builder.py',
           'holder.exports[name] = self.new(', 'holder.exports.pop(name, None)\n            holder.exports[name] = self.new('),
-    Fault('first_declaration_only', True, 'rules/paths.py',
+    Fault('first_declaration_only', 'mixed', True, 'rules/paths.py',
           'enumerate(symbol.declarations)', 'enumerate(symbol.declarations[:1])'),
-    Fault('met_set_lives_on', True, 'rules/paths.py', 'outer, self.met = self.met, set()', 'outer = self.met'),
-    Fault('first_candidate_only', True, 'rules/paths.py', 'for text in target.stars:', 'for text in target.stars[:1]:'),
-    Fault('as_expression_visited', False, 'rules/kinds.py',
+    Fault('met_set_lives_on', 'mixed', True, 'rules/paths.py', 'outer, self.met = self.met, set()', 'outer = self.met'),
+    Fault('first_candidate_only', 'mixed stars', True, 'rules/paths.py',
+          'for text in target.stars if', 'for text in target.stars[:1] if'),
+    Fault('as_expression_visited', 'mixed dependent', False, 'rules/kinds.py',
           "('TsAsExpr', 'expr: EXPR, ty: TYPE', 'ty:T')", "('TsAsExpr', 'expr: EXPR, ty: TYPE', 'expr, ty:T')"),
-    Fault('member_of_a_class_by_its_name', False, 'rules/symbols.py', "'.prototype.'", "'.'"),
-    Fault('shared_child_is_accepted', False, 'rules/checker.py', 'if taken[child]:', 'if False:'),
-    Fault('negative_zero_is_a_number', False, 'rules/json_text.py', "if digits[0] != '-' and", "if digits in ('-0', '0') or"),
+    Fault('member_of_a_class_by_its_name', 'mixed dependent', False, 'rules/symbols.py', "'.prototype.'", "'.'"),
+    Fault('shared_child_is_accepted', 'tree', False, 'rules/checker.py', 'if taken[child]:', 'if False:'),
+    Fault('negative_zero_is_a_number', 'mixed', False, 'rules/json_text.py',
+          "if digits[0] != '-' and", "if digits in ('-0', '0') or"),
+    Fault('default_not_found_by_denos_rules', 'mixed stars', True, 'rules/root.py',
+          "name != 'default' or not self.strict", "name != 'default'", DENO),
+    Fault('default_found_by_strict_rules', 'mixed stars', True, 'rules/root.py',
+          "name != 'default' or not self.strict", 'True', STRICT),
+    Fault('shared_names_dropped', 'stars', True, 'rules/exports.py',
+          'Exports(resolved,', 'Exports({name: it for name, it in resolved.items() if name not in shared},', STRICT),
+    Fault('two_owners_only', 'stars', True, 'rules/exports.py', 'shared = {name: found for', 'shared = {name: found[:2] for', STRICT),
+    Fault('one_chain_for_all_owners', 'stars', True, 'rules/exports.py', 'shared = {name: found for',
+          'shared = {name: [Export(found[0].chain, it.module, it.symbol) for it in found] for', STRICT),
 ]
 
-# a program around another, which gives two statements that lead nowhere in the other order
-WRAPPER = '''import re
-import subprocess
-import sys
-
-done = subprocess.run(sys.argv[1:], stdin=sys.stdin.buffer, stdout=subprocess.PIPE, stderr=subprocess.PIPE)
-pair = re.compile(rb'"unresolved":\\\\[(\\\\[[^][]*\\\\]),(\\\\[[^][]*\\\\])\\\\]')
-sys.stdout.buffer.write(pair.sub(rb'"unresolved":[\\\\2,\\\\1]', done.stdout))
-sys.stderr.buffer.write(done.stderr)
-sys.exit(done.returncode)
-'''.replace('\\\\', '\\')
+# faults around a program: the families of random graphs in which each may show, and the rules by which
+WRAPPED = {'unresolved_reversed': ('mixed stars', DENO), 'shared_names_dropped': ('stars', STRICT),
+           'two_owners_only': ('stars', STRICT), 'one_chain_for_all_owners': ('stars', STRICT),
+           'default_found_by_strict_rules': ('mixed stars', STRICT)}
 
 
 def plant(fault: Fault, folder: str) -> str:
@@ -62,8 +75,6 @@ def plant(fault: Fault, folder: str) -> str:
     return top
 
 
-def write_wrapper(folder: str) -> str:
-    path = os.path.join(folder, 'wrapper.py')
-    with open(path, 'w', encoding='utf-8') as file:
-        file.write(WRAPPER)
-    return path
+def wrapped(name: str, program: 'list[str]') -> 'list[str]':
+    """The command of a program with a fault around it."""
+    return [sys.executable, os.path.join(HERE, 'wrapper.py'), name, *program]

@@ -1,7 +1,7 @@
 """Prints a difference, and keeps its files."""
 import os
 
-from differ.running import Difference, first_difference
+from differ.running import STRICT, Difference, first_difference
 
 LINES = 40
 
@@ -13,17 +13,21 @@ def shown(data: 'bytes | None', limit=6000) -> str:
     return text if len(text) <= limit else '%s .. (%d characters)' % (text[:limit], len(text))
 
 
+def named(seed, case) -> str:
+    return 'seed %d (%s%s)' % (seed, case.what, ', ' + STRICT if case.strict else '')
+
+
 def in_short(seed, case, found: Difference) -> str:
     """A difference as one line."""
     if found.what != 'output':
         sides = [(it.status, it.error.decode('utf-8', 'backslashreplace').strip()) for it in found[1:]]
-        return 'seed %d (%s): %s: program %s %s, model %s %s' % (seed, case.what, found.what, *sides[0], *sides[1])
+        return '%s: %s: program %s %s, model %s %s' % (named(seed, case), found.what, *sides[0], *sides[1])
     line, _, _ = first_difference(case.lines, found.program.output, found.model.output)
-    return 'seed %d (%s): the answer to %s' % (seed, case.what, shown(line, 200))
+    return '%s: the answer to %s' % (named(seed, case), shown(line, 200))
 
 
 def in_full(seed, case, graph, lines, found: Difference) -> str:
-    told = ['seed %d (%s): %s differs' % (seed, case.what, found.what), 'graph:    ' + shown(graph)]
+    told = ['%s: %s differs' % (named(seed, case), found.what), 'graph:    ' + shown(graph)]
     if found.what != 'output':
         told += ['line:     ' + shown(line) for line in lines[:1]]
         for name, side in zip(('program', 'model'), found[1:]):

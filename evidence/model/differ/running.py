@@ -2,6 +2,7 @@
 import os
 import subprocess
 import tempfile
+from functools import lru_cache
 from typing import NamedTuple
 
 from rules.answers import run
@@ -20,6 +21,16 @@ class Difference(NamedTuple):
     model: Result
 
 
+STRICT = '--strict'
+NO_STRICT_RULES = 'the program has no strict rules: with --strict it ends with status 2'
+
+
+@lru_cache(maxsize=1024)
+def of_model(graph: bytes, lines: 'tuple[bytes, ...]', strict: bool) -> Result:
+    """What the model gives; kept for a while, since many programs are asked the same."""
+    return Result(*run(graph, lines, strict))
+
+
 class Program:
     """A program that is run once for each graph, with the lines as its standard input."""
 
@@ -31,23 +42,32 @@ class Program:
     def close(self) -> None:
         self.folder.cleanup()
 
-    def run(self, graph: bytes, lines: 'list[bytes]') -> Result:
+    def run(self, graph: bytes, lines: 'list[bytes]', strict=False) -> Result:
         with open(self.path, 'wb') as file:
             file.write(graph)
+        words = [STRICT, self.path] if strict else [self.path]
         try:
-            done = subprocess.run([*self.command, self.path], input=b''.join(line + b'\n' for line in lines),
+            done = subprocess.run([*self.command, *words], input=b''.join(line + b'\n' for line in lines),
                                   stdout=subprocess.PIPE, stderr=subprocess.PIPE, timeout=self.seconds)
         except subprocess.TimeoutExpired:
             return Result('no end', b'', b'')
         return Result(done.returncode, done.stdout, done.stderr)
 
-    def difference(self, graph: bytes, lines: 'list[bytes]') -> 'Difference | None':
-        """What differs from the model, byte for byte."""
-        theirs, ours = self.run(graph, lines), Result(*run(graph, lines))
+    def difference(self, graph: bytes, lines: 'list[bytes]', strict=False) -> 'Difference | None':
+        """What differs from the model, byte for byte, by strict rules or by Deno's."""
+        theirs, ours = self.run(graph, lines, strict), of_model(graph, tuple(lines), strict)
         if theirs == ours:
             return None
         what = 'status' if theirs.status != ours.status else 'output' if theirs.output != ours.output else 'error'
         return Difference(what, theirs, ours)
+
+
+def has_strict_rules(command: 'list[str]') -> bool:
+    """Whether a program takes the word for strict rules; one that has none ends with the status of a wrong use."""
+    program = Program(command)
+    found = program.run(b'{}', [], True)
+    program.close()
+    return found.status != 2
 
 
 def first_difference(lines, theirs: bytes, ours: bytes):

@@ -140,11 +140,11 @@ class Shrinking:
 
 
 def shrink(program: Program, case, seconds: float):
-    """The text of a graph and lines, smaller, with the same kind of difference."""
-    ends_at, first = time.monotonic() + seconds, program.difference(case.graph, case.lines)
+    """The text of a graph and lines, smaller, with the same kind of difference by the same rules."""
+    ends_at, first = time.monotonic() + seconds, program.difference(case.graph, case.lines, case.strict)
 
     def differs(graph, lines):
-        found = program.difference(graph, lines)
+        found = program.difference(graph, lines, case.strict)
         return found is not None and found.what == first.what
 
     graph, lines = case.graph, case.lines

@@ -1,4 +1,4 @@
-"""The case of a seed: a graph's text, and lines."""
+"""The case of a seed: a graph's text, lines, and the rules."""
 import random
 from typing import NamedTuple
 
@@ -9,11 +9,17 @@ from graphs.texts import FIXED_TEXTS, broken_text, graph_text
 
 
 class Case(NamedTuple):
-    """`value` is the JSON value that the graph's text is, or None where it may be none."""
+    """`value` is the JSON value that the graph's text is, or None where it may be none. `strict` says that the lines are asked
+    by strict rules."""
     what: str
     graph: bytes
     lines: 'list[bytes]'
     value: 'dict | None'
+    strict: bool = False
+
+    def by(self, strict: bool) -> 'Case':
+        """The same, asked by the one rules or the others."""
+        return self._replace(strict=strict)
 
 
 # the families of cases, in turn by the seed
@@ -43,8 +49,13 @@ def broken(rng, family, value) -> None:
 
 
 def case_of_seed(seed: int, accepted_only=False) -> Case:
+    """The case, of each family three in ten by strict rules."""
     families = ACCEPTED_FAMILIES if accepted_only else FAMILIES
-    family, turn, rng = families[seed % len(families)], seed // len(families), random.Random(seed)
+    turn, place = divmod(seed, len(families))
+    return _case(random.Random(seed), families[place], turn).by((place + turn) % 10 < 3)
+
+
+def _case(rng, family, turn) -> Case:
     if family == 'fixed' and turn % 3:
         return Case(family, FIXED_TEXTS[(turn - turn // 3) % len(FIXED_TEXTS)], list(BAD_LINES), None)
     if family == 'fixed':

@@ -123,5 +123,6 @@ def depths():
 
 
 def every_case() -> 'list[Case]':
+    """All of them, three in ten by strict rules."""
     makers = (fields_of_nodes, fields_of_modules, texts, kinds_of_children, rules, ranges, depths)
-    return [case for maker in makers for case in maker()]
+    return [case.by(at % 10 < 3) for at, case in enumerate(case for maker in makers for case in maker())]

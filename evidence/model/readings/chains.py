@@ -50,3 +50,14 @@ def exports_by_chains(root: Root, start: Module):
     unresolved = sorted((chain.places + (place,), [chain.end.specifier, text]) for chain in least_chains(chains).values()
                         for place, text in enumerate(chain.end.stars) if root.dependency(text, chain.end) is None)
     return resolved, [told for _, told in unresolved]
+
+
+def shared_by_chains(root: Root, start: Module) -> list:
+    """The names that the module doesn't own, in the order of the exports, and that two or more modules that are reached do:
+    each with (chain, owner, symbol) of every owner, by its least chain, in chain order."""
+    least, found = sorted(least_chains(simple_chains(root, start)).values(), key=lambda it: it.places), []
+    for name, *_ in exports_by_chains(root, start)[0]:
+        owners = [(it.told(), it.end.specifier, it.end.own_exports()[name]) for it in least if name in it.end.own_exports()]
+        if name not in start.own_exports() and len(owners) > 1:
+            found.append((name, owners))
+    return found

@@ -1,7 +1,7 @@
-"""The checks of the model on one graph; each raises AssertionError with what is wrong, and counts what it saw."""
+"""The checks of the model on one graph, by strict rules or Deno's; each raises AssertionError with what is wrong, and counts what it saw."""
 from collections import Counter
 
-from readings.chains import exports_by_chains, least_chains, simple_chains
+from readings.chains import exports_by_chains, least_chains, shared_by_chains, simple_chains
 from readings.derivations import Derivations
 from readings.reach import Reach
 from readings.relations import Relations, leaf_of
@@ -20,25 +20,32 @@ def check_tables(graph: ModuleGraph, counts: Counter) -> None:
             counts['tables'] += 1
 
 
-def check_exports(graph: ModuleGraph, counts: Counter) -> None:
-    """Exports, unresolved statements, stored modules and steps are what all simple chains give."""
+def export_told(found) -> tuple:
+    return found.statements(), found.module.specifier, found.symbol
+
+
+def check_exports(graph: ModuleGraph, strict: bool, counts: Counter) -> None:
+    """Exports, shared names, unresolved statements, stored modules and steps are what all simple chains give."""
     for module in graph.modules:
-        root, steps = Root(graph), Steps()
+        root, steps = Root(graph, strict=strict), Steps()
         start = root.module_from_specifier(module.specifier)
         if start is None:
             continue
-        resolved, unresolved = exports(root, start, steps)
-        told = [(name, it.statements(), it.module.specifier, it.symbol) for name, it in resolved.items()]
+        resolved, shared, unresolved = exports(root, start, steps)
+        told = [(name, *export_told(it)) for name, it in resolved.items()]
         stored = set(root.numbers)
         by_chains = exports_by_chains(root, start)
         assert told == by_chains[0], ('exports', module.specifier)
         assert [[it.specifier, text] for it, text in unresolved] == by_chains[1], ('unresolved', module.specifier)
+        owners = [(name, [export_told(it) for it in found]) for name, found in shared.items()]
+        assert owners == (shared_by_chains(root, start) if strict else []), ('shared', module.specifier)
+        counts['shared names'] += len(owners)
         least = least_chains(simple_chains(root, start))
         assert stored == {it.end.specifier for it in least.values()}, ('stored', module.specifier)
         assert steps.count == sum(len(it.end.stars) for it in least.values()), ('steps', module.specifier)
         counts['exports'] += 1
         for name in sorted(set(resolved) | {'default', 'no such name'}):
-            check_one_name(Root(graph), module.specifier, name, told, least)
+            check_one_name(Root(graph, strict=strict), module.specifier, name, told, least)
 
 
 def check_one_name(root, specifier, name, told, least) -> None:
@@ -51,7 +58,7 @@ def check_one_name(root, specifier, name, told, least) -> None:
     statements = [(chain.places + (place,), chain.end, text) for chain in least.values()
                   for place, text in enumerate(chain.end.stars)]
     if found is not None:
-        assert wanted == [(name, found.statements(), found.module.specifier, found.symbol)], ('one name', name)
+        assert wanted == [(name, *export_told(found))], ('one name', name)
         end = next(it.places for it in least.values() if it.end.specifier == found.module.specifier)
         statements = [it for it in statements if it[0] <= end]
     elif name == 'default':
@@ -76,8 +83,8 @@ def open_parts(paths) -> list:
 class PathChecks:
     """The checks of paths over a root in which all modules are stored."""
 
-    def __init__(self, graph: ModuleGraph, rng, counts: Counter):
-        self.root, self.rng, self.counts = Root(graph), rng, counts
+    def __init__(self, graph: ModuleGraph, strict: bool, rng, counts: Counter):
+        self.root, self.rng, self.counts = Root(graph, strict=strict), rng, counts
         for module in graph.modules:
             self.root.module_from_specifier(module.specifier)
         self.relations = Relations(self.root)

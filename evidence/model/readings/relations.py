@@ -33,7 +33,9 @@ class Relations:
         return self._owners[key]
 
     def candidates(self, module: Module, name: str) -> list:
-        """The owners of a name behind each statement `export *`, in order."""
+        """The owners of a name behind each statement `export *`, in order; by strict rules none of `default`."""
+        if self.root.strict and name == 'default':
+            return []
         targets = [self.root.dependency(text, module) for text in module.stars]
         found = [self.entry(target, name) for target in targets if target is not None]
         return [it for it in found if it is not None]

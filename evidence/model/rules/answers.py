@@ -46,11 +46,19 @@ def paths_text(paths) -> str:
     return '[' + ','.join(path_text(path) for path in paths) + ']'
 
 
+def owner_value(owner):
+    return {'chain': owner.statements(), 'module': owner.module.specifier, 'symbol': owner.symbol}
+
+
 def exports_value(root, module):
-    resolved, unresolved = exports(root, module)
-    return {'exports': [{'chain': it.statements(), 'module': it.module.specifier, 'name': name, 'symbol': it.symbol}
-                        for name, it in resolved.items()],
-            'unresolved': [[it.specifier, text] for it, text in unresolved]}
+    found = exports(root, module)
+    value = {'exports': [{'chain': it.statements(), 'module': it.module.specifier, 'name': name, 'symbol': it.symbol}
+                         for name, it in found.resolved.items()]}
+    if root.strict:
+        value['shared'] = [{'name': name, 'owners': [owner_value(it) for it in owners]}
+                           for name, owners in found.shared.items()]
+    value['unresolved'] = [[it.specifier, text] for it, text in found.unresolved]
+    return value
 
 
 # constructors and index signatures, which have no names
@@ -60,7 +68,7 @@ NAMELESS = ('%%dg_ctor%%', '%%dg_index%%')
 def names_value(root, module):
     """Each exported name, and behind it each name that its symbol exports itself."""
     found = []
-    for name, it in exports(root, module)[0].items():
+    for name, it in exports(root, module).resolved.items():
         members = [member for member in it.module.table.symbols[it.symbol].exports if member not in NAMELESS]
         found += [[name]] + [[name, member] for member in members]
     return {'names': found}
@@ -116,10 +124,10 @@ def lines_of(data: bytes) -> 'list[bytes]':
     return lines[:-1] if not lines[-1] else lines
 
 
-def run(graph: bytes, lines: 'list[bytes]') -> 'tuple[int, bytes, bytes]':
+def run(graph: bytes, lines: 'list[bytes]', strict=False) -> 'tuple[int, bytes, bytes]':
     """What the program does with the text of a graph and lines: its status, standard output and standard error."""
     try:
-        root = Root(check_graph(read_graph(graph)))
+        root = Root(check_graph(read_graph(graph)), strict=strict)
     except (FormatFault, GraphFault) as fault:
         return (4 if isinstance(fault, FormatFault) else 5), b'', (fault.line() + '\n').encode()
     return 0, b''.join(answer_line(root, line).encode() + b'\n' for line in lines), b''

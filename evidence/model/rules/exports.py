@@ -1,4 +1,6 @@
 """What a module exports: its own names, and those along `export *`, each by its least simple chain."""
+from typing import NamedTuple
+
 from rules.root import Module, Root, Steps
 
 
@@ -41,14 +43,25 @@ def reached(root: Root, start: Module, steps: Steps, unresolved: list, wanted=No
     return found
 
 
-def exports(root: Root, start: Module, steps: 'Steps | None' = None):
-    """The exports by name, and the unresolved statements as (module, text). `default` is owned by the module alone."""
-    resolved, unresolved = {}, []
+class Exports(NamedTuple):
+    """The exports by name, the shared names with all their owners, and the unresolved statements as (module, text)."""
+    resolved: 'dict[str, Export]'
+    shared: 'dict[str, list[Export]]'
+    unresolved: list
+
+
+def exports(root: Root, start: Module, steps: 'Steps | None' = None) -> Exports:
+    """What a module exports. `default` is exported by its owner alone. By strict rules a name is shared that the module
+    doesn't own, and two or more of those that are reached do; by Deno's none is."""
+    owners, unresolved = {}, []
     for chain, module in reached(root, start, steps or Steps(), unresolved):
         for name, number in module.own_exports().items():
-            if name not in resolved and (name != 'default' or module is start):
-                resolved[name] = Export(chain, module, number)
-    return resolved, unresolved
+            if name != 'default' or module is start:
+                owners.setdefault(name, []).append(Export(chain, module, number))
+    resolved = {name: found[0] for name, found in owners.items()}
+    shared = {name: found for name, found in owners.items()
+              if root.strict and name not in start.own_exports() and len(found) > 1}
+    return Exports(resolved, shared, unresolved)
 
 
 def export_of(root: Root, start: Module, name: str, steps: 'Steps | None' = None) -> 'Export | None':

@@ -81,14 +81,14 @@ class Search:
 
     def imported(self, module, declaration) -> list:
         """The one name that an import asks for, of the module's own exports or of the first of its statements `export *`
-        under which the name leads anywhere."""
+        under which the name leads anywhere; by strict rules `default` of its own exports alone."""
         name, target = declaration.name, self.root.dependency(declaration.source, module)
         if target is None:
             return [Unresolved(module, 'specifier', declaration.source, [])]
         number = target.own_exports().get(name)
         if number is not None:
             return self.paths(target, target.table.symbols[number])
-        for text in target.stars:
+        for text in target.stars if self.root.passes_on(name) else ():
             behind = self.root.dependency(text, target)
             entry = None if behind is None else export_of(self.root, behind, name)
             found = [] if entry is None else self.paths(entry.module, entry.module.table.symbols[entry.symbol])

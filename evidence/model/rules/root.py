@@ -26,11 +26,15 @@ class Module:
 
 
 class Root:
-    """What is stored of a graph."""
+    """What is stored of a graph, and whether it is asked by strict rules or by Deno's."""
 
-    def __init__(self, graph: ModuleGraph, max_modules=U32, max_symbols=U32):
-        self.graph, self.max_modules, self.max_symbols = graph, max_modules, max_symbols
+    def __init__(self, graph: ModuleGraph, max_modules=U32, max_symbols=U32, strict=False):
+        self.graph, self.max_modules, self.max_symbols, self.strict = graph, max_modules, max_symbols, strict
         self.modules, self.numbers = [], {}
+
+    def passes_on(self, name: str) -> bool:
+        """Whether an import finds the name behind `export *` of the module that it names."""
+        return name != 'default' or not self.strict
 
     def has_analyzed(self, specifier: str) -> bool:
         return specifier in self.numbers

@@ -7,9 +7,11 @@ import { endOf, endText } from '../folder/ends.js';
 import { shortOf } from '../folder/specifier.js';
 import { columns, counted, placeText } from '../output.js';
 import { differences, readSnapshot, snapshotText } from '../snapshot.js';
+import { ownersText, sharedNames } from './shared.js';
 
 /** @typedef {import('../folder/folder.js').Folder} Folder */
 /** @typedef {import('../cli.js').Run} Run */
+/** @typedef {import('./shared.js').SharedName} SharedName */
 
 /**
  * A public name, as `--json` tells it.
@@ -69,13 +71,14 @@ function throughText({ through }) {
   return through.length === 0 ? '' : `export * from ${through.map((it) => `"${it.text}"`).join(' > ')}`;
 }
 
-/** @param {Run} run @param {string} entry @param {PublicName[]} names @param {OpenStar[]} stars */
-function printEntry({ print, paint }, entry, names, stars) {
+/** @param {Run} run @param {string} entry @param {PublicName[]} names @param {SharedName[]} shared @param {OpenStar[]} stars */
+function printEntry({ print, paint }, entry, names, shared, stars) {
   const files = new Set(names.flatMap((it) => it.defined.map((place) => place.file)));
   print(`${paint.bold(entry)}: ${counted(names.length, 'public name')}${files.size > 0 ? `, defined in ${counted(files.size, 'file')}` : ''}`);
   const sorted = [...names].sort((a, b) => a.name.toLowerCase().localeCompare(b.name.toLowerCase(), 'en') || (a.name < b.name ? -1 : 1));
   const rows = sorted.map((it) => [`  ${it.name}`, it.kind, whereText(it), throughText(it)]);
   columns(rows, ([name, kind, where, through]) => [name, kind, /^nowhere/.test(where) ? paint.red(where) : where, paint.dim(through ?? '')]).forEach(print);
+  for (const it of shared) print(`  ${it.name} ${paint.yellow(`comes along export * from ${it.owners.length} modules`)}: ${ownersText(it)}`);
   for (const it of stars) {
     const what = it.external ? `${shortOf(it.external)} isn't read: its names are public too` : 'leads nowhere';
     print(`  export * from "${it.text}" in ${it.file}: ${it.external ? what : paint.red(what)}`);
@@ -126,12 +129,14 @@ export async function api(run, folder) {
   if (run.options.save) return save(run, names);
   if (run.options.check) return check(run, names);
   const stars = await openStars(folder);
+  const shared = await sharedNames(folder, folder.entries);
   if (run.options.json) {
-    run.print(JSON.stringify({ entries: folder.entries.map((it) => folder.short(it)), names, open: stars }, null, 1));
+    const entries = folder.entries.map((it) => folder.short(it));
+    run.print(JSON.stringify({ entries, names, ...(run.options.strict && { shared }), open: stars }, null, 1));
     return 0;
   }
   for (const entry of folder.entries.map((it) => folder.short(it))) {
-    printEntry(run, entry, names.filter((it) => it.entry === entry), stars.filter((it) => it.entry === entry));
+    printEntry(run, entry, names.filter((it) => it.entry === entry), shared.filter((it) => it.module === entry), stars.filter((it) => it.entry === entry));
   }
   return 0;
 }

@@ -2,6 +2,7 @@
 import { isDefinition } from '../folder/folder.js';
 import { endOf } from '../folder/ends.js';
 import { columns, counted, placeText } from '../output.js';
+import { ownersText, partingText, sharedNames } from './shared.js';
 
 /** @typedef {import('../folder/folder.js').Folder} Folder */
 /** @typedef {import('../cli.js').Run} Run */
@@ -10,12 +11,12 @@ import { columns, counted, placeText } from '../output.js';
 /**
  * Something that isn't there, as `--json` tells it.
  * @typedef {object} Finding
- * @property {'syntax' | 'unread' | 'file' | 'package' | 'name'} what
+ * @property {'syntax' | 'unread' | 'file' | 'package' | 'name' | 'shared'} what
  * @property {string} file
  * @property {number} line
  * @property {number} column
  * @property {string} text the import's text, the name, or what is wrong
- * @property {string} how `import`, `export *` and so on; of a name the module that lacks it
+ * @property {string} how `import`, `export *` and so on; of a name the module that lacks it; of a shared name its owners
  */
 
 /** @param {Folder} folder @returns {{ specifier: string, reference: Reference }[]} what refers to modules, in the folder's own files */
@@ -101,12 +102,29 @@ function lackOf(folder, entries) {
   return ends.filter((it) => endOf(folder, it)?.what === 'name');
 }
 
+/**
+ * Shared names, told at the module where their ways part: the modules that pass them on share them, too.
+ * @param {Folder} folder
+ * @returns {Promise<Finding[]>}
+ */
+async function sharedOnes(folder) {
+  const own = [...folder.sources.modules.values()].filter((it) => folder.sources.files.holds(it.file)).map((it) => it.specifier);
+  const all = await sharedNames(folder, own);
+  const stars = new Map(references(folder).filter(({ reference }) => reference.how === 'export *')
+    .map(({ specifier, reference }) => [`${folder.short(specifier)} ${reference.text}`, { specifier, start: reference.start }]));
+  return all.flatMap((it) => {
+    const star = stars.get(`${it.module} ${partingText(it)}`);
+    return star ? [{ what: /** @type {const} */ ('shared'), ...folder.place(star.specifier, star.start), text: it.name, how: ownersText(it) }] : [];
+  });
+}
+
 const HEADS = {
   syntax: 'files with a syntax error, of which nothing is known',
   unread: 'files that can\'t be read',
   file: 'imports that lead to no file',
   package: 'packages that are neither installed nor named in package.json',
   name: 'names that aren\'t there',
+  shared: 'names that come along `export *` from several modules',
 };
 /** How many are shown of each sort without `--all`. */
 const SHOWN = 20;
@@ -117,7 +135,7 @@ function grouped(all) {
   const groups = new Map();
   for (const it of all) {
     const { what, text, how } = it;
-    const key = what === 'name' ? `${text}  of ${how}` : what === 'file' || what === 'package' ? `${how} "${text}"` : text;
+    const key = what === 'name' ? `${text}  of ${how}` : what === 'shared' ? `${text}  from ${how}` : what === 'file' || what === 'package' ? `${how} "${text}"` : text;
     groups.set(key, [...(groups.get(key) ?? []), it]);
   }
   return [...groups].sort((a, b) => b[1].length - a[1].length);
@@ -139,7 +157,8 @@ function print({ print: line, paint, options }, found) {
 
 /** @param {Run} run @param {Folder} folder @returns {Promise<number>} the status */
 export async function missing(run, folder) {
-  const found = [...unparsed(folder), ...lostImports(folder), ...(await lostNames(folder))];
+  const shared = await (run.options.strict ? sharedOnes(folder) : []);
+  const found = [...unparsed(folder), ...lostImports(folder), ...(await lostNames(folder)), ...shared];
   const all = references(folder);
   const { resolutions, external } = folder.sources;
   const targets = all.map(({ specifier, reference }) => resolutions.get(specifier)?.get(reference.text));
@@ -148,7 +167,8 @@ export async function missing(run, folder) {
   else {
     print(run, found);
     const rest = outside.size > 0 ? `; ${counted(outside.size, 'module')} outside of the folder ${outside.size === 1 ? 'is' : 'are'}n't asked` : '';
-    const told = found.length === 0 ? 'nothing is missing' : `${found.length} missing`;
+    const missed = found.length - shared.length;
+    const told = [missed === 0 ? 'nothing is missing' : `${missed} missing`, ...(shared.length > 0 ? [`${shared.length} shared`] : [])].join(', ');
     run.print(`${counted(all.length, 'import')} in ${counted(folder.sources.modules.size, 'module')}: ${told}${rest}`);
   }
   return found.length > 0 ? 1 : 0;

@@ -11,7 +11,8 @@ import { Temporary } from './temporary.js';
 import { Places } from './text.js';
 
 /** @typedef {{ name: string, module: string, symbol: number, chain: [string, string][] }} Export */
-/** @typedef {{ exports: Export[], unresolved: [string, string][] }} Exports */
+/** @typedef {{ name: string, owners: { module: string, symbol: number, chain: [string, string][] }[] }} Shared */
+/** @typedef {{ exports: Export[], shared?: Shared[], unresolved: [string, string][] }} Exports what is shared by strict rules alone */
 /** @typedef {{ module: string, symbol: number, start: number, end: number, decl: [number, number] }} Definition */
 /** @typedef {{ kind: string, module: string, name: string, parts: string[] }} Unresolved */
 /** @typedef {{ kind: string, name: number, isPrivate: boolean }} Declaration */

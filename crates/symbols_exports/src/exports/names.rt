@@ -21,7 +21,7 @@ use symbols_root::root::RootSymbol;
 use symbols_tree::ids::{ModuleId, SymbolId};
 
 /// The way along the turns to an export.
-fn path_along<'a>(
+pub(crate) fn path_along<'a>(
     alloc: Global,
     above: &[Turn<'a>],
     export: ResolvedExport,
@@ -41,7 +41,7 @@ fn path_along<'a>(
 }
 
 /// Whether a name isn't taken along the turns: it is `default`, and there is a turn.
-fn stays_behind(name: &str, above: &[Turn<'_>]) -> bool
+pub(crate) fn stays_behind(name: &str, above: &[Turn<'_>]) -> bool
     ensures { result ≡ (bytes_eq name.now default_name && is_way (map turn_told above.now)) }
 {
     name == "default" && !above.is_empty()

@@ -4,28 +4,28 @@ ghost use Rattle.std.specs.Prelude.{◌≡◌, ◌<◌, ◌+◌, ◌^◌, ℕ, L
 ghost use Rattle.std.specs.List.{list_any};
 ghost use Rattle.indexmap.specs.IndexSet.{insert_key};
 ghost use Rattle.symbols_table.specs.declared.info.fault.SymbolsFault.TheVariants.{OutOfMemory};
-ghost use Rattle.symbols_root.specs.Roots.{widest, specifier_in};
+ghost use Rattle.symbols_root.specs.Roots.{widest};
 ghost use Rattle.symbols_root.specs.Growing.{HasGrown};
 ghost use Rattle.symbols_exports.specs.Answers.{AreListed, IsAnswer, IsFault};
-ghost use Rattle.symbols_exports.specs.OneName.{IsNameAnswer, IsNameFault, IsWalked, IsWalkFault, named_way};
-ghost use Rattle.symbols_exports.specs.Taking.{is_number, turn_told, unresolved_told, names_view, with_names};
-ghost use Rattle.symbols_exports.specs.Wanted.{owned_for};
+ghost use Rattle.symbols_exports.specs.OneName.{IsNameAnswer, IsNameFault, IsWalked, IsWalkFault};
+ghost use Rattle.symbols_exports.specs.Taking.{is_number, turn_told, unresolved_told, names_view, named_way, shared_views, taken_view};
+ghost use Rattle.symbols_exports.specs.Wanted.{with_module};
 
 use crate::exports::module_exports::ModuleExports;
-use crate::exports::names::take_names;
 use crate::exports::path::ResolvedExportOrReExportAllPath;
 use crate::exports::statements::{statement_at, text_target};
 use crate::exports::steps::Steps;
+use crate::exports::taken::Taken;
 use crate::exports::turn::Turn;
 use crate::exports::wanted::Wanted;
-use indexmap::{IndexMap, IndexSet};
+use indexmap::IndexSet;
 use std::alloc::AllocError;
 use symbols_root::root::RootSymbol;
 use symbols_table::info::SymbolsFault;
 use symbols_tree::ids::ModuleId;
 
-/// Goes on to a module that a statement leads to, and takes of its names those that are wanted,
-/// unless it was met before. Returns whether it wasn't.
+/// Goes on to a module that a statement leads to, and takes what is wanted of it, unless it was met
+/// before. Returns whether it wasn't.
 fn enter<'a>(
     root: &RootSymbol<'a>,
     target: ModuleId,
@@ -33,19 +33,19 @@ fn enter<'a>(
     wanted: Wanted<'_>,
     met: &mut IndexSet<ModuleId>,
     above: &mut Vec<Turn<'a>>,
-    resolved: &mut IndexMap<String, ResolvedExportOrReExportAllPath<'a>>,
+    taken: &mut Taken<'a>,
 ) -> Result<bool, AllocError>
     requires { target.0 < length root.now.stored }
     ensures new { IfOk result (λ is_new. is_new ≡ not (list_any (is_number target) met.old.keys)) }
     ensures met { OnOk result (met.new.keys ≡ insert_key is_number met.old.keys target) }
     ensures few { IfOk result (λ is_new. is_new ≡ true → length met.old.keys < 2 ^ 64) }
     ensures above { IfOk result (λ is_new. above.new.items ≡ (if is_new then above.old.items ++ turn.entry ∷ [] else above.old.items)) }
-    ensures names { IfOk result (λ is_new. names_view resolved.new.entries ≡ (if is_new then with_names (map turn_told (above.old.items ++ turn.entry ∷ [])) target (owned_for wanted.entry root.now.graph (specifier_in root.now target)) (names_view resolved.old.entries) else names_view resolved.old.entries)) }
+    ensures taken { IfOk result (λ is_new. taken_view taken.new ≡ (if is_new then with_module wanted.entry root.now (map turn_told (above.old.items ++ turn.entry ∷ [])) target (taken_view taken.old) else taken_view taken.old)) }
 {
     let (_, is_new) = met.insert_full(target)?;
     if is_new {
         above.push(turn)?;
-        take_names(root, target, above, wanted, resolved)?;
+        taken.take(root, target, above, wanted)?;
     }
     Ok(is_new)
 }
@@ -59,7 +59,7 @@ fn walk<'a>(
     steps: &mut Steps,
 ) -> Result<ModuleExports<'a>, SymbolsFault>
     requires room { steps.old.count < 2 ^ 64 }
-    ensures answers { IfOk result (λ answer. (asked : ℕ) × (steps.new.count ≡ steps.old.count + asked) × IsWalked wanted.entry root.old root.new module_id (names_view answer.resolved.entries) (map unresolved_told answer.unresolved_specifiers.items) asked) }
+    ensures answers { IfOk result (λ answer. (asked : ℕ) × (steps.new.count ≡ steps.old.count + asked) × IsWalked wanted.entry root.old root.new module_id (names_view answer.resolved.entries) (shared_views answer.shared.items) (map unresolved_told answer.unresolved_specifiers.items) asked) }
     ensures faults { IfErr result (λ fault. (asked : ℕ) × (steps.new.count ≡ steps.old.count + asked) × IsWalkFault wanted.entry root.old root.new module_id fault asked) }
     ensures enough { root.old.limits ≡ widest → module_id.0 < length root.old.stored → IfErr result (λ fault. fault ≡ OutOfMemory) }
 {
@@ -69,21 +69,20 @@ fn walk<'a>(
     let mut met = IndexSet::new(root.alloc());
     met.insert(module_id)?;
     let mut above: Vec<Turn<'a>> = Vec::new(root.alloc());
-    let mut answer = ModuleExports::new(root.alloc());
-    take_names(root, module_id, &above, wanted, &mut answer.resolved)?;
+    let mut taken = Taken::new(root.alloc());
+    taken.take(root, module_id, &above, wanted)?;
     let mut here = module_id;
     let mut next = 0;
-    'walk: while !wanted.is_done(&answer.resolved) {
+    'walk: while !wanted.is_done(&taken.resolved) {
         if let Some(turn) = statement_at(root, here, next) {
             match text_target(root, here, turn.text, steps) {
                 Err(fault) => return Err(fault),
                 Ok(None) => {
-                    answer.unresolved_specifiers.push(turn.unresolved())?;
+                    taken.unresolved.push(turn.unresolved())?;
                     next += 1;
                 }
                 Ok(Some(target)) => {
-                    let names = &mut answer.resolved;
-                    if enter(root, target, turn, wanted, &mut met, &mut above, names)? {
+                    if enter(root, target, turn, wanted, &mut met, &mut above, &mut taken)? {
                         here = target;
                         next = 0;
                     } else {
@@ -95,10 +94,10 @@ fn walk<'a>(
             here = turn.referrer;
             next = turn.position + 1;
         } else {
-            return Ok(answer);
+            return Ok(taken.into_exports(root.alloc())?);
         }
     }
-    Ok(answer)
+    Ok(taken.into_exports(root.alloc())?)
 }
 
 /// What a stored module exports: its own names, and those of the modules along its statements
@@ -115,7 +114,7 @@ pub fn exports_counted<'a>(
     steps: &mut Steps,
 ) -> Result<ModuleExports<'a>, SymbolsFault>
     requires room { steps.old.count < 2 ^ 64 }
-    ensures answers { IfOk result (λ answer. (asked : ℕ) × (steps.new.count ≡ steps.old.count + asked) × IsAnswer root.old root.new module_id (names_view answer.resolved.entries) (map unresolved_told answer.unresolved_specifiers.items) asked) }
+    ensures answers { IfOk result (λ answer. (asked : ℕ) × (steps.new.count ≡ steps.old.count + asked) × IsAnswer root.old root.new module_id (names_view answer.resolved.entries) (shared_views answer.shared.items) (map unresolved_told answer.unresolved_specifiers.items) asked) }
     ensures faults { IfErr result (λ fault. (asked : ℕ) × (steps.new.count ≡ steps.old.count + asked) × IsFault root.old root.new module_id fault asked) }
     ensures listed { (start : List ℕ) → AreListed root.old.graph start }
     ensures kept { HasGrown root.old root.new }
@@ -135,7 +134,7 @@ pub fn exports<'a>(
     root: &mut RootSymbol<'a>,
     module_id: ModuleId,
 ) -> Result<ModuleExports<'a>, SymbolsFault>
-    ensures answers { IfOk result (λ answer. (asked : ℕ) × IsAnswer root.old root.new module_id (names_view answer.resolved.entries) (map unresolved_told answer.unresolved_specifiers.items) asked) }
+    ensures answers { IfOk result (λ answer. (asked : ℕ) × IsAnswer root.old root.new module_id (names_view answer.resolved.entries) (shared_views answer.shared.items) (map unresolved_told answer.unresolved_specifiers.items) asked) }
     ensures faults { IfErr result (λ fault. (asked : ℕ) × IsFault root.old root.new module_id fault asked) }
     ensures listed { (start : List ℕ) → AreListed root.old.graph start }
     ensures kept { HasGrown root.old root.new }

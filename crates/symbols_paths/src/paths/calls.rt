@@ -14,8 +14,11 @@ pub trait FindDefinitions<'a> {
     /// The paths to what a symbol of a stored module is defined by (as deno_graph, which finds them by a
     /// module and a symbol of it): along other names of its module, aliases with parts behind a name,
     /// imports, and `export *`. Each symbol is gone into once; of the exports along `export *` the first
-    /// is taken that has a path. An alias is a search of its own, which gives nothing while it is being
-    /// resolved (own rule; the crate recurses without end there).
+    /// is taken that has a path. By strict rules no `export *` passes `default` on: where the module that
+    /// it is imported from doesn't export it itself, one unresolved part of that module stands, and no
+    /// module behind its `export *` is asked or stored for it (own rule, as ECMAScript says). An alias is a
+    /// search of its own, which gives nothing while it is being resolved (own rule; the crate recurses
+    /// without end there).
     ///
     /// # Errors
     ///

@@ -37,8 +37,8 @@ fn trails_of<'a>(
     module_id: ModuleId,
     symbol_id: SymbolId,
 ) -> Result<Vec<Trail<'a>>, SymbolsFault>
-    ensures answers { IfOk result (λ trails. ArePaths root.old.graph (named_in root.old module_id symbol_id) (trails_told root.new trails.items)) }
-    ensures listed { IfOk result (λ trails. trails_told root.new trails.items ≡ paths_of root.old.graph (named_in root.old module_id symbol_id)) }
+    ensures answers { IfOk result (λ trails. ArePaths root.old.rules root.old.graph (named_in root.old module_id symbol_id) (trails_told root.new trails.items)) }
+    ensures listed { IfOk result (λ trails. trails_told root.new trails.items ≡ paths_of root.old.rules root.old.graph (named_in root.old module_id symbol_id)) }
     ensures known { IfOk result (λ trails. (module_id.0 < length root.old.stored) × (symbol_in root.old module_id symbol_id ≢ None)) }
     ensures stored { IfOk result (λ trails. AreStored root.new (modules_of_trails trails.items)) }
     ensures faults { IfErr result (IsPathsFault root.old root.new module_id symbol_id) }
@@ -68,7 +68,7 @@ impl<'a> FindDefinitions<'a> for RootSymbol<'a> {
         symbol_id: SymbolId,
     ) -> Result<Vec<DefinitionPathNode<'a>>, SymbolsFault>
         ensures answers { IfOk result (λ paths. IsPathsAnswer self.old self.new module_id symbol_id paths.items) }
-        ensures listed { IfOk result (λ paths. forest_told self.new paths.items ≡ paths_of self.old.graph (named_in self.old module_id symbol_id)) }
+        ensures listed { IfOk result (λ paths. forest_told self.new paths.items ≡ paths_of self.old.rules self.old.graph (named_in self.old module_id symbol_id)) }
         ensures faults { IfErr result (IsPathsFault self.old self.new module_id symbol_id) }
         ensures kept { HasGrown self.old self.new }
         ensures only { (f g : Forest) → IsChosen (links_in self.old) (named_in self.old module_id symbol_id) f → IsChosen (links_in self.old) (named_in self.old module_id symbol_id) g → f ≡ g }
@@ -86,8 +86,8 @@ impl<'a> FindDefinitions<'a> for RootSymbol<'a> {
         module_id: ModuleId,
         symbol_id: SymbolId,
     ) -> Result<DefinitionsOrUnresolvedsIter<'a>, SymbolsFault>
-        ensures answers { IfOk result (λ ends. (paths : Forest) × ArePaths self.old.graph (named_in self.old module_id symbol_id) paths × (map (leaf_told self.new) (ends_left ends) ≡ leaves_in paths)) }
-        ensures listed { IfOk result (λ ends. map (leaf_told self.new) (ends_left ends) ≡ leaves_in (paths_of self.old.graph (named_in self.old module_id symbol_id))) }
+        ensures answers { IfOk result (λ ends. (paths : Forest) × ArePaths self.old.rules self.old.graph (named_in self.old module_id symbol_id) paths × (map (leaf_told self.new) (ends_left ends) ≡ leaves_in paths)) }
+        ensures listed { IfOk result (λ ends. map (leaf_told self.new) (ends_left ends) ≡ leaves_in (paths_of self.old.rules self.old.graph (named_in self.old module_id symbol_id))) }
         ensures known { IfOk result (λ ends. (module_id.0 < length self.old.stored) × (symbol_in self.old module_id symbol_id ≢ None)) }
         ensures stored { IfOk result (λ ends. AreStored self.new (map module_of_end (ends_left ends))) }
         ensures faults { IfErr result (IsPathsFault self.old self.new module_id symbol_id) }
@@ -106,8 +106,8 @@ impl<'a> FindDefinitions<'a> for RootSymbol<'a> {
         module_id: ModuleId,
         symbol_id: SymbolId,
     ) -> Result<DefinitionsIter<'a>, SymbolsFault>
-        ensures answers { IfOk result (λ definitions. (paths : Forest) × ArePaths self.old.graph (named_in self.old module_id symbol_id) paths × (map (definition_told self.new) (definitions_left definitions) ≡ definitions_in (leaves_in paths))) }
-        ensures listed { IfOk result (λ definitions. map (definition_told self.new) (definitions_left definitions) ≡ definitions_in (leaves_in (paths_of self.old.graph (named_in self.old module_id symbol_id)))) }
+        ensures answers { IfOk result (λ definitions. (paths : Forest) × ArePaths self.old.rules self.old.graph (named_in self.old module_id symbol_id) paths × (map (definition_told self.new) (definitions_left definitions) ≡ definitions_in (leaves_in paths))) }
+        ensures listed { IfOk result (λ definitions. map (definition_told self.new) (definitions_left definitions) ≡ definitions_in (leaves_in (paths_of self.old.rules self.old.graph (named_in self.old module_id symbol_id)))) }
         ensures known { IfOk result (λ definitions. (module_id.0 < length self.old.stored) × (symbol_in self.old module_id symbol_id ≢ None)) }
         ensures stored { IfOk result (λ definitions. AreStored self.new (map module_of_definition (definitions_left definitions))) }
         ensures faults { IfErr result (IsPathsFault self.old self.new module_id symbol_id) }
@@ -127,8 +127,8 @@ impl<'a> FindDefinitions<'a> for RootSymbol<'a> {
         module_id: ModuleId,
         dep: &SymbolNodeDep<'_>,
     ) -> Result<Vec<ResolvedSymbolDepEntry<'a>>, SymbolsFault>
-        ensures answers { IfOk result (λ entries. (module_id.0 < length self.old.stored) × IsDepAnswer self.old.graph (specifier_in self.old module_id) (reference_view dep.now) (map (entry_told self.new) entries.items)) }
-        ensures listed { IfOk result (λ entries. map (entry_told self.new) entries.items ≡ entries_of self.old.graph (specifier_in self.old module_id) (reference_view dep.now)) }
+        ensures answers { IfOk result (λ entries. (module_id.0 < length self.old.stored) × IsDepAnswer self.old.rules self.old.graph (specifier_in self.old module_id) (reference_view dep.now) (map (entry_told self.new) entries.items)) }
+        ensures listed { IfOk result (λ entries. map (entry_told self.new) entries.items ≡ entries_of self.old.rules self.old.graph (specifier_in self.old module_id) (reference_view dep.now)) }
         ensures stored { IfOk result (λ entries. AreStored self.new (modules_of_entries entries.items)) }
         ensures faults { IfErr result (IsDepFault self.old self.new module_id (reference_view dep.now)) }
         ensures kept { HasGrown self.old self.new }

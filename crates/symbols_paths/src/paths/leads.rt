@@ -6,10 +6,11 @@ ghost use Rattle.symbols_syntax.specs.Graph.{GraphView};
 ghost use Rattle.symbols_syntax.specs.Ids.{IdView, id_view};
 ghost use Rattle.symbols_table.specs.DeclViews.{decl_view};
 ghost use Rattle.symbols_table.specs.Modules.{lent_table, mapped_in};
+ghost use Rattle.symbols_root.specs.declared.root.rules.Rules.{Rules};
 ghost use Rattle.symbols_root.specs.Roots.{specifier_in};
 ghost use Rattle.symbols_exports.specs.StarStatements.{star_texts};
 ghost use Rattle.symbols_paths.specs.Trees.{NamedSymbol};
-ghost use Rattle.symbols_paths.specs.Leads.{own_export, declarations_of, lead_of, symbol_of_id};
+ghost use Rattle.symbols_paths.specs.Leads.{own_export, passes_on, declarations_of, lead_of, symbol_of_id};
 ghost use Rattle.symbols_paths.specs.PartWays.{export_of_symbol, is_class_at};
 ghost use Rattle.symbols_paths.specs.Views.{named, decl_told, texts_of, first_part};
 ghost use Rattle.symbols_paths.specs.Searching.{lead_told, IsImportOf, IsRead};
@@ -17,7 +18,7 @@ ghost use Rattle.symbols_paths.specs.Searching.{lead_told, IsImportOf, IsRead};
 use crate::paths::definition::{DeclRef, DefinitionKind};
 use crate::paths::shared_parts::SharedParts;
 use std::alloc::{AllocError, Global};
-use symbols_root::root::RootSymbol;
+use symbols_root::root::{RootSymbol, Rules};
 use symbols_table::decl::{FileDepName, SymbolDecl, SymbolDeclKind};
 use symbols_table::info::ModuleInfoRef;
 use symbols_tree::ids::{ModuleId, SymbolId, UniqueSymbolId};
@@ -59,7 +60,7 @@ fn lead_of<'a>(
     info: ModuleInfoRef<'_, 'a>,
     decl: &SymbolDecl<'a>,
 ) -> Result<Lead<'a>, AllocError>
-    ensures leads { IfOk result (λ lead. (graph : GraphView) (s : NamedSymbol) → ((id : IdView) → mapped_in (lent_table info.entry) id ≡ symbol_of_id graph s.specifier id) → lead_told graph s lead ≡ lead_of graph s (decl_view decl.now).range (decl_view decl.now).kind) }
+    ensures leads { IfOk result (λ lead. (rules : Rules) (graph : GraphView) (s : NamedSymbol) → ((id : IdView) → mapped_in (lent_table info.entry) id ≡ symbol_of_id graph s.specifier id) → lead_told rules graph s lead ≡ lead_of rules graph s (decl_view decl.now).range (decl_view decl.now).kind) }
     ensures imports { IfOk result (λ lead. IsImportOf lead (decl_view decl.now)) }
 {
     match &decl.kind {
@@ -104,7 +105,7 @@ pub(crate) fn lead_at<'a>(
     index: u32,
 ) -> Result<Option<Lead<'a>>, AllocError>
     requires { symbol.module_id.0 < length root.now.stored }
-    ensures reads { IfOk result (λ lead. MatchOption lead (slice_get (declarations_of root.now.graph (named root.now symbol)) index ≡ None) (IsRead root.now.graph (named root.now symbol) index)) }
+    ensures reads { IfOk result (λ lead. MatchOption lead (slice_get (declarations_of root.now.graph (named root.now symbol)) index ≡ None) (IsRead root.now.rules root.now.graph (named root.now symbol) index)) }
     ensures few { length (declarations_of root.now.graph (named root.now symbol)) < 2 ^ 32 }
 {
     let Some(info) = root.module_from_id(symbol.module_id) else {
@@ -127,6 +128,16 @@ pub(crate) fn own_export(root: &RootSymbol<'_>, module_id: ModuleId, name: &str)
     match root.module_from_id(module_id) {
         Some(info) => info.module_symbol().export(name),
         None => unreachable!(),
+    }
+}
+
+/// Whether the statements `export *` pass a name on, by these rules.
+pub(crate) fn passes_on(rules: Rules, name: &str) -> bool
+    ensures { result ≡ passes_on rules name.now }
+{
+    match rules {
+        Rules::Deno => true,
+        Rules::Strict => name != "default",
     }
 }
 

@@ -4,7 +4,7 @@ ghost use Rattle.std.specs.Prelude.{◌≡◌, ◌<◌, ◌++◌, [], length, If
 ghost use Rattle.std.specs.Option.{option_to_list};
 ghost use Rattle.symbols_syntax.specs.Ids.{id_view};
 ghost use Rattle.symbols_root.specs.Roots.{RootView, specifier_in};
-ghost use Rattle.symbols_paths.specs.Trees.{leaf, link, one, link_to, definition, unresolved, no_symbol};
+ghost use Rattle.symbols_paths.specs.Trees.{leaf, link, one, link_to, definition, unresolved, no_symbol, no_part};
 ghost use Rattle.symbols_paths.specs.Views.{named, decl_told, star_of, reason_told, texts_of, unresolved_told, AreStored};
 ghost use Rattle.symbols_paths.specs.Trails.{parts_told, step_head, trail_told, trails_told, trails_of_option, modules_of_trail, modules_of_trails};
 
@@ -137,6 +137,20 @@ pub(crate) fn unresolved<'a>(
         parts,
     };
     one_unresolved(alloc, missing)
+}
+
+/// One unresolved entry for a name that a module doesn't export.
+pub(crate) fn no_export<'a>(
+    alloc: Global,
+    module_id: ModuleId,
+    name: &str,
+) -> Result<Vec<Trail<'a>>, AllocError>
+    ensures told { IfOk result (λ trails. (root : RootView) → trails_told root trails.items ≡ one (leaf (unresolved (record { specifier = specifier_in root module_id; reason = no_part name.now; parts = [] })))) }
+    ensures stored { IfOk result (λ trails. (root : RootView) → module_id.0 < length root.stored → AreStored root (modules_of_trails trails.items)) }
+{
+    let kind = DefinitionUnresolvedKind::Part(String::from_str(alloc, name)?);
+    let parts = Vec::new(alloc);
+    unresolved(alloc, module_id, kind, parts)
 }
 
 pub(crate) fn copied_id(alloc: Global, id: &Id) -> Result<Id, AllocError>

@@ -53,8 +53,8 @@ fn paths_under<'a>(
     requires known { symbol.module_id.0 < length root.old.stored }
     requires once { IsDistinct bytes_eq root.old.stored }
     ensures kept { HasGrown root.old root.new }
-    ensures found { IfOk result (λ paths. ArePathsFor root.old.graph (named root.old symbol) (parts_told parts.now) (trails_told root.new paths.items)) }
-    ensures listed { IfOk result (λ paths. trails_told root.new paths.items ≡ paths_under root.old.graph (named root.old symbol) (parts_told parts.now)) }
+    ensures found { IfOk result (λ paths. ArePathsFor root.old.rules root.old.graph (named root.old symbol) (parts_told parts.now) (trails_told root.new paths.items)) }
+    ensures listed { IfOk result (λ paths. trails_told root.new paths.items ≡ paths_under root.old.rules root.old.graph (named root.old symbol) (parts_told parts.now)) }
     ensures stored { IfOk result (λ paths. AreStored root.new (modules_of_trails paths.items)) }
     ensures refused { IfErr result (IsRefused root.new (specifier_in root.old symbol.module_id)) }
     ensures enough { root.old.limits ≡ widest → IfErr result (λ fault. fault ≡ OutOfMemory) }
@@ -74,8 +74,8 @@ fn paths_behind_first<'a>(
     requires some { 0 < length (parts_told parts.now) }
     requires once { IsDistinct bytes_eq root.old.stored }
     ensures kept { HasGrown root.old root.new }
-    ensures found { IfOk result (λ paths. ArePathsFor root.old.graph (named root.old symbol) (later_parts (parts_told parts.now)) (trails_told root.new paths.items)) }
-    ensures listed { IfOk result (λ paths. trails_told root.new paths.items ≡ paths_under root.old.graph (named root.old symbol) (later_parts (parts_told parts.now))) }
+    ensures found { IfOk result (λ paths. ArePathsFor root.old.rules root.old.graph (named root.old symbol) (later_parts (parts_told parts.now)) (trails_told root.new paths.items)) }
+    ensures listed { IfOk result (λ paths. trails_told root.new paths.items ≡ paths_under root.old.rules root.old.graph (named root.old symbol) (later_parts (parts_told parts.now))) }
     ensures stored { IfOk result (λ paths. AreStored root.new (modules_of_trails paths.items)) }
     ensures refused { IfErr result (IsRefused root.new (specifier_in root.old symbol.module_id)) }
     ensures enough { root.old.limits ≡ widest → IfErr result (λ fault. fault ≡ OutOfMemory) }
@@ -114,7 +114,7 @@ fn paths_of_id<'a>(
     requires known { module_id.0 < length root.old.stored }
     requires once { IsDistinct bytes_eq root.old.stored }
     ensures kept { HasGrown root.old root.new }
-    ensures found { IfOk result (λ paths. ArePathsOf root.old.graph (asked_by_id root.old.graph (specifier_in root.old module_id) (id_view id.now) (parts_told parts.now)) (missing_id (specifier_in root.old module_id) (id_view id.now) (parts_told parts.now)) (trails_told root.new paths.items)) }
+    ensures found { IfOk result (λ paths. ArePathsOf root.old.rules root.old.graph (asked_by_id root.old.graph (specifier_in root.old module_id) (id_view id.now) (parts_told parts.now)) (missing_id (specifier_in root.old module_id) (id_view id.now) (parts_told parts.now)) (trails_told root.new paths.items)) }
     ensures stored { IfOk result (λ paths. AreStored root.new (modules_of_trails paths.items)) }
     ensures refused { IfErr result (IsRefused root.new (specifier_in root.old module_id)) }
     ensures enough { root.old.limits ≡ widest → IfErr result (λ fault. fault ≡ OutOfMemory) }
@@ -140,7 +140,7 @@ fn paths_of_import<'a>(
     requires some { 0 < length (parts_told parts.now) }
     requires once { IsDistinct bytes_eq root.old.stored }
     ensures kept { HasGrown root.old root.new }
-    ensures found { IfOk result (λ paths. ArePathsOf root.old.graph (asked_by_way (later_parts (parts_told parts.now)) (text_part root.old.graph (specifier_in root.old module_id) text.now (first_part (parts_told parts.now)) (later_parts (parts_told parts.now)) (text_target root.old.graph (specifier_in root.old module_id) text.now))) (missing_way (text_part root.old.graph (specifier_in root.old module_id) text.now (first_part (parts_told parts.now)) (later_parts (parts_told parts.now)) (text_target root.old.graph (specifier_in root.old module_id) text.now))) (trails_told root.new paths.items)) }
+    ensures found { IfOk result (λ paths. ArePathsOf root.old.rules root.old.graph (asked_by_way (later_parts (parts_told parts.now)) (text_part root.old.graph (specifier_in root.old module_id) text.now (first_part (parts_told parts.now)) (later_parts (parts_told parts.now)) (text_target root.old.graph (specifier_in root.old module_id) text.now))) (missing_way (text_part root.old.graph (specifier_in root.old module_id) text.now (first_part (parts_told parts.now)) (later_parts (parts_told parts.now)) (text_target root.old.graph (specifier_in root.old module_id) text.now))) (trails_told root.new paths.items)) }
     ensures stored { IfOk result (λ paths. AreStored root.new (modules_of_trails paths.items)) }
     ensures refused { IfErr result (λ fault. (start : List ℕ) → ((k : List ℕ) → text_target root.old.graph (specifier_in root.old module_id) text.now ≡ Some k → IsNeeded root.old.graph start k) → IsRefused root.new start fault) }
     ensures enough { root.old.limits ≡ widest → IfErr result (λ fault. fault ≡ OutOfMemory) }
@@ -220,8 +220,8 @@ pub(crate) fn entries_of_id<'a>(
     requires known { module_id.0 < length root.old.stored }
     requires once { IsDistinct bytes_eq root.old.stored }
     ensures kept { HasGrown root.old root.new }
-    ensures answers { IfOk result (λ entries. IsDepAnswer root.old.graph (specifier_in root.old module_id) (qualified_id (id_view id.now) (parts_told parts.now)) (map (entry_told root.new) entries.items)) }
-    ensures listed { IfOk result (λ entries. map (entry_told root.new) entries.items ≡ entries_of root.old.graph (specifier_in root.old module_id) (qualified_id (id_view id.now) (parts_told parts.now))) }
+    ensures answers { IfOk result (λ entries. IsDepAnswer root.old.rules root.old.graph (specifier_in root.old module_id) (qualified_id (id_view id.now) (parts_told parts.now)) (map (entry_told root.new) entries.items)) }
+    ensures listed { IfOk result (λ entries. map (entry_told root.new) entries.items ≡ entries_of root.old.rules root.old.graph (specifier_in root.old module_id) (qualified_id (id_view id.now) (parts_told parts.now))) }
     ensures stored { IfOk result (λ entries. AreStored root.new (modules_of_entries entries.items)) }
     ensures refused { IfErr result (IsRefused root.new (specifier_in root.old module_id)) }
     ensures enough { root.old.limits ≡ widest → IfErr result (λ fault. fault ≡ OutOfMemory) }
@@ -242,8 +242,8 @@ pub(crate) fn entries_of_import<'a>(
     requires known { module_id.0 < length root.old.stored }
     requires once { IsDistinct bytes_eq root.old.stored }
     ensures kept { HasGrown root.old root.new }
-    ensures answers { IfOk result (λ entries. IsDepAnswer root.old.graph (specifier_in root.old module_id) (import_type text.now (parts_told parts.now)) (map (entry_told root.new) entries.items)) }
-    ensures listed { IfOk result (λ entries. map (entry_told root.new) entries.items ≡ entries_of root.old.graph (specifier_in root.old module_id) (import_type text.now (parts_told parts.now))) }
+    ensures answers { IfOk result (λ entries. IsDepAnswer root.old.rules root.old.graph (specifier_in root.old module_id) (import_type text.now (parts_told parts.now)) (map (entry_told root.new) entries.items)) }
+    ensures listed { IfOk result (λ entries. map (entry_told root.new) entries.items ≡ entries_of root.old.rules root.old.graph (specifier_in root.old module_id) (import_type text.now (parts_told parts.now))) }
     ensures stored { IfOk result (λ entries. AreStored root.new (modules_of_entries entries.items)) }
     ensures refused { IfErr result (λ fault. (start : List ℕ) → ((k : List ℕ) → text_target root.old.graph (specifier_in root.old module_id) text.now ≡ Some k → IsNeeded root.old.graph start k) → IsRefused root.new start fault) }
     ensures enough { root.old.limits ≡ widest → IfErr result (λ fault. fault ≡ OutOfMemory) }

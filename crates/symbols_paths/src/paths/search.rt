@@ -16,8 +16,10 @@ ghost use Rattle.symbols_paths.specs.Needed.{IsRefused, IsStarDeclared};
 ghost use Rattle.symbols_paths.specs.Searching.{AreNumbered, AreAliasesNumbered, HasSearched, IsFound, IsFollowed, IsTried, IsOffered, IsResolved, IsWalked, IsChanged, IsImported, IsImportOf, ways_of_import, ways_along};
 
 use crate::paths::definition::{DeclRef, Definition};
-use crate::paths::leads::{Lead, NamedImport, lead_at, own_export, star_text};
-use crate::paths::link::{add, defined, link, link_under, one_unresolved, unmapped, unresolved};
+use crate::paths::leads::{Lead, NamedImport, lead_at, own_export, passes_on, star_text};
+use crate::paths::link::{
+    add, defined, link, link_under, no_export, one_unresolved, unmapped, unresolved,
+};
 use crate::paths::parts::{PartWay, part_of};
 use crate::paths::rebuild::{definitions_in, rebuild};
 use crate::paths::resolving::AliasDecl;
@@ -124,7 +126,8 @@ fn follow<'a>(
     }
 }
 
-/// The paths of what a symbol imports by a name from a text, or one unresolved entry.
+/// The paths of what a symbol imports by a name from a text, or one unresolved entry: by strict rules
+/// `default` isn't looked for along the statements `export *`.
 #[cycle(search)]
 fn import<'a>(
     root: &mut RootSymbol<'a>,
@@ -157,7 +160,10 @@ fn import<'a>(
     };
     match own_export(root, module_id, taken.name) {
         Some(owned) => find(root, resolving, met, UniqueSymbolId::new(module_id, owned)),
-        None => import_along(root, resolving, met, module_id, taken),
+        None if passes_on(root.rules(), taken.name) => {
+            import_along(root, resolving, met, module_id, taken)
+        }
+        None => Ok(no_export(root.alloc(), module_id, taken.name)?),
     }
 }
 
@@ -198,9 +204,7 @@ fn import_along<'a>(
         }
         position += 1;
     }
-    let kind = DefinitionUnresolvedKind::Part(String::from_str(root.alloc(), taken.name)?);
-    let parts = Vec::new(root.alloc());
-    Ok(unresolved(root.alloc(), module_id, kind, parts)?)
+    Ok(no_export(root.alloc(), module_id, taken.name)?)
 }
 
 /// The paths of a candidate; none where there is no candidate.

@@ -242,8 +242,8 @@ pub trait AnswerQueries<'a> {
 impl<'a> AnswerQueries<'a> for RootSymbol<'a> {
     fn answer(&mut self, query: &Query<'_>) -> Result<Answer<'a>, SymbolsFault>
         ensures kept { HasGrown self.old self.new }
-        ensures answers { IfOk result (λ answer. query_answer self.old.graph (query_view query.now) ≡ Some (answer_view answer)) }
-        ensures means { IfOk result (λ answer. IsAnswerTo self.old.graph (query_view query.now) (answer_view answer)) }
+        ensures answers { IfOk result (λ answer. query_answer self.old.rules self.old.graph (query_view query.now) ≡ Some (answer_view answer)) }
+        ensures means { IfOk result (λ answer. IsAnswerTo self.old.rules self.old.graph (query_view query.now) (answer_view answer)) }
         ensures stored { IfOk result (λ answer. HasStoredFor self.new (query_view query.now) (answer_view answer)) }
         ensures listed { (start : List ℕ) → AreListed self.old.graph start }
         ensures faults { IfErr result (IsQueryFault self.old self.new (query_view query.now)) }
@@ -259,8 +259,8 @@ impl<'a> AnswerQueries<'a> for RootSymbol<'a> {
 
     fn run(&mut self, queries: &[Query<'_>]) -> Result<Vec<Answer<'a>>, SymbolsFault>
         ensures kept { HasGrown self.old self.new }
-        ensures answers { IfOk result (λ answers. map (λ answer. Some (answer_view answer)) answers.items ≡ map (λ query. query_answer self.old.graph (query_view query)) queries.now) }
-        ensures means { IfOk result (λ answers. AllZip (λ query answer. IsAnswerTo self.old.graph (query_view query) (answer_view answer)) queries.now answers.items) }
+        ensures answers { IfOk result (λ answers. map (λ answer. Some (answer_view answer)) answers.items ≡ map (λ query. query_answer self.old.rules self.old.graph (query_view query)) queries.now) }
+        ensures means { IfOk result (λ answers. AllZip (λ query answer. IsAnswerTo self.old.rules self.old.graph (query_view query) (answer_view answer)) queries.now answers.items) }
         ensures stored { IfOk result (λ answers. AllZip (λ query answer. HasStoredFor self.new (query_view query) (answer_view answer)) queries.now answers.items) }
         ensures listed { (start : List ℕ) → AreListed self.old.graph start }
         ensures faults { IfErr result (IsRunFault self.old self.new (map query_view queries.now)) }

@@ -1,12 +1,16 @@
 //! What a module exports, its ways told by specifiers.
 
 ghost use Rattle.std.specs.Prelude.{◌≡◌, ◌<◌, length, map, string_bytes, IfOk};
+ghost use Rattle.std.specs.Option.{option_map};
 ghost use Rattle.symbols_root.specs.Roots.{specifier_in};
 ghost use Rattle.symbols_exports.specs.Paths.{resolved_export, statements_on};
-ghost use Rattle.symbols_exports.specs.Taking.{names_view, unresolved_told};
+ghost use Rattle.symbols_exports.specs.Sharing.{told_sharing, AllShareNumbered};
+ghost use Rattle.symbols_exports.specs.Taking.{names_view, shared_views, unresolved_told};
 ghost use Rattle.symbols_exports.specs.Told.{told_number, told_name, AreNumbered, IsNumbered, AllNumbered};
-ghost use Rattle.symbols_queries.specs.AnswerViews.{statement_view, export_view};
+ghost use Rattle.symbols_answers.specs.QueryAnswers.{by_strict};
+ghost use Rattle.symbols_queries.specs.AnswerViews.{statement_view, export_view, sharing_view};
 
+use crate::queries::shared::{NamedShared, named_by_rules};
 use indexmap::IndexMap;
 use std::alloc::{AllocError, Global};
 use symbols_exports::exports::{
@@ -41,6 +45,8 @@ pub struct NamedExport<'a> {
 pub struct NamedExports<'a> {
     /// The exported names, in chain order, and by one chain in the order of the module at its end.
     pub exports: Vec<NamedExport<'a>>,
+    /// By strict rules the names that modules share, in the order of the exports.
+    pub shared: Option<Vec<NamedShared<'a>>>,
     /// The statements `export *` that lead to no module, in chain order.
     pub unresolved: Vec<NamedStatement<'a>>,
 }
@@ -72,7 +78,7 @@ fn named_statement<'a>(
 
 /// The statements on a way, in order.
 #[tactic(auto, using(crate::proofs::Naming::statements_of_rests))]
-fn named_chain<'a>(
+pub(crate) fn named_chain<'a>(
     alloc: Global,
     root: &RootSymbol<'a>,
     path: &ResolvedExportOrReExportAllPath<'a>,
@@ -146,14 +152,18 @@ pub(crate) fn named_exports<'a>(
     exports: ModuleExports<'a>,
 ) -> Result<NamedExports<'a>, AllocError>
     requires names { AllNumbered root.now (names_view exports.resolved.entries) }
+    requires shared { AllShareNumbered root.now (shared_views exports.shared.items) }
     requires statements { AreNumbered root.now (map unresolved_told exports.unresolved_specifiers.items) }
     ensures names { IfOk result (λ named. map export_view named.exports.items ≡ map (told_name root.now) (names_view exports.entry.resolved.entries)) }
+    ensures shared { IfOk result (λ named. option_map sharing_view named.shared ≡ by_strict root.now.rules (map (told_sharing root.now) (shared_views exports.entry.shared.items))) }
     ensures statements { IfOk result (λ named. map statement_view named.unresolved.items ≡ map (told_number root.now) (map unresolved_told exports.entry.unresolved_specifiers.items)) }
 {
     let unresolved = named_unresolved(alloc, root, &exports.unresolved_specifiers)?;
+    let shared = named_by_rules(alloc, root, exports.shared)?;
     let exports = named_names(alloc, root, exports.resolved)?;
     Ok(NamedExports {
         exports,
+        shared,
         unresolved,
     })
 }

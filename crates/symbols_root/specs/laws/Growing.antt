@@ -16,12 +16,13 @@ use Rattle.symbols_root.specs.Growing.{HasGrown}
 
 -- where nothing is stored
 pub grown_not : (root : RootView) → HasGrown root root
-grown_not root = record { graph = refl; limits = refl; behind = []; stored = sym (append-nil root.stored); once = λ h. h }
+grown_not root = record { graph = refl; rules = refl; limits = refl; behind = []; stored = sym (append-nil root.stored); once = λ h. h }
 
 -- from one to the next, and on
 pub grown_on : {a b c : RootView} → HasGrown a b → HasGrown b c → HasGrown a c
 grown_on {a = a} x y = record {
   graph = y.graph ∙ x.graph;
+  rules = y.rules ∙ x.rules;
   limits = y.limits ∙ x.limits;
   behind = x.behind ++ y.behind;
   stored = y.stored ∙ (ap (λ s. s ++ y.behind) x.stored ∙ append_assoc a.stored x.behind y.behind);
@@ -40,7 +41,7 @@ pub grown_by_one : (root : RootView) (needed : Option (List ℕ)) → HasGrown r
 grown_by_one root None = grown_not root
 grown_by_one root (Some v) =
     let behind = by (is_among root.stored v) in
-    record { graph = refl; limits = refl; behind = behind.0; stored = behind.1; once = λ h. once_more root.stored v h }
+    record { graph = refl; rules = refl; limits = refl; behind = behind.0; stored = behind.1; once = λ h. once_more root.stored v h }
   where
     by : (b : Bool) → (more : List (List ℕ)) × ((if b then root.stored else root.stored ++ v ∷ []) ≡ root.stored ++ more)
     by true = ([], sym (append-nil root.stored))

@@ -7,12 +7,14 @@ ghost use Rattle.std.specs.Str.{bytes_eq};
 ghost use Rattle.symbols_syntax.specs.Graph.{ModuleView};
 ghost use Rattle.symbols_table.specs.Modules.{lent_table};
 ghost use Rattle.symbols_table.specs.declared.info.fault.SymbolsFault.TheVariants.{OutOfMemory};
+ghost use Rattle.symbols_root.specs.declared.root.rules.Rules.TheVariants as rules;
 ghost use Rattle.symbols_root.specs.Specifiers.{module_under, is_among};
 ghost use Rattle.symbols_root.specs.TypesChains.{is_analyzable, types_chain, standing_module, stands_for, IsOnlyTypesChain};
 ghost use Rattle.symbols_root.specs.Roots.{empty_root, widest, with_stored, specifier_under, IsStoredTable, IsMissing, IsRefusal, IsWithinLimits};
 ghost use Rattle.symbols_root.specs.Growing.{HasGrown};
 
 use crate::root::limits::Limits;
+use crate::root::rules::Rules;
 use crate::root::types_chain::standing_module;
 use indexmap::IndexMap;
 use std::alloc::Global;
@@ -29,6 +31,7 @@ use symbols_tree::ids::ModuleId;
 pub struct RootSymbol<'a> {
     alloc: Global,
     graph: &'a ModuleGraph,
+    rules: Rules,
     limits: Limits,
     modules: IndexMap<&'a str, ModuleInfo<'a>>,
 }
@@ -42,16 +45,16 @@ impl<'a> Model for RootSymbol<'a> {
 
     ghost Value = { RootView };
 
-    ghost view = { λ r. record { graph = r.graph.now; limits = r.limits; stored = stored_specifiers r.modules.entries } };
+    ghost view = { λ r. record { graph = r.graph.now; rules = r.rules; limits = r.limits; stored = stored_specifiers r.modules.entries } };
 
     ghost invariant = { λ r. AreWhole r.graph.now r.limits.symbols r.modules.entries × (length r.modules.entries ≤ r.limits.modules) × IsDistinct bytes_eq (stored_specifiers r.modules.entries) };
 }
 
 impl<'a> RootSymbol<'a> {
-    /// A root over a graph, with no module stored and the widest limits (as deno_graph, without a
-    /// parser: the graph has the trees).
+    /// A root over a graph by Deno's rules, with no module stored and the widest limits (as
+    /// deno_graph, without a parser: the graph has the trees).
     pub fn new(alloc: Global, graph: &'a ModuleGraph) -> RootSymbol<'a>
-        ensures { result ≡ empty_root graph.now widest }
+        ensures { result ≡ empty_root graph.now rules.Deno widest }
     {
         let limits = Limits {
             modules: u32::MAX,
@@ -60,13 +63,28 @@ impl<'a> RootSymbol<'a> {
         RootSymbol::with_limits(alloc, graph, limits)
     }
 
-    /// A root over a graph, with no module stored, that stores within these limits (own rule).
+    /// A root over a graph by Deno's rules, with no module stored, that stores within these limits
+    /// (own rule).
     pub fn with_limits(alloc: Global, graph: &'a ModuleGraph, limits: Limits) -> RootSymbol<'a>
-        ensures { result ≡ empty_root graph.now limits }
+        ensures { result ≡ empty_root graph.now rules.Deno limits }
+    {
+        RootSymbol::with_rules(alloc, graph, Rules::Deno, limits)
+    }
+
+    /// A root over a graph by these rules, with no module stored, that stores within these limits
+    /// (own rule).
+    pub fn with_rules(
+        alloc: Global,
+        graph: &'a ModuleGraph,
+        rules: Rules,
+        limits: Limits,
+    ) -> RootSymbol<'a>
+        ensures { result ≡ empty_root graph.now rules limits }
     {
         RootSymbol {
             alloc,
             graph,
+            rules,
             limits,
             modules: IndexMap::new(alloc),
         }
@@ -77,6 +95,13 @@ impl<'a> RootSymbol<'a> {
         ensures { result.now ≡ self.now.graph }
     {
         self.graph
+    }
+
+    /// By which rules it answers (own rule).
+    pub fn rules(&self) -> Rules
+        ensures { result ≡ self.now.rules }
+    {
+        self.rules
     }
 
     /// What it allocates with (own rule).

@@ -7,9 +7,10 @@ ghost use Rattle.symbols_table.specs.Modules.{lent_table, symbol_in, mapped_in};
 ghost use Rattle.symbols_table.specs.QualifiedNames.{qualified_name};
 ghost use Rattle.symbols_root.specs.Growing.{HasGrown};
 ghost use Rattle.symbols_root.specs.Roots.{widest, specifier_in};
+ghost use Rattle.symbols_exports.specs.Sharing.{shared_told};
 ghost use Rattle.symbols_exports.specs.Ways.{exports_told, unresolved_told_in};
 ghost use Rattle.symbols_answers.specs.Answers.{tells_exports, tells_symbol, tells_name};
-ghost use Rattle.symbols_answers.specs.QueryAnswers.{told_of, query_answer};
+ghost use Rattle.symbols_answers.specs.QueryAnswers.{by_strict, told_of, query_answer};
 ghost use Rattle.symq_reader.specs.GraphText.{json_of};
 ghost use Rattle.symq_reader.specs.Plain.{data_of};
 ghost use Rattle.symq_core.specs.Queries.{query_of};
@@ -96,7 +97,8 @@ fn tell_exports_of(
     requires widest { root.old.limits ≡ widest }
     requires known { module_id.0 < length root.old.stored }
     ensures kept { HasGrown root.old root.new }
-    ensures value { Tells result out.old out.new (answer_data (tells_exports (exports_told root.old.graph (specifier_in root.old module_id)) (unresolved_told_in root.old.graph (specifier_in root.old module_id)))) }
+    ensures value { Tells result out.old out.new (answer_data (tells_exports (exports_told root.old.graph (specifier_in root.old module_id))
+        (by_strict root.old.rules (shared_told root.old.graph (specifier_in root.old module_id))) (unresolved_told_in root.old.graph (specifier_in root.old module_id)))) }
 {
     match exports(root, module_id) {
         Ok(answer) => tell_exports(out, root, &answer),
@@ -114,7 +116,7 @@ fn tell_query(
 ) -> Result<(), AllocError>
     requires { root.old.limits ≡ widest }
     ensures kept { HasGrown root.old root.new }
-    ensures value { Tells result out.old out.new (found_data (query_answer root.old.graph (query_view query.now))) }
+    ensures value { Tells result out.old out.new (found_data (query_answer root.old.rules root.old.graph (query_view query.now))) }
 {
     let module_id = match root.module_from_specifier(query.specifier) {
         Ok(Some(module_id)) => module_id,
@@ -144,7 +146,7 @@ fn tell_asked(
 ) -> Result<(), AllocError>
     requires { root.old.limits ≡ widest }
     ensures kept { HasGrown root.old root.new }
-    ensures value { Tells result out.old out.new (asked_data root.old.graph (query_of (data_of value.now))) }
+    ensures value { Tells result out.old out.new (asked_data root.old.rules root.old.graph (query_of (data_of value.now))) }
 {
     match read_query(alloc, value)? {
         Some(query) => tell_query(alloc, out, root, &query),
@@ -162,7 +164,7 @@ fn tell_line(
 ) -> Result<(), AllocError>
     requires { root.old.limits ≡ widest }
     ensures kept { HasGrown root.old root.new }
-    ensures value { Tells result out.old out.new (asked_data root.old.graph (option_and_then query_of (json_of line.now))) }
+    ensures value { Tells result out.old out.new (asked_data root.old.rules root.old.graph (option_and_then query_of (json_of line.now))) }
 {
     let value = read_value(alloc, line, scratch)?;
     match &value {
@@ -181,7 +183,7 @@ pub(crate) fn answer(
 ) -> Result<Vec<u8>, AllocError>
     requires { root.old.limits ≡ widest }
     ensures kept { HasGrown root.old root.new }
-    ensures text { IfOk result (λ text. text.items ≡ bytes.items ++ answer_text root.old.graph line.now) }
+    ensures text { IfOk result (λ text. text.items ≡ bytes.items ++ answer_text root.old.rules root.old.graph line.now) }
 {
     let mut out = Writer::new(bytes);
     tell_line(alloc, scratch, &mut out, root, line)?;

@@ -1,14 +1,18 @@
 //! What a module exports, as text.
 
-ghost use Rattle.std.specs.Prelude.{◌≡◌, ◌<◌, length, map};
+ghost use Rattle.std.specs.Prelude.{◌≡◌, ◌<◌, length, map, codes};
+ghost use Rattle.serde_json.specs.Data.{member, no_members};
 ghost use Rattle.symbols_root.specs.Roots.{specifier_in};
 ghost use Rattle.symbols_exports.specs.Paths.{resolved_export, statements_on};
-ghost use Rattle.symbols_exports.specs.Taking.{names_view, unresolved_told};
+ghost use Rattle.symbols_exports.specs.Sharing.{told_sharing, AllShareNumbered};
+ghost use Rattle.symbols_exports.specs.Taking.{names_view, shared_views, unresolved_told};
 ghost use Rattle.symbols_exports.specs.Told.{told_number, told_name, AreNumbered, IsNumbered, AllNumbered};
 ghost use Rattle.symbols_answers.specs.Answers.{tells_exports};
-ghost use Rattle.symq_core.specs.AnswerData.{statement_data, statements_data, entry_data, answer_data};
-ghost use Rattle.symq_core.specs.Telling.{Tells, Adds, rest_tokens};
+ghost use Rattle.symbols_answers.specs.QueryAnswers.{by_strict};
+ghost use Rattle.symq_core.specs.AnswerData.{statement_data, statements_data, entry_data, with_sharing, answer_data};
+ghost use Rattle.symq_core.specs.Telling.{Tells, Adds, rest_tokens, members_left};
 
+use crate::program::sharing::tell_sharing;
 use crate::program::telling::{add_number, add_text};
 use indexmap::IndexMap;
 use json::Writer;
@@ -16,7 +20,7 @@ use std::alloc::AllocError;
 use symbols_exports::exports::{
     ModuleExports, ResolvedExportOrReExportAllPath, UnresolvedSpecifier,
 };
-use symbols_root::root::RootSymbol;
+use symbols_root::root::{RootSymbol, Rules};
 use symbols_tree::ids::ModuleId;
 
 /// The specifier of a stored module.
@@ -48,7 +52,7 @@ fn tell_statement(
 
 /// The statements on a way, in order.
 #[tactic(auto, using(crate::proofs::Chains::statements_of_rests))]
-fn tell_chain(
+pub(crate) fn tell_chain(
     out: &mut Writer,
     root: &RootSymbol<'_>,
     path: &ResolvedExportOrReExportAllPath<'_>,
@@ -116,6 +120,43 @@ fn tell_unresolved(
     out.end_array()
 }
 
+/// The statements that lead to no module, as the last member of an object, and its end.
+fn end_unresolved(
+    out: &mut Writer,
+    root: &RootSymbol<'_>,
+    unresolved: &[UnresolvedSpecifier<'_>],
+) -> Result<(), AllocError>
+    requires { AreNumbered root.now (map unresolved_told unresolved.now) }
+    ensures { Adds result out.old out.new (members_left (member (codes "unresolved") (statements_data (map (told_number root.now) (map unresolved_told unresolved.now))) no_members)) }
+{
+    out.key("unresolved")?;
+    tell_unresolved(out, root, unresolved)?;
+    out.end_object()
+}
+
+/// What is told behind the exports: by strict rules the names that modules share, then the
+/// statements that lead to no module, and the end.
+fn end_exports(
+    out: &mut Writer,
+    root: &RootSymbol<'_>,
+    answer: &ModuleExports<'_>,
+) -> Result<(), AllocError>
+    requires shared { AllShareNumbered root.now (shared_views answer.now.shared.items) }
+    requires statements { AreNumbered root.now (map unresolved_told answer.now.unresolved_specifiers.items) }
+    ensures { Adds result out.old out.new (members_left (with_sharing (by_strict root.now.rules (map (told_sharing root.now) (shared_views answer.now.shared.items)))
+        (member (codes "unresolved") (statements_data (map (told_number root.now) (map unresolved_told answer.now.unresolved_specifiers.items))) no_members))) }
+{
+    match root.rules() {
+        Rules::Deno => end_unresolved(out, root, &answer.unresolved_specifiers),
+        Rules::Strict => {
+            out.key("shared")?;
+            out.begin_array()?;
+            tell_sharing(out, root, &answer.shared)?;
+            end_unresolved(out, root, &answer.unresolved_specifiers)
+        }
+    }
+}
+
 /// What a module exports.
 pub(crate) fn tell_exports(
     out: &mut Writer,
@@ -123,14 +164,14 @@ pub(crate) fn tell_exports(
     answer: &ModuleExports<'_>,
 ) -> Result<(), AllocError>
     requires names { AllNumbered root.now (names_view answer.now.resolved.entries) }
+    requires shared { AllShareNumbered root.now (shared_views answer.now.shared.items) }
     requires statements { AreNumbered root.now (map unresolved_told answer.now.unresolved_specifiers.items) }
-    ensures { Tells result out.old out.new (answer_data (tells_exports (map (told_name root.now) (names_view answer.now.resolved.entries)) (map (told_number root.now) (map unresolved_told answer.now.unresolved_specifiers.items)))) }
+    ensures { Tells result out.old out.new (answer_data (tells_exports (map (told_name root.now) (names_view answer.now.resolved.entries))
+        (by_strict root.now.rules (map (told_sharing root.now) (shared_views answer.now.shared.items))) (map (told_number root.now) (map unresolved_told answer.now.unresolved_specifiers.items)))) }
 {
     out.begin_object()?;
     out.key("exports")?;
     out.begin_array()?;
     tell_names(out, root, &answer.resolved)?;
-    out.key("unresolved")?;
-    tell_unresolved(out, root, &answer.unresolved_specifiers)?;
-    out.end_object()
+    end_exports(out, root, answer)
 }

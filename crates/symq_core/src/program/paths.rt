@@ -36,7 +36,7 @@ pub(crate) fn tell_paths(
     requires widest { root.old.limits ≡ widest }
     requires known { module_id.0 < length root.old.stored }
     ensures kept { HasGrown root.old root.new }
-    ensures value { Tells result out.old out.new (found_data (module_answer root.old.graph (specifier_in root.old module_id) (asks_paths symbol))) }
+    ensures value { Tells result out.old out.new (found_data (module_answer root.old.rules root.old.graph (specifier_in root.old module_id) (asks_paths symbol))) }
 {
     match root.find_definition_paths(module_id, symbol) {
         Ok(paths) => {
@@ -58,7 +58,7 @@ pub(crate) fn tell_definitions(
     requires widest { root.old.limits ≡ widest }
     requires known { module_id.0 < length root.old.stored }
     ensures kept { HasGrown root.old root.new }
-    ensures value { Tells result out.old out.new (found_data (module_answer root.old.graph (specifier_in root.old module_id) (asks_definitions symbol))) }
+    ensures value { Tells result out.old out.new (found_data (module_answer root.old.rules root.old.graph (specifier_in root.old module_id) (asks_definitions symbol))) }
 {
     match root.go_to_definitions(module_id, symbol) {
         Ok(definitions) => {
@@ -80,7 +80,7 @@ pub(crate) fn tell_leaves(
     requires widest { root.old.limits ≡ widest }
     requires known { module_id.0 < length root.old.stored }
     ensures kept { HasGrown root.old root.new }
-    ensures value { Tells result out.old out.new (found_data (module_answer root.old.graph (specifier_in root.old module_id) (asks_leaves symbol))) }
+    ensures value { Tells result out.old out.new (found_data (module_answer root.old.rules root.old.graph (specifier_in root.old module_id) (asks_leaves symbol))) }
 {
     match root.go_to_definitions_or_unresolveds(module_id, symbol) {
         Ok(ends) => {

@@ -66,7 +66,7 @@ fn tell_entries_of(
     requires widest { root.old.limits ≡ widest }
     requires known { module_id.0 < length root.old.stored }
     ensures kept { HasGrown root.old root.new }
-    ensures value { Tells result out.old out.new (answer_data (tells_entries (entries_of root.old.graph (specifier_in root.old module_id) (reference_view reference.now)))) }
+    ensures value { Tells result out.old out.new (answer_data (tells_entries (entries_of root.old.rules root.old.graph (specifier_in root.old module_id) (reference_view reference.now)))) }
 {
     match root.resolve_symbol_dep(module_id, reference) {
         Ok(entries) => {
@@ -88,7 +88,7 @@ pub(crate) fn tell_entries(
     requires widest { root.old.limits ≡ widest }
     requires known { module_id.0 < length root.old.stored }
     ensures kept { HasGrown root.old root.new }
-    ensures value { Tells result out.old out.new (answer_data (tells_entries (entries_of root.old.graph (specifier_in root.old module_id) (asked_view reference.now)))) }
+    ensures value { Tells result out.old out.new (answer_data (tells_entries (entries_of root.old.rules root.old.graph (specifier_in root.old module_id) (asked_view reference.now)))) }
 {
     let lent = reference.lent(root.alloc())?;
     tell_entries_of(out, root, module_id, &lent)

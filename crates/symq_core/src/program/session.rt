@@ -8,7 +8,7 @@ ghost use Rattle.symq_core.specs.AnswerTexts.{answer_text};
 ghost use Rattle.symq_core.specs.Devices.{COUNT_LIMIT};
 ghost use Rattle.symq_core.specs.Lines.{line_end, all_but_last, last_part, line_in, answers_to};
 ghost use Rattle.symq_core.specs.Serving.{AppendsBeginning};
-ghost use Rattle.symq_core.specs.Sessions.{Sends, IsAnswerFault, parts_after};
+ghost use Rattle.symq_core.specs.Sessions.{Sends, IsAnswerFault, parts_after, answering};
 
 use crate::program::answer::answer;
 use crate::program::device::Output;
@@ -18,7 +18,7 @@ use crate::program::writing::write_all;
 use json::Scratch;
 use std::alloc::{AllocError, Global};
 use std::mem;
-use symbols_root::root::RootSymbol;
+use symbols_root::root::{Limits, RootSymbol, Rules};
 use symbols_tree::check::ModuleGraph;
 
 /// How many bytes are read at once, and after how many the waiting answers are written.
@@ -53,7 +53,7 @@ fn add_answer(
 ) -> Result<(), AllocError>
     requires { root.old.limits ≡ widest }
     ensures kept { HasGrown root.old root.new }
-    ensures added { OnOk result (answers.new.items ≡ answers.old.items ++ (answer_text root.old.graph line.now ++ line_end ∷ [])) }
+    ensures added { OnOk result (answers.new.items ≡ answers.old.items ++ (answering root.old line.now ++ line_end ∷ [])) }
 {
     text.clear();
     let begun = mem::replace(text, Vec::new(alloc));
@@ -65,15 +65,19 @@ fn add_answer(
 }
 
 impl<'g> Session<'g> {
-    /// A session in which nothing waits.
-    pub(crate) fn new(alloc: Global, graph: &'g ModuleGraph) -> Session<'g>
-        ensures graph { result.root.graph ≡ graph.now }
+    /// A session by these rules in which nothing waits.
+    pub(crate) fn new(alloc: Global, graph: &'g ModuleGraph, rules: Rules) -> Session<'g>
+        ensures answers_by { answering result.root ≡ answer_text rules graph.now }
         ensures line { result.line.items ≡ [] }
         ensures answers { result.answers.items ≡ [] }
     {
+        let limits = Limits {
+            modules: u32::MAX,
+            symbols: u32::MAX,
+        };
         Session {
             alloc,
-            root: RootSymbol::new(alloc, graph),
+            root: RootSymbol::with_rules(alloc, graph, rules, limits),
             line: Vec::new(alloc),
             answers: Vec::new(alloc),
             text: Vec::new(alloc),
@@ -84,7 +88,7 @@ impl<'g> Session<'g> {
     /// Writes the answers that wait.
     fn flush<W: Output>(&mut self, writer: &mut W) -> Result<(), EngineFault>
         requires { W.failures writer.old < COUNT_LIMIT }
-        ensures kept { (self.new.root.graph ≡ self.old.root.graph) × (self.new.line ≡ self.old.line) }
+        ensures kept { (answering self.new.root ≡ answering self.old.root) × (self.new.line ≡ self.old.line) }
         ensures ok { OnOk result (Appends (W.written writer.old) (W.written writer.new) self.old.answers.items
             × (self.new.answers.items ≡ []) × (W.failures writer.new ≡ W.failures writer.old)) }
         ensures err { IfErr result (λ fault. (fault ≡ EngineFault.OutputFailed)
@@ -98,9 +102,9 @@ impl<'g> Session<'g> {
 
     /// Answers the line that ends with these bytes, and clears it.
     fn end_line(&mut self, tail: &[u8]) -> Result<(), AllocError>
-        ensures graph { self.new.root.graph ≡ self.old.root.graph }
+        ensures same { answering self.new.root ≡ answering self.old.root }
         ensures ended { OnOk result ((self.new.line.items ≡ []) × (self.new.answers.items
-            ≡ self.old.answers.items ++ (answer_text self.old.root.graph (self.old.line.items ++ tail.now) ++ line_end ∷ []))) }
+            ≡ self.old.answers.items ++ (answering self.old.root (self.old.line.items ++ tail.now) ++ line_end ∷ []))) }
     {
         if self.line.is_empty() {
             return add_answer(
@@ -129,14 +133,14 @@ impl<'g> Session<'g> {
     /// a block.
     fn take_line<W: Output>(&mut self, writer: &mut W, tail: &[u8]) -> Result<(), EngineFault>
         requires { W.failures writer.old < COUNT_LIMIT }
-        ensures graph { self.new.root.graph ≡ self.old.root.graph }
+        ensures same { answering self.new.root ≡ answering self.old.root }
         ensures ok { OnOk result (Sends (W.written writer.old) (W.written writer.new)
             self.old.answers.items self.new.answers.items
-            (answers_to (answer_text self.old.root.graph) ((self.old.line.items ++ tail.now) ∷ []))
+            (answers_to (answering self.old.root) ((self.old.line.items ++ tail.now) ∷ []))
             × (self.new.line.items ≡ []) × (W.failures writer.new ≡ W.failures writer.old)) }
         ensures err { IfErr result (λ fault. IsAnswerFault fault (W.failures writer.old) (W.failures writer.new)
             × AppendsBeginning (W.written writer.old) (W.written writer.new) (self.old.answers.items
-            ++ answers_to (answer_text self.old.root.graph) ((self.old.line.items ++ tail.now) ∷ []))) }
+            ++ answers_to (answering self.old.root) ((self.old.line.items ++ tail.now) ∷ []))) }
     {
         self.end_line(tail)?;
         if BLOCK <= self.answers.len() {
@@ -152,15 +156,15 @@ impl<'g> Session<'g> {
         block: &[u8],
     ) -> Result<(), EngineFault>
         requires { W.failures writer.old < COUNT_LIMIT }
-        ensures graph { self.new.root.graph ≡ self.old.root.graph }
+        ensures same { answering self.new.root ≡ answering self.old.root }
         ensures ok { OnOk result (Appends (W.written writer.old) (W.written writer.new) (self.old.answers.items
-            ++ answers_to (answer_text self.old.root.graph) (all_but_last (parts_after self.old.line.items block.now)))
+            ++ answers_to (answering self.old.root) (all_but_last (parts_after self.old.line.items block.now)))
             × (self.new.answers.items ≡ [])
             × (self.new.line.items ≡ last_part (parts_after self.old.line.items block.now))
             × (W.failures writer.new ≡ W.failures writer.old)) }
         ensures err { IfErr result (λ fault. IsAnswerFault fault (W.failures writer.old) (W.failures writer.new)
             × AppendsBeginning (W.written writer.old) (W.written writer.new) (self.old.answers.items
-            ++ answers_to (answer_text self.old.root.graph) (all_but_last (parts_after self.old.line.items block.now)))) }
+            ++ answers_to (answering self.old.root) (all_but_last (parts_after self.old.line.items block.now)))) }
     {
         let mut rest = block;
         'lines: while let Some((line, more)) = split_line(rest) {
@@ -175,11 +179,11 @@ impl<'g> Session<'g> {
     pub(crate) fn finish<W: Output>(&mut self, writer: &mut W) -> Result<(), EngineFault>
         requires { W.failures writer.old < COUNT_LIMIT }
         ensures ok { OnOk result (Appends (W.written writer.old) (W.written writer.new) (self.old.answers.items
-            ++ answers_to (answer_text self.old.root.graph) (line_in self.old.line.items))
+            ++ answers_to (answering self.old.root) (line_in self.old.line.items))
             × (W.failures writer.new ≡ W.failures writer.old)) }
         ensures err { IfErr result (λ fault. IsAnswerFault fault (W.failures writer.old) (W.failures writer.new)
             × AppendsBeginning (W.written writer.old) (W.written writer.new) (self.old.answers.items
-            ++ answers_to (answer_text self.old.root.graph) (line_in self.old.line.items))) }
+            ++ answers_to (answering self.old.root) (line_in self.old.line.items))) }
     {
         if self.line.is_empty() {
             return self.flush(writer);

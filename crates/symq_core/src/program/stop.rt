@@ -14,7 +14,7 @@ use symq_reader::FormatFault;
 /// file, its form, the graph, and at last the lines.
 #[derive(Debug, Drop, PartialEq, Eq)]
 pub enum Stop {
-    /// There isn't exactly one word after the program's name.
+    /// There is neither one word after the program's name nor `--strict` and one.
     Usage,
     /// The graph's file can't be read.
     NotRead,
@@ -50,7 +50,7 @@ impl Stop {
         ensures { IfOk result (λ line. string_bytes line ≡ line_of self.now) }
     {
         match self {
-            Stop::Usage => String::from_str(alloc, "usage: symq GRAPH"),
+            Stop::Usage => String::from_str(alloc, "usage: symq [--strict] GRAPH"),
             Stop::NotRead => String::from_str(alloc, "symq: cannot read graph"),
             Stop::Format(fault) => format_line(alloc, *fault),
             Stop::Graph(fault) => graph_line(alloc, fault),

@@ -1,12 +1,12 @@
-use Rattle.std.proofs.Common.{◌≡◌, ℕ, Result, Ok, Err, IfErr, sym, subst, ◌∙◌, map}
+use Rattle.std.proofs.Common.{◌≡◌, ℕ, Result, Ok, Err, IfErr, sym, subst, ◌∙◌}
 use Rattle.std.specs.Prelude.{◌≢◌, AllPairs}
 use Rattle.std.specs.Result.{IsErrAnd}
 use Rattle.symbols_table.specs.declared.info.fault.SymbolsFault.{SymbolsFault}
 use Rattle.symbols_table.specs.declared.info.fault.SymbolsFault.TheVariants.{OutOfMemory}
 use Rattle.symbols_root.specs.Roots.{specifier_in}
 use Rattle.symbols_exports.specs.Answers.{IsFault}
-use Rattle.symbols_exports.specs.PublicNames.{NameItem, name_item, public_names_of}
-use Rattle.symbols_exports.specs.Taking.{names_view, unresolved_told}
+use Rattle.symbols_exports.specs.PublicNames.{NameItem}
+use Rattle.symbols_exports.specs.Taking.{names_view}
 use Rattle.symbols_exports.proofs.NameItems.{public_apart, items_told, all_owned, refused_behind}
 use Rattle.symbols_exports.proofs.exports.public.public_names.Goals as goal
 
@@ -25,7 +25,7 @@ pub returns-in_err-list_names-clause-faults : goal.returns-in_err-list_names-cla
 returns-in_err-list_names-clause-faults c =
     let answer = c.in_ok-found.ensures.answers in
     on_memory (λ fault. (asked : ℕ) × IsFault c.args.root.now c.exports.new.root c.args.module_id fault asked) c.from_residual-in_err-list_names.result c.from_residual-in_err-list_names.ensures.1
-    (answer.0, refused_behind c.args.root.now c.exports.new.root c.args.module_id (names_view c.in_ok-found.found.resolved.entries) (map unresolved_told c.in_ok-found.found.unresolved_specifiers.items) answer.0 answer.1)
+    (answer.0, refused_behind answer.1)
 
 pub returns-clause-answers : goal.returns-clause-answers
 returns-clause-answers c =

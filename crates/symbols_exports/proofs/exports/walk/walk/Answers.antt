@@ -7,17 +7,20 @@ use Rattle.symbols_syntax.specs.declared.ids.ModuleId.{ModuleId}
 use Rattle.symbols_table.specs.declared.info.fault.SymbolsFault.{SymbolsFault}
 use Rattle.symbols_table.specs.declared.info.fault.SymbolsFault.TheVariants.{OutOfMemory}
 use Rattle.symbols_root.specs.Roots.{RootView, specifier_under, specifier_in}
-use Rattle.symbols_exports.specs.OneName.{IsWalkFault}
-use Rattle.symbols_exports.specs.Wanted.{owned_for}
+use Rattle.symbols_exports.specs.OneName.{IsWalked, IsWalkFault}
+use Rattle.symbols_exports.specs.Sharing.{shared_only, comes_along}
+use Rattle.symbols_exports.specs.Wanted.{with_module}
+use Rattle.symbols_exports.specs.declared.exports.module_exports.ModuleExports.{ModuleExports}
+use Rattle.symbols_exports.specs.declared.exports.taken.Taken.{Taken}
 use Rattle.symbols_exports.specs.declared.exports.turn.Turn.{Turn}
 use Rattle.symbols_exports.specs.declared.exports.wanted.Wanted.{Wanted}
 use Rattle.symbols_exports.specs.StarStatements.{text_target}
-use Rattle.symbols_exports.specs.Taking.{is_number, turn_told, unresolved_told, names_view, with_names}
-use Rattle.symbols_exports.proofs.Walking.{IsWalking}
+use Rattle.symbols_exports.specs.Taking.{TakenView, is_number, turn_told, unresolved_told, names_view, groups_view, shared_views, taken_view}
+use Rattle.symbols_exports.proofs.Walking.{IsWalking, nothing_taken}
 use Rattle.symbols_exports.proofs.WalkingAsked as walking
 use Rattle.symbols_exports.proofs.WalkingBack.{walking_back, turn_fits}
 use Rattle.symbols_exports.proofs.WalkingOn.{walking_limits}
-use Rattle.symbols_exports.proofs.WalkingCut.{IsCut, cut_is_fault, walked_end, walked_done}
+use Rattle.symbols_exports.proofs.WalkingCut.{IsCut, cut_is_fault, cut_behind, walked_end, walked_done, walked_alike}
 use Rattle.symbols_exports.proofs.exports.walk.walk.Goals as goal
 
 -- a fault that can only be that memory was refused
@@ -49,10 +52,10 @@ returns-in_err-insert-clause-faults c =
     on_memory (Broken c.args.wanted c.args.root.now c.args.module_id c.args.root.now c.args.steps.now.count c.args.steps.now.count) c.from_residual.result c.from_residual.ensures.1
     (broken_off c.args.wanted c.args.root.now c.args.module_id c.args.root.now c.args.steps.now.count c.args.steps.now.count 0 OutOfMemory (omega arith) (walking.begun_cut c.args.wanted c.args.root.now c.args.module_id known))
 
-pub returns-in_err-take_names-clause-faults : goal.returns-in_err-take_names-clause-faults
-returns-in_err-take_names-clause-faults c =
+pub returns-in_err-take-clause-faults : goal.returns-in_err-take-clause-faults
+returns-in_err-take-clause-faults c =
     let known : c.args.module_id.0 < length c.args.root.now.stored = c.module_from_id.ensures.found.0 (c.is_none.ensures ∙ ap not c.if-is_none.false) in
-    on_memory (Broken c.args.wanted c.args.root.now c.args.module_id c.args.root.now c.args.steps.now.count c.args.steps.now.count) c.from_residual-in_err-take_names.result c.from_residual-in_err-take_names.ensures.1
+    on_memory (Broken c.args.wanted c.args.root.now c.args.module_id c.args.root.now c.args.steps.now.count c.args.steps.now.count) c.from_residual-in_err-take.result c.from_residual-in_err-take.ensures.1
     (broken_off c.args.wanted c.args.root.now c.args.module_id c.args.root.now c.args.steps.now.count c.args.steps.now.count 0 OutOfMemory (omega arith) (walking.begun_cut c.args.wanted c.args.root.now c.args.module_id known))
 
 pub walk-init : goal.walk-init
@@ -60,8 +63,9 @@ walk-init c =
     let known : c.args.module_id.0 < length c.args.root.now.stored = c.module_from_id.ensures.found.0 (c.is_none.ensures ∙ ap not c.if-is_none.false) in
     let keys : c.insert.new.self.keys ≡ c.args.module_id ∷ [] = c.in_ok-insert.ensures.keys ∙ ap (λ ks. insert_key is_number ks c.args.module_id) c.new-met.ensures.empty in
     let turns : map turn_told c.deref.result.now ≡ [] = ap (map turn_told) (c.deref.ensures.value ∙ c.new-above.ensures.items) in
-    let names : names_view c.take_names.new.resolved.entries ≡ with_names [] c.args.module_id (owned_for c.args.wanted c.args.root.now.graph (specifier_in c.args.root.now c.args.module_id)) [] = c.in_ok-take_names.ensures ∙ (λ i. with_names (turns i) c.args.module_id (owned_for c.args.wanted c.args.root.now.graph (specifier_in c.args.root.now c.args.module_id)) (names_view (c.new-answer.ensures.resolved i))) in
-    (0, omega arith, rw (c.new-above.ensures.items, keys, names, c.new-answer.ensures.unresolved) (walking.begun c.args.wanted c.args.root.now c.args.module_id known), rw keys (omega arith))
+    let nothing : taken_view c.new-taken.result ≡ nothing_taken = (λ i. record { names = names_view (c.new-taken.ensures.resolved i); offers = groups_view (c.new-taken.ensures.offers i); unresolved = map unresolved_told (c.new-taken.ensures.unresolved i) }) in
+    let taken : taken_view c.take.new.self ≡ with_module c.args.wanted c.args.root.now [] c.args.module_id nothing_taken = c.in_ok-take.ensures ∙ (λ i. with_module c.args.wanted c.args.root.now (turns i) c.args.module_id (nothing i)) in
+    (0, omega arith, subst (λ (t : TakenView). IsWalking c.args.wanted c.args.root.now c.args.module_id c.args.root.now c.args.module_id 0 c.new-above.result.items c.insert.new.self.keys t 0) (sym taken) (rw (c.new-above.ensures.items, keys) (walking.begun c.args.wanted c.args.root.now c.args.module_id known)), rw keys (omega arith))
 
 pub text_target-requires-clause-room : goal.text_target-requires-clause-room
 text_target-requires-clause-room c =
@@ -90,8 +94,8 @@ walk-smaller-in-Ok-None c =
 
 pub walk-preserved-in-Ok-None : goal.walk-preserved-in-Ok-None
 walk-preserved-in-Ok-None c =
-    let told : map unresolved_told c.push.new.self.items ≡ map unresolved_told c.walk.answer.unresolved_specifiers.items ++ (c.walk.here, c.in-Some.turn.text.now) ∷ [] = ap (map unresolved_told) c.in_ok-push-in-Ok-None.ensures.items ∙ (map-append unresolved_told c.walk.answer.unresolved_specifiers.items (c.unresolved.result ∷ []) ∙ (λ i. map unresolved_told c.walk.answer.unresolved_specifiers.items ++ (c.unresolved.ensures ∙ ap turn_told (this c.in-Some.turn c.walk.here c.walk.next c.in-Some.ensures.place)) i ∷ [])) in
-    (c.walk.invariant.0 + 1, (one_more c.args.steps.now.count c.walk.steps.count c.text_target.new.steps.count c.walk.invariant.0 c.text_target.ensures.counted c.walk.invariant.1), rw told (walking.asked_nowhere c.walk.invariant.2 c.statement_at.ensures.few c.in-Some.turn.text c.in-Some.ensures.text c.text_target.new.root c.in-Ok-None.ensures.stored (subst (gives c.text_target.new.root c.walk.root c.walk.here c.in-Some.turn.text.now) c.in-Ok-None.field-0-is c.in-Ok-None.ensures.gives) (sym c.is_done.ensures ∙ c.walk-test.true)), c.walk.invariant.3)
+    let told : map unresolved_told c.push.new.self.items ≡ map unresolved_told c.walk.taken.unresolved.items ++ (c.walk.here, c.in-Some.turn.text.now) ∷ [] = ap (map unresolved_told) c.in_ok-push-in-Ok-None.ensures.items ∙ (map-append unresolved_told c.walk.taken.unresolved.items (c.unresolved.result ∷ []) ∙ (λ i. map unresolved_told c.walk.taken.unresolved.items ++ (c.unresolved.ensures ∙ ap turn_told (this c.in-Some.turn c.walk.here c.walk.next c.in-Some.ensures.place)) i ∷ [])) in
+    (c.walk.invariant.0 + 1, (one_more c.args.steps.now.count c.walk.steps.count c.text_target.new.steps.count c.walk.invariant.0 c.text_target.ensures.counted c.walk.invariant.1), subst (λ (missed : List (ModuleId × List ℕ)). IsWalking c.args.wanted c.args.root.now c.args.module_id c.text_target.new.root c.walk.here (c.walk.next + 1) c.walk.above.items c.walk.met.keys (record { names = names_view c.walk.taken.resolved.entries; offers = groups_view c.walk.taken.offers.entries; unresolved = missed }) (c.walk.invariant.0 + 1)) (sym told) (walking.asked_nowhere c.walk.invariant.2 c.statement_at.ensures.few c.in-Some.turn.text c.in-Some.ensures.text c.text_target.new.root c.in-Ok-None.ensures.stored (subst (gives c.text_target.new.root c.walk.root c.walk.here c.in-Some.turn.text.now) c.in-Ok-None.field-0-is c.in-Ok-None.ensures.gives) (sym c.is_done.ensures ∙ c.walk-test.true)), c.walk.invariant.3)
 
 pub enter-requires : goal.enter-requires
 enter-requires c =
@@ -117,8 +121,8 @@ walk-preserved-then-branch c =
     let same : c.in-Some.turn ≡ here = this c.in-Some.turn c.walk.here c.walk.next c.in-Some.ensures.place in
     let key = walking.new_key c.walk.met.keys c.enter.new.met.keys c.in-Ok-Some.target c.in_ok-enter-in-Ok-Some.field-0 c.in_ok-enter-in-Ok-Some.ensures.new c.in_ok-enter-in-Ok-Some.ensures.met c.if-branch.true in
     let above : c.enter.new.above.items ≡ c.walk.above.items ++ here ∷ [] = walking.if_new c.in_ok-enter-in-Ok-Some.field-0 c.enter.new.above.items (c.walk.above.items ++ c.in-Some.turn ∷ []) c.walk.above.items c.in_ok-enter-in-Ok-Some.ensures.above c.if-branch.true ∙ (λ i. c.walk.above.items ++ same i ∷ []) in
-    let names : names_view c.enter.new.resolved.entries ≡ with_names (map turn_told (c.walk.above.items ++ here ∷ [])) c.in-Ok-Some.target (owned_for c.args.wanted c.text_target.new.root.graph (specifier_in c.text_target.new.root c.in-Ok-Some.target)) (names_view c.walk.answer.resolved.entries) = walking.if_new c.in_ok-enter-in-Ok-Some.field-0 (names_view c.enter.new.resolved.entries) (with_names (map turn_told (c.walk.above.items ++ c.in-Some.turn ∷ [])) c.in-Ok-Some.target (owned_for c.args.wanted c.text_target.new.root.graph (specifier_in c.text_target.new.root c.in-Ok-Some.target)) (names_view c.walk.answer.resolved.entries)) (names_view c.walk.answer.resolved.entries) c.in_ok-enter-in-Ok-Some.ensures.names c.if-branch.true ∙ (λ i. with_names (map turn_told (c.walk.above.items ++ same i ∷ [])) c.in-Ok-Some.target (owned_for c.args.wanted c.text_target.new.root.graph (specifier_in c.text_target.new.root c.in-Ok-Some.target)) (names_view c.walk.answer.resolved.entries)) in
-    (c.walk.invariant.0 + 1, (one_more c.args.steps.now.count c.walk.steps.count c.text_target.new.steps.count c.walk.invariant.0 c.text_target.ensures.counted c.walk.invariant.1), rw (above, names, key.1) (walking.asked_entered c.walk.invariant.2 c.statement_at.ensures.few c.in-Some.turn.text c.in-Some.ensures.text c.text_target.new.root c.in-Ok-Some.ensures.stored c.in-Ok-Some.target (subst (gives c.text_target.new.root c.walk.root c.walk.here c.in-Some.turn.text.now) c.in-Ok-Some.field-0-is c.in-Ok-Some.ensures.gives) c.statement_at.ensures.once key.0 (sym c.is_done.ensures ∙ c.walk-test.true)), rw key.1 (omega (arith, c.in_ok-enter-in-Ok-Some.ensures.few c.if-branch.true, length_push c.walk.met.keys c.in-Ok-Some.target)))
+    let taken : taken_view c.enter.new.taken ≡ with_module c.args.wanted c.text_target.new.root (map turn_told (c.walk.above.items ++ here ∷ [])) c.in-Ok-Some.target (taken_view c.walk.taken) = walking.if_new c.in_ok-enter-in-Ok-Some.field-0 (taken_view c.enter.new.taken) (with_module c.args.wanted c.text_target.new.root (map turn_told (c.walk.above.items ++ c.in-Some.turn ∷ [])) c.in-Ok-Some.target (taken_view c.walk.taken)) (taken_view c.walk.taken) c.in_ok-enter-in-Ok-Some.ensures.taken c.if-branch.true ∙ (λ i. with_module c.args.wanted c.text_target.new.root (map turn_told (c.walk.above.items ++ same i ∷ [])) c.in-Ok-Some.target (taken_view c.walk.taken)) in
+    (c.walk.invariant.0 + 1, (one_more c.args.steps.now.count c.walk.steps.count c.text_target.new.steps.count c.walk.invariant.0 c.text_target.ensures.counted c.walk.invariant.1), subst (λ (t : TakenView). IsWalking c.args.wanted c.args.root.now c.args.module_id c.text_target.new.root c.in-Ok-Some.target 0 c.enter.new.above.items c.enter.new.met.keys t (c.walk.invariant.0 + 1)) (sym taken) (rw (above, key.1) (walking.asked_entered c.walk.invariant.2 c.statement_at.ensures.few c.in-Some.turn.text c.in-Some.ensures.text c.text_target.new.root c.in-Ok-Some.ensures.stored c.in-Ok-Some.target (subst (gives c.text_target.new.root c.walk.root c.walk.here c.in-Some.turn.text.now) c.in-Ok-Some.field-0-is c.in-Ok-Some.ensures.gives) c.statement_at.ensures.once key.0 (sym c.is_done.ensures ∙ c.walk-test.true))), rw key.1 (omega (arith, c.in_ok-enter-in-Ok-Some.ensures.few c.if-branch.true, length_push c.walk.met.keys c.in-Ok-Some.target)))
 
 pub overflow_add-next-else-branch : goal.overflow_add-next-else-branch
 overflow_add-next-else-branch c = record { fits = walking.fits c.walk.invariant.2 c.statement_at.ensures.few c.in-Some.turn.text c.in-Some.ensures.text }
@@ -137,26 +141,52 @@ walk-preserved-else-branch c =
     let same : c.in-Some.turn ≡ here = this c.in-Some.turn c.walk.here c.walk.next c.in-Some.ensures.place in
     let key = walking.old_key c.walk.met.keys c.enter.new.met.keys c.in-Ok-Some.target c.in_ok-enter-in-Ok-Some.field-0 c.in_ok-enter-in-Ok-Some.ensures.new c.in_ok-enter-in-Ok-Some.ensures.met c.if-branch.false in
     let above : c.enter.new.above.items ≡ c.walk.above.items = walking.if_old c.in_ok-enter-in-Ok-Some.field-0 c.enter.new.above.items (c.walk.above.items ++ c.in-Some.turn ∷ []) c.walk.above.items c.in_ok-enter-in-Ok-Some.ensures.above c.if-branch.false in
-    let names : names_view c.enter.new.resolved.entries ≡ names_view c.walk.answer.resolved.entries = walking.if_old c.in_ok-enter-in-Ok-Some.field-0 (names_view c.enter.new.resolved.entries) (with_names (map turn_told (c.walk.above.items ++ c.in-Some.turn ∷ [])) c.in-Ok-Some.target (owned_for c.args.wanted c.text_target.new.root.graph (specifier_in c.text_target.new.root c.in-Ok-Some.target)) (names_view c.walk.answer.resolved.entries)) (names_view c.walk.answer.resolved.entries) c.in_ok-enter-in-Ok-Some.ensures.names c.if-branch.false in
-    (c.walk.invariant.0 + 1, (one_more c.args.steps.now.count c.walk.steps.count c.text_target.new.steps.count c.walk.invariant.0 c.text_target.ensures.counted c.walk.invariant.1), rw (above, names, key.1) (walking.asked_met c.walk.invariant.2 c.statement_at.ensures.few c.in-Some.turn.text c.in-Some.ensures.text c.text_target.new.root c.in-Ok-Some.ensures.stored c.in-Ok-Some.target (subst (gives c.text_target.new.root c.walk.root c.walk.here c.in-Some.turn.text.now) c.in-Ok-Some.field-0-is c.in-Ok-Some.ensures.gives) c.statement_at.ensures.once key.0 (sym c.is_done.ensures ∙ c.walk-test.true)), rw key.1 c.walk.invariant.3)
+    let taken : taken_view c.enter.new.taken ≡ taken_view c.walk.taken = walking.if_old c.in_ok-enter-in-Ok-Some.field-0 (taken_view c.enter.new.taken) (with_module c.args.wanted c.text_target.new.root (map turn_told (c.walk.above.items ++ c.in-Some.turn ∷ [])) c.in-Ok-Some.target (taken_view c.walk.taken)) (taken_view c.walk.taken) c.in_ok-enter-in-Ok-Some.ensures.taken c.if-branch.false in
+    (c.walk.invariant.0 + 1, (one_more c.args.steps.now.count c.walk.steps.count c.text_target.new.steps.count c.walk.invariant.0 c.text_target.ensures.counted c.walk.invariant.1), subst (λ (t : TakenView). IsWalking c.args.wanted c.args.root.now c.args.module_id c.text_target.new.root c.walk.here (c.walk.next + 1) c.enter.new.above.items c.enter.new.met.keys t (c.walk.invariant.0 + 1)) (sym taken) (rw (above, key.1) (walking.asked_met c.walk.invariant.2 c.statement_at.ensures.few c.in-Some.turn.text c.in-Some.ensures.text c.text_target.new.root c.in-Ok-Some.ensures.stored c.in-Ok-Some.target (subst (gives c.text_target.new.root c.walk.root c.walk.here c.in-Some.turn.text.now) c.in-Ok-Some.field-0-is c.in-Ok-Some.ensures.gives) c.statement_at.ensures.once key.0 (sym c.is_done.ensures ∙ c.walk-test.true))), rw key.1 c.walk.invariant.3)
 
 pub overflow_add-next-in-Some-pop : goal.overflow_add-next-in-Some-pop
 overflow_add-next-in-Some-pop c =
-    let walk : IsWalking c.args.wanted c.args.root.now c.args.module_id c.walk.root c.walk.here c.walk.next (c.pop.new.self.items ++ c.in-Some-pop.turn ∷ []) c.walk.met.keys (names_view c.walk.answer.resolved.entries) (map unresolved_told c.walk.answer.unresolved_specifiers.items) c.walk.invariant.0 = rw c.in-Some-pop.ensures.items at c.walk.invariant.2 in
+    let walk : IsWalking c.args.wanted c.args.root.now c.args.module_id c.walk.root c.walk.here c.walk.next (c.pop.new.self.items ++ c.in-Some-pop.turn ∷ []) c.walk.met.keys (taken_view c.walk.taken) c.walk.invariant.0 = rw c.in-Some-pop.ensures.items at c.walk.invariant.2 in
     record { fits = turn_fits c.pop.new.self.items c.in-Some-pop.turn walk (walking.ended_here walk c.statement_at.ensures.few (sym c.in_default.ensures.text)) (walking.few_here walk c.statement_at.ensures.few) }
 
 pub walk-preserved : goal.walk-preserved
 walk-preserved c =
-    let walk : IsWalking c.args.wanted c.args.root.now c.args.module_id c.walk.root c.walk.here c.walk.next (c.pop.new.self.items ++ c.in-Some-pop.turn ∷ []) c.walk.met.keys (names_view c.walk.answer.resolved.entries) (map unresolved_told c.walk.answer.unresolved_specifiers.items) c.walk.invariant.0 = rw c.in-Some-pop.ensures.items at c.walk.invariant.2 in
+    let walk : IsWalking c.args.wanted c.args.root.now c.args.module_id c.walk.root c.walk.here c.walk.next (c.pop.new.self.items ++ c.in-Some-pop.turn ∷ []) c.walk.met.keys (taken_view c.walk.taken) c.walk.invariant.0 = rw c.in-Some-pop.ensures.items at c.walk.invariant.2 in
     (c.walk.invariant.0, c.walk.invariant.1, walking_back c.pop.new.self.items c.in-Some-pop.turn walk (walking.ended_here walk c.statement_at.ensures.few (sym c.in_default.ensures.text)) (walking.few_here walk c.statement_at.ensures.few) (sym c.is_done.ensures ∙ c.walk-test.true), c.walk.invariant.3)
+
+-- what is given at the end, and where memory was refused for it
+abbrev Given : Wanted → RootView → ModuleId → RootView → Taken → ℕ → Type 0
+Given wanted old start root taken asked = IsWalked wanted old root start (names_view taken.resolved.entries) (shared_only comes_along (groups_view taken.offers.entries)) (map unresolved_told taken.unresolved.items) asked
+
+given : (wanted : Wanted) (old : RootView) (start : ModuleId) (root : RootView) (taken : Taken) (asked before now : ℕ) (answer : ModuleExports) → now ≡ before + asked → names_view answer.resolved.entries ≡ names_view taken.resolved.entries → shared_views answer.shared.items ≡ shared_only comes_along (groups_view taken.offers.entries) → map unresolved_told answer.unresolved_specifiers.items ≡ map unresolved_told taken.unresolved.items → Given wanted old start root taken asked → (asked : ℕ) × (now ≡ before + asked) × IsWalked wanted old root start (names_view answer.resolved.entries) (shared_views answer.shared.items) (map unresolved_told answer.unresolved_specifiers.items) asked
+given wanted old start root taken asked before now answer counted names shared unresolved is = (asked, counted, walked_alike wanted old root start (names_view taken.resolved.entries) (names_view answer.resolved.entries) (shared_only comes_along (groups_view taken.offers.entries)) (shared_views answer.shared.items) (map unresolved_told taken.unresolved.items) (map unresolved_told answer.unresolved_specifiers.items) asked names shared unresolved is)
+
+refused : (wanted : Wanted) (old : RootView) (start : ModuleId) (root : RootView) (taken : Taken) (asked before now : ℕ) → now ≡ before + asked → Given wanted old start root taken asked → Broken wanted old start root before now OutOfMemory
+refused wanted old start root taken asked before now counted is = broken_off wanted old start root before now asked OutOfMemory counted (cut_behind wanted old root start (names_view taken.resolved.entries) (shared_only comes_along (groups_view taken.offers.entries)) (map unresolved_told taken.unresolved.items) asked is)
 
 pub returns-in_default-pop-clause-answers : goal.returns-in_default-pop-clause-answers
 returns-in_default-pop-clause-answers c =
     let walk = c.walk.invariant.2 in
-    (c.walk.invariant.0, c.walk.invariant.1, walked_end c.args.wanted walk (sym c.is_done.ensures ∙ c.walk-test.true) (nil_from_length c.walk.above.items (omega (arith, c.in_default-pop.ensures.cases.0, c.walk.above.ok.0))) (walking.ended_here walk c.statement_at.ensures.few (sym c.in_default.ensures.text)))
+    given c.args.wanted c.args.root.now c.args.module_id c.walk.root c.walk.taken c.walk.invariant.0 c.args.steps.now.count c.walk.steps.count c.in_ok-into_exports.field-0 c.walk.invariant.1 c.in_ok-into_exports.ensures.resolved c.in_ok-into_exports.ensures.shared c.in_ok-into_exports.ensures.unresolved
+    (walked_end c.args.wanted walk (sym c.is_done.ensures ∙ c.walk-test.true) (nil_from_length c.walk.above.items (omega (arith, c.in_default-pop.ensures.cases.0, c.walk.above.ok.0))) (walking.ended_here walk c.statement_at.ensures.few (sym c.in_default.ensures.text)))
+
+pub returns-in_err-into_exports-clause-faults : goal.returns-in_err-into_exports-clause-faults
+returns-in_err-into_exports-clause-faults c =
+    let walk = c.walk.invariant.2 in
+    on_memory (Broken c.args.wanted c.args.root.now c.args.module_id c.walk.root c.args.steps.now.count c.walk.steps.count) c.from_residual-in_err-into_exports.result c.from_residual-in_err-into_exports.ensures.1
+    (refused c.args.wanted c.args.root.now c.args.module_id c.walk.root c.walk.taken c.walk.invariant.0 c.args.steps.now.count c.walk.steps.count c.walk.invariant.1
+    (walked_end c.args.wanted walk (sym c.is_done.ensures ∙ c.walk-test.true) (nil_from_length c.walk.above.items (omega (arith, c.in_default-pop.ensures.cases.0, c.walk.above.ok.0))) (walking.ended_here walk c.statement_at.ensures.few (sym c.in_default.ensures.text))))
 
 pub returns-clause-answers : goal.returns-clause-answers
-returns-clause-answers c = (c.walk.invariant.0, c.walk.invariant.1, walked_done c.args.wanted c.walk.invariant.2 (sym c.is_done.ensures ∙ c.walk-test.false))
+returns-clause-answers c =
+    given c.args.wanted c.args.root.now c.args.module_id c.walk.root c.walk.taken c.walk.invariant.0 c.args.steps.now.count c.walk.steps.count c.in_ok-into_exports-2.field-0 c.walk.invariant.1 c.in_ok-into_exports-2.ensures.resolved c.in_ok-into_exports-2.ensures.shared c.in_ok-into_exports-2.ensures.unresolved
+    (walked_done c.args.wanted c.walk.invariant.2 (sym c.is_done.ensures ∙ c.walk-test.false))
+
+pub returns-in_err-into_exports-2-clause-faults : goal.returns-in_err-into_exports-2-clause-faults
+returns-in_err-into_exports-2-clause-faults c =
+    on_memory (Broken c.args.wanted c.args.root.now c.args.module_id c.walk.root c.args.steps.now.count c.walk.steps.count) c.from_residual-in_err-into_exports-2.result c.from_residual-in_err-into_exports-2.ensures.1
+    (refused c.args.wanted c.args.root.now c.args.module_id c.walk.root c.walk.taken c.walk.invariant.0 c.args.steps.now.count c.walk.steps.count c.walk.invariant.1
+    (walked_done c.args.wanted c.walk.invariant.2 (sym c.is_done.ensures ∙ c.walk-test.false)))
 
 pub returns-in-Err-clause-enough : goal.returns-in-Err-clause-enough
 returns-in-Err-clause-enough c = λ wide known. c.in-Err.ensures.enough (walking_limits c.walk.invariant.2 ∙ wide)

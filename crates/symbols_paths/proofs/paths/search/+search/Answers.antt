@@ -1,4 +1,4 @@
-use Rattle.std.proofs.Common.{◌≡◌, ◌<◌, ◌^◌, List, [], ◌∷◌, refl, length, Some, Result, Ok, Err, IfOk, IfErr, ◌+◌, option_map, sym, ap, subst, ◌∙◌, arith}
+use Rattle.std.proofs.Common.{◌≡◌, ◌<◌, ◌^◌, true, false, List, [], ◌∷◌, refl, rules, length, None, Some, Result, Ok, Err, IfOk, IfErr, ◌+◌, option_map, sym, ap, subst, ◌∙◌, arith}
 use Rattle.std.proofs.lemmas.List.{length-append, nil_from_length}
 use Rattle.symbols_syntax.specs.declared.ids.ModuleId.{ModuleId}
 use Rattle.symbols_table.specs.declared.info.fault.SymbolsFault.{SymbolsFault}
@@ -8,7 +8,8 @@ use Rattle.symbols_root.specs.laws.Numbers.{target_is, no_target}
 use Rattle.symbols_exports.specs.StarStatements.{text_target}
 use Rattle.symbols_paths.specs.declared.paths.definition.Definition.{Definition}
 use Rattle.symbols_paths.specs.declared.paths.resolving.AliasDecl.{AliasDecl}
-use Rattle.symbols_paths.specs.Trees.{no_module, no_part, unresolved, leaf, one, link_to}
+use Rattle.symbols_paths.specs.Trees.{no_module, unresolved, leaf, one, link_to}
+use Rattle.symbols_paths.specs.Leads.{own_export, passes_on}
 use Rattle.symbols_paths.specs.Views.{named, texts_of, later_parts}
 use Rattle.symbols_paths.specs.Trails.{parts_told, trails_told, modules_of_trails}
 use Rattle.symbols_paths.specs.Needed.{IsNeeded, IsRefused}
@@ -17,7 +18,7 @@ use Rattle.symbols_paths.proofs.Growing.{still_numbered, all_still_stored}
 use Rattle.symbols_paths.proofs.Told.{none_at, some_at}
 use Rattle.symbols_paths.proofs.Trailing.{is_some, is_none, not_none}
 use Rattle.symbols_paths.proofs.Finding.{new_symbol, old_symbol, new_few, found_old, finding_first, finding_next, finding_last, finding_searched, now_within, index_within, index_before, stands_among, left, fewer_steps, one_met_more, for_alias, one_alias_more, without_parts, one_part_less}
-use Rattle.symbols_paths.proofs.Following.{followed_itself, followed_alias, followed_nowhere, followed_unmapped, followed_target, followed_import, option_stored, target_later, tried_nowhere, tried_owned, tried_along}
+use Rattle.symbols_paths.proofs.Following.{followed_itself, followed_alias, followed_nowhere, followed_unmapped, followed_target, followed_import, option_stored, target_later, tried_nowhere, tried_owned, tried_along, tried_held}
 use Rattle.symbols_paths.proofs.Trying.{asking_first, asking_within, position_within, position_before, asking_next, asking_here, here_searched, asking_last, last_searched}
 use Rattle.symbols_paths.proofs.SearchSteps.{still_aliases, aliases_with}
 use Rattle.symbols_paths.proofs.Aliases.{new_alias, old_alias, alias_few, popped}
@@ -57,7 +58,7 @@ find-returns-in_err-lead-clause-kept t c = c.loop-paths.invariant.grown
 pub find-follow-requires : goal.find-follow-requires
 find-follow-requires t c =
     let is = c.loop-paths.invariant in
-    let read : IsRead c.loop-paths.root.graph (named c.loop-paths.root c.args.symbol) c.loop-paths.index c.in-Some.lead = rw c.in-Some.is at c.in_ok-lead.ensures.reads in
+    let read : IsRead c.loop-paths.root.rules c.loop-paths.root.graph (named c.loop-paths.root c.args.symbol) c.loop-paths.index c.in-Some.lead = rw c.in-Some.is at c.in_ok-lead.ensures.reads in
     let less = subst (λ (r : List AliasDecl). left (length r) 0 (length c.loop-paths.met.keys) 4 < left (length c.args.resolving.now.keys) 0 (length c.args.met.now.keys) 0) (sym is.same) (one_met_more (length c.args.resolving.now.keys) 0 (length c.args.met.now.keys) (length c.loop-paths.met.keys) 4 is.longer is.few (omega arith)) in
     let numbered = subst (AreAliasesNumbered c.loop-paths.root) (sym is.same) (still_aliases is.grown c.args.resolving.now.keys c.requires.resolving) in
     (omega (arith, c.decreases, less), (now_within is c.requires.known, (is.numbered, (numbered, (is.grown.once c.requires.once, (read.decl, stands_among read, read.imports))))))
@@ -76,37 +77,37 @@ find-returns-clause-kept t c = c.loop-paths.invariant.grown
 
 pub find-overflow_add-index : goal.find-overflow_add-index
 find-overflow_add-index t c =
-    let read : IsRead c.loop-paths.root.graph (named c.loop-paths.root c.args.symbol) c.loop-paths.index c.in-Some.lead = rw c.in-Some.is at c.in_ok-lead.ensures.reads in
+    let read : IsRead c.loop-paths.root.rules c.loop-paths.root.graph (named c.loop-paths.root c.args.symbol) c.loop-paths.index c.in-Some.lead = rw c.in-Some.is at c.in_ok-lead.ensures.reads in
     record { fits = omega (arith, index_within read, c.lead_at.ensures.few) }
 
 pub find-loop-paths-smaller-in_ok-add-in-Ok : goal.find-loop-paths-smaller-in_ok-add-in-Ok
 find-loop-paths-smaller-in_ok-add-in-Ok t c =
-    let read : IsRead c.loop-paths.root.graph (named c.loop-paths.root c.args.symbol) c.loop-paths.index c.in-Some.lead = rw c.in-Some.is at c.in_ok-lead.ensures.reads in
+    let read : IsRead c.loop-paths.root.rules c.loop-paths.root.graph (named c.loop-paths.root c.args.symbol) c.loop-paths.index c.in-Some.lead = rw c.in-Some.is at c.in_ok-lead.ensures.reads in
     omega (arith, index_before c.loop-paths.invariant c.requires.known c.in-Some.lead read)
 
 pub find-loop-paths-preserved-in_ok-add-in-Ok : goal.find-loop-paths-preserved-in_ok-add-in-Ok
 find-loop-paths-preserved-in_ok-add-in-Ok t c =
-    let read : IsRead c.loop-paths.root.graph (named c.loop-paths.root c.args.symbol) c.loop-paths.index c.in-Some.lead = rw c.in-Some.is at c.in_ok-lead.ensures.reads in
+    let read : IsRead c.loop-paths.root.rules c.loop-paths.root.graph (named c.loop-paths.root c.args.symbol) c.loop-paths.index c.in-Some.lead = rw c.in-Some.is at c.in_ok-lead.ensures.reads in
     rw c.in_ok-add-in-Ok.ensures (finding_next c.loop-paths.invariant c.requires.known c.in-Some.lead read c.in-Ok.ensures.kept c.in-Ok.path c.in-Ok.ensures.followed c.follow.new.resolving.keys c.in-Ok.ensures.same c.in-Ok.ensures.searched)
 
 pub find-loop-paths-smaller-in_ok-add-in-Ok-2 : goal.find-loop-paths-smaller-in_ok-add-in-Ok-2
 find-loop-paths-smaller-in_ok-add-in-Ok-2 t c =
-    let read : IsRead c.loop-paths.root.graph (named c.loop-paths.root c.args.symbol) c.loop-paths.index c.in-Some.lead = rw c.in-Some.is at c.in_ok-lead.ensures.reads in
+    let read : IsRead c.loop-paths.root.rules c.loop-paths.root.graph (named c.loop-paths.root c.args.symbol) c.loop-paths.index c.in-Some.lead = rw c.in-Some.is at c.in_ok-lead.ensures.reads in
     omega (arith, index_before c.loop-paths.invariant c.requires.known c.in-Some.lead read)
 
 pub find-loop-paths-preserved-in_ok-add-in-Ok-2 : goal.find-loop-paths-preserved-in_ok-add-in-Ok-2
 find-loop-paths-preserved-in_ok-add-in-Ok-2 t c =
-    let read : IsRead c.loop-paths.root.graph (named c.loop-paths.root c.args.symbol) c.loop-paths.index c.in-Some.lead = rw c.in-Some.is at c.in_ok-lead.ensures.reads in
+    let read : IsRead c.loop-paths.root.rules c.loop-paths.root.graph (named c.loop-paths.root c.args.symbol) c.loop-paths.index c.in-Some.lead = rw c.in-Some.is at c.in_ok-lead.ensures.reads in
     rw c.in_ok-add-in-Ok.ensures (finding_next c.loop-paths.invariant c.requires.known c.in-Some.lead read c.in-Ok.ensures.kept c.in-Ok.path c.in-Ok.ensures.followed c.follow.new.resolving.keys c.in-Ok.ensures.same c.in-Ok.ensures.searched)
 
 pub find-loop-paths-smaller : goal.find-loop-paths-smaller
 find-loop-paths-smaller t c =
-    let read : IsRead c.loop-paths.root.graph (named c.loop-paths.root c.args.symbol) c.loop-paths.index c.in-Some.lead = rw c.in-Some.is at c.in_ok-lead.ensures.reads in
+    let read : IsRead c.loop-paths.root.rules c.loop-paths.root.graph (named c.loop-paths.root c.args.symbol) c.loop-paths.index c.in-Some.lead = rw c.in-Some.is at c.in_ok-lead.ensures.reads in
     omega (arith, index_before c.loop-paths.invariant c.requires.known c.in-Some.lead read)
 
 pub find-loop-paths-preserved : goal.find-loop-paths-preserved
 find-loop-paths-preserved t c =
-    let read : IsRead c.loop-paths.root.graph (named c.loop-paths.root c.args.symbol) c.loop-paths.index c.in-Some.lead = rw c.in-Some.is at c.in_ok-lead.ensures.reads in
+    let read : IsRead c.loop-paths.root.rules c.loop-paths.root.graph (named c.loop-paths.root c.args.symbol) c.loop-paths.index c.in-Some.lead = rw c.in-Some.is at c.in_ok-lead.ensures.reads in
     rw c.in_ok-add-in-Ok.ensures (finding_next c.loop-paths.invariant c.requires.known c.in-Some.lead read c.in-Ok.ensures.kept c.in-Ok.path c.in-Ok.ensures.followed c.follow.new.resolving.keys c.in-Ok.ensures.same c.in-Ok.ensures.searched)
 
 pub find-returns-clause-same : goal.find-returns-clause-same
@@ -213,7 +214,8 @@ import-returns-in-None-clause-tried t c =
     let leads = target_is mid id (text_target c.args.root.now.graph (specifier_in c.args.root.now c.args.symbol.module_id) c.args.taken.now.text.now) (rw c.in-Ok-Some.field-0-is at c.in-Ok-Some.ensures.gives) in
     let within = still_stored kept c.args.symbol.module_id.0 c.requires.known in
     let there = target_later kept c.args.symbol.module_id c.requires.known c.args.taken.now.text.now ∙ leads.is in
-    on_answer c.import_along.result (λ paths tried. tried_along mid c.args.resolving.now.keys c.args.met.now.keys c.import_along.new.met.keys c.args.symbol id c.args.taken.now.name.now c.args.taken.now.text.now paths.items within leads.within there (sym c.in-None.ensures) c.import_along.new.root c.import_along.ensures.kept tried) c.import_along.ensures.tried
+    let so : passes_on mid.rules c.args.taken.now.name.now ≡ true = search rules in
+    on_answer c.import_along.result (λ paths tried. tried_along mid c.args.resolving.now.keys c.args.met.now.keys c.import_along.new.met.keys c.args.symbol id c.args.taken.now.name.now c.args.taken.now.text.now paths.items within leads.within there (sym c.in-None.ensures) c.import_along.new.root c.import_along.ensures.kept so tried) c.import_along.ensures.tried
 
 pub import-returns-in-None-clause-refused : goal.import-returns-in-None-clause-refused
 import-returns-in-None-clause-refused t c =
@@ -225,6 +227,24 @@ import-returns-in-None-clause-refused t c =
     let to = needed_import old.graph (named old c.args.symbol) c.args.taken.now.name.now c.args.taken.now.text.now (specifier_in mid c.in-Ok-Some.module_id) c.requires.declared leads.is in
     let needed : IsNeeded c.import_along.new.root.graph start (specifier_in mid c.in-Ok-Some.module_id) = subst (λ g. IsNeeded g start (specifier_in mid c.in-Ok-Some.module_id)) (sym whole.graph) to in
     on_fault c.import_along.result (λ fault refused. refused_from c.import_along.new.root needed refused) c.import_along.ensures.refused
+
+pub import-returns-in_ok-no_export-in-None-2-clause-tried : goal.import-returns-in_ok-no_export-in-None-2-clause-tried
+import-returns-in_ok-no_export-in-None-2-clause-tried t c =
+    let mid = c.text_target.new.root in
+    let kept = c.in-Ok-Some.ensures.kept in
+    let id = c.in-Ok-Some.module_id in
+    let leads = target_is mid id (text_target c.args.root.now.graph (specifier_in c.args.root.now c.args.symbol.module_id) c.args.taken.now.text.now) (rw c.in-Ok-Some.field-0-is at c.in-Ok-Some.ensures.gives) in
+    let within = still_stored kept c.args.symbol.module_id.0 c.requires.known in
+    let there = target_later kept c.args.symbol.module_id c.requires.known c.args.taken.now.text.now ∙ leads.is in
+    let so : passes_on mid.rules c.args.taken.now.name.now ≡ false = search rules in
+    let own : own_export mid.graph (specifier_in mid id) c.args.taken.now.name.now ≡ None = search rules in
+    tried_held mid c.args.resolving.now.keys c.args.met.now.keys c.args.met.now.keys c.args.symbol id c.args.taken.now.name.now c.args.taken.now.text.now c.in_ok-no_export-in-None-2.field-0.items within leads.within there own mid (grown_not mid) so refl c.in_ok-no_export-in-None-2.ensures.told
+
+pub import-returns-in_ok-no_export-in-None-2-clause-searched : goal.import-returns-in_ok-no_export-in-None-2-clause-searched
+import-returns-in_ok-no_export-in-None-2-clause-searched t c =
+    let mid = c.text_target.new.root in
+    let leads = target_is mid c.in-Ok-Some.module_id (text_target c.args.root.now.graph (specifier_in c.args.root.now c.args.symbol.module_id) c.args.taken.now.text.now) (rw c.in-Ok-Some.field-0-is at c.in-Ok-Some.ensures.gives) in
+    record { numbered = still_numbered c.in-Ok-Some.ensures.kept c.args.met.now.keys c.requires.met; longer = omega arith; few = λ h. h; stored = c.in_ok-no_export-in-None-2.ensures.stored mid leads.within }
 
 -- ---- the statements `export *`
 
@@ -301,22 +321,17 @@ import_along-loop-text-preserved t c =
     asking_next c.loop-text.invariant c.requires.known c.in-Some.text.now c.in-Ok.candidate c.in-Ok-offered.paths.items (sym c.in-Some.ensures.text) c.in-Ok.ensures.kept c.in-Ok.ensures.gives c.in-Ok.ensures.stored c.in-Ok-offered.ensures.kept c.in-Ok-offered.ensures.offered c.offered.new.resolving.keys c.in-Ok-offered.ensures.same c.in-Ok-offered.ensures.searched
     (λ later. is_none later c.in-Ok-offered.paths (sym c.if-not-is_empty.false ∙ c.is_empty.ensures))
 
-pub import_along-returns-in_err-from_str-clause-kept : goal.import_along-returns-in_err-from_str-clause-kept
-import_along-returns-in_err-from_str-clause-kept t c = c.loop-text.invariant.grown
-
-pub import_along-returns-in_err-unresolved-clause-kept : goal.import_along-returns-in_err-unresolved-clause-kept
-import_along-returns-in_err-unresolved-clause-kept t c = c.loop-text.invariant.grown
+pub import_along-returns-in_err-no_export-clause-kept : goal.import_along-returns-in_err-no_export-clause-kept
+import_along-returns-in_err-no_export-clause-kept t c = c.loop-text.invariant.grown
 
 pub import_along-returns-clause-kept : goal.import_along-returns-clause-kept
 import_along-returns-clause-kept t c = c.loop-text.invariant.grown
 
 pub import_along-returns-clause-tried : goal.import_along-returns-clause-tried
-import_along-returns-clause-tried t c =
-    let told = λ (later : RootView). c.in_ok-unresolved.ensures.told later ∙ (λ i. one (leaf (unresolved (record { specifier = specifier_in later c.args.module_id; reason = no_part (c.in_ok-from_str.ensures.ok i); parts = texts_of (c.new-parts.ensures.items i) })))) in
-    asking_last c.loop-text.invariant c.requires.known c.in_ok-unresolved.field-0.items (sym c.in_default.ensures.text) told
+import_along-returns-clause-tried t c = asking_last c.loop-text.invariant c.requires.known c.in_ok-no_export.field-0.items (sym c.in_default.ensures.text) c.in_ok-no_export.ensures.told
 
 pub import_along-returns-clause-searched : goal.import_along-returns-clause-searched
-import_along-returns-clause-searched t c = last_searched c.loop-text.invariant c.requires.known c.in_ok-unresolved.field-0.items (c.in_ok-unresolved.ensures.stored c.loop-text.root (asking_within c.loop-text.invariant c.requires.known))
+import_along-returns-clause-searched t c = last_searched c.loop-text.invariant c.requires.known c.in_ok-no_export.field-0.items (c.in_ok-no_export.ensures.stored c.loop-text.root (asking_within c.loop-text.invariant c.requires.known))
 
 -- ---- a candidate
 

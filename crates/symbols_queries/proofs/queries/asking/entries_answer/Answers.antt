@@ -15,12 +15,12 @@ returns-in-Err-clause-faults c = entries_refused c.args.root.now c.resolve_symbo
 
 pub returns-in_err-named_entries-in-Ok-clause-faults : goal.returns-in_err-named_entries-in-Ok-clause-faults
 returns-in_err-named_entries-in-Ok-clause-faults c =
-    memory_refused c.from_residual.result c.args.root.now c.resolve_symbol_dep.new.self (specifier_in c.args.root.now c.args.module_id) (asks_entries (reference_view c.args.dep.now)) (entries_answered c.args.root.now.graph (specifier_in c.args.root.now c.args.module_id) (reference_view c.args.dep.now)) c.from_residual.ensures.1
+    memory_refused c.from_residual.result c.args.root.now c.resolve_symbol_dep.new.self (specifier_in c.args.root.now c.args.module_id) (asks_entries (reference_view c.args.dep.now)) (entries_answered c.args.root.now.rules c.args.root.now.graph (specifier_in c.args.root.now c.args.module_id) (reference_view c.args.dep.now)) c.from_residual.ensures.1
 
 pub returns-in_ok-named_entries-in-Ok-clause-given : goal.returns-in_ok-named_entries-in-Ok-clause-given
 returns-in_ok-named_entries-in-Ok-clause-given c =
     let told = c.in_ok-named_entries-in-Ok.ensures in
-    let is = subst (IsDepAnswer c.args.root.now.graph (specifier_in c.args.root.now c.args.module_id) (reference_view c.args.dep.now)) (sym told) c.in-Ok.ensures.answers.1 in
+    let is = subst (IsDepAnswer c.args.root.now.rules c.args.root.now.graph (specifier_in c.args.root.now c.args.module_id) (reference_view c.args.dep.now)) (sym told) c.in-Ok.ensures.answers.1 in
     entries_given c.args.root.now c.resolve_symbol_dep.new.self c.args.module_id (reference_view c.args.dep.now) (map entry_view c.in_ok-named_entries-in-Ok.field-0.items) c.in-Ok.ensures.kept c.requires is (told ∙ c.in-Ok.ensures.listed) (subst (λ given. All (Contains c.resolve_symbol_dep.new.self.stored) (flat_map modules_of_standing given)) (sym told) (entries_there c.resolve_symbol_dep.new.self c.in-Ok.entries.items c.in-Ok.ensures.stored))
 
 pub named_entries-requires : goal.named_entries-requires

@@ -15,7 +15,7 @@ use Rattle.symbols_queries.proofs.queries.asking.leaves_answer.Goals as goal
 pub returns-in-Err-clause-faults : goal.returns-in-Err-clause-faults
 returns-in-Err-clause-faults c =
     let s = c.args.symbol in
-    paths_refused (asks_leaves s) s (λ (paths : Forest). tells_leaves (leaves_in paths)) (λ graph specifier. refl) (λ graph specifier given is. is) (λ graph specifier v is. is) (λ is. is) c.args.root.now c.go_to_definitions_or_unresolveds.new.self c.args.module_id c.in-Err.fault c.in-Err.ensures.kept c.requires c.in-Err.ensures.faults
+    paths_refused (asks_leaves s) s (λ (paths : Forest). tells_leaves (leaves_in paths)) (λ rules graph specifier. refl) (λ rules graph specifier given is. is) (λ graph specifier v is. is) (λ is. is) c.args.root.now c.go_to_definitions_or_unresolveds.new.self c.args.module_id c.in-Err.fault c.in-Err.ensures.kept c.requires c.in-Err.ensures.faults
 
 pub returns-in-Err-clause-enough : goal.returns-in-Err-clause-enough
 returns-in-Err-clause-enough c = λ wide. paths_enough c.args.root.now c.go_to_definitions_or_unresolveds.new.self c.args.module_id c.args.symbol c.in-Err.fault c.requires c.in-Err.ensures.faults (c.in-Err.ensures.enough wide c.requires)
@@ -23,13 +23,13 @@ returns-in-Err-clause-enough c = λ wide. paths_enough c.args.root.now c.go_to_d
 pub returns-in_err-named_ends-in-Ok-clause-faults : goal.returns-in_err-named_ends-in-Ok-clause-faults
 returns-in_err-named_ends-in-Ok-clause-faults c =
     let s = c.args.symbol in
-    let has = paths_answered (asks_leaves s) s (λ (paths : Forest). tells_leaves (leaves_in paths)) (λ graph specifier. refl) (λ graph specifier given is. is) (λ graph specifier v is. is) (λ is. is) c.args.root.now c.args.module_id c.in-Ok.ensures.known.1 in
+    let has = paths_answered (asks_leaves s) s (λ (paths : Forest). tells_leaves (leaves_in paths)) (λ rules graph specifier. refl) (λ rules graph specifier given is. is) (λ graph specifier v is. is) (λ is. is) c.args.root.now c.args.module_id c.in-Ok.ensures.known.1 in
     memory_refused c.from_residual.result c.args.root.now c.go_to_definitions_or_unresolveds.new.self (specifier_in c.args.root.now c.args.module_id) (asks_leaves c.args.symbol) has c.from_residual.ensures.1
 
 pub returns-in_ok-named_ends-in-Ok-clause-given : goal.returns-in_ok-named_ends-in-Ok-clause-given
 returns-in_ok-named_ends-in-Ok-clause-given c =
     let s = c.args.symbol in
-    paths_given (asks_leaves s) s (λ (paths : Forest). tells_leaves (leaves_in paths)) (λ graph specifier. refl) (λ graph specifier given is. is) (λ graph specifier v is. is) (λ is. is) c.args.root.now c.go_to_definitions_or_unresolveds.new.self c.args.module_id (tells_leaves (map end_view c.in_ok-named_ends-in-Ok.field-0.items)) c.in-Ok.ensures.answers.0 c.in-Ok.ensures.kept c.requires c.in-Ok.ensures.known.1 c.in-Ok.ensures.answers.1 (ap tells_leaves (c.in_ok-named_ends-in-Ok.ensures ∙ c.in-Ok.ensures.answers.2)) (ap tells_leaves (c.in_ok-named_ends-in-Ok.ensures ∙ c.in-Ok.ensures.listed)) (subst (λ told. All (Contains c.go_to_definitions_or_unresolveds.new.self.stored) (map module_of_leaf told)) (sym c.in_ok-named_ends-in-Ok.ensures) (ends_there c.go_to_definitions_or_unresolveds.new.self (ends_left c.in-Ok.ends) c.in-Ok.ensures.stored))
+    paths_given (asks_leaves s) s (λ (paths : Forest). tells_leaves (leaves_in paths)) (λ rules graph specifier. refl) (λ rules graph specifier given is. is) (λ graph specifier v is. is) (λ is. is) c.args.root.now c.go_to_definitions_or_unresolveds.new.self c.args.module_id (tells_leaves (map end_view c.in_ok-named_ends-in-Ok.field-0.items)) c.in-Ok.ensures.answers.0 c.in-Ok.ensures.kept c.requires c.in-Ok.ensures.known.1 c.in-Ok.ensures.answers.1 (ap tells_leaves (c.in_ok-named_ends-in-Ok.ensures ∙ c.in-Ok.ensures.answers.2)) (ap tells_leaves (c.in_ok-named_ends-in-Ok.ensures ∙ c.in-Ok.ensures.listed)) (subst (λ told. All (Contains c.go_to_definitions_or_unresolveds.new.self.stored) (map module_of_leaf told)) (sym c.in_ok-named_ends-in-Ok.ensures) (ends_there c.go_to_definitions_or_unresolveds.new.self (ends_left c.in-Ok.ends) c.in-Ok.ensures.stored))
 
 pub named_ends-requires : goal.named_ends-requires
 named_ends-requires c = c.in-Ok.ensures.stored

@@ -15,7 +15,7 @@ use Rattle.symbols_queries.proofs.queries.asking.paths_answer.Goals as goal
 pub returns-in-Err-clause-faults : goal.returns-in-Err-clause-faults
 returns-in-Err-clause-faults c =
     let s = c.args.symbol in
-    paths_refused (asks_paths s) s (λ (paths : Forest). tells_paths paths) (λ graph specifier. refl) (λ graph specifier given is. is) (λ graph specifier v is. is) (λ is. is) c.args.root.now c.find_definition_paths.new.self c.args.module_id c.in-Err.fault c.in-Err.ensures.kept c.requires c.in-Err.ensures.faults
+    paths_refused (asks_paths s) s (λ (paths : Forest). tells_paths paths) (λ rules graph specifier. refl) (λ rules graph specifier given is. is) (λ graph specifier v is. is) (λ is. is) c.args.root.now c.find_definition_paths.new.self c.args.module_id c.in-Err.fault c.in-Err.ensures.kept c.requires c.in-Err.ensures.faults
 
 pub returns-in-Err-clause-enough : goal.returns-in-Err-clause-enough
 returns-in-Err-clause-enough c = λ wide. paths_enough c.args.root.now c.find_definition_paths.new.self c.args.module_id c.args.symbol c.in-Err.fault c.requires c.in-Err.ensures.faults (c.in-Err.ensures.enough wide c.requires)
@@ -23,13 +23,13 @@ returns-in-Err-clause-enough c = λ wide. paths_enough c.args.root.now c.find_de
 pub returns-in_err-named_paths-in-Ok-clause-faults : goal.returns-in_err-named_paths-in-Ok-clause-faults
 returns-in_err-named_paths-in-Ok-clause-faults c =
     let s = c.args.symbol in
-    let has = paths_answered (asks_paths s) s (λ (paths : Forest). tells_paths paths) (λ graph specifier. refl) (λ graph specifier given is. is) (λ graph specifier v is. is) (λ is. is) c.args.root.now c.args.module_id c.in-Ok.ensures.answers.has_symbol in
+    let has = paths_answered (asks_paths s) s (λ (paths : Forest). tells_paths paths) (λ rules graph specifier. refl) (λ rules graph specifier given is. is) (λ graph specifier v is. is) (λ is. is) c.args.root.now c.args.module_id c.in-Ok.ensures.answers.has_symbol in
     memory_refused c.from_residual.result c.args.root.now c.find_definition_paths.new.self (specifier_in c.args.root.now c.args.module_id) (asks_paths c.args.symbol) has c.from_residual.ensures.1
 
 pub returns-in_ok-named_paths-in-Ok-clause-given : goal.returns-in_ok-named_paths-in-Ok-clause-given
 returns-in_ok-named_paths-in-Ok-clause-given c =
     let s = c.args.symbol in
-    paths_given (asks_paths s) s (λ (paths : Forest). tells_paths paths) (λ graph specifier. refl) (λ graph specifier given is. is) (λ graph specifier v is. is) (λ is. is) c.args.root.now c.find_definition_paths.new.self c.args.module_id (tells_paths (forest_view c.in_ok-named_paths-in-Ok.field-0.items)) (forest_told c.find_definition_paths.new.self c.in-Ok.paths.items) c.in-Ok.ensures.kept c.requires c.in-Ok.ensures.answers.has_symbol c.in-Ok.ensures.answers.are_paths (ap tells_paths c.in_ok-named_paths-in-Ok.ensures) (ap tells_paths (c.in_ok-named_paths-in-Ok.ensures ∙ c.in-Ok.ensures.listed)) (subst (λ told. All (Contains c.find_definition_paths.new.self.stored) (modules_of_forest told)) (sym c.in_ok-named_paths-in-Ok.ensures) (paths_there c.find_definition_paths.new.self c.in-Ok.paths.items c.in-Ok.ensures.answers.stored))
+    paths_given (asks_paths s) s (λ (paths : Forest). tells_paths paths) (λ rules graph specifier. refl) (λ rules graph specifier given is. is) (λ graph specifier v is. is) (λ is. is) c.args.root.now c.find_definition_paths.new.self c.args.module_id (tells_paths (forest_view c.in_ok-named_paths-in-Ok.field-0.items)) (forest_told c.find_definition_paths.new.self c.in-Ok.paths.items) c.in-Ok.ensures.kept c.requires c.in-Ok.ensures.answers.has_symbol c.in-Ok.ensures.answers.are_paths (ap tells_paths c.in_ok-named_paths-in-Ok.ensures) (ap tells_paths (c.in_ok-named_paths-in-Ok.ensures ∙ c.in-Ok.ensures.listed)) (subst (λ told. All (Contains c.find_definition_paths.new.self.stored) (modules_of_forest told)) (sym c.in_ok-named_paths-in-Ok.ensures) (paths_there c.find_definition_paths.new.self c.in-Ok.paths.items c.in-Ok.ensures.answers.stored))
 
 pub named_paths-requires : goal.named_paths-requires
 named_paths-requires c = c.in-Ok.ensures.answers.stored

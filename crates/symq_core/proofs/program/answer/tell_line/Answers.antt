@@ -21,9 +21,9 @@ returns-clause-kept c = grown_not c.args.root.now
 pub returns-in-Some-clause-value : goal.returns-in-Some-clause-value
 returns-in-Some-clause-value c =
     let is : json_of c.args.line.now ≡ Some (data_of c.in-Some.value) = search rules in
-    subst (λ (o : Option Data). Tells c.tell_asked.result c.args.out.now c.tell_asked.new.out (asked_data c.args.root.now.graph (option_and_then query_of o))) (sym is) c.tell_asked.ensures.value
+    subst (λ (o : Option Data). Tells c.tell_asked.result c.args.out.now c.tell_asked.new.out (asked_data c.args.root.now.rules c.args.root.now.graph (option_and_then query_of o))) (sym is) c.tell_asked.ensures.value
 
 pub returns-clause-value : goal.returns-clause-value
 returns-clause-value c =
     let others : IfSome (json_of c.args.line.now) (λ d. has_lists_only d ≡ false) = search rules in
-    subst (λ (q : Option QueryView). Tells c.tell_text.result c.args.out.now c.tell_text.new.out (asked_data c.args.root.now.graph q)) (sym (no_query (json_of c.args.line.now) others)) c.tell_text.ensures
+    subst (λ (q : Option QueryView). Tells c.tell_text.result c.args.out.now c.tell_text.new.out (asked_data c.args.root.now.rules c.args.root.now.graph q)) (sym (no_query (json_of c.args.line.now) others)) c.tell_text.ensures

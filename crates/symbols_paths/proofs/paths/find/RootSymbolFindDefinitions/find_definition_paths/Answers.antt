@@ -32,7 +32,7 @@ returns-in_ok-nodes_of-in-Ok-clause-answers c =
     record {
       known = c.in-Ok.ensures.known.0;
       has_symbol = c.in-Ok.ensures.known.1;
-      are_paths = subst (ArePaths c.args.self.now.graph (named_in c.args.self.now c.args.module_id c.args.symbol_id)) (sym (c.in_ok-nodes_of-in-Ok.ensures.told root)) c.in-Ok.ensures.answers;
+      are_paths = subst (ArePaths c.args.self.now.rules c.args.self.now.graph (named_in c.args.self.now c.args.module_id c.args.symbol_id)) (sym (c.in_ok-nodes_of-in-Ok.ensures.told root)) c.in-Ok.ensures.answers;
       stored = c.in_ok-nodes_of-in-Ok.ensures.stored root c.in-Ok.ensures.stored;
     }
 

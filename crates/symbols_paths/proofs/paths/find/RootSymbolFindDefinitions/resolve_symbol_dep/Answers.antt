@@ -25,13 +25,13 @@ returns-in_ok-parts-in-QualifiedId-clause-answers c =
     let parts = c.in_ok-parts-in-QualifiedId.ensures ∙ ap (map cow_str_bytes) c.deref.ensures.value in
     let is : qualified_id (id_view c.in-QualifiedId.id.now) (parts_told c.in_ok-parts-in-QualifiedId.parts) ≡ reference_view c.args.dep.now = ap (qualified_id (id_view c.in-QualifiedId.id.now)) parts ∙ sym (ap reference_view c.in-QualifiedId.is) in
     on_answer c.entries_of_id-in-QualifiedId.result c.entries_of_id-in-QualifiedId.ensures.answers (λ entries told.
-    (known, subst (λ (r : Reference). IsDepAnswer c.args.self.now.graph (specifier_in c.args.self.now c.args.module_id) r (map (entry_told c.entries_of_id-in-QualifiedId.new.root) entries.items)) is told))
+    (known, subst (λ (r : Reference). IsDepAnswer c.args.self.now.rules c.args.self.now.graph (specifier_in c.args.self.now c.args.module_id) r (map (entry_told c.entries_of_id-in-QualifiedId.new.root) entries.items)) is told))
 
 pub returns-in_ok-parts-in-QualifiedId-clause-listed : goal.returns-in_ok-parts-in-QualifiedId-clause-listed
 returns-in_ok-parts-in-QualifiedId-clause-listed c =
     let parts = c.in_ok-parts-in-QualifiedId.ensures ∙ ap (map cow_str_bytes) c.deref.ensures.value in
     let is : qualified_id (id_view c.in-QualifiedId.id.now) (parts_told c.in_ok-parts-in-QualifiedId.parts) ≡ reference_view c.args.dep.now = ap (qualified_id (id_view c.in-QualifiedId.id.now)) parts ∙ sym (ap reference_view c.in-QualifiedId.is) in
-    on_answer c.entries_of_id-in-QualifiedId.result c.entries_of_id-in-QualifiedId.ensures.listed (λ entries told. told ∙ ap (λ (r : Reference). entries_of c.args.self.now.graph (specifier_in c.args.self.now c.args.module_id) r) is)
+    on_answer c.entries_of_id-in-QualifiedId.result c.entries_of_id-in-QualifiedId.ensures.listed (λ entries told. told ∙ ap (λ (r : Reference). entries_of c.args.self.now.rules c.args.self.now.graph (specifier_in c.args.self.now c.args.module_id) r) is)
 
 pub returns-in_ok-parts-in-ImportType-clause-faults : goal.returns-in_ok-parts-in-ImportType-clause-faults
 returns-in_ok-parts-in-ImportType-clause-faults c =

@@ -36,7 +36,7 @@ returns-clause-answers c = same_last c.args.self.now c.loop-query.self c.loop-qu
 pub returns-clause-means : goal.returns-clause-means
 returns-clause-means c =
     let told = told_last c.args.self.now c.loop-query.self c.loop-query.answers.items c.args.queries.now c.loop-query.query-index c.loop-query.invariant (omega (arith, c.loop-query-test.false)) in
-    zip_weaker (IsTold c.args.self.now c.loop-query.self) (λ (query : Query) (given : Answer). IsAnswerTo c.args.self.now.graph (query_view query) (answer_view given)) (λ query given is. is.means) c.args.queries.now c.loop-query.answers.items told
+    zip_weaker (IsTold c.args.self.now c.loop-query.self) (λ (query : Query) (given : Answer). IsAnswerTo c.args.self.now.rules c.args.self.now.graph (query_view query) (answer_view given)) (λ query given is. is.means) c.args.queries.now c.loop-query.answers.items told
 
 pub returns-clause-stored : goal.returns-clause-stored
 returns-clause-stored c =

@@ -55,7 +55,7 @@ returns-in-Err-clause-refused c =
     let m = c.args.graph_module.now in
     let new = stored_is entries c.specifier-specifier.result.now m.specifier false (sym c.get_index_of.ensures.found ∙ ap is_some c.in_default.is) c.specifier-specifier.ensures in
     let room : length (stored_specifiers entries) < c.self.inside.limits.modules = omega (arith, length-stored entries, c.len-count.ensures.len, c.if-count-modules.false) in
-    let before : RootView = record { graph = c.self.inside.graph.now; limits = c.self.inside.limits; stored = stored_specifiers entries } in
+    let before : RootView = record { graph = c.self.inside.graph.now; rules = c.self.inside.rules; limits = c.self.inside.limits; stored = stored_specifiers entries } in
     let under : module_under before.graph m.specifier ≡ Some m = subst (λ (r : RootView). module_under r.graph m.specifier ≡ Some m) (sym c.self.view_is) c.requires.under in
     subst (λ (r : RootView). IsRefusal r (Some m.specifier) c.in-Err.fault) c.self.view_is (refused_analysis before m c.in-Err.fault under new room c.in-Err.ensures.fault)
 
@@ -102,9 +102,9 @@ returns-clause-stored c =
     let new = stored_is entries s.now q false (sym c.get_index_of.ensures.found ∙ ap is_some c.in_default.is) c.specifier-specifier.ensures in
     let inserted : c.insert.new.self.entries ≡ insert_entry (λ (x y : Bor (List ℕ)). bytes_eq x.now y.now) entries s c.in-Ok-Some.info = c.in_ok-insert.ensures.entries in
     let after = stored_after entries c.insert.new.self.entries s q c.in-Ok-Some.info (inserted ∙ insert_last c.self.inside.modules s c.in-Ok-Some.info own) c.specifier-specifier.ensures in
-    let before : RootView = record { graph = c.self.inside.graph.now; limits = c.self.inside.limits; stored = stored_specifiers entries } in
-    let view : record { graph = c.self.inside.graph.now; limits = c.self.inside.limits; stored = stored_specifiers c.insert.new.self.entries } ≡ with_stored before (Some q) = ap (λ xs. record before { stored = xs }) after ∙ with_new before q new in
-    subst (λ (r : RootView). record { graph = c.self.inside.graph.now; limits = c.self.inside.limits; stored = stored_specifiers c.insert.new.self.entries } ≡ with_stored r (Some q)) c.self.view_is view
+    let before : RootView = record { graph = c.self.inside.graph.now; rules = c.self.inside.rules; limits = c.self.inside.limits; stored = stored_specifiers entries } in
+    let view : record { graph = c.self.inside.graph.now; rules = c.self.inside.rules; limits = c.self.inside.limits; stored = stored_specifiers c.insert.new.self.entries } ≡ with_stored before (Some q) = ap (λ xs. record before { stored = xs }) after ∙ with_new before q new in
+    subst (λ (r : RootView). record { graph = c.self.inside.graph.now; rules = c.self.inside.rules; limits = c.self.inside.limits; stored = stored_specifiers c.insert.new.self.entries } ≡ with_stored r (Some q)) c.self.view_is view
 
 -- ---- the widest limits are enough
 
@@ -114,7 +114,7 @@ returns-then-count-modules-clause-enough c =
     let m = c.args.graph_module.now in
     let new = stored_is entries c.specifier-specifier.result.now m.specifier false (sym c.get_index_of.ensures.found ∙ ap is_some c.in_default.is) c.specifier-specifier.ensures in
     let full : c.self.inside.limits.modules ≤ length (stored_specifiers entries) = omega (arith, length-stored entries, c.len-count.ensures.len, c.if-count-modules.true) in
-    λ wide few. absurd (room_within c.self.inside.graph.now c.self.inside.limits entries c.args.self.now m c.self.view_is c.self.invariant.0 c.self.invariant.2 wide few c.requires.under new full)
+    λ wide few. absurd (room_within c.self.inside.graph.now c.self.inside.rules c.self.inside.limits entries c.args.self.now m c.self.view_is c.self.invariant.0 c.self.invariant.2 wide few c.requires.under new full)
 
 pub returns-in-Err-clause-enough : goal.returns-in-Err-clause-enough
 returns-in-Err-clause-enough c = λ wide few.

@@ -1,14 +1,13 @@
 use Rattle.std.proofs.Common.{◌≡◌, ◌++◌, ℕ, List, length}
-use Rattle.symq_core.specs.AnswerTexts.{answer_text}
 use Rattle.symq_core.specs.Lines.{answers_to}
-use Rattle.symq_core.specs.Sessions.{Sends, parts_after}
+use Rattle.symq_core.specs.Sessions.{Sends, parts_after, answering}
 use Rattle.symq_core.proofs.program.session.Session.take_block.Given as goal
 
 abbrev pub invariant-lines : goal.invariant-lines
 invariant-lines g l =
     (ended : List (List ℕ)) × (parts_after l.initial.self.line.items l.block ≡ ended ++ parts_after l.self.line.items l.rest)
-    × Sends (g.W.Output.written l.initial.writer) (g.W.Output.written l.writer) l.initial.self.answers.items l.self.answers.items (answers_to (answer_text l.initial.self.root.graph) ended)
-    × (g.W.Output.failures l.writer ≡ g.W.Output.failures l.initial.writer) × (l.self.root.graph ≡ l.initial.self.root.graph)
+    × Sends (g.W.Output.written l.initial.writer) (g.W.Output.written l.writer) l.initial.self.answers.items l.self.answers.items (answers_to (answering l.initial.self.root) ended)
+    × (g.W.Output.failures l.writer ≡ g.W.Output.failures l.initial.writer) × (answering l.self.root ≡ answering l.initial.self.root)
 
 abbrev pub decreases-lines : goal.decreases-lines
 decreases-lines g l = length l.rest

@@ -7,13 +7,13 @@ use Rattle.symq_core.specs.AnswerTexts.{answer_text}
 use Rattle.symq_core.specs.Lines.{answers_to, line_in}
 use Rattle.symq_core.specs.Devices.{COUNT_LIMIT}
 use Rattle.symq_core.proofs.Outputs.{block_sent, block_line, block_begun, begun_output, served_at_end, begun_at_end, read_within, stops_from, stops_if}
-use Rattle.symq_core.proofs.program.engine.serve.Goals as goal
+use Rattle.symq_core.proofs.program.engine.serve_with.Goals as goal
 
 pub returns-then-read-eq0-clause-stopped : goal.returns-then-read-eq0-clause-stopped
 returns-then-read-eq0-clause-stopped g c =
     let l = c.loop-turn in
     let v = l.invariant in
-    let answer = answer_text c.args.graph.now in
+    let answer = answer_text c.args.rules c.args.graph.now in
     let start = g.R.Input.remaining c.args.reader.now in
     let left = g.R.Input.remaining c.read.new.self in
     let before = g.W.Output.written c.args.writer.now in
@@ -28,7 +28,7 @@ pub returns-then-read-eq0-clause-served : goal.returns-then-read-eq0-clause-serv
 returns-then-read-eq0-clause-served g c =
     let l = c.loop-turn in
     let v = l.invariant in
-    let answer = answer_text c.args.graph.now in
+    let answer = answer_text c.args.rules c.args.graph.now in
     let start = g.R.Input.remaining c.args.reader.now in
     let left = g.R.Input.remaining c.read.new.self in
     let before = g.W.Output.written c.args.writer.now in
@@ -51,7 +51,7 @@ pub returns-in_err-take_block-clause-stopped : goal.returns-in_err-take_block-cl
 returns-in_err-take_block-clause-stopped g c =
     let l = c.loop-turn in
     let v = l.invariant in
-    let answer = answer_text c.args.graph.now in
+    let answer = answer_text c.args.rules c.args.graph.now in
     let p = err_from_is_err_and c.from_residual-in_err-take_block.result c.from_residual-in_err-take_block.ensures.1 in
     let e = rw v.8 at c.in_err-take_block.ensures.err in
     let block = take c.in-Ok.read c.read.new.buffer in
@@ -68,7 +68,7 @@ pub loop-turn-preserved : goal.loop-turn-preserved
 loop-turn-preserved g c =
     let l = c.loop-turn in
     let v = l.invariant in
-    let answer = answer_text c.args.graph.now in
+    let answer = answer_text c.args.rules c.args.graph.now in
     let done = rw v.8 at c.in_ok-take_block.ensures.ok in
     let block = take c.in-Ok.read c.read.new.buffer in (
       v.0 ++ block,
@@ -79,5 +79,5 @@ loop-turn-preserved g c =
       grind (arith, common_steps),
       grind arith,
       done.3 ∙ v.7,
-      c.in_ok-take_block.ensures.graph ∙ v.8,
+      c.in_ok-take_block.ensures.same ∙ v.8,
     )

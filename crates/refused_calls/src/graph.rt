@@ -1,0 +1,113 @@
+//! The graph that is asked, and what is asked of it.
+
+use deno_symbols::deps::{ResolveDepsMode, SymbolNodeDep};
+use deno_symbols::ids::SymbolId;
+use deno_symbols::queries::Query;
+use deno_symbols::tree::Id;
+use std::alloc::{AllocError, Global};
+use std::borrow::CowStr;
+
+/// `a` owns `x` and passes on `b` and `c`, which own `y`, and `b` passes on `a`. `q` imports `y` from `a`, and a name that is
+/// nowhere.
+pub(crate) const GRAPH: &str = r#"{"modules": [
+{"specifier": "a", "kind": "esm", "text": "export const x = 1; export * from \"./b\"; export * from \"./c\";", "tree": {"nodes": [
+    {"kind": "Program", "range": [0, 61], "body": [1, 6, 7]},
+    {"kind": "ExportDecl", "range": [0, 19], "decl": 2},
+    {"kind": "VarDecl", "range": [7, 19], "decls": [3]},
+    {"kind": "VarDeclarator", "range": [13, 18], "name": 4, "init": 5},
+    {"kind": "BindingIdent", "range": [13, 14], "sym": ["x", 1]},
+    {"kind": "Num", "range": [17, 18], "text": "1"},
+    {"kind": "ExportAll", "range": [20, 40], "src": "./b"},
+    {"kind": "ExportAll", "range": [41, 61], "src": "./c"}
+]}},
+{"specifier": "b", "kind": "esm", "text": "export const x = 1, y = 2; export default 1; export * from \"./a\";", "tree": {"nodes": [
+    {"kind": "Program", "range": [0, 65], "body": [1, 9, 11]},
+    {"kind": "ExportDecl", "range": [0, 26], "decl": 2},
+    {"kind": "VarDecl", "range": [7, 26], "decls": [3, 6]},
+    {"kind": "VarDeclarator", "range": [13, 18], "name": 4, "init": 5},
+    {"kind": "BindingIdent", "range": [13, 14], "sym": ["x", 1]},
+    {"kind": "Num", "range": [17, 18], "text": "1"},
+    {"kind": "VarDeclarator", "range": [20, 25], "name": 7, "init": 8},
+    {"kind": "BindingIdent", "range": [20, 21], "sym": ["y", 1]},
+    {"kind": "Num", "range": [24, 25], "text": "2"},
+    {"kind": "ExportDefaultExpr", "range": [27, 44], "expr": 10},
+    {"kind": "Num", "range": [42, 43], "text": "1"},
+    {"kind": "ExportAll", "range": [45, 65], "src": "./a"}
+]}},
+{"specifier": "c", "kind": "esm", "text": "export const y = 1, z = 1;", "tree": {"nodes": [
+    {"kind": "Program", "range": [0, 26], "body": [1]},
+    {"kind": "ExportDecl", "range": [0, 26], "decl": 2},
+    {"kind": "VarDecl", "range": [7, 26], "decls": [3, 6]},
+    {"kind": "VarDeclarator", "range": [13, 18], "name": 4, "init": 5},
+    {"kind": "BindingIdent", "range": [13, 14], "sym": ["y", 1]},
+    {"kind": "Num", "range": [17, 18], "text": "1"},
+    {"kind": "VarDeclarator", "range": [20, 25], "name": 7, "init": 8},
+    {"kind": "BindingIdent", "range": [20, 21], "sym": ["z", 1]},
+    {"kind": "Num", "range": [24, 25], "text": "1"}
+]}},
+{"specifier": "q", "kind": "esm", "text": "import { y, w } from \"./a\"; const v = y;", "tree": {"nodes": [
+    {"kind": "Program", "range": [0, 40], "body": [1, 6]},
+    {"kind": "Import", "range": [0, 27], "specifiers": [2, 4], "src": "./a"},
+    {"kind": "ImportNamed", "range": [9, 10], "local": 3},
+    {"kind": "Ident", "range": [9, 10], "sym": ["y", 1]},
+    {"kind": "ImportNamed", "range": [12, 13], "local": 5},
+    {"kind": "Ident", "range": [12, 13], "sym": ["w", 1]},
+    {"kind": "VarDecl", "range": [28, 40], "decls": [7]},
+    {"kind": "VarDeclarator", "range": [34, 39], "name": 8, "init": 9},
+    {"kind": "BindingIdent", "range": [34, 35], "sym": ["v", 1]},
+    {"kind": "Ident", "range": [38, 39], "sym": ["y", 1]}
+]}}
+],
+"resolutions": [["a", "./b", "b"], ["a", "./c", "c"], ["b", "./a", "a"], ["q", "./a", "a"]]}"#;
+
+/// The specifiers of its modules, in the order in which the queries need them.
+pub(crate) const SPECIFIERS: [&str; 4] = ["a", "b", "c", "q"];
+
+fn text(alloc: Global, text: &str) -> Result<String, AllocError> {
+    String::from_str(alloc, text)
+}
+
+/// The reference `import("./a").z`.
+fn reference(alloc: Global) -> Result<SymbolNodeDep<'static>, AllocError> {
+    let mut parts = Vec::new(alloc);
+    parts.push(CowStr::Borrowed("z"))?;
+    Ok(SymbolNodeDep::ImportType("./a", parts))
+}
+
+/// Queries of each form on what modules have themselves.
+fn push_own(alloc: Global, queries: &mut Vec<Query<'static>>) -> Result<(), AllocError> {
+    let y = SymbolId::from_number(2);
+    let x = Id {
+        name: text(alloc, "x")?,
+        scope: 1,
+    };
+    queries.push(Query::Module(text(alloc, "absent")?))?;
+    queries.push(Query::Module(text(alloc, "a")?))?;
+    queries.push(Query::Symbol(text(alloc, "a")?, x))?;
+    queries.push(Query::Name(text(alloc, "b")?, y))?;
+    Ok(())
+}
+
+/// Queries of each form on what comes from other modules.
+fn push_others(alloc: Global, queries: &mut Vec<Query<'static>>) -> Result<(), AllocError> {
+    let y = SymbolId::from_number(1);
+    let w = SymbolId::from_number(2);
+    let v = SymbolId::from_number(3);
+    let mode = ResolveDepsMode::TypesAndExpressions;
+    queries.push(Query::Exports(text(alloc, "a")?))?;
+    queries.push(Query::Names(text(alloc, "b")?))?;
+    queries.push(Query::Deps(text(alloc, "q")?, v, mode))?;
+    queries.push(Query::Paths(text(alloc, "q")?, y))?;
+    queries.push(Query::Definitions(text(alloc, "q")?, y))?;
+    queries.push(Query::Leaves(text(alloc, "q")?, w))?;
+    queries.push(Query::Resolve(text(alloc, "q")?, reference(alloc)?))?;
+    Ok(())
+}
+
+/// A query of each form, and one on a module that isn't there.
+pub(crate) fn queries(alloc: Global) -> Result<Vec<Query<'static>>, AllocError> {
+    let mut queries: Vec<Query<'static>> = Vec::new(alloc);
+    push_own(alloc, &mut queries)?;
+    push_others(alloc, &mut queries)?;
+    Ok(queries)
+}

@@ -1,0 +1,112 @@
+//! Calls that take no memory: views of a graph, of a root and of its modules, of ways and of definitions.
+
+use crate::graph::SPECIFIERS;
+use crate::tables::print_stored;
+use anyhow::Result;
+use deno_symbols::check::{GraphModule, ModuleGraph};
+use deno_symbols::exports::{ModuleExports, ResolvedExportOrReExportAllPath, exports};
+use deno_symbols::ids::{ModuleId, SymbolId};
+use deno_symbols::paths::{Definition, DefinitionsIter, FindDefinitions};
+use deno_symbols::root::RootSymbol;
+
+fn print_graph_module<R: Print>(rt: &R, module: &GraphModule) -> Result<()> {
+    let types = module.types_dependency();
+    let is_json = module.is_json();
+    let has_tree = module.tree().is_some();
+    println!(rt;
+        "  {:?} of {}: {types:?}, JSON {is_json}, tree {has_tree}",
+        module.text(),
+        module.specifier()
+    )?;
+    Ok(())
+}
+
+fn print_graph<R: Print>(rt: &R, graph: &ModuleGraph) -> Result<()> {
+    for specifier in SPECIFIERS {
+        if let Some(module) = graph.get(specifier) {
+            print_graph_module(rt, module)?;
+        }
+        println!(rt;
+            "  ./a of {specifier} is {:?}",
+            graph.resolve_dependency("./a", specifier)
+        )?;
+    }
+    Ok(())
+}
+
+fn print_root<R: Print>(rt: &R, root: &RootSymbol<'_>) -> Result<()> {
+    for specifier in SPECIFIERS {
+        println!(rt; "  {specifier} is stored: {}", root.has_analyzed(specifier))?;
+    }
+    println!(rt; "  ./a is stored: {}", root.has_analyzed("./a"))?;
+    print_stored(rt, root)
+}
+
+fn print_way<R: Print>(
+    rt: &R,
+    root: &RootSymbol<'_>,
+    way: &ResolvedExportOrReExportAllPath<'_>,
+) -> Result<()> {
+    for rest in way.iter() {
+        if let ResolvedExportOrReExportAllPath::ReExportAllPath(link) = rest {
+            println!(rt; "    by {} to {}", link.specifier, link.resolved_module())?;
+        }
+    }
+    let export = way.as_resolved_export();
+    let is_there = export.symbol(root).is_some();
+    let symbol = export.symbol_id;
+    println!(rt; "    to symbol {symbol:?} of {}: {is_there}", export.module)?;
+    Ok(())
+}
+
+fn print_ways<R: Print>(rt: &R, root: &RootSymbol<'_>, found: &ModuleExports<'_>) -> Result<()> {
+    for (name, way) in &found.resolved {
+        println!(rt; "  {name}")?;
+        print_way(rt, root, way)?;
+    }
+    Ok(())
+}
+
+fn print_definition<R: Print>(
+    rt: &R,
+    root: &RootSymbol<'_>,
+    definition: &Definition<'_>,
+) -> Result<()> {
+    let text = match root.module_from_id(definition.module) {
+        Some(info) => definition.text(info.text()),
+        None => None,
+    };
+    println!(rt;
+        "  {text:?} defines symbol {:?} of {}",
+        definition.symbol, definition.module
+    )?;
+    Ok(())
+}
+
+fn print_definitions<R: Print>(
+    rt: &R,
+    root: &RootSymbol<'_>,
+    definitions: DefinitionsIter<'_>,
+) -> Result<()> {
+    for definition in definitions {
+        print_definition(rt, root, &definition)?;
+    }
+    Ok(())
+}
+
+/// What the calls give that take no memory, behind what has to be asked for before.
+pub(crate) fn print_views<'a, R: Print>(
+    rt: &R,
+    graph: &'a ModuleGraph,
+    root: &mut RootSymbol<'a>,
+) -> Result<()> {
+    let a = ModuleId::from_number(0);
+    let q = ModuleId::from_number(3);
+    let found = exports(root, a)?;
+    let definitions = root.go_to_definitions(q, SymbolId::from_number(1))?;
+    println!(rt; "views")?;
+    print_graph(rt, graph)?;
+    print_root(rt, root)?;
+    print_ways(rt, root, &found)?;
+    print_definitions(rt, root, definitions)
+}

@@ -1,0 +1,201 @@
+-- What is offered with all of one name together: what the groups hold, their order, and how they come to be one by one.
+use Rattle.std.proofs.Common.{◌≡◌, ℕ, ◌⊎◌, inl, inr, Bool, true, false, not, List, [], ◌∷◌, ◌++◌, map, append-nil, append_assoc, refl, sym, ap, subst, ◌∙◌, true≢false}
+use Rattle.std.specs.Prelude.{Contains, filter, fold, if◌then◌else◌}
+use Rattle.std.specs.Str.{bytes_eq}
+use Rattle.std.proofs.lemmas.Cmp.{nat_list_eq_equiv}
+use Rattle.std.proofs.lemmas.List.Elements.{filter-append}
+use Rattle.std.proofs.lemmas.Slice.Eq.{bytes_eq-Decides}
+use Rattle.symbols_exports.specs.Shared.{Shared}
+use Rattle.symbols_exports.specs.Sharing.{together, are_shared, shared_only, shared_among}
+use Rattle.symbols_exports.specs.Taking.{with_owner}
+use Rattle.symbols_exports.proofs.Sorted.{IsSorted, first_or_later, contains_first, contains_later, contains_nothing, filtered_from, contains_filtered, sorted_filter}
+
+same_name : (p q : List ℕ) → bytes_eq p q ≡ true → p ≡ q
+same_name p q is = (bytes_eq-Decides p q).0 is
+
+is_same : (p q : List ℕ) → p ≡ q → bytes_eq p q ≡ true
+is_same p q same = (bytes_eq-Decides p q).1 same
+
+-- a test that fails one way fails the other
+other_name : (p q : List ℕ) → bytes_eq p q ≡ false → bytes_eq q p ≡ false
+other_name p q other = by (bytes_eq q p) refl
+  where
+    by : (b : Bool) → bytes_eq q p ≡ b → b ≡ false
+    by true is = absurd (true≢false (sym (is_same p q (sym (same_name q p is))) ∙ other))
+    by false is = refl
+
+was_false : (b : Bool) → not b ≡ true → b ≡ false
+was_false true is = absurd (true≢false (sym is))
+was_false false is = refl
+
+kept_first : {A : Type 0} (p : A → Bool) (x : A) (xs : List A) → p x ≡ true → filter p (x ∷ xs) ≡ x ∷ filter p xs
+kept_first p x xs is = rw is refl
+
+left_out : {A : Type 0} (p : A → Bool) (x : A) (xs : List A) → p x ≡ false → filter p (x ∷ xs) ≡ filter p xs
+left_out p x xs is = rw is refl
+
+-- the one stands first in the list
+abbrev pub IsFirst : {A : Type 0} → A → List A → Type 0
+IsFirst {A} x xs = (rest : List A) × (xs ≡ x ∷ rest)
+
+module _ {A : Type 0} (name : A → List ℕ) where
+  -- the owners in a group are all that have its name, in their order
+  pub owners_are : (xs : List A) (group : Shared A) → Contains (together name xs) group → group.owners ≡ filter (λ y. bytes_eq group.name (name y)) xs
+  owners_are [] group has = absurd (contains_nothing group has)
+  owners_are (x ∷ xs) group has = by (first_or_later (record { name = name x; owners = x ∷ filter (λ y. bytes_eq (name x) (name y)) xs }) (filter (λ (g : Shared A). not (bytes_eq (name x) g.name)) (together name xs)) group has) (owners_are xs group)
+    where
+      first : Shared A
+      first = record { name = name x; owners = x ∷ filter (λ y. bytes_eq (name x) (name y)) xs }
+
+      by : (first ≡ group) ⊎ Contains (filter (λ (g : Shared A). not (bytes_eq (name x) g.name)) (together name xs)) group → (Contains (together name xs) group → group.owners ≡ filter (λ y. bytes_eq group.name (name y)) xs) → group.owners ≡ filter (λ y. bytes_eq group.name (name y)) (x ∷ xs)
+      by (inl same) rest = subst (λ (g : Shared A). g.owners ≡ filter (λ y. bytes_eq g.name (name y)) (x ∷ xs)) same (sym (kept_first (λ y. bytes_eq (name x) (name y)) x xs (nat_list_eq_equiv.refl (name x))))
+      by (inr later) rest =
+          let from = filtered_from (λ (g : Shared A). not (bytes_eq (name x) g.name)) (together name xs) group later in
+          rest from.0 ∙ sym (left_out (λ y. bytes_eq group.name (name y)) x xs (other_name (name x) group.name (was_false (bytes_eq (name x) group.name) from.1)))
+
+  -- each name has a group
+  pub has_group : (xs : List A) (x : A) → Contains xs x → (group : Shared A) × Contains (together name xs) group × (group.name ≡ name x)
+  has_group [] x has = absurd (contains_nothing x has)
+  has_group (w ∷ xs) x has = by (first_or_later w xs x has) (has_group xs x)
+    where
+      first : Shared A
+      first = record { name = name w; owners = w ∷ filter (λ y. bytes_eq (name w) (name y)) xs }
+
+      others : List (Shared A)
+      others = filter (λ (g : Shared A). not (bytes_eq (name w) g.name)) (together name xs)
+
+      by : (w ≡ x) ⊎ Contains xs x → (Contains xs x → (group : Shared A) × Contains (together name xs) group × (group.name ≡ name x)) → (group : Shared A) × Contains (together name (w ∷ xs)) group × (group.name ≡ name x)
+      by (inl same) rest = (first, contains_first first others, ap name same)
+      by (inr later) rest = kept (rest later) (bytes_eq (name w) (rest later).0.name) refl
+        where
+          kept : (found : (group : Shared A) × Contains (together name xs) group × (group.name ≡ name x)) → (b : Bool) → bytes_eq (name w) found.0.name ≡ b → (group : Shared A) × Contains (together name (w ∷ xs)) group × (group.name ≡ name x)
+          kept found true is = (first, contains_first first others, same_name (name w) found.0.name is ∙ found.2)
+          kept found false is = (found.0, contains_later first others found.0 (contains_filtered (λ (g : Shared A). not (bytes_eq (name w) g.name)) (together name xs) found.0 found.1 (ap not is)), found.2)
+
+  -- groups stand as the first of each do
+  abbrev pub FirstsInOrder : (A → A → Type 0) → Shared A → Shared A → Type 0
+  FirstsInOrder R g h = (x y : A) → IsFirst x g.owners → IsFirst y h.owners → R x y
+
+  pub groups_sorted : (R : A → A → Type 0) (xs : List A) → IsSorted R xs → IsSorted (FirstsInOrder R) (together name xs)
+  groups_sorted R [] sorted = tt
+  groups_sorted R (w ∷ xs) sorted = (behind, sorted_filter (FirstsInOrder R) (λ (g : Shared A). not (bytes_eq (name w) g.name)) (together name xs) (groups_sorted R xs sorted.1))
+    where
+      same_first : (x : A) (rest all : List A) → w ∷ all ≡ x ∷ rest → w ≡ x
+      same_first x rest all same = cc
+
+      behind : (h : Shared A) → Contains (filter (λ (g : Shared A). not (bytes_eq (name w) g.name)) (together name xs)) h → FirstsInOrder R (record { name = name w; owners = w ∷ filter (λ y. bytes_eq (name w) (name y)) xs }) h
+      behind h has = λ x y first_x first_y.
+          let in_groups = (filtered_from (λ (g : Shared A). not (bytes_eq (name w) g.name)) (together name xs) h has).0 in
+          let in_owners : Contains (filter (λ z. bytes_eq h.name (name z)) xs) y = subst (λ zs. Contains zs y) (sym first_y.1 ∙ owners_are xs h in_groups) (contains_first y first_y.0) in
+          subst (λ z. R z y) (same_first x first_x.0 (filter (λ z. bytes_eq (name w) (name z)) xs) first_x.1) (sorted.0 y (filtered_from (λ z. bytes_eq h.name (name z)) xs y in_owners).0)
+
+  -- ---- one more
+
+  abbrev others_than : List ℕ → List (Shared A) → List (Shared A)
+  others_than q groups = filter (λ (g : Shared A). not (bytes_eq q g.name)) groups
+
+  -- it goes with those of its name, whatever is left out with them
+  left_out_too : (q : List ℕ) (groups : List (Shared A)) (x : A) → bytes_eq q (name x) ≡ true → others_than q (with_owner name groups x) ≡ others_than q groups
+  left_out_too q [] x is = left_out (λ (g : Shared A). not (bytes_eq q g.name)) (record { name = name x; owners = x ∷ [] }) [] (ap not is)
+  left_out_too q (g ∷ groups) x is = by (bytes_eq (name x) g.name) refl (left_out_too q groups x is)
+    where
+      by : (b : Bool) → bytes_eq (name x) g.name ≡ b → others_than q (with_owner name groups x) ≡ others_than q groups → others_than q (if b then record { name = g.name; owners = g.owners ++ x ∷ [] } ∷ groups else g ∷ with_owner name groups x) ≡ others_than q (g ∷ groups)
+      by true same rest =
+          let gone : bytes_eq q g.name ≡ true = is_same q g.name (same_name q (name x) is ∙ same_name (name x) g.name same) in
+          left_out (λ (h : Shared A). not (bytes_eq q h.name)) (record { name = g.name; owners = g.owners ++ x ∷ [] }) groups (ap not gone) ∙ sym (left_out (λ (h : Shared A). not (bytes_eq q h.name)) g groups (ap not gone))
+      by false other rest = on (not (bytes_eq q g.name)) rest
+        where
+          on : (c : Bool) → others_than q (with_owner name groups x) ≡ others_than q groups → (if c then g ∷ others_than q (with_owner name groups x) else others_than q (with_owner name groups x)) ≡ (if c then g ∷ others_than q groups else others_than q groups)
+          on true same = ap (λ gs. g ∷ gs) same
+          on false same = same
+
+  -- or stays, where others are left out
+  still_there : (q : List ℕ) (groups : List (Shared A)) (x : A) → bytes_eq q (name x) ≡ false → others_than q (with_owner name groups x) ≡ with_owner name (others_than q groups) x
+  still_there q [] x is = kept_first (λ (g : Shared A). not (bytes_eq q g.name)) (record { name = name x; owners = x ∷ [] }) [] (ap not is)
+  still_there q (g ∷ groups) x is = by (bytes_eq (name x) g.name) refl (still_there q groups x is)
+    where
+      by : (b : Bool) → bytes_eq (name x) g.name ≡ b → others_than q (with_owner name groups x) ≡ with_owner name (others_than q groups) x → others_than q (if b then record { name = g.name; owners = g.owners ++ x ∷ [] } ∷ groups else g ∷ with_owner name groups x) ≡ with_owner name (others_than q (g ∷ groups)) x
+      by true same rest =
+          let stays : bytes_eq q g.name ≡ false = subst (λ n. bytes_eq q n ≡ false) (same_name (name x) g.name same) is in
+          kept_first (λ (h : Shared A). not (bytes_eq q h.name)) (record { name = g.name; owners = g.owners ++ x ∷ [] }) groups (ap not stays)
+          ∙ (sym (found_first (others_than q groups) same) ∙ ap (λ gs. with_owner name gs x) (sym (kept_first (λ (h : Shared A). not (bytes_eq q h.name)) g groups (ap not stays))))
+        where
+          found_first : (rest : List (Shared A)) → bytes_eq (name x) g.name ≡ true → with_owner name (g ∷ rest) x ≡ record { name = g.name; owners = g.owners ++ x ∷ [] } ∷ rest
+          found_first rest found = rw found refl
+      by false other rest = on (bytes_eq q g.name) refl rest
+        where
+          found_later : (rest : List (Shared A)) → bytes_eq (name x) g.name ≡ false → with_owner name (g ∷ rest) x ≡ g ∷ with_owner name rest x
+          found_later rest missed = rw missed refl
+
+          on : (c : Bool) → bytes_eq q g.name ≡ c → others_than q (with_owner name groups x) ≡ with_owner name (others_than q groups) x → others_than q (g ∷ with_owner name groups x) ≡ with_owner name (others_than q (g ∷ groups)) x
+          on true gone same =
+              left_out (λ (h : Shared A). not (bytes_eq q h.name)) g (with_owner name groups x) (ap not gone) ∙ (same ∙ ap (λ gs. with_owner name gs x) (sym (left_out (λ (h : Shared A). not (bytes_eq q h.name)) g groups (ap not gone))))
+          on false stays same =
+              kept_first (λ (h : Shared A). not (bytes_eq q h.name)) g (with_owner name groups x) (ap not stays)
+              ∙ (ap (λ gs. g ∷ gs) same ∙ (sym (found_later (others_than q groups) other) ∙ ap (λ gs. with_owner name gs x) (sym (kept_first (λ (h : Shared A). not (bytes_eq q h.name)) g groups (ap not stays)))))
+
+  one_more : (xs : List A) (x : A) → together name (xs ++ x ∷ []) ≡ with_owner name (together name xs) x
+  one_more [] x = refl
+  one_more (w ∷ xs) x = by (bytes_eq (name w) (name x)) refl (one_more xs x)
+    where
+      q : List ℕ
+      q = name w
+
+      owners : List A
+      owners = filter (λ y. bytes_eq q (name y)) xs
+
+      longer : filter (λ y. bytes_eq q (name y)) (xs ++ x ∷ []) ≡ owners ++ filter (λ y. bytes_eq q (name y)) (x ∷ [])
+      longer = filter-append (λ y. bytes_eq q (name y)) xs (x ∷ [])
+
+      found_here : bytes_eq (name x) q ≡ true → (rest : List (Shared A)) → with_owner name (record { name = q; owners = w ∷ owners } ∷ rest) x ≡ record { name = q; owners = w ∷ owners ++ x ∷ [] } ∷ rest
+      found_here is rest = rw is refl
+
+      found_later : bytes_eq (name x) q ≡ false → (rest : List (Shared A)) → with_owner name (record { name = q; owners = w ∷ owners } ∷ rest) x ≡ record { name = q; owners = w ∷ owners } ∷ with_owner name rest x
+      found_later is rest = rw is refl
+
+      by : (b : Bool) → bytes_eq q (name x) ≡ b → together name (xs ++ x ∷ []) ≡ with_owner name (together name xs) x → together name (w ∷ (xs ++ x ∷ [])) ≡ with_owner name (together name (w ∷ xs)) x
+      by true is rest =
+          let more : filter (λ y. bytes_eq q (name y)) (xs ++ x ∷ []) ≡ owners ++ x ∷ [] = longer ∙ ap (λ ys. owners ++ ys) (kept_first (λ y. bytes_eq q (name y)) x [] is) in
+          let groups : others_than q (together name (xs ++ x ∷ [])) ≡ others_than q (together name xs) = ap (others_than q) rest ∙ left_out_too q (together name xs) x is in
+          (λ i. record { name = q; owners = w ∷ more i } ∷ groups i) ∙ sym (found_here (is_same (name x) q (sym (same_name q (name x) is))) (others_than q (together name xs)))
+      by false is rest =
+          let more : filter (λ y. bytes_eq q (name y)) (xs ++ x ∷ []) ≡ owners = longer ∙ (ap (λ ys. owners ++ ys) (left_out (λ y. bytes_eq q (name y)) x [] is) ∙ append-nil owners) in
+          let groups : others_than q (together name (xs ++ x ∷ [])) ≡ with_owner name (others_than q (together name xs)) x = ap (others_than q) rest ∙ still_there q (together name xs) x is in
+          (λ i. record { name = q; owners = w ∷ more i } ∷ groups i) ∙ sym (found_later (other_name q (name x) is) (others_than q (together name xs)))
+
+  -- one after the other they come together
+  pub all_together : (done xs : List A) → fold (with_owner name) (together name done) xs ≡ together name (done ++ xs)
+  all_together done [] = ap (together name) (sym (append-nil done))
+  all_together done (x ∷ xs) = ap (λ groups. fold (with_owner name) groups xs) (sym (one_more done x)) ∙ (all_together (done ++ x ∷ []) xs ∙ ap (together name) (append_assoc done (x ∷ []) xs))
+
+-- ---- told otherwise
+
+filter_mapped : {A B : Type 0} (f : A → B) (p : B → Bool) (xs : List A) → filter p (map f xs) ≡ map f (filter (λ x. p (f x)) xs)
+filter_mapped f p [] = refl
+filter_mapped f p (x ∷ xs) = by (p (f x)) (filter_mapped f p xs)
+  where
+    by : (b : Bool) → filter p (map f xs) ≡ map f (filter (λ y. p (f y)) xs) → (if b then f x ∷ filter p (map f xs) else filter p (map f xs)) ≡ map f (if b then x ∷ filter (λ y. p (f y)) xs else filter (λ y. p (f y)) xs)
+    by true same = ap (λ ys. f x ∷ ys) same
+    by false same = same
+
+module _ {A B : Type 0} (f : A → B) (name : B → List ℕ) (is_along : B → Bool) where
+  abbrev pub on_owners : Shared A → Shared B
+  on_owners group = record { name = group.name; owners = map f group.owners }
+
+  together_mapped : (xs : List A) → together name (map f xs) ≡ map on_owners (together (λ x. name (f x)) xs)
+  together_mapped [] = refl
+  together_mapped (x ∷ xs) =
+      let owners = filter_mapped f (λ y. bytes_eq (name (f x)) (name y)) xs in
+      let rest = ap (filter (λ (g : Shared B). not (bytes_eq (name (f x)) g.name))) (together_mapped xs) ∙ filter_mapped on_owners (λ (g : Shared B). not (bytes_eq (name (f x)) g.name)) (together (λ y. name (f y)) xs) in
+      λ i. record { name = name (f x); owners = f x ∷ owners i } ∷ rest i
+
+  shared_alike : (owners : List A) → are_shared is_along (map f owners) ≡ are_shared (λ x. is_along (f x)) owners
+  shared_alike [] = refl
+  shared_alike (x ∷ []) = refl
+  shared_alike (x ∷ y ∷ rest) = refl
+
+  pub shared_mapped : (xs : List A) → shared_among name is_along (map f xs) ≡ map on_owners (shared_among (λ x. name (f x)) (λ x. is_along (f x)) xs)
+  shared_mapped xs =
+      ap (shared_only is_along) (together_mapped xs)
+      ∙ (filter_mapped on_owners (λ (g : Shared B). are_shared is_along g.owners) (together (λ x. name (f x)) xs)
+      ∙ ap (λ (p : Shared A → Bool). map on_owners (filter p (together (λ x. name (f x)) xs))) (λ i g. shared_alike g.owners i))

@@ -1,0 +1,10 @@
+use Rattle.std.proofs.lemmas.Result.{on_ok_weaker}
+use Rattle.symq_core.proofs.Texts.{written, then}
+use Rattle.symq_core.proofs.program.sharing.tell_owner.Goals as goal
+
+pub returns : goal.returns
+returns c = λ name.
+    let chain = then (then (written c.in_ok-begin_object.ensures) (written c.in_ok-key.ensures)) c.in_ok-tell_chain.ensures in
+    let owner = rw (c.specifier_of.ensures, c.as_resolved_export-export.ensures) at c.in_ok-add_text.ensures in
+    let number = rw (c.from.ensures, c.number.ensures, c.as_resolved_export-export.ensures) at c.in_ok-add_number.ensures in
+    on_ok_weaker c.end_object.result (λ e. then chain (then (then owner number) (record { before = c.end_object.ensures.room.0; tokens = e }))) c.end_object.ensures.ok
