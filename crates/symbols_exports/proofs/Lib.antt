@@ -23,7 +23,7 @@ mod TakingNames
 mod Telling
 mod Offering
 mod Together
-mod OfferMap
+mod OtherWays
 mod SharedTold
 mod ReachedListed
 mod SharedListed

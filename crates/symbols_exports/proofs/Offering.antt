@@ -10,7 +10,13 @@ use Rattle.symbols_root.specs.Roots.{RootView, specifier_in}
 use Rattle.symbols_exports.specs.Exports.{Owned, Entry, default_name}
 use Rattle.symbols_exports.specs.Shared.{Shared}
 use Rattle.symbols_exports.specs.Sharing.{offers_of}
-use Rattle.symbols_exports.specs.Taking.{NameView, is_way, offer_along, offers_along, with_owner, with_offer, with_owners, view_name}
+use Rattle.symbols_root.specs.declared.root.rules.Rules.{Rules}
+use Rattle.symbols_root.specs.declared.root.rules.Rules.TheVariants.{Deno, Strict}
+use Rattle.symbols_exports.specs.StarStatements.{owned_of}
+use Rattle.symbols_exports.specs.Taking.{NameView, TakenView, WalkView, is_way, offer_along, offers_along, with_owner, with_owners, with_names, with_owned, view_name}
+use Rattle.symbols_exports.specs.Wanted.{owned_for, keeps_offers}
+use Rattle.symbols_exports.specs.declared.exports.wanted.Wanted.{Wanted}
+use Rattle.symbols_exports.specs.declared.exports.wanted.Wanted.TheVariants.{AllNames, OneName}
 use Rattle.symbols_exports.specs.Told.{told_chain, told_export, told_number, told_name, AreNumbered, AllNumbered}
 use Rattle.symbols_exports.specs.Ways.{is_passed_by, offered_by}
 use Rattle.symbols_exports.proofs.Places.{Meeting}
@@ -65,13 +71,44 @@ module _ (graph : GraphView) (root : RootView) (start : List ℕ) (now : Meeting
 
 -- ---- by names
 
--- of what a module offers the first, then the others
-pub offers_first : (way : List (ModuleId × List ℕ)) (owner : ModuleId) (groups after : List (Shared NameView)) (x : List ℕ × SymbolId) (own : List (List ℕ × SymbolId)) (all : List (Shared NameView)) → after ≡ with_offer way owner groups x → with_owners groups (offers_along way owner (x ∷ own)) ≡ all → with_owners after (offers_along way owner own) ≡ all
-offers_first way owner groups after x own all taken are = ap (λ gs. with_owners gs (offers_along way owner own)) taken ∙ (by (bytes_eq x.0 default_name && is_way way) ∙ are)
+-- of what a module owns the first, then the others
+pub owned_first : (way : List (ModuleId × List ℕ)) (owner : ModuleId) (walk after : WalkView) (x : List ℕ × SymbolId) (own : List (List ℕ × SymbolId)) (all : WalkView) → after ≡ with_owned way owner (x ∷ []) walk → with_owned way owner (x ∷ own) walk ≡ all → with_owned way owner own after ≡ all
+owned_first way owner walk after x own all taken are = ap (with_owned way owner own) taken ∙ ((λ i. record { keeps = walk.keeps; taken = record { names = with_names way owner (x ∷ own) walk.taken.names; offers = by walk.keeps (not (bytes_eq x.0 default_name && is_way way)) i; unresolved = walk.taken.unresolved } }) ∙ are)
   where
-    by : (b : Bool) → with_owners (if b then groups else with_owner view_name groups (offer_along way owner x)) (offers_along way owner own) ≡ with_owners groups (map (offer_along way owner) (if not b then x ∷ filter (λ (y : List ℕ × SymbolId). not (bytes_eq y.0 default_name && is_way way)) own else filter (λ (y : List ℕ × SymbolId). not (bytes_eq y.0 default_name && is_way way)) own))
+    passed : List (List ℕ × SymbolId) → List (List ℕ × SymbolId)
+    passed own = filter (λ (y : List ℕ × SymbolId). not (bytes_eq y.0 default_name && is_way way)) own
+
+    by : (keeps passes : Bool) → (if keeps then with_owners (if keeps then with_owners walk.taken.offers (map (offer_along way owner) (if passes then x ∷ [] else [])) else walk.taken.offers) (map (offer_along way owner) (passed own)) else (if keeps then with_owners walk.taken.offers (map (offer_along way owner) (if passes then x ∷ [] else [])) else walk.taken.offers)) ≡ (if keeps then with_owners walk.taken.offers (map (offer_along way owner) (if passes then x ∷ passed own else passed own)) else walk.taken.offers)
+    by true true = refl
+    by true false = refl
+    by false passes = refl
+
+-- nothing is owned
+pub nothing_owned : (way : List (ModuleId × List ℕ)) (owner : ModuleId) (walk : WalkView) → with_owned way owner [] walk ≡ walk
+nothing_owned way owner walk = λ i. record { keeps = walk.keeps; taken = record { names = walk.taken.names; offers = by walk.keeps i; unresolved = walk.taken.unresolved } }
+  where
+    by : (keeps : Bool) → (if keeps then walk.taken.offers else walk.taken.offers) ≡ walk.taken.offers
     by true = refl
     by false = refl
+
+-- as the walk's state has it
+abbrev pub offers_for : Wanted → RootView → List (ModuleId × List ℕ) → ModuleId → List NameView
+offers_for wanted root way owner = if keeps_offers wanted root.rules then offers_along way owner (owned_of root.graph (specifier_in root owner)) else []
+
+abbrev pub with_module : Wanted → RootView → List (ModuleId × List ℕ) → ModuleId → TakenView → TakenView
+with_module wanted root way owner taken = record {
+  names = with_names way owner (owned_for wanted root.graph (specifier_in root owner)) taken.names;
+  offers = with_owners taken.offers (offers_for wanted root way owner);
+  unresolved = taken.unresolved;
+}
+
+pub module_owned : (wanted : Wanted) (root : RootView) (way : List (ModuleId × List ℕ)) (owner : ModuleId) (walk : WalkView) → walk.keeps ≡ keeps_offers wanted root.rules → (with_owned way owner (owned_for wanted root.graph (specifier_in root owner)) walk).taken ≡ with_module wanted root way owner walk.taken
+module_owned wanted root way owner walk keeps = λ i. record { names = with_names way owner (owned_for wanted root.graph (specifier_in root owner)) walk.taken.names; offers = (ap (λ b. if b then with_owners walk.taken.offers (offers_along way owner (owned_for wanted root.graph (specifier_in root owner))) else walk.taken.offers) keeps ∙ by wanted root.rules) i; unresolved = walk.taken.unresolved }
+  where
+    by : (w : Wanted) (rules : Rules) → (if keeps_offers w rules then with_owners walk.taken.offers (offers_along way owner (owned_for w root.graph (specifier_in root owner))) else walk.taken.offers) ≡ with_owners walk.taken.offers (if keeps_offers w rules then offers_along way owner (owned_of root.graph (specifier_in root owner)) else [])
+    by AllNames Strict = refl
+    by AllNames Deno = refl
+    by (OneName name) rules = refl
 
 pub owners_behind : (groups : List (Shared NameView)) (offered more : List NameView) → with_owners groups (offered ++ more) ≡ with_owners (with_owners groups offered) more
 owners_behind groups [] more = refl

@@ -14,13 +14,13 @@ use Rattle.symbols_exports.specs.declared.exports.wanted.Wanted.{Wanted}
 use Rattle.symbols_exports.specs.Chains.{Statements, target, IsBefore}
 use Rattle.symbols_exports.specs.Exports.{Entry, Statement}
 use Rattle.symbols_exports.specs.StarStatements.{star_texts, text_target, statements_of, owned_of}
-use Rattle.symbols_exports.specs.Taking.{TakenView, NameView, turn_told, with_names, with_owners}
+use Rattle.symbols_exports.specs.Taking.{TakenView, nothing_taken, NameView, turn_told, with_names, with_owners}
 use Rattle.symbols_exports.specs.Told.{told_statement, told_chain, told_export, told_number, told_name, AreNumbered, AllNumbered}
-use Rattle.symbols_exports.specs.Wanted.{owned_for, is_done, is_default, keeps_offers, offers_for, with_module}
+use Rattle.symbols_exports.specs.Wanted.{owned_for, is_done, is_default, keeps_offers}
 use Rattle.symbols_exports.proofs.Places.{Meeting, start_alone}
 use Rattle.symbols_exports.proofs.Found.{AreFound, nothing_found, module_done, found_here}
 use Rattle.symbols_exports.proofs.Missed.{IsThere, LeadsNowhere, AreKept, kept_none}
-use Rattle.symbols_exports.proofs.Offering.{offers_met, offers_more, offers_numbered}
+use Rattle.symbols_exports.proofs.Offering.{offers_met, offers_more, offers_numbered, offers_for, with_module}
 use Rattle.symbols_exports.proofs.TakingNames.{all_taken}
 use Rattle.symbols_exports.proofs.Telling.{none_numbered, no_names_numbered, taken_numbered}
 use Rattle.symbols_exports.proofs.Walks.{Fork, chain_of, place_of, IsAt, at_first}
@@ -123,9 +123,6 @@ names_taken wanted old root start met now above here names found behind way at_h
     (taken.0, λ next. module_done (owned_for wanted old.graph) met now next (0 + length own) taken.0 (omega arith) taken.1, taken.2, λ none. found_here (owned_for wanted old.graph) met now (0 + length own) taken.0 (subst (AreFound (owned_for wanted old.graph) met now 0) none are) taken.1)
 
 -- before the first module
-abbrev pub nothing_taken : TakenView
-nothing_taken = record { names = []; offers = []; unresolved = [] }
-
 pub walking_first : (wanted : Wanted) (old : RootView) (start : ModuleId) → start.0 < length old.stored → with_stored old (Some (specifier_in old start)) ≡ old → IsWalking wanted old start old start 0 [] (start ∷ []) (with_module wanted old [] start nothing_taken) 0
 walking_first wanted old start known is_stored =
     let s0 = specifier_in old start in

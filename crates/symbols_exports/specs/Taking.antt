@@ -1,5 +1,5 @@
 -- Names with the ways that they come by, as a walk keeps them: modules by their numbers.
-use Rattle.std.specs.Prelude.{ℕ, Bool, ◌&&◌, ◌||◌, true, false, not, List, [], ◌∷◌, ◌++◌, map, filter, fold, if◌then◌else◌, nat_eq, String, Vec}
+use Rattle.std.specs.Prelude.{ℕ, zero, suc, Bool, ◌&&◌, ◌||◌, true, false, not, List, [], ◌∷◌, ◌++◌, map, filter, fold, if◌then◌else◌, nat_eq, String, Vec}
 use Rattle.std.specs.Prelude.{string_bytes}
 use Rattle.std.specs.Global.{Global}
 use Rattle.std.specs.List.{list_any}
@@ -10,7 +10,6 @@ use Rattle.symbols_exports.specs.declared.exports.module_exports.UnresolvedSpeci
 use Rattle.symbols_exports.specs.declared.exports.path.ResolvedExport.{ResolvedExport}
 use Rattle.symbols_exports.specs.declared.exports.path.ResolvedExportOrReExportAllPath.{ResolvedExportOrReExportAllPath}
 use Rattle.symbols_exports.specs.declared.exports.shared_name.SharedName.{SharedName}
-use Rattle.symbols_exports.specs.declared.exports.taken.Taken.{Taken}
 use Rattle.symbols_exports.specs.declared.exports.turn.Turn.{Turn}
 use Rattle.symbols_exports.specs.Exports.{default_name}
 use Rattle.symbols_exports.specs.Paths.{resolved_export, statements_on}
@@ -48,23 +47,50 @@ named_way name path = record { name = name; statements = statements_on path; exp
 abbrev pub shared_view : SharedName → Shared NameView
 shared_view shared = record { name = string_bytes shared.name; owners = map (named_way (string_bytes shared.name)) shared.owners.items }
 
-abbrev pub group_view : String Global × Vec ResolvedExportOrReExportAllPath Global → Shared NameView
-group_view entry = record { name = string_bytes entry.0; owners = map (named_way (string_bytes entry.0)) entry.1.items }
-
-abbrev pub groups_view : List (String Global × Vec ResolvedExportOrReExportAllPath Global) → List (Shared NameView)
-groups_view entries = map group_view entries
-
 abbrev pub shared_views : List SharedName → List (Shared NameView)
 shared_views names = map shared_view names
 
--- what a walk took: names, what modules offer, and statements that led nowhere
+-- the ways in lists
+abbrev pub Way : Type 0
+Way = ResolvedExportOrReExportAllPath
+
+abbrev pub lists_in : List (Vec Way Global) → List (List Way)
+lists_in lists = map (λ (ways : Vec Way Global). ways.items) lists
+
+-- one more way in the list at a place
+abbrev pub with_other : ℕ → Way → List (List Way) → List (List Way)
+with_other zero way [] = (way ∷ []) ∷ []
+with_other zero way (ways ∷ lists) = (ways ++ way ∷ []) ∷ lists
+with_other (suc place) way [] = [] ∷ with_other place way []
+with_other (suc place) way (ways ∷ lists) = ways ∷ with_other place way lists
+
+-- a name with its first way, and those behind it
+abbrev pub group_of : String Global × Way → List Way → Shared NameView
+group_of entry others = record { name = string_bytes entry.0; owners = name_view entry ∷ map (named_way (string_bytes entry.0)) others }
+
+-- names with their first ways, and those behind these by the places of the names
+abbrev pub groups_of : List (String Global × Way) → List (List Way) → List (Shared NameView)
+groups_of [] lists = []
+groups_of (entry ∷ entries) [] = group_of entry [] ∷ groups_of entries []
+groups_of (entry ∷ entries) (others ∷ lists) = group_of entry others ∷ groups_of entries lists
+
+-- what a walk took: names, what modules offer where that is kept, and statements that led nowhere
 pub record TakenView : Type 0 where
   pub names : List NameView
   pub offers : List (Shared NameView)
   pub unresolved : List (ModuleId × List ℕ)
 
-abbrev pub taken_view : Taken → TakenView
-taken_view taken = record { names = names_view taken.resolved.entries; offers = groups_view taken.offers.entries; unresolved = map unresolved_told taken.unresolved.items }
+abbrev pub nothing_taken : TakenView
+nothing_taken = record { names = []; offers = []; unresolved = [] }
+
+-- with it whether it keeps what modules offer
+pub record WalkView : Type 0 where
+  pub keeps : Bool
+  pub taken : TakenView
+
+-- one more statement that led nowhere
+abbrev pub with_missed : ModuleId × List ℕ → WalkView → WalkView
+with_missed statement walk = record { keeps = walk.keeps; taken = record { names = walk.taken.names; offers = walk.taken.offers; unresolved = walk.taken.unresolved ++ statement ∷ [] } }
 
 abbrev pub has_name : List NameView → List ℕ → Bool
 has_name names name = list_any (λ (view : NameView). bytes_eq name view.name) names
@@ -97,9 +123,16 @@ with_owner name (group ∷ rest) x = if bytes_eq (name x) group.name then record
 abbrev pub view_name : NameView → List ℕ
 view_name view = view.name
 
--- unless its name isn't passed on along the way
-abbrev pub with_offer : List (ModuleId × List ℕ) → ModuleId → List (Shared NameView) → List ℕ × SymbolId → List (Shared NameView)
-with_offer way owner groups own = if bytes_eq own.0 default_name && is_way way then groups else with_owner view_name groups (offer_along way owner own)
-
 abbrev pub with_owners : List (Shared NameView) → List NameView → List (Shared NameView)
 with_owners groups offers = fold (with_owner view_name) groups offers
+
+-- the names of a module along a way, and what it offers where that is kept
+abbrev pub taken_of : Bool → List (ModuleId × List ℕ) → ModuleId → List (List ℕ × SymbolId) → TakenView → TakenView
+taken_of keeps way owner own taken = record {
+  names = with_names way owner own taken.names;
+  offers = if keeps then with_owners taken.offers (offers_along way owner own) else taken.offers;
+  unresolved = taken.unresolved;
+}
+
+abbrev pub with_owned : List (ModuleId × List ℕ) → ModuleId → List (List ℕ × SymbolId) → WalkView → WalkView
+with_owned way owner own walk = record { keeps = walk.keeps; taken = taken_of walk.keeps way owner own walk.taken }

@@ -36,14 +36,3 @@ abbrev pub keeps_offers : Wanted → Rules → Bool
 keeps_offers AllNames Strict = true
 keeps_offers AllNames Deno = false
 keeps_offers (OneName name) rules = false
-
-abbrev pub offers_for : Wanted → RootView → List (ModuleId × List ℕ) → ModuleId → List NameView
-offers_for wanted root way owner = if keeps_offers wanted root.rules then offers_along way owner (owned_of root.graph (specifier_in root owner)) else []
-
--- what is taken of one more module
-abbrev pub with_module : Wanted → RootView → List (ModuleId × List ℕ) → ModuleId → TakenView → TakenView
-with_module wanted root way owner taken = record {
-  names = with_names way owner (owned_for wanted root.graph (specifier_in root owner)) taken.names;
-  offers = with_owners taken.offers (offers_for wanted root way owner);
-  unresolved = taken.unresolved;
-}

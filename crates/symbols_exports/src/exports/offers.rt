@@ -1,138 +1,116 @@
-//! What the modules that a walk reaches offer, by names, and which of these names are shared.
+//! The ways to the modules that own a name behind the first, and which names are shared.
 
-ghost use Rattle.std.specs.Prelude.{◌≡◌, ◌<◌, false, is_some, IfOk, OnOk, List, ℕ, length, map};
-ghost use Rattle.indexmap.specs.IndexMap.{get_by_text};
-ghost use Rattle.symbols_table.specs.DeclViews.{exports_view};
+ghost use Rattle.std.specs.Prelude.{◌≡◌, ◌<◌, ◌≤◌, ◌∷◌, IfOk, OnOk, List, ℕ, length, map, string_bytes};
+ghost use Rattle.symbols_exports.specs.Paths.{resolved_export, statements_on};
 ghost use Rattle.symbols_exports.specs.Sharing.{are_shared, shared_only, comes_along};
-ghost use Rattle.symbols_exports.specs.Taking.{named_way, shared_views, groups_view, turn_told, view_name, with_owner, with_offer, with_owners, offers_along};
-ghost use Rattle.symbols_exports.specs.Wanted.{offers_for};
+ghost use Rattle.symbols_exports.specs.Taking.{name_view, named_way, shared_view, shared_views, lists_in, with_other, group_of, groups_of};
 
-use crate::exports::names::{path_along, stays_behind};
-use crate::exports::path::{ResolvedExport, ResolvedExportOrReExportAllPath};
+use crate::exports::names::path_along;
+use crate::exports::path::ResolvedExportOrReExportAllPath;
 use crate::exports::shared_name::SharedName;
-use crate::exports::statements::own_names;
 use crate::exports::turn::Turn;
-use crate::exports::wanted::Wanted;
 use indexmap::IndexMap;
 use std::alloc::{AllocError, Global};
-use symbols_root::root::RootSymbol;
-use symbols_tree::ids::{ModuleId, SymbolId};
 
-/// The ways to the modules that own a name, name by name.
-pub(crate) type Offers<'a> = IndexMap<String, Vec<ResolvedExportOrReExportAllPath<'a>>>;
+/// By the place of a name, the ways that it comes by behind the first.
+pub(crate) type Others<'a> = Vec<Vec<ResolvedExportOrReExportAllPath<'a>>>;
 
-/// Keeps the first way of a name.
-fn put_first<'a>(
-    alloc: Global,
-    name: &str,
-    way: ResolvedExportOrReExportAllPath<'a>,
-    offers: &mut Offers<'a>,
-) -> Result<(), AllocError>
-    requires { is_some (get_by_text offers.old name.now) ≡ false }
-    ensures { OnOk result (groups_view offers.new.entries ≡ with_owner view_name (groups_view offers.old.entries) (named_way name.now way.entry)) }
+/// Makes lists up to the one at a place, where there are fewer.
+fn make_room(alloc: Global, place: usize, others: &mut Others<'_>) -> Result<(), AllocError>
+    ensures room { OnOk result (place < length others.new.items) }
+    ensures few { (count : ℕ) → length others.old.items ≤ count → place < count → length others.new.items ≤ count }
+    ensures same { OnOk result ((way : ResolvedExportOrReExportAllPath) → with_other place way (lists_in others.new.items) ≡ with_other place way (lists_in others.old.items)) }
 {
-    let mut owners = Vec::new(alloc);
-    owners.push(way)?;
-    offers.insert(String::from_str(alloc, name)?, owners)?;
-    Ok(())
-}
-
-/// Keeps one more way, behind those of its name.
-#[tactic(auto, using(crate::proofs::OfferMap::put_behind))]
-fn put_offer<'a>(
-    alloc: Global,
-    name: &str,
-    way: ResolvedExportOrReExportAllPath<'a>,
-    offers: &mut Offers<'a>,
-) -> Result<(), AllocError>
-    ensures { OnOk result (groups_view offers.new.entries ≡ with_owner view_name (groups_view offers.old.entries) (named_way name.now way.entry)) }
-{
-    match offers.get_index_of(name) {
-        Some(index) => {
-            offers[index].push(way)?;
-            Ok(())
-        }
-        None => put_first(alloc, name, way, offers),
-    }
-}
-
-/// Keeps the way along the turns to an export under its name, unless that stays behind.
-fn take_offer<'a>(
-    alloc: Global,
-    name: &str,
-    export: ResolvedExport,
-    above: &[Turn<'a>],
-    offers: &mut Offers<'a>,
-) -> Result<(), AllocError>
-    ensures { OnOk result (groups_view offers.new.entries ≡ with_offer (map turn_told above.now) export.«module» (groups_view offers.old.entries) (name.now, export.symbol_id)) }
-{
-    if stays_behind(name, above) {
-        return Ok(());
-    }
-    let way = path_along(alloc, above, export)?;
-    put_offer(alloc, name, way, offers)
-}
-
-/// Keeps what a module offers along the turns, name by name.
-#[tactic(auto, using(crate::proofs::Offering::offers_first))]
-fn take_all<'a>(
-    alloc: Global,
-    own: &IndexMap<String, SymbolId>,
-    owner: ModuleId,
-    above: &[Turn<'a>],
-    offers: &mut Offers<'a>,
-) -> Result<(), AllocError>
-    ensures { OnOk result (groups_view offers.new.entries ≡ with_owners (groups_view offers.old.entries) (offers_along (map turn_told above.now) owner (exports_view own.now.entries))) }
-{
-    for (name, symbol_id) in own.iter() {
-        let export = ResolvedExport {
-            module: owner,
-            symbol_id: *symbol_id,
-        };
-        take_offer(alloc, name.as_str(), export, above, offers)?;
+    'room: while others.len() <= place {
+        others.push(Vec::new(alloc))?;
     }
     Ok(())
 }
 
-/// Keeps what a stored module offers, where shared names are told.
-pub(crate) fn take_offers<'a>(
-    root: &RootSymbol<'a>,
-    owner: ModuleId,
-    above: &[Turn<'a>],
-    wanted: Wanted<'_>,
-    offers: &mut Offers<'a>,
+/// Keeps one more way of the name at a place, behind the others.
+pub(crate) fn put_other<'a>(
+    alloc: Global,
+    place: usize,
+    way: ResolvedExportOrReExportAllPath<'a>,
+    others: &mut Others<'a>,
 ) -> Result<(), AllocError>
-    requires { owner.0 < length root.now.stored }
-    ensures { OnOk result (groups_view offers.new.entries ≡ with_owners (groups_view offers.old.entries) (offers_for wanted.entry root.now (map turn_told above.now) owner)) }
+    ensures few { (count : ℕ) → length others.old.items ≤ count → place < count → length others.new.items ≤ count }
+    ensures put { OnOk result (lists_in others.new.items ≡ with_other place way.entry (lists_in others.old.items)) }
 {
-    if !wanted.keeps_offers(root.rules()) {
-        return Ok(());
-    }
-    take_all(root.alloc(), own_names(root, owner), owner, above, offers)
+    make_room(alloc, place, others)?;
+    others[place].push(way)?;
+    Ok(())
 }
 
-/// Whether a name with these ways is shared: there are two or more, and the first, which is that of
-/// the export, comes along a statement.
-fn is_shared(owners: &[ResolvedExportOrReExportAllPath<'_>]) -> bool
-    ensures { (name : List ℕ) → result ≡ are_shared comes_along (map (named_way name) owners.now) }
+/// A way once more.
+fn copied<'a>(
+    alloc: Global,
+    way: &ResolvedExportOrReExportAllPath<'a>,
+) -> Result<ResolvedExportOrReExportAllPath<'a>, AllocError>
+    ensures statements { IfOk result (λ copy. statements_on copy ≡ statements_on way.now) }
+    ensures end { IfOk result (λ copy. resolved_export copy ≡ resolved_export way.now) }
 {
-    match owners.first() {
-        Some(ResolvedExportOrReExportAllPath::ReExportAllPath(_)) => owners.len() > 1,
-        _ => false,
+    let mut turns = Vec::new(alloc);
+    let mut rest = way;
+    'rest: while let ResolvedExportOrReExportAllPath::ReExportAllPath(re_export) = rest {
+        turns.push(Turn {
+            referrer: re_export.referrer_module,
+            position: 0,
+            text: re_export.specifier,
+        })?;
+        rest = &re_export.next;
+    }
+    path_along(alloc, &turns, *way.as_resolved_export())
+}
+
+/// Whether a name is shared: it has ways behind the first, and that comes along a statement.
+fn is_shared(
+    first: &ResolvedExportOrReExportAllPath<'_>,
+    others: &[ResolvedExportOrReExportAllPath<'_>],
+) -> bool
+    ensures { (name : List ℕ) → result ≡ are_shared comes_along (named_way name first.now ∷ map (named_way name) others.now) }
+{
+    match first {
+        ResolvedExportOrReExportAllPath::ReExportAllPath(_) => !others.is_empty(),
+        ResolvedExportOrReExportAllPath::Export(_) => false,
     }
 }
 
-/// Of all that was offered the names that are shared, in order.
+/// A name with all its ways.
+fn shared_name<'a>(
+    alloc: Global,
+    name: &str,
+    first: &ResolvedExportOrReExportAllPath<'a>,
+    others: Vec<ResolvedExportOrReExportAllPath<'a>>,
+) -> Result<SharedName<'a>, AllocError>
+    ensures name { IfOk result (λ shared. string_bytes shared.name ≡ name.now) }
+    ensures owners { IfOk result (λ shared. map (named_way name.now) shared.owners.items ≡ named_way name.now first.now ∷ map (named_way name.now) others.entry.items) }
+{
+    let mut owners = others;
+    owners.insert(0, copied(alloc, first)?)?;
+    Ok(SharedName {
+        name: String::from_str(alloc, name)?,
+        owners,
+    })
+}
+
+/// The names that are shared, in order, of those that were taken.
+#[tactic(auto, using(crate::proofs::OtherWays::one_way_each, crate::proofs::OtherWays::passed_over, crate::proofs::OtherWays::shared_behind))]
 pub(crate) fn shared_names<'a>(
     alloc: Global,
-    offers: Offers<'a>,
+    resolved: &IndexMap<String, ResolvedExportOrReExportAllPath<'a>>,
+    others: Others<'a>,
 ) -> Result<Vec<SharedName<'a>>, AllocError>
-    ensures { IfOk result (λ shared. shared_views shared.items ≡ shared_only comes_along (groups_view offers.entry.entries)) }
+    ensures { IfOk result (λ shared. shared_views shared.items ≡ shared_only comes_along (groups_of resolved.now.entries (lists_in others.entry.items))) }
 {
     let mut shared = Vec::new(alloc);
-    for (name, owners) in offers {
-        if is_shared(&owners) {
-            shared.push(SharedName { name, owners })?;
+    let mut names = resolved.iter();
+    for ways in others {
+        let Some((name, first)) = names.next() else {
+            break;
+        };
+        if is_shared(first, &ways) {
+            shared.push(shared_name(alloc, name.as_str(), first, ways)?)?;
         }
     }
     Ok(shared)

@@ -4,12 +4,12 @@ ghost use Rattle.std.specs.Prelude.{◌≡◌, ◌<◌, ◌+◌, ◌^◌, ℕ, L
 ghost use Rattle.std.specs.List.{list_any};
 ghost use Rattle.indexmap.specs.IndexSet.{insert_key};
 ghost use Rattle.symbols_table.specs.declared.info.fault.SymbolsFault.TheVariants.{OutOfMemory};
-ghost use Rattle.symbols_root.specs.Roots.{widest};
+ghost use Rattle.symbols_root.specs.Roots.{widest, specifier_in};
 ghost use Rattle.symbols_root.specs.Growing.{HasGrown};
 ghost use Rattle.symbols_exports.specs.Answers.{AreListed, IsAnswer, IsFault};
 ghost use Rattle.symbols_exports.specs.OneName.{IsNameAnswer, IsNameFault, IsWalked, IsWalkFault};
-ghost use Rattle.symbols_exports.specs.Taking.{is_number, turn_told, unresolved_told, names_view, named_way, shared_views, taken_view};
-ghost use Rattle.symbols_exports.specs.Wanted.{with_module};
+ghost use Rattle.symbols_exports.specs.Taking.{is_number, turn_told, unresolved_told, names_view, named_way, shared_views, with_owned};
+ghost use Rattle.symbols_exports.specs.Wanted.{owned_for};
 
 use crate::exports::module_exports::ModuleExports;
 use crate::exports::path::ResolvedExportOrReExportAllPath;
@@ -40,7 +40,7 @@ fn enter<'a>(
     ensures met { OnOk result (met.new.keys ≡ insert_key is_number met.old.keys target) }
     ensures few { IfOk result (λ is_new. is_new ≡ true → length met.old.keys < 2 ^ 64) }
     ensures above { IfOk result (λ is_new. above.new.items ≡ (if is_new then above.old.items ++ turn.entry ∷ [] else above.old.items)) }
-    ensures taken { IfOk result (λ is_new. taken_view taken.new ≡ (if is_new then with_module wanted.entry root.now (map turn_told (above.old.items ++ turn.entry ∷ [])) target (taken_view taken.old) else taken_view taken.old)) }
+    ensures taken { IfOk result (λ is_new. taken.new ≡ (if is_new then with_owned (map turn_told (above.old.items ++ turn.entry ∷ [])) target (owned_for wanted.entry root.now.graph (specifier_in root.now target)) taken.old else taken.old)) }
 {
     let (_, is_new) = met.insert_full(target)?;
     if is_new {
@@ -69,16 +69,16 @@ fn walk<'a>(
     let mut met = IndexSet::new(root.alloc());
     met.insert(module_id)?;
     let mut above: Vec<Turn<'a>> = Vec::new(root.alloc());
-    let mut taken = Taken::new(root.alloc());
+    let mut taken = Taken::new(root.alloc(), wanted.keeps_offers(root.rules()));
     taken.take(root, module_id, &above, wanted)?;
     let mut here = module_id;
     let mut next = 0;
-    'walk: while !wanted.is_done(&taken.resolved) {
+    'walk: while !taken.is_done(wanted) {
         if let Some(turn) = statement_at(root, here, next) {
             match text_target(root, here, turn.text, steps) {
                 Err(fault) => return Err(fault),
                 Ok(None) => {
-                    taken.unresolved.push(turn.unresolved())?;
+                    taken.miss(turn)?;
                     next += 1;
                 }
                 Ok(Some(target)) => {

@@ -4,19 +4,20 @@ use Rattle.std.specs.Result.{IsErrAnd}
 use Rattle.indexmap.specs.IndexSet.{insert_key}
 use Rattle.std.proofs.lemmas.List.{map-append, length_push, nil_from_length}
 use Rattle.symbols_syntax.specs.declared.ids.ModuleId.{ModuleId}
+use Rattle.symbols_syntax.specs.declared.ids.SymbolId.{SymbolId}
 use Rattle.symbols_table.specs.declared.info.fault.SymbolsFault.{SymbolsFault}
 use Rattle.symbols_table.specs.declared.info.fault.SymbolsFault.TheVariants.{OutOfMemory}
 use Rattle.symbols_root.specs.Roots.{RootView, specifier_under, specifier_in}
 use Rattle.symbols_exports.specs.OneName.{IsWalked, IsWalkFault}
 use Rattle.symbols_exports.specs.Sharing.{shared_only, comes_along}
-use Rattle.symbols_exports.specs.Wanted.{with_module}
+use Rattle.symbols_exports.specs.Wanted.{owned_for, keeps_offers}
 use Rattle.symbols_exports.specs.declared.exports.module_exports.ModuleExports.{ModuleExports}
-use Rattle.symbols_exports.specs.declared.exports.taken.Taken.{Taken}
 use Rattle.symbols_exports.specs.declared.exports.turn.Turn.{Turn}
 use Rattle.symbols_exports.specs.declared.exports.wanted.Wanted.{Wanted}
 use Rattle.symbols_exports.specs.StarStatements.{text_target}
-use Rattle.symbols_exports.specs.Taking.{TakenView, is_number, turn_told, unresolved_told, names_view, groups_view, shared_views, taken_view}
-use Rattle.symbols_exports.proofs.Walking.{IsWalking, nothing_taken}
+use Rattle.symbols_exports.specs.Taking.{TakenView, WalkView, nothing_taken, with_missed, with_owned, is_number, turn_told, unresolved_told, names_view, shared_views}
+use Rattle.symbols_exports.proofs.Offering.{with_module, module_owned}
+use Rattle.symbols_exports.proofs.Walking.{IsWalking}
 use Rattle.symbols_exports.proofs.WalkingAsked as walking
 use Rattle.symbols_exports.proofs.WalkingBack.{walking_back, turn_fits}
 use Rattle.symbols_exports.proofs.WalkingOn.{walking_limits}
@@ -63,9 +64,9 @@ walk-init c =
     let known : c.args.module_id.0 < length c.args.root.now.stored = c.module_from_id.ensures.found.0 (c.is_none.ensures ∙ ap not c.if-is_none.false) in
     let keys : c.insert.new.self.keys ≡ c.args.module_id ∷ [] = c.in_ok-insert.ensures.keys ∙ ap (λ ks. insert_key is_number ks c.args.module_id) c.new-met.ensures.empty in
     let turns : map turn_told c.deref.result.now ≡ [] = ap (map turn_told) (c.deref.ensures.value ∙ c.new-above.ensures.items) in
-    let nothing : taken_view c.new-taken.result ≡ nothing_taken = (λ i. record { names = names_view (c.new-taken.ensures.resolved i); offers = groups_view (c.new-taken.ensures.offers i); unresolved = map unresolved_told (c.new-taken.ensures.unresolved i) }) in
-    let taken : taken_view c.take.new.self ≡ with_module c.args.wanted c.args.root.now [] c.args.module_id nothing_taken = c.in_ok-take.ensures ∙ (λ i. with_module c.args.wanted c.args.root.now (turns i) c.args.module_id (nothing i)) in
-    (0, omega arith, subst (λ (t : TakenView). IsWalking c.args.wanted c.args.root.now c.args.module_id c.args.root.now c.args.module_id 0 c.new-above.result.items c.insert.new.self.keys t 0) (sym taken) (rw (c.new-above.ensures.items, keys) (walking.begun c.args.wanted c.args.root.now c.args.module_id known)), rw keys (omega arith))
+    let keeps : c.new-taken.result.keeps ≡ keeps_offers c.args.wanted c.args.root.now.rules = ap (λ (w : WalkView). w.keeps) c.new-taken.ensures ∙ (c.keeps_offers.ensures ∙ ap (keeps_offers c.args.wanted) c.rules.ensures) in
+    let taken : c.take.new.self.taken ≡ with_module c.args.wanted c.args.root.now [] c.args.module_id nothing_taken = ap (λ (w : WalkView). w.taken) c.in_ok-take.ensures ∙ (module_owned c.args.wanted c.args.root.now (map turn_told c.deref.result.now) c.args.module_id c.new-taken.result keeps ∙ (λ i. with_module c.args.wanted c.args.root.now (turns i) c.args.module_id ((c.new-taken.ensures i).taken))) in
+    (0, omega arith, subst (λ (t : TakenView). IsWalking c.args.wanted c.args.root.now c.args.module_id c.args.root.now c.args.module_id 0 c.new-above.result.items c.insert.new.self.keys t 0) (sym taken) (rw (c.new-above.ensures.items, keys) (walking.begun c.args.wanted c.args.root.now c.args.module_id known)), rw keys (omega arith), ap (λ (w : WalkView). w.keeps) c.in_ok-take.ensures ∙ keeps)
 
 pub text_target-requires-clause-room : goal.text_target-requires-clause-room
 text_target-requires-clause-room c =
@@ -79,9 +80,9 @@ returns-in-Err-clause-faults c =
     broken_off c.args.wanted c.args.root.now c.args.module_id c.text_target.new.root c.args.steps.now.count c.text_target.new.steps.count (c.walk.invariant.0 + 1) c.in-Err.fault (one_more c.args.steps.now.count c.walk.steps.count c.text_target.new.steps.count c.walk.invariant.0 c.text_target.ensures.counted c.walk.invariant.1)
     (walking.asked_refused walk c.statement_at.ensures.few c.in-Some.turn.text c.in-Some.ensures.text (sym c.is_done.ensures ∙ c.walk-test.true) c.text_target.new.root c.in-Err.fault c.in-Err.ensures.unchanged c.in-Err.ensures.refused)
 
-pub returns-in_err-push-in-Ok-None-clause-faults : goal.returns-in_err-push-in-Ok-None-clause-faults
-returns-in_err-push-in-Ok-None-clause-faults c =
-    on_memory (Broken c.args.wanted c.args.root.now c.args.module_id c.text_target.new.root c.args.steps.now.count c.text_target.new.steps.count) c.from_residual-in_err-push-in-Ok-None.result c.from_residual-in_err-push-in-Ok-None.ensures.1
+pub returns-in_err-miss-in-Ok-None-clause-faults : goal.returns-in_err-miss-in-Ok-None-clause-faults
+returns-in_err-miss-in-Ok-None-clause-faults c =
+    on_memory (Broken c.args.wanted c.args.root.now c.args.module_id c.text_target.new.root c.args.steps.now.count c.text_target.new.steps.count) c.from_residual-in_err-miss-in-Ok-None.result c.from_residual-in_err-miss-in-Ok-None.ensures.1
     (broken_off c.args.wanted c.args.root.now c.args.module_id c.text_target.new.root c.args.steps.now.count c.text_target.new.steps.count (c.walk.invariant.0 + 1) OutOfMemory (one_more c.args.steps.now.count c.walk.steps.count c.text_target.new.steps.count c.walk.invariant.0 c.text_target.ensures.counted c.walk.invariant.1)
     (walking.nowhere_cut c.walk.invariant.2 c.statement_at.ensures.few c.in-Some.turn.text c.in-Some.ensures.text c.text_target.new.root c.in-Ok-None.ensures.stored (subst (gives c.text_target.new.root c.walk.root c.walk.here c.in-Some.turn.text.now) c.in-Ok-None.field-0-is c.in-Ok-None.ensures.gives) (sym c.is_done.ensures ∙ c.walk-test.true)))
 
@@ -94,8 +95,8 @@ walk-smaller-in-Ok-None c =
 
 pub walk-preserved-in-Ok-None : goal.walk-preserved-in-Ok-None
 walk-preserved-in-Ok-None c =
-    let told : map unresolved_told c.push.new.self.items ≡ map unresolved_told c.walk.taken.unresolved.items ++ (c.walk.here, c.in-Some.turn.text.now) ∷ [] = ap (map unresolved_told) c.in_ok-push-in-Ok-None.ensures.items ∙ (map-append unresolved_told c.walk.taken.unresolved.items (c.unresolved.result ∷ []) ∙ (λ i. map unresolved_told c.walk.taken.unresolved.items ++ (c.unresolved.ensures ∙ ap turn_told (this c.in-Some.turn c.walk.here c.walk.next c.in-Some.ensures.place)) i ∷ [])) in
-    (c.walk.invariant.0 + 1, (one_more c.args.steps.now.count c.walk.steps.count c.text_target.new.steps.count c.walk.invariant.0 c.text_target.ensures.counted c.walk.invariant.1), subst (λ (missed : List (ModuleId × List ℕ)). IsWalking c.args.wanted c.args.root.now c.args.module_id c.text_target.new.root c.walk.here (c.walk.next + 1) c.walk.above.items c.walk.met.keys (record { names = names_view c.walk.taken.resolved.entries; offers = groups_view c.walk.taken.offers.entries; unresolved = missed }) (c.walk.invariant.0 + 1)) (sym told) (walking.asked_nowhere c.walk.invariant.2 c.statement_at.ensures.few c.in-Some.turn.text c.in-Some.ensures.text c.text_target.new.root c.in-Ok-None.ensures.stored (subst (gives c.text_target.new.root c.walk.root c.walk.here c.in-Some.turn.text.now) c.in-Ok-None.field-0-is c.in-Ok-None.ensures.gives) (sym c.is_done.ensures ∙ c.walk-test.true)), c.walk.invariant.3)
+    let taken : c.miss.new.self.taken ≡ record c.walk.taken.taken { unresolved = c.walk.taken.taken.unresolved ++ (c.walk.here, c.in-Some.turn.text.now) ∷ [] } = ap (λ (w : WalkView). w.taken) c.in_ok-miss-in-Ok-None.ensures ∙ (λ i. (with_missed (turn_told (this c.in-Some.turn c.walk.here c.walk.next c.in-Some.ensures.place i)) c.walk.taken).taken) in
+    (c.walk.invariant.0 + 1, (one_more c.args.steps.now.count c.walk.steps.count c.text_target.new.steps.count c.walk.invariant.0 c.text_target.ensures.counted c.walk.invariant.1), subst (λ (t : TakenView). IsWalking c.args.wanted c.args.root.now c.args.module_id c.text_target.new.root c.walk.here (c.walk.next + 1) c.walk.above.items c.walk.met.keys t (c.walk.invariant.0 + 1)) (sym taken) (walking.asked_nowhere c.walk.invariant.2 c.statement_at.ensures.few c.in-Some.turn.text c.in-Some.ensures.text c.text_target.new.root c.in-Ok-None.ensures.stored (subst (gives c.text_target.new.root c.walk.root c.walk.here c.in-Some.turn.text.now) c.in-Ok-None.field-0-is c.in-Ok-None.ensures.gives) (sym c.is_done.ensures ∙ c.walk-test.true)), c.walk.invariant.3, ap (λ (w : WalkView). w.keeps) c.in_ok-miss-in-Ok-None.ensures ∙ (c.walk.invariant.4 ∙ ap (keeps_offers c.args.wanted) (sym c.text_target.ensures.kept.rules)))
 
 pub enter-requires : goal.enter-requires
 enter-requires c =
@@ -121,8 +122,11 @@ walk-preserved-then-branch c =
     let same : c.in-Some.turn ≡ here = this c.in-Some.turn c.walk.here c.walk.next c.in-Some.ensures.place in
     let key = walking.new_key c.walk.met.keys c.enter.new.met.keys c.in-Ok-Some.target c.in_ok-enter-in-Ok-Some.field-0 c.in_ok-enter-in-Ok-Some.ensures.new c.in_ok-enter-in-Ok-Some.ensures.met c.if-branch.true in
     let above : c.enter.new.above.items ≡ c.walk.above.items ++ here ∷ [] = walking.if_new c.in_ok-enter-in-Ok-Some.field-0 c.enter.new.above.items (c.walk.above.items ++ c.in-Some.turn ∷ []) c.walk.above.items c.in_ok-enter-in-Ok-Some.ensures.above c.if-branch.true ∙ (λ i. c.walk.above.items ++ same i ∷ []) in
-    let taken : taken_view c.enter.new.taken ≡ with_module c.args.wanted c.text_target.new.root (map turn_told (c.walk.above.items ++ here ∷ [])) c.in-Ok-Some.target (taken_view c.walk.taken) = walking.if_new c.in_ok-enter-in-Ok-Some.field-0 (taken_view c.enter.new.taken) (with_module c.args.wanted c.text_target.new.root (map turn_told (c.walk.above.items ++ c.in-Some.turn ∷ [])) c.in-Ok-Some.target (taken_view c.walk.taken)) (taken_view c.walk.taken) c.in_ok-enter-in-Ok-Some.ensures.taken c.if-branch.true ∙ (λ i. with_module c.args.wanted c.text_target.new.root (map turn_told (c.walk.above.items ++ same i ∷ [])) c.in-Ok-Some.target (taken_view c.walk.taken)) in
-    (c.walk.invariant.0 + 1, (one_more c.args.steps.now.count c.walk.steps.count c.text_target.new.steps.count c.walk.invariant.0 c.text_target.ensures.counted c.walk.invariant.1), subst (λ (t : TakenView). IsWalking c.args.wanted c.args.root.now c.args.module_id c.text_target.new.root c.in-Ok-Some.target 0 c.enter.new.above.items c.enter.new.met.keys t (c.walk.invariant.0 + 1)) (sym taken) (rw (above, key.1) (walking.asked_entered c.walk.invariant.2 c.statement_at.ensures.few c.in-Some.turn.text c.in-Some.ensures.text c.text_target.new.root c.in-Ok-Some.ensures.stored c.in-Ok-Some.target (subst (gives c.text_target.new.root c.walk.root c.walk.here c.in-Some.turn.text.now) c.in-Ok-Some.field-0-is c.in-Ok-Some.ensures.gives) c.statement_at.ensures.once key.0 (sym c.is_done.ensures ∙ c.walk-test.true))), rw key.1 (omega (arith, c.in_ok-enter-in-Ok-Some.ensures.few c.if-branch.true, length_push c.walk.met.keys c.in-Ok-Some.target)))
+    let owned : List (List ℕ × SymbolId) = owned_for c.args.wanted c.text_target.new.root.graph (specifier_in c.text_target.new.root c.in-Ok-Some.target) in
+    let keeps : c.walk.taken.keeps ≡ keeps_offers c.args.wanted c.text_target.new.root.rules = c.walk.invariant.4 ∙ ap (keeps_offers c.args.wanted) (sym c.text_target.ensures.kept.rules) in
+    let state : c.enter.new.taken ≡ with_owned (map turn_told (c.walk.above.items ++ here ∷ [])) c.in-Ok-Some.target owned c.walk.taken = walking.if_new c.in_ok-enter-in-Ok-Some.field-0 c.enter.new.taken (with_owned (map turn_told (c.walk.above.items ++ c.in-Some.turn ∷ [])) c.in-Ok-Some.target owned c.walk.taken) c.walk.taken c.in_ok-enter-in-Ok-Some.ensures.taken c.if-branch.true ∙ (λ i. with_owned (map turn_told (c.walk.above.items ++ same i ∷ [])) c.in-Ok-Some.target owned c.walk.taken) in
+    let taken : c.enter.new.taken.taken ≡ with_module c.args.wanted c.text_target.new.root (map turn_told (c.walk.above.items ++ here ∷ [])) c.in-Ok-Some.target c.walk.taken.taken = ap (λ (w : WalkView). w.taken) state ∙ module_owned c.args.wanted c.text_target.new.root (map turn_told (c.walk.above.items ++ here ∷ [])) c.in-Ok-Some.target c.walk.taken keeps in
+    (c.walk.invariant.0 + 1, (one_more c.args.steps.now.count c.walk.steps.count c.text_target.new.steps.count c.walk.invariant.0 c.text_target.ensures.counted c.walk.invariant.1), subst (λ (t : TakenView). IsWalking c.args.wanted c.args.root.now c.args.module_id c.text_target.new.root c.in-Ok-Some.target 0 c.enter.new.above.items c.enter.new.met.keys t (c.walk.invariant.0 + 1)) (sym taken) (rw (above, key.1) (walking.asked_entered c.walk.invariant.2 c.statement_at.ensures.few c.in-Some.turn.text c.in-Some.ensures.text c.text_target.new.root c.in-Ok-Some.ensures.stored c.in-Ok-Some.target (subst (gives c.text_target.new.root c.walk.root c.walk.here c.in-Some.turn.text.now) c.in-Ok-Some.field-0-is c.in-Ok-Some.ensures.gives) c.statement_at.ensures.once key.0 (sym c.is_done.ensures ∙ c.walk-test.true))), rw key.1 (omega (arith, c.in_ok-enter-in-Ok-Some.ensures.few c.if-branch.true, length_push c.walk.met.keys c.in-Ok-Some.target)), ap (λ (w : WalkView). w.keeps) state ∙ keeps)
 
 pub overflow_add-next-else-branch : goal.overflow_add-next-else-branch
 overflow_add-next-else-branch c = record { fits = walking.fits c.walk.invariant.2 c.statement_at.ensures.few c.in-Some.turn.text c.in-Some.ensures.text }
@@ -141,51 +145,53 @@ walk-preserved-else-branch c =
     let same : c.in-Some.turn ≡ here = this c.in-Some.turn c.walk.here c.walk.next c.in-Some.ensures.place in
     let key = walking.old_key c.walk.met.keys c.enter.new.met.keys c.in-Ok-Some.target c.in_ok-enter-in-Ok-Some.field-0 c.in_ok-enter-in-Ok-Some.ensures.new c.in_ok-enter-in-Ok-Some.ensures.met c.if-branch.false in
     let above : c.enter.new.above.items ≡ c.walk.above.items = walking.if_old c.in_ok-enter-in-Ok-Some.field-0 c.enter.new.above.items (c.walk.above.items ++ c.in-Some.turn ∷ []) c.walk.above.items c.in_ok-enter-in-Ok-Some.ensures.above c.if-branch.false in
-    let taken : taken_view c.enter.new.taken ≡ taken_view c.walk.taken = walking.if_old c.in_ok-enter-in-Ok-Some.field-0 (taken_view c.enter.new.taken) (with_module c.args.wanted c.text_target.new.root (map turn_told (c.walk.above.items ++ c.in-Some.turn ∷ [])) c.in-Ok-Some.target (taken_view c.walk.taken)) (taken_view c.walk.taken) c.in_ok-enter-in-Ok-Some.ensures.taken c.if-branch.false in
-    (c.walk.invariant.0 + 1, (one_more c.args.steps.now.count c.walk.steps.count c.text_target.new.steps.count c.walk.invariant.0 c.text_target.ensures.counted c.walk.invariant.1), subst (λ (t : TakenView). IsWalking c.args.wanted c.args.root.now c.args.module_id c.text_target.new.root c.walk.here (c.walk.next + 1) c.enter.new.above.items c.enter.new.met.keys t (c.walk.invariant.0 + 1)) (sym taken) (rw (above, key.1) (walking.asked_met c.walk.invariant.2 c.statement_at.ensures.few c.in-Some.turn.text c.in-Some.ensures.text c.text_target.new.root c.in-Ok-Some.ensures.stored c.in-Ok-Some.target (subst (gives c.text_target.new.root c.walk.root c.walk.here c.in-Some.turn.text.now) c.in-Ok-Some.field-0-is c.in-Ok-Some.ensures.gives) c.statement_at.ensures.once key.0 (sym c.is_done.ensures ∙ c.walk-test.true))), rw key.1 c.walk.invariant.3)
+    let owned : List (List ℕ × SymbolId) = owned_for c.args.wanted c.text_target.new.root.graph (specifier_in c.text_target.new.root c.in-Ok-Some.target) in
+    let state : c.enter.new.taken ≡ c.walk.taken = walking.if_old c.in_ok-enter-in-Ok-Some.field-0 c.enter.new.taken (with_owned (map turn_told (c.walk.above.items ++ c.in-Some.turn ∷ [])) c.in-Ok-Some.target owned c.walk.taken) c.walk.taken c.in_ok-enter-in-Ok-Some.ensures.taken c.if-branch.false in
+    let taken : c.enter.new.taken.taken ≡ c.walk.taken.taken = ap (λ (w : WalkView). w.taken) state in
+    (c.walk.invariant.0 + 1, (one_more c.args.steps.now.count c.walk.steps.count c.text_target.new.steps.count c.walk.invariant.0 c.text_target.ensures.counted c.walk.invariant.1), subst (λ (t : TakenView). IsWalking c.args.wanted c.args.root.now c.args.module_id c.text_target.new.root c.walk.here (c.walk.next + 1) c.enter.new.above.items c.enter.new.met.keys t (c.walk.invariant.0 + 1)) (sym taken) (rw (above, key.1) (walking.asked_met c.walk.invariant.2 c.statement_at.ensures.few c.in-Some.turn.text c.in-Some.ensures.text c.text_target.new.root c.in-Ok-Some.ensures.stored c.in-Ok-Some.target (subst (gives c.text_target.new.root c.walk.root c.walk.here c.in-Some.turn.text.now) c.in-Ok-Some.field-0-is c.in-Ok-Some.ensures.gives) c.statement_at.ensures.once key.0 (sym c.is_done.ensures ∙ c.walk-test.true))), rw key.1 c.walk.invariant.3, ap (λ (w : WalkView). w.keeps) state ∙ (c.walk.invariant.4 ∙ ap (keeps_offers c.args.wanted) (sym c.text_target.ensures.kept.rules)))
 
 pub overflow_add-next-in-Some-pop : goal.overflow_add-next-in-Some-pop
 overflow_add-next-in-Some-pop c =
-    let walk : IsWalking c.args.wanted c.args.root.now c.args.module_id c.walk.root c.walk.here c.walk.next (c.pop.new.self.items ++ c.in-Some-pop.turn ∷ []) c.walk.met.keys (taken_view c.walk.taken) c.walk.invariant.0 = rw c.in-Some-pop.ensures.items at c.walk.invariant.2 in
+    let walk : IsWalking c.args.wanted c.args.root.now c.args.module_id c.walk.root c.walk.here c.walk.next (c.pop.new.self.items ++ c.in-Some-pop.turn ∷ []) c.walk.met.keys c.walk.taken.taken c.walk.invariant.0 = rw c.in-Some-pop.ensures.items at c.walk.invariant.2 in
     record { fits = turn_fits c.pop.new.self.items c.in-Some-pop.turn walk (walking.ended_here walk c.statement_at.ensures.few (sym c.in_default.ensures.text)) (walking.few_here walk c.statement_at.ensures.few) }
 
 pub walk-preserved : goal.walk-preserved
 walk-preserved c =
-    let walk : IsWalking c.args.wanted c.args.root.now c.args.module_id c.walk.root c.walk.here c.walk.next (c.pop.new.self.items ++ c.in-Some-pop.turn ∷ []) c.walk.met.keys (taken_view c.walk.taken) c.walk.invariant.0 = rw c.in-Some-pop.ensures.items at c.walk.invariant.2 in
-    (c.walk.invariant.0, c.walk.invariant.1, walking_back c.pop.new.self.items c.in-Some-pop.turn walk (walking.ended_here walk c.statement_at.ensures.few (sym c.in_default.ensures.text)) (walking.few_here walk c.statement_at.ensures.few) (sym c.is_done.ensures ∙ c.walk-test.true), c.walk.invariant.3)
+    let walk : IsWalking c.args.wanted c.args.root.now c.args.module_id c.walk.root c.walk.here c.walk.next (c.pop.new.self.items ++ c.in-Some-pop.turn ∷ []) c.walk.met.keys c.walk.taken.taken c.walk.invariant.0 = rw c.in-Some-pop.ensures.items at c.walk.invariant.2 in
+    (c.walk.invariant.0, c.walk.invariant.1, walking_back c.pop.new.self.items c.in-Some-pop.turn walk (walking.ended_here walk c.statement_at.ensures.few (sym c.in_default.ensures.text)) (walking.few_here walk c.statement_at.ensures.few) (sym c.is_done.ensures ∙ c.walk-test.true), c.walk.invariant.3, c.walk.invariant.4)
 
 -- what is given at the end, and where memory was refused for it
-abbrev Given : Wanted → RootView → ModuleId → RootView → Taken → ℕ → Type 0
-Given wanted old start root taken asked = IsWalked wanted old root start (names_view taken.resolved.entries) (shared_only comes_along (groups_view taken.offers.entries)) (map unresolved_told taken.unresolved.items) asked
+abbrev Given : Wanted → RootView → ModuleId → RootView → TakenView → ℕ → Type 0
+Given wanted old start root taken asked = IsWalked wanted old root start taken.names (shared_only comes_along taken.offers) taken.unresolved asked
 
-given : (wanted : Wanted) (old : RootView) (start : ModuleId) (root : RootView) (taken : Taken) (asked before now : ℕ) (answer : ModuleExports) → now ≡ before + asked → names_view answer.resolved.entries ≡ names_view taken.resolved.entries → shared_views answer.shared.items ≡ shared_only comes_along (groups_view taken.offers.entries) → map unresolved_told answer.unresolved_specifiers.items ≡ map unresolved_told taken.unresolved.items → Given wanted old start root taken asked → (asked : ℕ) × (now ≡ before + asked) × IsWalked wanted old root start (names_view answer.resolved.entries) (shared_views answer.shared.items) (map unresolved_told answer.unresolved_specifiers.items) asked
-given wanted old start root taken asked before now answer counted names shared unresolved is = (asked, counted, walked_alike wanted old root start (names_view taken.resolved.entries) (names_view answer.resolved.entries) (shared_only comes_along (groups_view taken.offers.entries)) (shared_views answer.shared.items) (map unresolved_told taken.unresolved.items) (map unresolved_told answer.unresolved_specifiers.items) asked names shared unresolved is)
+given : (wanted : Wanted) (old : RootView) (start : ModuleId) (root : RootView) (taken : TakenView) (asked before now : ℕ) (answer : ModuleExports) → now ≡ before + asked → names_view answer.resolved.entries ≡ taken.names → shared_views answer.shared.items ≡ shared_only comes_along taken.offers → map unresolved_told answer.unresolved_specifiers.items ≡ taken.unresolved → Given wanted old start root taken asked → (asked : ℕ) × (now ≡ before + asked) × IsWalked wanted old root start (names_view answer.resolved.entries) (shared_views answer.shared.items) (map unresolved_told answer.unresolved_specifiers.items) asked
+given wanted old start root taken asked before now answer counted names shared unresolved is = (asked, counted, walked_alike wanted old root start taken.names (names_view answer.resolved.entries) (shared_only comes_along taken.offers) (shared_views answer.shared.items) taken.unresolved (map unresolved_told answer.unresolved_specifiers.items) asked names shared unresolved is)
 
-refused : (wanted : Wanted) (old : RootView) (start : ModuleId) (root : RootView) (taken : Taken) (asked before now : ℕ) → now ≡ before + asked → Given wanted old start root taken asked → Broken wanted old start root before now OutOfMemory
-refused wanted old start root taken asked before now counted is = broken_off wanted old start root before now asked OutOfMemory counted (cut_behind wanted old root start (names_view taken.resolved.entries) (shared_only comes_along (groups_view taken.offers.entries)) (map unresolved_told taken.unresolved.items) asked is)
+refused : (wanted : Wanted) (old : RootView) (start : ModuleId) (root : RootView) (taken : TakenView) (asked before now : ℕ) → now ≡ before + asked → Given wanted old start root taken asked → Broken wanted old start root before now OutOfMemory
+refused wanted old start root taken asked before now counted is = broken_off wanted old start root before now asked OutOfMemory counted (cut_behind wanted old root start taken.names (shared_only comes_along taken.offers) taken.unresolved asked is)
 
 pub returns-in_default-pop-clause-answers : goal.returns-in_default-pop-clause-answers
 returns-in_default-pop-clause-answers c =
     let walk = c.walk.invariant.2 in
-    given c.args.wanted c.args.root.now c.args.module_id c.walk.root c.walk.taken c.walk.invariant.0 c.args.steps.now.count c.walk.steps.count c.in_ok-into_exports.field-0 c.walk.invariant.1 c.in_ok-into_exports.ensures.resolved c.in_ok-into_exports.ensures.shared c.in_ok-into_exports.ensures.unresolved
+    given c.args.wanted c.args.root.now c.args.module_id c.walk.root c.walk.taken.taken c.walk.invariant.0 c.args.steps.now.count c.walk.steps.count c.in_ok-into_exports.field-0 c.walk.invariant.1 c.in_ok-into_exports.ensures.resolved c.in_ok-into_exports.ensures.shared c.in_ok-into_exports.ensures.unresolved
     (walked_end c.args.wanted walk (sym c.is_done.ensures ∙ c.walk-test.true) (nil_from_length c.walk.above.items (omega (arith, c.in_default-pop.ensures.cases.0, c.walk.above.ok.0))) (walking.ended_here walk c.statement_at.ensures.few (sym c.in_default.ensures.text)))
 
 pub returns-in_err-into_exports-clause-faults : goal.returns-in_err-into_exports-clause-faults
 returns-in_err-into_exports-clause-faults c =
     let walk = c.walk.invariant.2 in
     on_memory (Broken c.args.wanted c.args.root.now c.args.module_id c.walk.root c.args.steps.now.count c.walk.steps.count) c.from_residual-in_err-into_exports.result c.from_residual-in_err-into_exports.ensures.1
-    (refused c.args.wanted c.args.root.now c.args.module_id c.walk.root c.walk.taken c.walk.invariant.0 c.args.steps.now.count c.walk.steps.count c.walk.invariant.1
+    (refused c.args.wanted c.args.root.now c.args.module_id c.walk.root c.walk.taken.taken c.walk.invariant.0 c.args.steps.now.count c.walk.steps.count c.walk.invariant.1
     (walked_end c.args.wanted walk (sym c.is_done.ensures ∙ c.walk-test.true) (nil_from_length c.walk.above.items (omega (arith, c.in_default-pop.ensures.cases.0, c.walk.above.ok.0))) (walking.ended_here walk c.statement_at.ensures.few (sym c.in_default.ensures.text))))
 
 pub returns-clause-answers : goal.returns-clause-answers
 returns-clause-answers c =
-    given c.args.wanted c.args.root.now c.args.module_id c.walk.root c.walk.taken c.walk.invariant.0 c.args.steps.now.count c.walk.steps.count c.in_ok-into_exports-2.field-0 c.walk.invariant.1 c.in_ok-into_exports-2.ensures.resolved c.in_ok-into_exports-2.ensures.shared c.in_ok-into_exports-2.ensures.unresolved
+    given c.args.wanted c.args.root.now c.args.module_id c.walk.root c.walk.taken.taken c.walk.invariant.0 c.args.steps.now.count c.walk.steps.count c.in_ok-into_exports-2.field-0 c.walk.invariant.1 c.in_ok-into_exports-2.ensures.resolved c.in_ok-into_exports-2.ensures.shared c.in_ok-into_exports-2.ensures.unresolved
     (walked_done c.args.wanted c.walk.invariant.2 (sym c.is_done.ensures ∙ c.walk-test.false))
 
 pub returns-in_err-into_exports-2-clause-faults : goal.returns-in_err-into_exports-2-clause-faults
 returns-in_err-into_exports-2-clause-faults c =
     on_memory (Broken c.args.wanted c.args.root.now c.args.module_id c.walk.root c.args.steps.now.count c.walk.steps.count) c.from_residual-in_err-into_exports-2.result c.from_residual-in_err-into_exports-2.ensures.1
-    (refused c.args.wanted c.args.root.now c.args.module_id c.walk.root c.walk.taken c.walk.invariant.0 c.args.steps.now.count c.walk.steps.count c.walk.invariant.1
+    (refused c.args.wanted c.args.root.now c.args.module_id c.walk.root c.walk.taken.taken c.walk.invariant.0 c.args.steps.now.count c.walk.steps.count c.walk.invariant.1
     (walked_done c.args.wanted c.walk.invariant.2 (sym c.is_done.ensures ∙ c.walk-test.false)))
 
 pub returns-in-Err-clause-enough : goal.returns-in-Err-clause-enough
