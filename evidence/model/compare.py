@@ -27,9 +27,9 @@ def cases_of(a, rules):
     if a.every:
         every = every_case()
         cases = ((at, every[at]) for at in (a.seeds or range(len(every))) if at < len(every))
-    else:
-        cases = ((seed, case_of_seed(seed, a.accepted)) for seed in a.seeds or range(1000))
-    return ((seed, case.by(rules == 'strict') if rules else case) for seed, case in cases)
+        return ((at, case.by(rules == 'strict') if rules else case) for at, case in cases)
+    strict = rules == 'strict' if rules else None
+    return ((seed, case_of_seed(seed, a.accepted, strict)) for seed in a.seeds or range(1000))
 
 
 def main() -> int:

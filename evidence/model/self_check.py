@@ -3,9 +3,10 @@
 
     python3 evidence/model/self_check.py --seeds 0..2000
 
-Three in ten graphs are asked by strict rules. Tables are compared with filters over the events of the tree; exports, shared
-names, what is stored and both counts of steps with all simple chains, enumerated and sorted; each list of paths has to be derived, its leaves to stand in the least relations, and
-no leaf to be lost that mustn't be. It stops at the first seed that fails, and ends with a line `N passed, M failed`.
+Three in ten graphs are asked by strict rules, and three in ten of these are webs, in which most names are shared. Tables are
+compared with filters over the events of the tree; exports, shared names, what is stored and both counts of steps with all simple
+chains, enumerated and sorted; each list of paths has to be derived, its leaves to stand in the least relations, and no leaf to be
+lost that mustn't be. It stops at the first seed that fails, and ends with a line `N passed, M failed`.
 """
 import argparse
 import random
@@ -14,7 +15,7 @@ import time
 from collections import Counter
 
 from differ.words import seeds_of
-from graphs.cases import case_of_seed
+from graphs.cases import value_of_seed
 from readings.checks import PathChecks, check_exports, check_tables
 from rules.checker import check_graph
 from rules.raw_graph import graph_of_value
@@ -22,11 +23,11 @@ from rules.stack import with_big_stack
 
 
 def check_seed(seed: int, counts: Counter) -> None:
-    case = case_of_seed(seed, accepted_only=True)
-    graph = check_graph(graph_of_value(case.value))
+    value, strict = value_of_seed(seed)
+    graph = check_graph(graph_of_value(value))
     check_tables(graph, counts)
-    check_exports(graph, case.strict, counts)
-    PathChecks(graph, case.strict, random.Random(seed), counts).check()
+    check_exports(graph, strict, counts)
+    PathChecks(graph, strict, random.Random(seed), counts).check()
 
 
 def check_seeds(seeds, seconds=None, go_on=False) -> int:

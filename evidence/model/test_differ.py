@@ -4,31 +4,31 @@
     python3 evidence/model/test_differ.py             faults in copies of the model
     python3 evidence/model/test_differ.py PROGRAM     faults around a program
 
-Each fault is planted into a copy of the model, which first says itself which case it answers otherwise than the model, and is
-compared as a program on that. With PROGRAM it is a program
-around that one, which changes its answers. Only graphs of families and rules are tried in which the fault may show. What is
-told has to differ still when it is small. Of a fault in what the readings of the definitions say, the self-check of the copy
-has to fail, too. The last line is `N passed, M failed`.
+Each fault is planted into a copy of the model, which is asked in one process, and at the end as a program. With PROGRAM it is
+a program around that one, which changes its answers. Only graphs of families and rules are tried in which the fault may show.
+What is told has to differ still when it is small. Of a fault in what the readings of the definitions say, the self-check of the
+copy has to fail, too. The last line is `N passed, M failed`.
 """
 import argparse
 import os
-import pickle
 import subprocess
 import sys
 import tempfile
 import time
+from contextlib import closing
 from functools import lru_cache
 
 from differ.comparing import compare
+from differ.copies import Copy
 from differ.planted import BOTH, DENO, FAULTS, MODEL, WRAPPED, plant, wrapped
-from differ.running import NO_STRICT_RULES, Program, has_strict_rules, of_model
+from differ.running import NO_STRICT_RULES, Program, has_strict_rules
 from differ.shrinking import shrink
 from differ.words import command_of
-from graphs.cases import FAMILIES, case_of_seed
+from graphs.cases import case_of_seed, family_of_seed
 from rules.stack import with_big_stack
 
 # how many graphs may hide a fault; how long a case is made small, in seconds; the seeds of the self-check of a copy
-LIMIT, SHRINK, SELF_CHECK = 500, 1, '0..1000'
+LIMIT, SHRINK, SELF_CHECK = 500, 0.5, '0..1000'
 RIGHT_GRAPHS = 20
 
 
@@ -39,30 +39,21 @@ def kept_case(seed):
 
 def cases_for(families, rules) -> list:
     """The seeds and cases in which a fault may show."""
-    cases = ((seed, kept_case(seed)) for seed in range(LIMIT) if FAMILIES[seed % len(FAMILIES)] in families.split())
-    return [(seed, case) for seed, case in cases if case.strict in rules]
+    seeds = ((seed, family_of_seed(seed)) for seed in range(LIMIT))
+    return [(seed, kept_case(seed)) for seed, (family, strict) in seeds if family in families.split() and strict in rules]
 
 
-def first_of_copy(top, cases) -> list:
-    """From the first case on that a copy of the model answers otherwise, as it says itself."""
-    asked = [(it.graph, it.lines, it.strict, tuple(of_model(it.graph, tuple(it.lines), it.strict))) for _, it in cases]
-    done = subprocess.run([sys.executable, os.path.join(top, 'differ', 'first_told.py')], input=pickle.dumps(asked),
-                          stdout=subprocess.PIPE)
-    return cases[int(done.stdout):] if done.stdout else []
-
-
-def found_in(command, cases) -> 'tuple[str, float]':
-    """Compares until a graph differs, and makes it small; returns what was wrong, or nothing, and how long it took to see."""
-    program, began = Program(command), time.monotonic()
-    seed, case = next(((at, it) for at, it in cases if program.difference(it.graph, it.lines, it.strict) is not None),
+def found_in(asked, program, cases) -> 'tuple[str, float]':
+    """Compares what is asked until a graph differs, makes it small, and asks the program that; returns what was wrong, or
+    nothing, and how long it took to see."""
+    began = time.monotonic()
+    seed, case = next(((at, it) for at, it in cases if asked.difference(it.graph, it.lines, it.strict) is not None),
                       (LIMIT, None))
     took = time.monotonic() - began
     if case is None:
-        program.close()
         return 'no difference in %d graphs' % LIMIT, took
-    graph, lines = shrink(program, case, SHRINK)
+    graph, lines = shrink(asked, case, SHRINK)
     still = program.difference(graph, lines, case.strict) is not None and len(graph) <= len(case.graph)
-    program.close()
     print('  seed %d, %d bytes of %d, %d lines of %d' % (seed, len(graph), len(case.graph), len(lines), len(case.lines)))
     return '' if still else 'the small case of seed %d is none' % seed, took
 
@@ -88,8 +79,8 @@ def results(folder):
     yield right('the model itself', [sys.executable, os.path.join(MODEL, 'symq.py')])
     for fault in FAULTS:
         top = plant(fault, folder)
-        cases = first_of_copy(top, cases_for(fault.families, fault.rules))
-        yield (fault.name, *found_in([sys.executable, os.path.join(top, 'symq.py')], cases))
+        with closing(Copy(top)) as copy, closing(Program([sys.executable, os.path.join(top, 'symq.py')])) as program:
+            yield (fault.name, *found_in(copy, program, cases_for(fault.families, fault.rules)))
         if fault.readings:
             began = time.monotonic()
             yield fault.name + ', by the readings', self_check_sees(top), time.monotonic() - began
@@ -103,7 +94,8 @@ def results_around(program):
     yield right('the program itself', program, known)
     for name, (families, rules) in WRAPPED.items():
         if rules[0] in known:
-            yield (name + ', around the program', *found_in(wrapped(name, program), cases_for(families, rules)))
+            with closing(Program(wrapped(name, program))) as around:
+                yield (name + ', around the program', *found_in(around, around, cases_for(families, rules)))
 
 
 def main() -> int:

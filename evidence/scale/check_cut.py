@@ -87,7 +87,7 @@ def of_seeds(a) -> bool:
     counts = Counts()
     with tempfile.TemporaryDirectory() as folder:
         for seed in a.seeds:
-            case, path = case_of_seed(seed, accepted_only=True), os.path.join(folder, 'seed-%d.json' % seed)
+            case, path = case_of_seed(seed, accepted_only=True, strict=False), os.path.join(folder, 'seed-%d.json' % seed)
             write(path, case.graph)
             lines = b''.join(it + b'\n' for it in case.lines)
             compare(a, path, lines, answers(a.program, path, lines), 0, 1, counts)

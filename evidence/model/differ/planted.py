@@ -26,17 +26,17 @@ class Fault(NamedTuple):
 
 
 FAULTS = [
-    Fault('default_passed_up', 'stars', True, 'rules/exports.py',
+    Fault('default_passed_up', 'stars webs', True, 'rules/exports.py',
           "if name != 'default' or module is start:", 'if True:'),
-    Fault('later_overwrites_earlier', 'stars', True, 'rules/exports.py', '{name: found[0] for', '{name: found[-1] for'),
+    Fault('later_overwrites_earlier', 'stars webs', True, 'rules/exports.py', '{name: found[0] for', '{name: found[-1] for'),
     Fault('redirects_are_ignored', 'mixed', False, 'rules/graph.py',
           'self.by_specifier.get(self.redirects.get(specifier, specifier))', 'self.by_specifier.get(specifier)'),
-    Fault('export_moves_to_end', 'mixed stars', True, 'rules/builder.py',
+    Fault('export_moves_to_end', 'mixed stars webs', True, 'rules/builder.py',
           'holder.exports[name] = self.new(', 'holder.exports.pop(name, None)\n            holder.exports[name] = self.new('),
     Fault('first_declaration_only', 'mixed', True, 'rules/paths.py',
           'enumerate(symbol.declarations)', 'enumerate(symbol.declarations[:1])'),
     Fault('met_set_lives_on', 'mixed', True, 'rules/paths.py', 'outer, self.met = self.met, set()', 'outer = self.met'),
-    Fault('first_candidate_only', 'mixed stars', True, 'rules/paths.py',
+    Fault('first_candidate_only', 'mixed stars webs', True, 'rules/paths.py',
           'for text in target.stars if', 'for text in target.stars[:1] if'),
     Fault('as_expression_visited', 'mixed dependent', False, 'rules/kinds.py',
           "('TsAsExpr', 'expr: EXPR, ty: TYPE', 'ty:T')", "('TsAsExpr', 'expr: EXPR, ty: TYPE', 'expr, ty:T')"),
@@ -46,19 +46,51 @@ FAULTS = [
           "if digits[0] != '-' and", "if digits in ('-0', '0') or"),
     Fault('default_not_found_by_denos_rules', 'mixed stars', True, 'rules/root.py',
           "name != 'default' or not self.strict", "name != 'default'", DENO),
-    Fault('default_found_by_strict_rules', 'mixed stars', True, 'rules/root.py',
+    Fault('default_found_by_strict_rules', 'mixed stars webs', True, 'rules/root.py',
           "name != 'default' or not self.strict", 'True', STRICT),
-    Fault('shared_names_dropped', 'stars', True, 'rules/exports.py',
+    Fault('shortest_chain_for_the_least', 'stars webs', True, 'rules/exports.py',
+          """top = stack[-1]
+        if place == len(module.stars):
+            stack.pop()""",
+          """top = stack[0]
+        if place == len(module.stars):
+            stack.pop(0)"""),
+    Fault('shared_names_dropped', 'stars webs', True, 'rules/exports.py',
           'Exports(resolved,', 'Exports({name: it for name, it in resolved.items() if name not in shared},', STRICT),
-    Fault('two_owners_only', 'stars', True, 'rules/exports.py', 'shared = {name: found for', 'shared = {name: found[:2] for', STRICT),
-    Fault('one_chain_for_all_owners', 'stars', True, 'rules/exports.py', 'shared = {name: found for',
+    Fault('one_owner_is_enough', 'stars webs', True, 'rules/exports.py', 'and len(found) > 1}', '}', STRICT),
+    Fault('two_owners_only', 'stars webs', True, 'rules/exports.py',
+          'shared = {name: found for', 'shared = {name: found[:2] for', STRICT),
+    Fault('four_owners_only', 'stars webs', True, 'rules/exports.py',
+          'shared = {name: found for', 'shared = {name: found[:4] for', STRICT),
+    Fault('owners_by_their_names', 'stars webs', True, 'rules/exports.py', 'shared = {name: found for',
+          'shared = {name: sorted(found, key=lambda it: it.module.specifier) for', STRICT),
+    Fault('owners_by_their_numbers', 'stars webs', True, 'rules/exports.py', 'shared = {name: found for',
+          'shared = {name: sorted(found, key=lambda it: it.module.number) for', STRICT),
+    Fault('one_chain_for_all_owners', 'stars webs', True, 'rules/exports.py', 'shared = {name: found for',
           'shared = {name: [Export(found[0].chain, it.module, it.symbol) for it in found] for', STRICT),
+    Fault('shortest_chains_of_owners', 'stars webs', True, 'rules/exports.py', 'shared = {name: found for',
+          """short, waiting = {start.number: None}, [start]
+    for module in waiting:
+        for text in module.stars:
+            target = root.dependency(text, module)
+            if target is not None and target.number not in short:
+                short[target.number] = (short[module.number], module, text)
+                waiting.append(target)
+    shared = {name: [Export(short[it.module.number], it.module, it.symbol) for it in found] for""", STRICT),
+    Fault('own_name_is_shared', 'stars webs', True, 'rules/exports.py', 'and name not in start.own_exports() and', 'and', STRICT),
+    Fault('default_is_shared', 'stars webs', True, 'rules/exports.py',
+          """            if name != 'default' or module is start:
+                owners.setdefault(name, []).append(Export(chain, module, number))
+    resolved = {name: found[0] for name, found in owners.items()}""",
+          """            owners.setdefault(name, []).append(Export(chain, module, number))
+    resolved = {name: found[0] for name, found in owners.items() if name != 'default' or name in start.own_exports()}""",
+          STRICT),
 ]
 
 # faults around a program: the families of random graphs in which each may show, and the rules by which
-WRAPPED = {'unresolved_reversed': ('mixed stars', DENO), 'shared_names_dropped': ('stars', STRICT),
-           'two_owners_only': ('stars', STRICT), 'one_chain_for_all_owners': ('stars', STRICT),
-           'default_found_by_strict_rules': ('mixed stars', STRICT)}
+WRAPPED = {'unresolved_reversed': ('mixed stars', DENO), 'shared_names_dropped': ('stars webs', STRICT),
+           'two_owners_only': ('stars webs', STRICT), 'one_chain_for_all_owners': ('stars webs', STRICT),
+           'default_found_by_strict_rules': ('mixed stars webs', STRICT)}
 
 
 def plant(fault: Fault, folder: str) -> str:

@@ -2,7 +2,7 @@
 import random
 from typing import NamedTuple
 
-from graphs import dependent, identifiers, mixed, stars
+from graphs import dependent, identifiers, mixed, stars, webs
 from graphs.broken import break_field, break_form, break_graph, break_tree
 from graphs.queries import BAD_LINES, query_lines
 from graphs.texts import FIXED_TEXTS, broken_text, graph_text
@@ -22,11 +22,14 @@ class Case(NamedTuple):
         return self._replace(strict=strict)
 
 
-# the families of cases, in turn by the seed
 ACCEPTED = {'mixed': mixed.graph_value, 'dependent': dependent.graph_value, 'stars': stars.graph_value,
-            'identifiers': identifiers.graph_value}
-FAMILIES = (['mixed'] * 8 + ['dependent'] * 2 + ['stars'] * 2 + ['tree'] * 3 + ['graph', 'form', 'field', 'bytes', 'fixed'])
-ACCEPTED_FAMILIES = ['mixed'] * 7 + ['dependent'] + ['stars'] * 2
+            'webs': webs.graph_value, 'identifiers': identifiers.graph_value}
+BROKEN = ['tree'] * 3 + ['graph', 'form', 'field', 'bytes', 'fixed']
+# the families of cases, in turn by the seed, by Deno's rules and by strict ones, where names may be shared
+FAMILIES = {False: ['mixed'] * 8 + ['dependent'] * 2 + ['stars'] * 2 + BROKEN,
+            True: ['mixed'] * 8 + ['dependent'] + ['webs'] * 2 + ['stars'] + BROKEN}
+ACCEPTED_FAMILIES = {False: ['mixed'] * 7 + ['dependent'] + ['stars'] * 2,
+                     True: ['mixed'] * 6 + ['webs'] * 3 + ['stars']}
 
 
 def broken(rng, family, value) -> None:
@@ -48,11 +51,24 @@ def broken(rng, family, value) -> None:
         break_field(rng, value)
 
 
-def case_of_seed(seed: int, accepted_only=False) -> Case:
-    """The case, of each family three in ten by strict rules."""
-    families = ACCEPTED_FAMILIES if accepted_only else FAMILIES
-    turn, place = divmod(seed, len(families))
-    return _case(random.Random(seed), families[place], turn).by((place + turn) % 10 < 3)
+def family_of_seed(seed: int, accepted_only=False, strict=None) -> 'tuple[str, bool]':
+    """The family of a seed, and whether it is asked by strict rules: three in ten of each place are, unless it is said."""
+    by_rules = ACCEPTED_FAMILIES if accepted_only else FAMILIES
+    turn, place = divmod(seed, len(by_rules[False]))
+    strict = (place + turn) % 10 < 3 if strict is None else strict
+    return by_rules[strict][place], strict
+
+
+def value_of_seed(seed: int) -> 'tuple[dict, bool]':
+    """Of the cases that are accepted the graph alone, and whether it is asked by strict rules."""
+    family, strict = family_of_seed(seed, accepted_only=True)
+    return ACCEPTED[family](random.Random(seed)), strict
+
+
+def case_of_seed(seed: int, accepted_only=False, strict=None) -> Case:
+    """The case of a seed, by the rules that are its turn or those that are said."""
+    family, strict = family_of_seed(seed, accepted_only, strict)
+    return _case(random.Random(seed), family, seed // len(FAMILIES[strict])).by(strict)
 
 
 def _case(rng, family, turn) -> Case:

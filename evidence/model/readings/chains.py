@@ -52,12 +52,12 @@ def exports_by_chains(root: Root, start: Module):
     return resolved, [told for _, told in unresolved]
 
 
-def shared_by_chains(root: Root, start: Module) -> list:
+def shared_by_chains(start: Module, least: 'dict[int, Chain]', exported: 'list[str]') -> list:
     """The names that the module doesn't own, in the order of the exports, and that two or more modules that are reached do:
     each with (chain, owner, symbol) of every owner, by its least chain, in chain order."""
-    least, found = sorted(least_chains(simple_chains(root, start)).values(), key=lambda it: it.places), []
-    for name, *_ in exports_by_chains(root, start)[0]:
-        owners = [(it.told(), it.end.specifier, it.end.own_exports()[name]) for it in least if name in it.end.own_exports()]
+    ordered, found = sorted(least.values(), key=lambda it: it.places), []
+    for name in exported:
+        owners = [(it.told(), it.end.specifier, it.end.own_exports()[name]) for it in ordered if name in it.end.own_exports()]
         if name not in start.own_exports() and len(owners) > 1:
             found.append((name, owners))
     return found

@@ -1,4 +1,5 @@
-"""The checks of the model on one graph, by strict rules or Deno's; each raises AssertionError with what is wrong, and counts what it saw."""
+"""The checks of the model on one graph, by strict rules or Deno's; each raises AssertionError with what is wrong, and counts
+what it saw."""
 from collections import Counter
 
 from readings.chains import exports_by_chains, least_chains, shared_by_chains, simple_chains
@@ -24,28 +25,52 @@ def export_told(found) -> tuple:
     return found.statements(), found.module.specifier, found.symbol
 
 
+def exports_told(root, start, steps=None) -> tuple:
+    """What the model says of a module: its exports, the shared names, and the statements that lead to no module."""
+    resolved, shared, unresolved = exports(root, start, steps)
+    return ([(name, *export_told(it)) for name, it in resolved.items()],
+            [(name, [export_told(it) for it in owners]) for name, owners in shared.items()],
+            [[it.specifier, text] for it, text in unresolved])
+
+
+def count_shared(shared, chains, counts: Counter) -> None:
+    """Counts shared names, those of three owners or more, and those where the least chain to an owner isn't the shortest, so
+    that it isn't the one that is met first where short chains are tried before long ones."""
+    shortest = {}
+    for chain in chains:
+        shortest[chain.end.specifier] = min(len(chain.places), shortest.get(chain.end.specifier, len(chain.places)))
+    for _, owners in shared:
+        counts['shared names'] += 1
+        counts['shared names, three owners or more'] += len(owners) > 2
+        counts['shared names, a least chain not the shortest'] += any(len(told) > shortest[it] for told, it, _ in owners)
+
+
 def check_exports(graph: ModuleGraph, strict: bool, counts: Counter) -> None:
-    """Exports, shared names, unresolved statements, stored modules and steps are what all simple chains give."""
+    """Exports, shared names, unresolved statements, stored modules and steps are what all simple chains give; and the first
+    three are the same where all modules are stored, in another order."""
+    full = Root(graph, strict=strict)
+    for module in reversed(graph.modules):
+        full.module_from_specifier(module.specifier)
     for module in graph.modules:
         root, steps = Root(graph, strict=strict), Steps()
         start = root.module_from_specifier(module.specifier)
         if start is None:
             continue
-        resolved, shared, unresolved = exports(root, start, steps)
-        told = [(name, *export_told(it)) for name, it in resolved.items()]
+        resolved, shared, unresolved = told = exports_told(root, start, steps)
         stored = set(root.numbers)
-        by_chains = exports_by_chains(root, start)
-        assert told == by_chains[0], ('exports', module.specifier)
-        assert [[it.specifier, text] for it, text in unresolved] == by_chains[1], ('unresolved', module.specifier)
-        owners = [(name, [export_told(it) for it in found]) for name, found in shared.items()]
-        assert owners == (shared_by_chains(root, start) if strict else []), ('shared', module.specifier)
-        counts['shared names'] += len(owners)
-        least = least_chains(simple_chains(root, start))
+        by_chains, chains = exports_by_chains(root, start), simple_chains(root, start)
+        assert resolved == by_chains[0], ('exports', module.specifier)
+        assert unresolved == by_chains[1], ('unresolved', module.specifier)
+        least = least_chains(chains)
+        owned = shared_by_chains(start, least, [name for name, *_ in by_chains[0]]) if strict else []
+        assert shared == owned, ('shared', module.specifier)
+        count_shared(owned, chains, counts)
         assert stored == {it.end.specifier for it in least.values()}, ('stored', module.specifier)
         assert steps.count == sum(len(it.end.stars) for it in least.values()), ('steps', module.specifier)
+        assert told == exports_told(full, full.module_from_specifier(module.specifier)), ('all stored', module.specifier)
         counts['exports'] += 1
-        for name in sorted(set(resolved) | {'default', 'no such name'}):
-            check_one_name(Root(graph, strict=strict), module.specifier, name, told, least)
+        for name in sorted({name for name, *_ in resolved} | {'default', 'no such name'}):
+            check_one_name(Root(graph, strict=strict), module.specifier, name, resolved, least)
 
 
 def check_one_name(root, specifier, name, told, least) -> None:

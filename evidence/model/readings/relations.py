@@ -20,17 +20,15 @@ class Relations:
     """The relations over all modules of a root, which are stored already."""
 
     def __init__(self, root: Root):
-        self.root, self._owners = root, {}
+        self.root, self._entries = root, {}
 
     def entry(self, module: Module, name: str):
         """The owner and the symbol of a name that the module exports."""
-        key = (module.number, name)
-        if key not in self._owners:
+        if module.number not in self._entries:
             resolved, _ = exports_by_chains(self.root, module)
-            found = [(self.root.modules[self.root.numbers[owner]], number)
-                     for exported, _, owner, number in resolved if exported == name]
-            self._owners[key] = found[0] if found else None
-        return self._owners[key]
+            self._entries[module.number] = {exported: (self.root.modules[self.root.numbers[owner]], number)
+                                            for exported, _, owner, number in resolved}
+        return self._entries[module.number].get(name)
 
     def candidates(self, module: Module, name: str) -> list:
         """The owners of a name behind each statement `export *`, in order; by strict rules none of `default`."""
