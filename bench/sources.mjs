@@ -4,7 +4,8 @@
 //   node bench/sources.mjs [--rounds N] [--symq FILE] FOLDER..
 //
 // In each round four processes run one after the other: the checker; symdir with an empty cache; symdir with no trees kept, but
-// with TypeScript's compiled form, as any earlier run on any folder keeps it; and symdir with the trees of the run before.
+// with TypeScript's compiled form, as any earlier run on any folder keeps it; and symdir with the trees of the run before. None of
+// them reads further certificates, as Node does before it starts where NODE_EXTRA_CA_CERTS names some.
 // Told are the least of the rounds on the clock and of the processors, in seconds, the latter with all that the process started
 // and on Linux alone; and their ratios to the checker's. Both read the same files, the modules of TypeScript below the folder, and
 // both say how many names they found.
@@ -87,8 +88,9 @@ function processors() {
 
 /** @param {string[]} words @param {string} cache @returns {{ time: Time, count: string }} */
 function timed(words, cache) {
+  const { NODE_EXTRA_CA_CERTS: _, ...environment } = process.env;
   const [began, before] = [performance.now(), processors()];
-  const { status, stdout, stderr } = spawnSync(process.execPath, [SELF, ...words], { encoding: 'utf8', env: { ...process.env, XDG_CACHE_HOME: cache } });
+  const { status, stdout, stderr } = spawnSync(process.execPath, [SELF, ...words], { encoding: 'utf8', env: { ...environment, XDG_CACHE_HOME: cache } });
   const time = { clock: (performance.now() - began) / 1000, processors: processors() - before };
   if (status !== 0) throw new Error(stderr);
   return { time, count: stdout.trim() };

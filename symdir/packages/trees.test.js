@@ -3,6 +3,7 @@
 import assert from 'node:assert/strict';
 import { spawnSync } from 'node:child_process';
 import { readFileSync, writeFileSync } from 'node:fs';
+import { createRequire } from 'node:module';
 import path from 'node:path';
 import test from 'node:test';
 
@@ -12,7 +13,10 @@ import { findSymq } from '../lib/symq.js';
 import { nodesText } from '../lib/tree/node.js';
 import { folderOf } from '../tests/helper.js';
 import { nodesOf } from '../lib/tree/convert.js';
-import { ts } from '../lib/tree/typescript.js';
+import { findTypeScript } from '../lib/typescript.js';
+
+/** @type {typeof import('typescript')} */
+const ts = createRequire(import.meta.url)(findTypeScript(process.cwd()).file);
 
 const FOLDERS = ['/usr/share/nodejs/undici-types', '/usr/share/nodejs/@lumino', '/usr/share/nodejs/graphql', '/usr/share/nodejs/lib0', '/usr/share/javascript/three'];
 const WANTED = 300;

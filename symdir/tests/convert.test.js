@@ -1,10 +1,15 @@
 import assert from 'node:assert/strict';
 import { readFileSync } from 'node:fs';
+import { createRequire } from 'node:module';
+import path from 'node:path';
 import test from 'node:test';
+import { fileURLToPath } from 'node:url';
 
 import { convert, nodesOf } from '../lib/tree/convert.js';
-import { inAscii } from '../lib/tree/typescript.js';
+import { Files } from '../lib/folder/files.js';
+import { inAscii, parserOf, ts } from '../lib/tree/typescript.js';
 import { languageOf } from '../lib/language.js';
+import { findTypeScript } from '../lib/typescript.js';
 
 const PLAIN = { bodies: false, ambient: false };
 
@@ -158,4 +163,52 @@ test('TypeScript\'s text in ASCII means the same', () => {
   assert.deepEqual(eval(/** @type {string} */ (ascii(text))), ['é😀', true, 1]);
   assert.equal(ascii('/\\–/'), null);
   assert.equal(ascii('\ufeffvar a;'), null);
+});
+
+test('of TypeScript the blocks up to the parser are taken, and all of one that has no blocks', () => {
+  const parser = 'var ts;\n(function (ts) {\n    (function (IncrementalParser) {\n    })(1);\n})(ts || (ts = {}));\n';
+  assert.equal(parserOf(`"use strict";\n${parser}var ts;\n(function (ts) {\n})(ts || (ts = {}));\n`), `"use strict";\n${parser}module.exports = ts;\n`);
+  assert.equal(parserOf('var ts = (() => {})();\n'), null);
+  assert.equal(parserOf(parser.slice(0, -2)), null);
+});
+
+test('what is taken of TypeScript parses as the whole does', () => {
+  const { file } = findTypeScript(process.cwd());
+  /** @type {typeof import('typescript')} */
+  const whole = createRequire(import.meta.url)(file);
+  const own = new Files(fileURLToPath(new URL('../lib', import.meta.url)), []).code();
+  const names = [...own, path.join(path.dirname(file), 'lib.es5.d.ts'), path.join(path.dirname(file), 'typescript.d.ts')];
+  const jsx = 'export const a = <B c={1} {...d}>{e} text<F.G /></B>;\nexport class H<I> { @j k!: I; #l = <T,>(m: T) => m }\n';
+  const texts = /** @type {[string, string][]} */ ([['a.tsx', jsx], ['a.ts', jsx], ...names.map((it) => [it, readFileSync(it, 'utf8')])]);
+  let faulty = 0;
+  for (const [name, text] of texts) {
+    for (const it of [text, text.slice(0, text.length / 2), text.slice(text.length / 3)]) {
+      const [ours, theirs] = [ts, whole].map((from) => parsedBy(from, name, it));
+      if (theirs.said.length > 0) faulty++;
+      assert.deepEqual(ours, theirs, name);
+    }
+  }
+  assert.ok(faulty > texts.length);
+});
+
+/** @param {typeof import('typescript')} from @param {string} name @param {string} text @returns {{ nodes: string, said: string[] }} what it makes of the text */
+function parsedBy(from, name, text) {
+  const file = from.createSourceFile(name, text, from.ScriptTarget.Latest, false);
+  /** @type {number[]} */
+  const nodes = [];
+  const walk = (/** @type {import('typescript').Node} */ node) => {
+    nodes.push(node.kind, node.pos, node.end);
+    from.forEachChild(node, walk);
+  };
+  walk(file);
+  const said = /** @type {any} */ (file).parseDiagnostics.map((/** @type {any} */ it) => `${it.start} ${it.length} ${it.code} ${it.messageText}`);
+  return { nodes: nodes.join(' '), said };
+}
+
+test('a text that is nested too deep for the stack leaves nothing behind for the next', () => {
+  const how = { ...languageOf('a.ts'), ...PLAIN };
+  const next = Array.from({ length: 300 }, (_, i) => `export const f${i} = (a${i}) => (b) => a${i};`).join('\n');
+  assert.equal(nodesOf('a.ts', next, how).fault, null);
+  assert.throws(() => nodesOf('b.ts', `b = ${'(a,'.repeat(20000)}1${')'.repeat(20000)}`, how), RangeError);
+  assert.equal(nodesOf('a.ts', next, how).fault, null);
 });

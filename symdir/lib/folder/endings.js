@@ -20,9 +20,14 @@ export function sourcesOf(file) {
   return row ? row[1].map((it) => file.replace(row[0], it)) : [];
 }
 
-/** @param {boolean} fromJavaScript @returns {string[]} */
-function endings(fromJavaScript) {
-  return [...(fromJavaScript ? [...JAVASCRIPT, ...TYPESCRIPT] : [...TYPESCRIPT, ...JAVASCRIPT]), '.json'];
+const FOR_TYPESCRIPT = [...TYPESCRIPT, ...JAVASCRIPT, '.json'];
+const FOR_JAVASCRIPT = [...JAVASCRIPT, ...TYPESCRIPT, '.json'];
+
+/** @param {Files} files @param {string} bare @param {boolean} fromJavaScript @returns {string | null} the file of itself, or of the sources of what it names */
+function itself(files, bare, fromJavaScript) {
+  const sources = sourcesOf(bare).find((it) => files.has(it)) ?? null;
+  if (sources !== null && !fromJavaScript) return sources;
+  return files.has(bare) ? bare : sources;
 }
 
 /**
@@ -33,11 +38,18 @@ function endings(fromJavaScript) {
  * @returns {string | null}
  */
 export function foundAt(files, at, fromJavaScript) {
+  const endings = fromJavaScript ? FOR_JAVASCRIPT : FOR_TYPESCRIPT;
   const isFolder = at.endsWith('/');
   const bare = isFolder ? at.slice(0, -1) : at;
-  const itself = fromJavaScript ? [bare, ...sourcesOf(bare)] : [...sourcesOf(bare), bare];
-  const direct = isFolder ? [] : [...itself, ...endings(fromJavaScript).map((it) => bare + it)];
-  const found = direct.find((it) => files.has(it));
-  if (found) return found;
-  return endings(fromJavaScript).map((it) => `${bare}/index${it}`).find((it) => files.has(it)) ?? null;
+  if (!isFolder) {
+    const found = itself(files, bare, fromJavaScript) ?? withEnding(files, bare, endings);
+    if (found !== null) return found;
+  }
+  return withEnding(files, `${bare}/index`, endings);
+}
+
+/** @param {Files} files @param {string} bare @param {string[]} endings @returns {string | null} */
+function withEnding(files, bare, endings) {
+  for (const it of endings) if (files.has(bare + it)) return bare + it;
+  return null;
 }

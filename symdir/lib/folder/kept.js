@@ -18,7 +18,7 @@ import { fileURLToPath } from 'node:url';
  * @property {number} nodes how many the tree has
  */
 
-/** What nobody asked for in so many days goes. */
+/** What was written before so many days goes. */
 const DAYS = 30;
 
 /** @param {Buffer | string} bytes @returns {string} */
@@ -34,10 +34,10 @@ function cacheFolder() {
   return path.join(os.homedir(), platform === 'darwin' ? 'Library/Caches' : '.cache', 'symdir');
 }
 
-/** @param {import('../typescript.js').Found} found @returns {string} where what is made of it is kept for this version of Node, without an ending */
+/** @param {import('../typescript.js').Found} found @returns {string} where its parser is kept for this version of Node, without an ending */
 export function madeOf({ file, version }) {
   const { size, mtimeMs } = statSync(file);
-  return path.join(cacheFolder(), `typescript-${version}-${process.version}-${hashOf(JSON.stringify([file, size, mtimeMs]))}`);
+  return path.join(cacheFolder(), `parser-${version}-${process.version}-${hashOf(JSON.stringify([file, size, mtimeMs]))}`);
 }
 
 /** @returns {string} changes with what makes of a text what is kept */

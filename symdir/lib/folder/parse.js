@@ -7,7 +7,7 @@ import { hashOf } from './kept.js';
 import { decoded } from './text.js';
 
 /** @typedef {import('./kept.js').Parsed} Parsed */
-/** @typedef {import('./pool.js').Job} Job */
+/** @typedef {import('./queue.js').Job} Job */
 /** @typedef {import('../tree/convert.js').Converted} Converted */
 /** @typedef {{ bodies: boolean, ambient: boolean }} How */
 

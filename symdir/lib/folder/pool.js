@@ -1,26 +1,28 @@
-// Parses files: in this thread, or in others where they are worth it and processors are free.
+// Parses files: in this thread, and in others beside it where they are worth it and processors are free.
 import { statSync } from 'node:fs';
 import os from 'node:os';
 import { setImmediate } from 'node:timers/promises';
-import { Worker } from 'node:worker_threads';
 
 import { Failure, reasonOf } from '../failure.js';
 import { useTypeScript } from '../tree/which.js';
+import { queueOf, take } from './queue.js';
 
 /** @typedef {import('./kept.js').Parsed} Parsed */
-
-/** A file, and the specifier of its module. */
-/** @typedef {{ file: string, specifier: string }} Job */
+/** @typedef {import('./queue.js').Job} Job */
+/** @typedef {import('./queue.js').Queue} Queue */
+/** @typedef {import('node:worker_threads').Worker} Worker */
 
 /**
  * Is given each file with what is known of its module, or with why it can't be read.
  * @typedef {(file: string, made: Parsed | null, error: string | null) => void} Done
  */
 
-/** A thread loads TypeScript and warms up for itself, so one has at least so many bytes to parse. */
-const BYTES_FOR_A_THREAD = 2_000_000;
-/** How many files a thread is given ahead. */
-const AHEAD = 3;
+/** A thread loads the parser and warms up for itself, so a second one is worth it from so many bytes on. */
+const BYTES_FOR_A_SECOND = 150_000;
+/** Memory is what more of them wait for, so that each has at least so many. */
+const BYTES_FOR_MORE = 2_000_000;
+/** For so many milliseconds at least this thread parses, before it hears of what others made and of signals. */
+const UNHEARD = 10;
 /** Trees are deep, and walked by recursion. */
 const STACK_MEGABYTES = 64;
 /** What one file makes is gone before so much is made. */
@@ -28,13 +30,18 @@ const YOUNG_MEGABYTES = 96;
 
 /** @returns {number} how many processors nothing else uses, as far as the system tells that, and at least one */
 function freeProcessors() {
-  return Math.max(1, os.cpus().length - Math.round(os.loadavg()[0]));
+  return Math.max(1, os.availableParallelism() - Math.round(os.loadavg()[0]));
 }
 
-/** @param {Job[]} jobs @returns {{ sorted: Job[], bytes: number }} the largest first */
+/** @param {number} bytes to be parsed @returns {number} how many threads are worth it */
+function wanted(bytes) {
+  return bytes < BYTES_FOR_A_SECOND ? 1 : 2 + Math.floor(bytes / BYTES_FOR_MORE);
+}
+
+/** @param {Job[]} jobs @returns {{ sorted: Job[], bytes: number }} the smallest first */
 function bySize(jobs) {
   const sized = jobs.map((job) => ({ job, size: statSync(job.file, { throwIfNoEntry: false })?.size ?? 0 }));
-  sized.sort((a, b) => b.size - a.size);
+  sized.sort((a, b) => a.size - b.size);
   return { sorted: sized.map((it) => it.job), bytes: sized.reduce((sum, it) => sum + it.size, 0) };
 }
 
@@ -45,58 +52,60 @@ export class Pool {
     this.how = how;
     /** @type {Worker[]} */
     this.workers = [];
-    /** @type {() => void | Promise<void>} has what is made of TypeScript kept */
-    this.keep = () => {};
+    /** @type {(() => void | Promise<void>) | null} has TypeScript's parser kept */
+    this.keep = null;
   }
 
   /** @param {Job[]} jobs @param {Done} done @returns {Promise<void>} */
   async parse(jobs, done) {
     if (jobs.length === 0) return;
     const { sorted, bytes } = bySize(jobs);
-    const count = Math.min(freeProcessors(), jobs.length, Math.ceil(bytes / BYTES_FOR_A_THREAD));
+    const count = Math.min(freeProcessors(), jobs.length, wanted(bytes));
     // several threads end together where the largest go first; one is done sooner where it warms up on small ones
-    if (count > 1) await this.inThreads(count, sorted.reverse(), done);
-    else await this.here(sorted.reverse(), done);
+    if (count > 1) this.keep ??= () => asked(this.workers[0], null, () => {});
+    const queue = queueOf(count > 1 ? sorted.reverse() : sorted);
+    const [deep] = await Promise.all([this.here(queue, done), this.inThreads(count - 1, queue, done)]);
+    if (deep.length > 0) await this.inThreads(1, queueOf(deep), done);
   }
 
-  /** @param {Job[]} jobs @param {Done} done those that need a deeper stack than this thread has get one of their own */
-  async here(jobs, done) {
+  /** @param {Queue} queue @param {Done} done @returns {Promise<Job[]>} those that need a deeper stack than this thread has */
+  async here(queue, done) {
     const [{ parseFile }, { keepCompiled }] = await Promise.all([import('./parse.js'), import('../tree/typescript.js')]);
-    this.keep = keepCompiled;
+    this.keep ??= keepCompiled;
     /** @type {Job[]} */
     const deep = [];
-    for (const job of jobs) {
+    let heard = performance.now();
+    for (let job = take(queue); job; job = take(queue)) {
       try {
         done(job.file, parseFile(job, this.how), null);
       } catch (error) {
         if (error instanceof RangeError) deep.push(job);
         else done(job.file, null, reasonOf(error));
       }
+      if (performance.now() - heard < UNHEARD) continue;
       await setImmediate();
+      heard = performance.now();
     }
-    if (deep.length > 0) await this.inThreads(1, deep, done);
+    return deep;
   }
 
-  /** @param {number} count @param {Job[]} waiting the next at the end @param {Done} done */
-  async inThreads(count, waiting, done) {
-    while (this.workers.length < count) this.workers.push(this.started());
+  /** @param {number} count @param {Queue} queue @param {Done} done */
+  async inThreads(count, queue, done) {
+    if (count === 0) return;
+    const { Worker } = await import('node:worker_threads');
+    while (this.workers.length < count) this.workers.push(this.started(Worker));
+    const workers = this.workers.slice(0, count);
     try {
-      await Promise.all(this.workers.map((it) => serve(it, waiting, done)));
+      await Promise.all(workers.map((it) => asked(it, queue, done)));
     } catch (error) {
-      this.keep = () => {};
+      this.keep = null;
       throw new Failure(`a thread that parses ended: ${/** @type {Error} */ (error).message}`);
     }
-    const [first] = this.workers;
-    this.keep = async () => {
-      first.ref();
-      first.postMessage(null);
-      await new Promise((resolve) => first.once('message', resolve).once('exit', resolve));
-    };
   }
 
-  /** @returns {Worker} */
-  started() {
-    return new Worker(new URL('./worker.js', import.meta.url), {
+  /** @param {typeof import('node:worker_threads').Worker} Thread @returns {Worker} */
+  started(Thread) {
+    return new Thread(new URL('./worker.js', import.meta.url), {
       workerData: this.how,
       resourceLimits: { stackSizeMb: STACK_MEGABYTES, maxYoungGenerationSizeMb: YOUNG_MEGABYTES, maxOldGenerationSizeMb: 4096 },
     });
@@ -104,44 +113,38 @@ export class Pool {
 
   /** Ends the threads. */
   async close() {
-    await this.keep();
+    await this.keep?.();
     for (const it of this.workers) it.terminate();
   }
 }
 
 /**
- * Gives a thread files until none waits. While it is asked nothing, it doesn't keep the process from its end.
+ * Asks a thread for what is in the queue, or to keep what it made. While it is asked nothing, it doesn't keep the process from its end.
  * @param {Worker} worker
- * @param {Job[]} waiting the next at the end
+ * @param {Queue | null} queue
  * @param {Done} done
  * @returns {Promise<void>}
  */
-function serve(worker, waiting, done) {
+function asked(worker, queue, done) {
   return new Promise((resolve, reject) => {
-    /** @type {Job[]} what it was given and hasn't answered */
-    const open = [];
-    const give = () => {
-      while (open.length < AHEAD && waiting.length > 0) {
-        const job = /** @type {Job} */ (waiting.pop());
-        open.push(job);
-        worker.postMessage(job);
-      }
-      if (open.length > 0) return;
-      worker.off('message', take);
+    /** @param {{ file: string, made?: Parsed, error?: string } | null} said of a file, or that no more comes */
+    const hear = (said) => {
+      if (said?.made) done(said.file, { ...said.made, text: bufferOf(said.made.text) }, null);
+      else if (said) done(said.file, null, said.error ?? '');
+      if (said !== null) return;
+      worker.off('message', hear);
       worker.off('error', reject);
       worker.unref();
       resolve();
     };
-    /** @param {{ made?: Parsed, error?: string }} said of the first that is open */
-    const take = ({ made, error }) => {
-      const { file } = /** @type {Job} */ (open.shift());
-      if (made) done(file, { ...made, text: Buffer.from(made.text.buffer, made.text.byteOffset, made.text.byteLength) }, null);
-      else done(file, null, error ?? '');
-      give();
-    };
     worker.ref();
-    worker.on('message', take);
+    worker.on('message', hear);
     worker.on('error', reject);
-    give();
+    worker.postMessage(queue);
   });
+}
+
+/** @param {Uint8Array} bytes @returns {Buffer} that stands for them */
+function bufferOf({ buffer, byteOffset, byteLength }) {
+  return Buffer.from(buffer, byteOffset, byteLength);
 }

@@ -9,7 +9,6 @@ import { sourcesOf } from './endings.js';
 import { Files } from './files.js';
 import { Kept, hashOf, madeOf } from './kept.js';
 import { packageFile } from './packages.js';
-import { Pool } from './pool.js';
 import { Resolver } from './resolve.js';
 import { shortOf } from './specifier.js';
 
@@ -53,6 +52,10 @@ export class Sources {
     this.external = new Set();
     /** @type {{ file: string, error: string }[]} */
     this.unread = [];
+    /** @type {import('../typescript.js').Found | undefined} */
+    this.typescript = undefined;
+    /** @type {import('./pool.js').Pool | undefined} */
+    this.pool = undefined;
   }
 
   /** @param {string} file absolute @returns {string} */
@@ -78,23 +81,23 @@ export class Sources {
 
   /** Reads the modules of the folder, and then what they lead to. */
   async read() {
-    const { pool, kept } = this.start();
+    const kept = this.start();
     let isNew = false;
     try {
       let wanted = this.files.code().filter((it) => this.reading.javascript || !isJavaScript(it) || !this.hasTypes(it));
       this.unread.push(...this.files.unread.map((file) => ({ file: this.files.below(file), error: 'EACCES' })));
       while (wanted.length > 0) {
-        const parsed = await this.parse(wanted, kept, pool);
+        const parsed = await this.parse(wanted, kept);
         isNew ||= parsed > 0;
         wanted = this.resolveAll(wanted);
       }
     } catch (error) {
-      await pool.close();
+      await this.pool?.close();
       throw error;
     }
     const isOther = isNew || kept?.modules.size !== this.modules.size;
     this.keep = async () => {
-      await Promise.all([pool.close(), isOther && kept?.write(new Map([...this.modules.values()].map((it) => [it.file, it.parsed])))]);
+      await Promise.all([this.pool?.close(), isOther && kept?.write(new Map([...this.modules.values()].map((it) => [it.file, it.parsed])))]);
     };
   }
 
@@ -106,21 +109,27 @@ export class Sources {
     return [...unread, ...faulty];
   }
 
-  /** @returns {{ pool: Pool, kept: Kept | null }} */
+  /** @returns {Kept | null} the trees that are kept */
   start() {
-    const found = findTypeScript(this.folder);
     const { bodies, ambient, cache } = this.reading;
-    const pool = new Pool({ typescript: found.file, kept: cache ? madeOf(found) : undefined, bodies, ambient });
-    return { pool, kept: cache ? new Kept(JSON.stringify([this.folder, found.version, bodies, ambient])) : null };
+    this.typescript = findTypeScript(this.folder);
+    return cache ? new Kept(JSON.stringify([this.folder, this.typescript.version, bodies, ambient])) : null;
+  }
+
+  /** @returns {Promise<import('./pool.js').Pool>} which isn't loaded where all trees are kept */
+  async parsers() {
+    const { bodies, ambient, cache } = this.reading;
+    const found = /** @type {import('../typescript.js').Found} */ (this.typescript);
+    const { Pool } = await import('./pool.js');
+    return (this.pool ??= new Pool({ typescript: found.file, kept: cache ? madeOf(found) : undefined, bodies, ambient }));
   }
 
   /**
    * @param {string[]} wanted files
    * @param {Kept | null} kept
-   * @param {Pool} pool
    * @returns {Promise<number>} how many were parsed
    */
-  async parse(wanted, kept, pool) {
+  async parse(wanted, kept) {
     /** @type {Map<string, Parsed>} */
     const found = new Map();
     const jobs = [];
@@ -130,7 +139,7 @@ export class Sources {
       else jobs.push({ file, specifier: this.specifierOf(file) });
     }
     let done = 0;
-    await pool.parse(jobs, (file, made, error) => {
+    if (jobs.length > 0) await (await this.parsers()).parse(jobs, (file, made, error) => {
       this.reading.progress(++done, jobs.length);
       if (made) found.set(file, made);
       else this.unread.push({ file: this.files.below(file), error: error ?? '' });

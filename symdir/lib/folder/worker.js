@@ -1,13 +1,16 @@
-// A thread that parses: a file and its specifier in, what is known of its module out. `null` in their place says that there are no more.
+// A thread that parses: a queue of files in, what is known of the module of each that it takes out, and `null` when none is left.
+// `null` in place of a queue has it keep what it made of TypeScript.
 import { parentPort, workerData } from 'node:worker_threads';
 
 import { reasonOf } from '../failure.js';
-import { keepCompiled } from '../tree/typescript.js';
-import { parseFile, tooDeep } from './parse.js';
+import { useTypeScript } from '../tree/which.js';
+import { take } from './queue.js';
 
-/** @typedef {import('./pool.js').Job} Job */
+/** @typedef {import('./queue.js').Job} Job */
 
 const port = /** @type {import('node:worker_threads').MessagePort} */ (parentPort);
+useTypeScript(workerData);
+const [{ parseFile, tooDeep }, { keepCompiled }] = await Promise.all([import('./parse.js'), import('../tree/typescript.js')]);
 
 /** @param {Job} job @returns {import('./kept.js').Parsed} */
 function parsed(job) {
@@ -21,18 +24,19 @@ function parsed(job) {
 
 /** @param {Job} job */
 function answer(job) {
+  const { file } = job;
   try {
     const made = parsed(job);
     const { buffer } = made.text;
     // a small text stands in memory that Node shares with others, and is copied
-    port.postMessage({ made }, buffer.byteLength === made.text.byteLength ? [/** @type {ArrayBuffer} */ (buffer)] : []);
+    port.postMessage({ file, made }, buffer.byteLength === made.text.byteLength ? [/** @type {ArrayBuffer} */ (buffer)] : []);
   } catch (error) {
-    port.postMessage({ error: reasonOf(error) });
+    port.postMessage({ file, error: reasonOf(error) });
   }
 }
 
-port.on('message', (/** @type {Job | null} */ job) => {
-  if (job) return answer(job);
-  keepCompiled();
+port.on('message', (/** @type {import('./queue.js').Queue | null} */ queue) => {
+  if (queue) for (let job = take(queue); job; job = take(queue)) answer(job);
+  else keepCompiled();
   port.postMessage(null);
 });

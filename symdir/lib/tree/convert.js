@@ -54,7 +54,13 @@ function parsed(name, source, options) {
   const text = withoutTags(source);
   const kind = { ts: ts.ScriptKind.TS, tsx: ts.ScriptKind.TSX, js: ts.ScriptKind.JS, jsx: ts.ScriptKind.JSX }[options.language];
   const how = { languageVersion: ts.ScriptTarget.Latest, jsDocParsingMode: 1 };
-  return ts.createSourceFile(name, text, /** @type {any} */ (how), false, kind);
+  try {
+    return ts.createSourceFile(name, text, /** @type {any} */ (how), false, kind);
+  } catch (error) {
+    // what the parser noted of a text that it left halfway would stand for the next one, until it comes to an end
+    ts.createSourceFile(name, '', /** @type {any} */ (how), false, kind);
+    throw error;
+  }
 }
 
 /** @param {import('typescript').SourceFile} file @returns {readonly import('typescript').DiagnosticWithLocation[]} */
@@ -101,7 +107,7 @@ function program(c) {
 
 /** @param {import('typescript').SourceFile} file @param {number} at @param {string} text @returns {Fault} */
 function faultAt(file, at, text) {
-  const { line, character } = file.getLineAndCharacterOfPosition(at);
+  const { line, character } = ts.getLineAndCharacterOfPosition(file, at);
   return { line: line + 1, column: character + 1, text };
 }
 
@@ -116,7 +122,8 @@ export function nodesOf(name, source, options) {
   const { file, marks } = parsedAnyhow(name, text, options);
   const [first] = faultsOf(file);
   if (first) {
-    const fault = faultAt(file, first.start, ts.flattenDiagnosticMessageText(first.messageText, ' '));
+    const { messageText: said } = first;
+    const fault = faultAt(file, first.start, typeof said === 'string' ? said : said.messageText);
     return { text, nodes: null, fault, references: [], declarations: [], implicit: [] };
   }
   const c = new Converter(file, marks, text, options);

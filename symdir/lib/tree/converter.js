@@ -1,5 +1,5 @@
 // What stands while one text becomes a tree: the parsed text, the scope at hand, and what is noted on the way.
-import { K, ts } from './typescript.js';
+import { K, startOf, ts } from './typescript.js';
 import { byteOffsets } from './offsets.js';
 import { TreeNode } from './node.js';
 import { KINDS } from '../kinds.js';
@@ -71,7 +71,7 @@ export class Converter {
     // mostly a word stands there, or a space before it, and no comment
     if (isLetter(this.source.charCodeAt(pos))) return pos;
     if (this.source.charCodeAt(pos) === SPACE && isLetter(this.source.charCodeAt(pos + 1))) return pos + 1;
-    return node.getStart(this.file);
+    return startOf(node, this.file);
   }
 
   /** @param {number} from in UTF-16 units @returns {number} where the next `import` stands in the text; infinite where there is none */

@@ -1,6 +1,6 @@
-// TypeScript itself, loaded once in each thread that parses. Decoding and compiling its ten megabytes takes longer than parsing
-// most folders, so its text in ASCII and its compiled form are kept under the user's cache folder.
-import { mkdirSync, readFileSync, renameSync, writeFileSync } from 'node:fs';
+// What of TypeScript parses, loaded once in each thread that does. Decoding and compiling that takes longer than parsing most
+// folders, so its text in ASCII and its compiled form are kept under the user's cache folder.
+import { closeSync, mkdirSync, openSync, readFileSync, readSync, renameSync, writeFileSync } from 'node:fs';
 import Module, { createRequire } from 'node:module';
 import path from 'node:path';
 import v8 from 'node:v8';
@@ -9,9 +9,35 @@ import { Script } from 'node:vm';
 import { findTypeScript } from '../typescript.js';
 import { usedTypeScript } from './which.js';
 
-// Most runs end before what V8's optimizing compiler makes pays for itself: a function has to run 15 times as long as it is set
+// Most runs end before what V8's optimizing compiler makes pays for itself: a function has to run some four times as long as it is set
 // to by itself before it is compiled anew.
-v8.setFlagsFromString('--interrupt-budget=1000000');
+v8.setFlagsFromString('--interrupt-budget=250000');
+
+/** Where the last block of the parser begins, and what each block ends with. */
+const LAST_BLOCK = '\n    (function (IncrementalParser) {';
+const BLOCK_END = '\n})(ts || (ts = {}));\n';
+/** The parser's blocks are shorter than this. */
+const FIRST_BYTES = 4_000_000;
+
+/**
+ * @param {string} text of TypeScript, as a module of CommonJS
+ * @returns {string | null} of 4.8 and 4.9, where each file is a block that adds to `ts`, the blocks up to that of the parser, which
+ * need no later one to parse: a quarter of all; null of newer ones, which are one function
+ */
+export function parserOf(text) {
+  const last = text.indexOf(LAST_BLOCK);
+  const end = last < 0 ? -1 : text.indexOf(BLOCK_END, last);
+  return end < 0 ? null : `${text.slice(0, end + BLOCK_END.length)}module.exports = ts;\n`;
+}
+
+/** @param {string} file @param {BufferEncoding} encoding @returns {string} what of it parses, or all */
+function readParser(file, encoding) {
+  const bytes = Buffer.allocUnsafe(FIRST_BYTES);
+  const open = openSync(file, 'r');
+  const count = readSync(open, bytes, 0, FIRST_BYTES, 0);
+  closeSync(open);
+  return parserOf(bytes.toString(encoding, 0, count)) ?? readFileSync(file, encoding);
+}
 
 /** @param {string} text @returns {string} with an escape for each of its units */
 function escaped(text) {
@@ -58,13 +84,17 @@ function load(file, text, compiled) {
 
 const which = usedTypeScript() ?? { typescript: findTypeScript(process.cwd()).file };
 const kept = readKept(which.kept);
-const ascii = kept ? null : inAscii(readFileSync(which.typescript, 'latin1'));
-const text = kept?.text ?? Module.wrap(ascii ?? readFileSync(which.typescript, 'utf8'));
+const ascii = kept ? null : inAscii(readParser(which.typescript, 'latin1'));
+const text = kept?.text ?? Module.wrap(ascii ?? readParser(which.typescript, 'utf8'));
 const loaded = load(which.typescript, text, kept?.compiled);
 
 /** @type {typeof import('typescript')} */
 export const ts = /** @type {any} */ (loaded.value);
 export const K = ts.SyntaxKind;
+
+/** Where a node starts, behind comments. */
+/** @type {(node: import('typescript').Node, file: import('typescript').SourceFile) => number} */
+export const startOf = /** @type {any} */ (ts).getTokenPosOfNode ?? ((node, file) => node.getStart(file));
 
 /** Keeps the text, and the compiled form with what was compiled of it while files were parsed, where they aren't kept yet. */
 export function keepCompiled() {

@@ -1,6 +1,4 @@
 // Which TypeScript this thread loads: to be said before `typescript.js` is imported, which loads it.
-import { workerData } from 'node:worker_threads';
-
 /**
  * @typedef {object} Which
  * @property {string} typescript its file
@@ -8,7 +6,7 @@ import { workerData } from 'node:worker_threads';
  */
 
 /** @type {Which | null} */
-let which = workerData;
+let which = null;
 
 /** @param {Which} it */
 export function useTypeScript(it) {

@@ -1,0 +1,53 @@
+import assert from 'node:assert/strict';
+import path from 'node:path';
+import test from 'node:test';
+
+import { Pool } from '../lib/folder/pool.js';
+import { queueOf, take } from '../lib/folder/queue.js';
+import { findTypeScript } from '../lib/typescript.js';
+import { folderOf } from './helper.js';
+
+const COUNT = 40;
+const HOW = { typescript: findTypeScript(process.cwd()).file, bodies: false, ambient: false };
+
+/** @returns {import('../lib/folder/queue.js').Job[]} files, the last of which isn't there */
+function jobs() {
+  const folder = folderOf(Object.fromEntries(Array.from({ length: COUNT }, (_, i) => [`f${i}.ts`, `export const a${i} = "${'€'.repeat(i * 100)}";\n`])));
+  return Array.from({ length: COUNT + 1 }, (_, i) => ({ file: path.join(folder, `f${i}.ts`), specifier: `file:///f${i}.ts` }));
+}
+
+/** @param {(done: import('../lib/folder/pool.js').Done) => Promise<unknown>} parse @returns {Promise<string[]>} what is told of each file, in their order */
+async function told(parse) {
+  /** @type {string[]} */
+  const found = [];
+  await parse((file, made, error) => found.push(`${path.basename(file)} ${made ? made.text.toString() : error}`));
+  return found.sort();
+}
+
+test('each file is taken once', () => {
+  const queue = queueOf(jobs());
+  const taken = Array.from({ length: COUNT + 1 }, () => take(queue));
+  assert.deepEqual(taken, queue.jobs);
+  assert.deepEqual([take(queue), take(queue)], [undefined, undefined]);
+});
+
+test('several threads tell of each file what one does', async () => {
+  const files = jobs();
+  const one = new Pool(HOW);
+  const several = new Pool(HOW);
+  const alone = await told((done) => one.here(queueOf(files), done));
+  const queue = queueOf(files);
+  const beside = await told((done) => Promise.all([several.here(queue, done), several.inThreads(2, queue, done)]));
+  const others = await told((done) => several.inThreads(2, queueOf(files), done));
+  await several.close();
+  assert.equal(alone.length, COUNT + 1);
+  assert.deepEqual(alone.filter((it) => it.endsWith(' ENOENT')), [`f${COUNT}.ts ENOENT`]);
+  assert.deepEqual(beside, alone);
+  assert.deepEqual(others, alone);
+});
+
+test('a thread that ends is told', async () => {
+  const pool = new Pool({ ...HOW, typescript: '/none/typescript.js' });
+  await assert.rejects(pool.inThreads(1, queueOf(jobs()), () => {}), /^Error: a thread that parses ended: ENOENT/);
+  await pool.close();
+});
