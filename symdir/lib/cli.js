@@ -87,7 +87,7 @@ function pattern(text) {
 /** @param {Run} run @returns {import('./folder/sources.js').Reading} */
 function reading({ words, options }) {
   const progress = new Progress();
-  if (words.length === 0) throw new Failure('which folder? `symdir --help` shows how it is called', 2);
+  if (!words[0]) throw new Failure('which folder? `symdir --help` shows how it is called', 2);
   if (/:\d+$/.test(words[0])) throw new Failure(`the folder goes first, as \`symdir where . ${words[0]}\``, 2);
   const folder = withSlashes(path.resolve(words[0]));
   checkFolder(folder);

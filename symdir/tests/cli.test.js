@@ -43,6 +43,7 @@ test('wrong words', () => {
   assert.equal(said('api', '.', '--strict', '--unproved'), 'symdir: --strict and --unproved don\'t go together\n');
   assert.equal(said('graph', '.', '--check', 'a'), 'symdir: --check takes a graph, and no folder besides: not .\n');
   assert.equal(said('api'), 'symdir: which folder? `symdir --help` shows how it is called\n');
+  assert.equal(said('api', ''), 'symdir: which folder? `symdir --help` shows how it is called\n');
   assert.equal(said('api', 'a', 'b'), 'symdir: api takes one folder, and not a b\n');
   assert.equal(said('api', '.', '--none'), 'symdir: Unknown option \'--none\'; `symdir api --help` lists what it takes\n');
   assert.match(said('api', '.', '--entry'), /^symdir: Option '--entry <value>' argument missing; `symdir api --help` lists what it takes\n$/);

@@ -1,4 +1,5 @@
 import assert from 'node:assert/strict';
+import { symlinkSync } from 'node:fs';
 import path from 'node:path';
 import test from 'node:test';
 
@@ -163,4 +164,27 @@ test('absolute paths and file URLs', () => {
   assert.equal(resolver.resolve(`${folder}/a.ts`, `${folder}/b`)?.file, `${folder}/b.ts`);
   assert.equal(resolver.resolve(`${folder}/a.ts`, `file://${folder}/b.ts`)?.file, `${folder}/b.ts`);
   assert.equal(resolver.resolve(`${folder}/a.ts`, ''), null);
+});
+
+test('texts that are no path, and files that can\'t be looked at, lead nowhere', () => {
+  const folder = folderOf({ 'a.ts': '' });
+  symlinkSync('ring.ts', path.join(folder, 'ring.ts'));
+  symlinkSync('/none', path.join(folder, 'none.ts'));
+  const set = new Files(folder, []);
+  const resolver = new Resolver(set, new Configs(set));
+  const long = 'x'.repeat(300);
+  const texts = ['file://host/a.ts', 'file:///%00', 'file:///%zz', './a\0', '../a\0', 'a\0', `./${long}`, `../${long}`, long, './ring', './ring.ts', './none.ts'];
+  assert.deepEqual(texts.filter((it) => resolver.resolve(`${folder}/a.ts`, it) !== null), []);
+  assert.deepEqual(set.code(), [`${folder}/a.ts`]);
+});
+
+test('configuration files with other values than they should have are passed over', () => {
+  const odd = [null, 5, 'x', [], [null], {}, { compilerOptions: null }, { compilerOptions: { paths: { b: null, '*': [5] } } }, { extends: [null, './none'] },
+    { exports: null, types: 5, main: [] }, { exports: { '.': [null, { import: 5 }] } }, { imports: null, scopes: { './': null } }, { imports: { b: 5 }, importMap: 5 }];
+  const names = ['package.json', 'tsconfig.json', 'deno.json', 'import_map.json', 'node_modules/b/package.json'];
+  for (const value of odd) {
+    for (const name of names) assert.equal(resolved({ 'a.ts': '', 'c.ts': '', [name]: JSON_OF(value) }, 'a.ts', './c'), 'c.ts');
+    for (const name of names.slice(0, -1)) assert.equal(resolved({ 'a.ts': '', [name]: JSON_OF(value) }, 'a.ts', 'b'), null);
+    assert.equal(resolved({ 'a.ts': '', 'node_modules/b/package.json': JSON_OF(value) }, 'a.ts', 'b'), 'npm:b');
+  }
 });

@@ -29,7 +29,8 @@ function extended(configs, text, folder) {
 /** @param {Configs} configs @param {string} file @param {number} [depth] @returns {Paths} with what it extends, of which its own words win */
 function pathsOf(configs, file, depth = 0) {
   const folder = path.posix.dirname(file);
-  const { extends: above, compilerOptions: own = {} } = configs.value(file);
+  const { extends: above, compilerOptions } = configs.value(file);
+  const own = table(compilerOptions);
   /** @type {Paths} */
   let found = { base: null, paths: {}, from: folder };
   for (const it of [above ?? []].flat()) {
@@ -97,7 +98,14 @@ export function importMap(configs, folder) {
   const named = found.value.importMap;
   const file = typeof named === 'string' ? path.posix.resolve(found.folder, named) : found.file;
   const value = configs.value(file);
-  return value && { folder: path.posix.dirname(file), imports: value.imports ?? {}, scopes: value.scopes ?? {} };
+  if (!value) return null;
+  const scopes = Object.entries(table(value.scopes)).map(([key, imports]) => [key, table(imports)]);
+  return { folder: path.posix.dirname(file), imports: table(value.imports), scopes: Object.fromEntries(scopes) };
+}
+
+/** @param {any} value of a configuration file @returns {Record<string, any>} nothing where it is no object */
+function table(value) {
+  return value !== null && typeof value === 'object' && !Array.isArray(value) ? value : {};
 }
 
 /** @param {Record<string, string>} imports @param {string} text @returns {string | null} the whole text's target, else that of the longest `key/` */

@@ -2,7 +2,7 @@
 import { readdirSync, statSync } from 'node:fs';
 import path from 'node:path';
 
-import { Failure } from '../failure.js';
+import { Failure, fileFailure } from '../failure.js';
 import { isCode } from '../language.js';
 
 /** @typedef {import('node:fs').Dirent} Dirent */
@@ -12,22 +12,36 @@ export function withSlashes(file) {
   return path.sep === '/' ? file : file.split(path.sep).join('/');
 }
 
+/** @param {string} file @returns {import('node:fs').Stats | null} null where it isn't there, or can't be looked at: links in a ring, a name that is too long */
+export function statsOf(file) {
+  try {
+    return statSync(file, { throwIfNoEntry: false }) ?? null;
+  } catch {
+    return null;
+  }
+}
+
 /** @param {string} file @returns {boolean} */
 export function isFile(file) {
-  return statSync(file, { throwIfNoEntry: false })?.isFile() ?? false;
+  return statsOf(file)?.isFile() ?? false;
 }
 
 /** @param {string} folder @returns {boolean} */
 export function isFolder(folder) {
-  return statSync(folder, { throwIfNoEntry: false })?.isDirectory() ?? false;
+  return statsOf(folder)?.isDirectory() ?? false;
 }
 
-/** @param {string} folder @throws {Failure} where it is none */
+/** @param {string} folder @throws {Failure} where it is none, or can't be read */
 export function checkFolder(folder) {
   if (isFile(folder)) {
     throw new Failure(`${folder} is a file: name the folder${isCode(folder) ? `, and --entry ${path.basename(folder)}` : ''}`, 2);
   }
-  if (!isFolder(folder)) throw new Failure(`no folder ${folder}`);
+  try {
+    readdirSync(folder);
+  } catch (error) {
+    const isThere = !['ENOENT', 'ENOTDIR'].includes(/** @type {any} */ (error).code);
+    throw isThere ? fileFailure(folder, 'read', error) : new Failure(`no folder ${folder}`);
+  }
 }
 
 export class Files {

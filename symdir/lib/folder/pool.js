@@ -1,10 +1,10 @@
 // Parses files: in this thread, and in others beside it where they are worth it and processors are free.
-import { statSync } from 'node:fs';
 import os from 'node:os';
 import { setImmediate } from 'node:timers/promises';
 
 import { Failure, reasonOf } from '../failure.js';
 import { useTypeScript } from '../tree/which.js';
+import { statsOf } from './files.js';
 import { queueOf, take } from './queue.js';
 
 /** @typedef {import('./kept.js').Parsed} Parsed */
@@ -40,7 +40,7 @@ function wanted(bytes) {
 
 /** @param {Job[]} jobs @returns {{ sorted: Job[], bytes: number }} the smallest first */
 function bySize(jobs) {
-  const sized = jobs.map((job) => ({ job, size: statSync(job.file, { throwIfNoEntry: false })?.size ?? 0 }));
+  const sized = jobs.map((job) => ({ job, size: statsOf(job.file)?.size ?? 0 }));
   sized.sort((a, b) => a.size - b.size);
   return { sorted: sized.map((it) => it.job), bytes: sized.reduce((sum, it) => sum + it.size, 0) };
 }

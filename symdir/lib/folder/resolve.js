@@ -67,7 +67,7 @@ export class Resolver {
 
   /** @param {string} from @param {string} folder @param {string} text behind the import map @returns {Target | null} */
   plain(from, folder, text) {
-    if (text.startsWith('file://')) return this.at(from, withSlashes(fileURLToPath(text)));
+    if (text.startsWith('file://')) return this.atUrl(from, text);
     if (SCHEME.test(text)) return { external: text };
     if (/^(\.{1,2}(\/|$)|\/)/.test(text)) return this.at(from, path.posix.resolve(folder, text) + (/(^|\/)\.{0,2}\/?$/.test(text) ? '/' : ''));
     if (text === '') return null;
@@ -85,6 +85,15 @@ export class Resolver {
     const json = this.configs.value(path.posix.join(at, 'package.json'));
     const file = json && packageFile(this.files, at.replace(/\/$/, ''), json, '', isJavaScript(from));
     return file ? { file } : null;
+  }
+
+  /** @param {string} from @param {string} text a URL of a file @returns {Target | null} null where it names another machine, or is no path */
+  atUrl(from, text) {
+    try {
+      return this.at(from, withSlashes(fileURLToPath(text)));
+    } catch {
+      return null;
+    }
   }
 
   /** @param {string} from @param {string} folder @param {string} text @returns {Target | null} by TypeScript's `paths` and `baseUrl` */
