@@ -131,6 +131,12 @@ test('a syntax error is told with its place', () => {
   const made = convert('a.ts', 'const a = 1;\nconst b = ;\n', { ...languageOf('a.ts'), ...PLAIN });
   assert.equal(made.tree, null);
   assert.deepEqual(made.fault, { line: 2, column: 11, text: 'Expression expected.' });
+  // what the parser of TypeScript lets pass
+  const texts = ['import { a } from b;', 'import a from `b`;', 'export * from b;', 'export { a } from b();', 'declare module "m" { export * from b; }'];
+  for (const text of texts) {
+    const { tree, fault } = convert('a.ts', `\n${text}`, { ...languageOf('a.ts'), ...PLAIN });
+    assert.deepEqual([tree, fault], [null, { line: 2, column: text.search(/`b`|b(?=[;()])/) + 1, text: 'String literal expected.' }]);
+  }
 });
 
 test('declarations of a declaration file without exports are exported where that is asked for', () => {

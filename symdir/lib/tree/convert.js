@@ -120,14 +120,16 @@ function faultAt(file, at, text) {
 export function nodesOf(name, source, options) {
   const text = wellFormed(source);
   const { file, marks } = parsedAnyhow(name, text, options);
+  const nothing = { nodes: null, references: [], declarations: [], implicit: [] };
   const [first] = faultsOf(file);
   if (first) {
     const { messageText: said } = first;
-    const fault = faultAt(file, first.start, typeof said === 'string' ? said : said.messageText);
-    return { text, nodes: null, fault, references: [], declarations: [], implicit: [] };
+    return { text, fault: faultAt(file, first.start, typeof said === 'string' ? said : said.messageText), ...nothing };
   }
   const c = new Converter(file, marks, text, options);
-  const nodes = numbered(program(c));
+  const made = program(c);
+  if (c.unnamed !== null) return { text, fault: faultAt(file, c.unnamed, 'String literal expected.'), ...nothing };
+  const nodes = numbered(made);
   const fault = nodes ? null : { line: 1, column: 1, text: 'it is nested more than 4,096 deep' };
   return { text, nodes, fault, references: c.references, declarations: c.declarations, implicit: c.implicit };
 }

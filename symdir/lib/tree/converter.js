@@ -60,6 +60,8 @@ export class Converter {
     this.references = [];
     /** @type {number[]} five for each: start, end, number of the kind, start of the name, 1 where it is private */
     this.declarations = [];
+    /** @type {number | null} where the first module is named by something else than a string, which the parser lets pass */
+    this.unnamed = null;
     /** @type {string[]} names that TypeScript exports of a declaration file without a word, where they aren't exported here */
     this.implicit = [];
   }

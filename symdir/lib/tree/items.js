@@ -16,9 +16,21 @@ function takesLocal(c, local, name, node) {
   c.takes(name, text, scope, node);
 }
 
+/**
+ * @param {Converter} c
+ * @param {import('./converter.js').Reference['how']} how
+ * @param {import('typescript').Expression} from what names the module, which has to be a string
+ * @param {import('typescript').Node} it the statement
+ * @returns {string}
+ */
+function sourceOf(c, how, from, it) {
+  if (!ts.isStringLiteral(from)) c.unnamed ??= c.start(from);
+  return c.refers(how, /** @type {import('typescript').StringLiteral} */ (from), it);
+}
+
 /** @param {Converter} c @param {import('typescript').ImportDeclaration} it */
 function importNode(c, it) {
-  const src = c.refers('import', /** @type {import('typescript').StringLiteral} */ (it.moduleSpecifier), it);
+  const src = sourceOf(c, 'import', it.moduleSpecifier, it);
   const specifiers = [];
   const clause = it.importClause;
   if (clause?.name) {
@@ -62,9 +74,9 @@ function exportSpecifier(c, it, hasSource) {
 
 /** @param {Converter} c @param {import('typescript').ExportDeclaration} it */
 function exportNode(c, it) {
-  const from = /** @type {import('typescript').StringLiteral | undefined} */ (it.moduleSpecifier);
+  const from = it.moduleSpecifier;
   const clause = it.exportClause;
-  const src = from ? c.refers(clause ? 'export' : 'export *', from, it) : null;
+  const src = from ? sourceOf(c, clause ? 'export' : 'export *', from, it) : null;
   if (!clause) return c.node('ExportAll', it, { src });
   if (ts.isNamespaceExport(clause)) {
     const name = moduleName(c, clause.name);
