@@ -17,10 +17,12 @@ import { queueOf, take } from './queue.js';
  * @typedef {(file: string, made: Parsed | null, error: string | null) => void} Done
  */
 
+/** What each file takes besides its bytes, as so many of them. */
+const BYTES_OF_A_FILE = 500;
 /** A thread loads the parser and warms up for itself, so a second one is worth it from so many bytes on. */
-const BYTES_FOR_A_SECOND = 150_000;
-/** Memory is what more of them wait for, so that each has at least so many. */
-const BYTES_FOR_MORE = 2_000_000;
+const BYTES_FOR_A_SECOND = 300_000;
+/** Several wait for one memory, so that each more has so many to parse. */
+const BYTES_FOR_MORE = 4_000_000;
 /** For so many milliseconds at least this thread parses, before it hears of what others made and of signals. */
 const UNHEARD = 10;
 /** Trees are deep, and walked by recursion. */
@@ -33,9 +35,10 @@ function freeProcessors() {
   return Math.max(1, os.availableParallelism() - Math.round(os.loadavg()[0]));
 }
 
-/** @param {number} bytes to be parsed @returns {number} how many threads are worth it */
-function wanted(bytes) {
-  return bytes < BYTES_FOR_A_SECOND ? 1 : 2 + Math.floor(bytes / BYTES_FOR_MORE);
+/** @param {number} files @param {number} bytes that they have @returns {number} how many threads are worth it */
+function wantedThreads(files, bytes) {
+  const all = bytes + files * BYTES_OF_A_FILE;
+  return all < BYTES_FOR_A_SECOND ? 1 : 2 + Math.floor(all / BYTES_FOR_MORE);
 }
 
 /** @param {Job[]} jobs @returns {{ sorted: Job[], bytes: number }} the smallest first */
@@ -60,7 +63,7 @@ export class Pool {
   async parse(jobs, done) {
     if (jobs.length === 0) return;
     const { sorted, bytes } = bySize(jobs);
-    const count = Math.min(freeProcessors(), jobs.length, wanted(bytes));
+    const count = Math.min(freeProcessors(), jobs.length, wantedThreads(jobs.length, bytes));
     // several threads end together where the largest go first; one is done sooner where it warms up on small ones
     if (count > 1) this.keep ??= () => asked(this.workers[0], null, () => {});
     const queue = queueOf(count > 1 ? sorted.reverse() : sorted);
