@@ -5,10 +5,10 @@
     python3 tools/run_bindings.py ARCHIVE               the library at this path
     python3 tools/run_bindings.py --libraries FOLDER    proves and builds it, over the built libraries in this folder
 
-The library is packed into a folder of its own. `symq.h` has to declare what the crate exports, by the types of the arguments;
-`bindings/c/example.c` is compiled with every warning as an error and answers the cases; so do the tests in Python and in Rust, which
-is built without and with its feature. `tests/library/refusing.c` is a host whose allocator refuses call after call. The last line is
-'N passed, M failed'.
+The library is packed into a folder of its own. `symq.h` has to declare what the crate exports, by the types of the arguments, and a
+session by those of its fields; `bindings/c/example.c` is compiled with every warning as an error and answers the cases, by one call and by
+a session; so do the tests in Python and in Rust, which is built without and with its feature. `tests/library/refusing.c` is a host whose
+allocator refuses call after call. The last line is 'N passed, M failed'.
 """
 import argparse
 import os
@@ -31,7 +31,8 @@ BINDINGS = os.path.join(TOP, 'bindings')
 WARNINGS = ['-std=c99', '-Wall', '-Wextra', '-Wpedantic', '-Werror', '-O1']
 # how a type of an export crosses to C
 TYPES = {'Global': [], '&[u8]': ['const uint8_t *', 'size_t'], '&mut [u8]': ['uint8_t *', 'size_t'],
-         '&mut usize': ['size_t *'], 'u8': ['uint8_t']}
+         '&mut usize': ['size_t *'], '&mut Session': ['struct symq_session *'], 'u8': ['uint8_t'], '': ['void'],
+         'bool': ['bool'], '*mut u8': ['void *']}
 
 
 def read(path):
@@ -40,13 +41,21 @@ def read(path):
 
 
 def exports():
-    """The exports of the crate: of each name its C types, the result's first."""
-    found = {}
-    for file in sorted(os.listdir(SOURCES)):
-        text = read(os.path.join(SOURCES, file))
-        for name, given, result in re.findall(r'#\[unsafe\(no_mangle\)\]\s*pub extern "C" fn (\w+)\(([^)]*)\)(?: -> (\w+))?', text):
-            types = [it.split(':')[1].strip() for it in given.split(',') if it.strip()]
-            found[name] = (TYPES[result] or ['void']) + [c for it in types for c in TYPES[it]]
+    """The exports of the crate, and the struct of a session: of each name its C types, the result's first."""
+    texts = ''.join(read(os.path.join(SOURCES, file)) for file in sorted(os.listdir(SOURCES)))
+    found = {'struct symq_session': laid_out('Session', texts)}
+    for name, given, result in re.findall(r'#\[unsafe\(no_mangle\)\]\s*pub extern "C" fn (\w+)\(([^)]*)\)(?: -> (\w+))?', texts):
+        types = [it.split(':')[1].strip() for it in given.split(',') if it.strip()]
+        found[name] = TYPES[result] + [c for it in types for c in TYPES[it]]
+    return found
+
+
+def laid_out(name, texts):
+    """The C types of the fields of a struct that crosses, those of what it holds in their place."""
+    fields = re.search(r'#\[repr\(C\)\]\n(?:#\[.*\n)*pub struct %s \{(.*?)\n\}' % name, texts, re.S)[1]
+    found = []
+    for kind in re.findall(r'^    (?:pub )?\w+: (.*),$', fields, re.M):
+        found += TYPES[kind] if kind in TYPES else laid_out(kind, texts)
     return found
 
 
@@ -54,6 +63,8 @@ def declared():
     """The same of the header."""
     text = re.sub(r'/\*.*?\*/', '', read(HEADER), flags=re.S)
     found = {}
+    for name, fields in re.findall(r'^struct (\w+) \{(.*?)^\};', text, re.M | re.S):
+        found['struct ' + name] = [it.strip() for it in re.findall(r'^\s*(.*?)\w+;$', fields, re.M)]
     for result, name, given in re.findall(r'^(\w+) (\w+)\(([^)]*)\);', text, re.M):
         types = [re.fullmatch(r'\s*(.*?)\w+\s*', it, re.S)[1].strip() for it in given.split(',')]
         found[name] = [result] + [re.sub(r'\s+', ' ', it) for it in types]
@@ -75,9 +86,10 @@ def compiled(folder, source, name):
 
 
 def through_c(folder):
-    """The stored cases of symq by the example in C."""
+    """The stored cases of symq by the example in C, by one call and by a session."""
     example = compiled(folder, os.path.join(BINDINGS, 'c', 'example.c'), 'example')
     cases = [it for it in all_cases()[0] if it.program == 'symq' and it.words in (None, ['--strict', 'graph.json']) and it.graph is not None]
+    cases += [it._replace(name=it.name + ', by a session', words=['--session', *(it.words or ['graph.json'])]) for it in cases]
     with ThreadPoolExecutor(os.cpu_count()) as pool:
         found = pool.map(lambda it: run_program(example, it), cases)
     return {'C: ' + case.name: text for case, text in zip(cases, found)}

@@ -1,9 +1,11 @@
-/* Answers the lines of standard input over the graph of a file, by one call.
+/* Answers the lines of standard input over the graph of a file, by one call, or by a session, line by line as they come.
  *
  *     cc -o example example.c -I../../lib ../../lib/libsymq.a
  *     ./example graph.json < queries                or --strict graph.json, by strict rules
+ *     ./example --session graph.json < queries      or --session --strict graph.json
  *
  * It ends with the status of the call, as symq does. */
+#define _POSIX_C_SOURCE 200809L
 #include <stdio.h>
 #include <stdlib.h>
 #include <string.h>
@@ -30,39 +32,91 @@ static struct bytes read_all(FILE *stream) {
     return found;
 }
 
-/* One call, and a second one where the answers don't fit. */
-static int answer(int is_strict, struct bytes text, struct bytes lines) {
-    size_t room = 1 << 16, needed;
-    uint8_t *out = malloc(room);
-    uint8_t status = SYMQ_NO_MEMORY;
-    while (out) {
-        status = (is_strict ? symq_strict_answer : symq_answer)(text.items, text.length, lines.items, lines.length, out, room, &needed);
-        if (needed <= room)
-            break;
-        free(out);
-        room = needed;
-        out = malloc(room);
-    }
-    if (!out)
-        return SYMQ_NO_MEMORY;
-    fwrite(out, 1, needed, status == SYMQ_DONE ? stdout : stderr);
+/* Room for what calls hand out. */
+struct room {
+    uint8_t *items;
+    size_t length;
+};
+
+/* Room for so many bytes; it ends where memory is refused. */
+static void make_room(struct room *room, size_t needed) {
+    free(room->items);
+    room->length = needed;
+    room->items = malloc(needed);
+    if (!room->items)
+        exit(SYMQ_NO_MEMORY);
+}
+
+/* Writes what was handed out: answers, or the line that says why there are none. */
+static void write_told(uint8_t status, const struct room *out, size_t needed) {
+    fwrite(out->items, 1, needed, status == SYMQ_DONE ? stdout : stderr);
     if (status != SYMQ_DONE)
         fputc('\n', stderr);
-    free(out);
+}
+
+/* One call, and a second one where the answers don't fit. */
+static int answer(int is_strict, struct bytes text, struct bytes lines, struct room *out) {
+    size_t needed;
+    uint8_t status;
+    while (1) {
+        status = (is_strict ? symq_strict_answer : symq_answer)(text.items, text.length, lines.items, lines.length, out->items,
+                                                                out->length, &needed);
+        if (needed <= out->length)
+            break;
+        make_room(out, needed);
+    }
+    write_told(status, out, needed);
+    return status;
+}
+
+/* The same of a session. */
+static int ask(struct symq_session *session, struct bytes line, struct room *out) {
+    size_t needed;
+    uint8_t status;
+    while (1) {
+        status = symq_ask(session, line.items, line.length, out->items, out->length, &needed);
+        if (needed <= out->length)
+            break;
+        make_room(out, needed);
+    }
+    write_told(status, out, needed);
+    fflush(stdout);
+    return status;
+}
+
+/* A session over the graph, which is asked for line after line. A long line of why it isn't opened is cut. */
+static int serve(int is_strict, struct bytes text, struct room *out) {
+    struct symq_session session = {0};
+    size_t needed, line_room = 0;
+    char *line = NULL;
+    ssize_t got;
+    int status = (is_strict ? symq_strict_open : symq_open)(text.items, text.length, &session, out->items, out->length, &needed);
+    if (status != SYMQ_DONE)
+        write_told(status, out, needed < out->length ? needed : out->length);
+    while (status == SYMQ_DONE && (got = getline(&line, &line_room, stdin)) > 0)
+        status = ask(&session, (struct bytes){(uint8_t *)line, got}, out);
+    symq_close(&session);
+    free(line);
     return status;
 }
 
 int main(int count, char **words) {
-    int is_strict = count == 3 && !strcmp(words[1], "--strict");
-    FILE *file = count == 2 || is_strict ? fopen(words[count - 1], "rb") : NULL;
+    int is_session = count > 2 && !strcmp(words[1], "--session"), first = 1 + is_session;
+    int is_strict = count == first + 2 && !strcmp(words[first], "--strict");
+    FILE *file = count == first + 1 || is_strict ? fopen(words[count - 1], "rb") : NULL;
     if (!file) {
-        fputs("usage: example [--strict] GRAPH < QUERIES\n", stderr);
+        fputs("usage: example [--session] [--strict] GRAPH < QUERIES\n", stderr);
         return 2;
     }
-    struct bytes text = read_all(file), lines = read_all(stdin);
-    int status = answer(is_strict, text, lines);
+    struct bytes text = read_all(file), lines = {NULL, 0};
+    struct room out = {NULL, 0};
+    make_room(&out, 1 << 16);
+    if (!is_session)
+        lines = read_all(stdin);
+    int status = is_session ? serve(is_strict, text, &out) : answer(is_strict, text, lines, &out);
     fclose(file);
     free(text.items);
     free(lines.items);
+    free(out.items);
     return status;
 }

@@ -1,4 +1,5 @@
-/* A host with an allocator of its own, which refuses one call after the other: refusing GRAPH QUERIES.
+/* A host with an allocator of its own, which refuses one call after the other: refusing GRAPH QUERIES. It answers by one
+ * call of the library, and by a session.
  *
  * It defines the three functions that the library takes its memory by. The numbers of refused calls go up until none is
  * refused, each alone and with all behind it. What is wanted: status 7 and its line, or the status and the bytes of the
@@ -60,9 +61,33 @@ static void read_file(const char *path, struct bytes *to) {
     fclose(file);
 }
 
-static uint8_t answer(struct bytes *to) {
+static uint8_t by_call(struct bytes *to) {
+    return symq_answer(text.items, text.length, lines.items, lines.length, to->items, sizeof to->items, &to->length);
+}
+
+/* A session that was refused memory when it was asked answers once it has it. */
+static uint8_t by_session(struct bytes *to) {
+    struct symq_session session = {0};
+    uint8_t status = symq_open(text.items, text.length, &session, to->items, sizeof to->items, &to->length);
+    if (status == SYMQ_DONE) {
+        status = symq_ask(&session, lines.items, lines.length, to->items, sizeof to->items, &to->length);
+        if (status == SYMQ_NO_MEMORY) {
+            refused = SIZE_MAX;
+            status = symq_ask(&session, lines.items, lines.length, to->items, sizeof to->items, &to->length);
+        }
+    } else if (session.is_open) {
+        printf("a session is open where call %zu is refused\n", refused);
+        exit(1);
+    }
+    symq_close(&session);
+    return status;
+}
+
+static uint8_t (*const ways[])(struct bytes *) = {by_call, by_session};
+
+static uint8_t answer(int way, struct bytes *to) {
     calls = 0;
-    uint8_t status = symq_answer(text.items, text.length, lines.items, lines.length, to->items, sizeof to->items, &to->length);
+    uint8_t status = ways[way](to);
     if (held != 0) {
         printf("%zu blocks are left where call %zu is refused\n", held, refused);
         exit(1);
@@ -74,23 +99,34 @@ static int is_line(const struct bytes *it, const char *line) {
     return it->length == strlen(line) && memcmp(it->items, line, it->length) == 0;
 }
 
+/* How many calls of memory there are by a way, once it went well with each refused. */
+static size_t refuse_each(int way) {
+    refused = SIZE_MAX;
+    uint8_t status = answer(way, &wanted);
+    size_t all = calls, number;
+    for (is_each_behind = 0; is_each_behind < 2; is_each_behind++)
+        for (number = 1; number <= all; number++) {
+            refused = number;
+            uint8_t got = answer(way, &told);
+            int is_same = got == status && told.length == wanted.length && memcmp(told.items, wanted.items, told.length) == 0;
+            if (!is_same && !(got == SYMQ_NO_MEMORY && is_line(&told, "symq: out of memory"))) {
+                printf("status %d where call %zu is refused\n", got, number);
+                exit(1);
+            }
+        }
+    return all;
+}
+
 int main(int count, char **words) {
     if (count != 3)
         return 2;
     read_file(words[1], &text);
     read_file(words[2], &lines);
-    refused = SIZE_MAX;
-    uint8_t status = answer(&wanted);
-    size_t all = calls;
-    for (is_each_behind = 0; is_each_behind < 2; is_each_behind++)
-        for (refused = 1; refused <= all; refused++) {
-            uint8_t got = answer(&told);
-            int is_same = got == status && told.length == wanted.length && memcmp(told.items, wanted.items, told.length) == 0;
-            if (!is_same && !(got == SYMQ_NO_MEMORY && is_line(&told, "symq: out of memory"))) {
-                printf("status %d where call %zu is refused\n", got, refused);
-                return 1;
-            }
-        }
+    size_t all = refuse_each(0);
+    if (refuse_each(1) < all) {
+        printf("a session takes less than a call\n");
+        return 1;
+    }
     printf("%zu\n", all);
     return 0;
 }

@@ -1,9 +1,10 @@
-"""The stored cases of tests/cases by the call, byte for byte the program's, and what a host needs besides.
+"""The stored cases of tests/cases by the call and by a session, byte for byte the program's, and what a host needs besides.
 
     SYMQ_LIBRARY=lib/libsymq.so python3 -m unittest discover bindings/python/tests
 """
 import json
 import os
+import re
 import sys
 import threading
 import unittest
@@ -25,6 +26,17 @@ def by_call(case):
     """The status, the output and the error line of the program, by one call."""
     try:
         return 0, symq.answer(case.graph, case.given, strict=case.words == STRICT), b""
+    except symq.Stop as stop:
+        return stop.status, b"", stop.line.encode() + b"\n"
+
+
+def by_session(case):
+    """The same by a session, which is asked for all lines, and then for each by itself."""
+    try:
+        with symq.Session(case.graph, strict=case.words == STRICT) as session:
+            answers = session.ask(case.given)
+            parts = b"".join(session.ask(it) for it in re.findall(rb"[^\n]*\n|[^\n]+", case.given))
+            return 0, answers if parts == answers else parts, b""
     except symq.Stop as stop:
         return stop.status, b"", stop.line.encode() + b"\n"
 
@@ -54,6 +66,42 @@ class Cases(unittest.TestCase):
         for case in CASES:
             with self.subTest(case.name):
                 self.assertEqual(by_call(case), tuple(case.want))
+
+
+    def test_a_sessions_answers_are_the_programs(self):
+        for case in CASES:
+            with self.subTest(case.name):
+                self.assertEqual(by_session(case), tuple(case.want))
+
+
+class Sessions(unittest.TestCase):
+    def test_a_closed_one_is_told(self):
+        session = symq.Session(b"{}")
+        self.assertEqual(session.ask(b'["module","a"]\n'), b"null\n")
+        for _ in range(2):
+            session.close()
+        with self.assertRaises(symq.Stop) as found:
+            session.ask(b'["module","a"]\n')
+        self.assertEqual((found.exception.status, found.exception.line), (1, "symq: the session is closed"))
+
+    def test_many_at_once(self):
+        sessions = [(it, symq.Session(it.graph, strict=it.words == STRICT)) for it in SERVED]
+        for case, session in sessions + sessions[::-1]:
+            self.assertEqual(session.ask(case.given), case.want.output)
+
+    def test_threads_ask_one(self):
+        case, wrong = max(SERVED, key=lambda it: len(it.graph)), []
+        session = symq.Session(case.graph, strict=case.words == STRICT)
+        threads = [threading.Thread(target=lambda: wrong.extend(1 for _ in range(5) if session.ask(case.given) != case.want.output)) for _ in range(4)]
+        for it in threads:
+            it.start()
+        for it in threads:
+            it.join()
+        self.assertEqual(wrong, [])
+
+    def test_long_answers(self):
+        with symq.Session(b"{}") as session:
+            self.assertEqual(session.ask(b"x\n" * 20000), b'{"fault":"bad query"}\n' * 20000)
 
 
 class Hosts(unittest.TestCase):

@@ -7,6 +7,34 @@ use crate::error::Stop;
 use serde_json::Value;
 
 mod c {
+    use std::ffi::c_void;
+
+    /// `struct symq_session`. It is closed where it is all 0.
+    #[repr(C)]
+    pub struct Kept {
+        pub is_open: bool,
+        pub kept: *mut c_void,
+    }
+
+    pub type Answers = unsafe extern "C" fn(
+        text: *const u8,
+        text_length: usize,
+        lines: *const u8,
+        lines_length: usize,
+        out: *mut u8,
+        out_length: usize,
+        needed: *mut usize,
+    ) -> u8;
+
+    pub type Opens = unsafe extern "C" fn(
+        text: *const u8,
+        text_length: usize,
+        session: *mut Kept,
+        out: *mut u8,
+        out_length: usize,
+        needed: *mut usize,
+    ) -> u8;
+
     extern "C" {
         pub fn symq_answer(
             text: *const u8,
@@ -26,23 +54,60 @@ mod c {
             out_length: usize,
             needed: *mut usize,
         ) -> u8;
+        pub fn symq_open(
+            text: *const u8,
+            text_length: usize,
+            session: *mut Kept,
+            out: *mut u8,
+            out_length: usize,
+            needed: *mut usize,
+        ) -> u8;
+        pub fn symq_strict_open(
+            text: *const u8,
+            text_length: usize,
+            session: *mut Kept,
+            out: *mut u8,
+            out_length: usize,
+            needed: *mut usize,
+        ) -> u8;
+        pub fn symq_ask(
+            session: *mut Kept,
+            lines: *const u8,
+            lines_length: usize,
+            out: *mut u8,
+            out_length: usize,
+            needed: *mut usize,
+        ) -> u8;
+        pub fn symq_close(session: *mut Kept);
     }
 }
 
 const ROOM: usize = 1 << 16;
 
-fn answered(is_strict: bool, graph: &[u8], lines: &[u8]) -> (u8, Vec<u8>) {
-    let call = if is_strict {
-        c::symq_strict_answer
-    } else {
-        c::symq_answer
-    };
+/// What a call hands out with status 0. The call is made again where the buffer was small.
+fn told(mut call: impl FnMut(&mut [u8], &mut usize) -> u8) -> Result<Vec<u8>, Stop> {
     let mut out = vec![0; ROOM];
     loop {
         let mut needed = 0;
+        let status = call(&mut out, &mut needed);
+        if needed > out.len() {
+            out.resize(needed, 0);
+            continue;
+        }
+        out.truncate(needed);
+        return if status == 0 {
+            Ok(out)
+        } else {
+            Err(Stop::new(status, &out))
+        };
+    }
+}
+
+fn answered(call: c::Answers, graph: &[u8], lines: &[u8]) -> Result<Vec<u8>, Stop> {
+    told(|out, needed| {
         // SAFETY: each pointer and length are those of one slice, which is borrowed for the call and isn't null; `out` and `needed`
         // are borrowed alone
-        let status = unsafe {
+        unsafe {
             call(
                 graph.as_ptr(),
                 graph.len(),
@@ -50,34 +115,102 @@ fn answered(is_strict: bool, graph: &[u8], lines: &[u8]) -> (u8, Vec<u8>) {
                 lines.len(),
                 out.as_mut_ptr(),
                 out.len(),
-                &mut needed,
+                needed,
             )
-        };
-        if needed <= out.len() {
-            out.truncate(needed);
-            return (status, out);
         }
-        out.resize(needed, 0);
-    }
-}
-
-fn answered_or_stopped(is_strict: bool, graph: &[u8], lines: &[u8]) -> Result<Vec<u8>, Stop> {
-    match answered(is_strict, graph, lines) {
-        (0, answers) => Ok(answers),
-        (status, line) => Err(Stop::new(status, &line)),
-    }
+    })
 }
 
 /// The answers to lines of queries over the text of a graph, each with its line end.
 ///
 /// The graph is read anew at each call, and maybe twice where the answers are long.
 pub fn answer(graph: &[u8], lines: &[u8]) -> Result<Vec<u8>, Stop> {
-    answered_or_stopped(false, graph, lines)
+    answered(c::symq_answer, graph, lines)
 }
 
 /// As `answer`, by strict rules.
 pub fn strict_answer(graph: &[u8], lines: &[u8]) -> Result<Vec<u8>, Stop> {
-    answered_or_stopped(true, graph, lines)
+    answered(c::symq_strict_answer, graph, lines)
+}
+
+/// The graph of a text, read once, to be asked as often as wanted.
+///
+/// ```
+/// let graph = br#"{"modules":[{"specifier":"file:///a.ts","kind":"external"}]}"#;
+/// let mut session = symq::Session::open(graph)?;
+/// assert_eq!(session.ask(b"[\"module\",\"file:///a.ts\"]\n")?, b"null\n");
+/// # Ok::<(), symq::Stop>(())
+/// ```
+pub struct Session {
+    kept: c::Kept,
+}
+
+// SAFETY: what a session keeps may go to another thread, and a session is asked through `&mut` alone
+unsafe impl Send for Session {}
+
+impl Session {
+    fn opened(call: c::Opens, graph: &[u8]) -> Result<Session, Stop> {
+        let mut session = Session {
+            kept: c::Kept {
+                is_open: false,
+                kept: std::ptr::null_mut(),
+            },
+        };
+        told(|out, needed| {
+            // SAFETY: as of `answered`; the session is borrowed alone, and is closed or as a call left it
+            unsafe {
+                call(
+                    graph.as_ptr(),
+                    graph.len(),
+                    &mut session.kept,
+                    out.as_mut_ptr(),
+                    out.len(),
+                    needed,
+                )
+            }
+        })?;
+        Ok(session)
+    }
+
+    /// Reads and checks a graph, to be asked by Deno's rules.
+    pub fn open(graph: &[u8]) -> Result<Session, Stop> {
+        Session::opened(c::symq_open, graph)
+    }
+
+    /// As `open`, to be asked by strict rules.
+    pub fn strict(graph: &[u8]) -> Result<Session, Stop> {
+        Session::opened(c::symq_strict_open, graph)
+    }
+
+    /// The answers to lines of queries, each with its line end.
+    pub fn ask(&mut self, lines: &[u8]) -> Result<Vec<u8>, Stop> {
+        told(|out, needed| {
+            // SAFETY: as of `answered`; the session is borrowed alone, and is as a call left it
+            unsafe {
+                c::symq_ask(
+                    &mut self.kept,
+                    lines.as_ptr(),
+                    lines.len(),
+                    out.as_mut_ptr(),
+                    out.len(),
+                    needed,
+                )
+            }
+        })
+    }
+
+    /// The answers to queries as values, one to each.
+    #[cfg(feature = "json")]
+    pub fn ask_values(&mut self, queries: &[Value]) -> Result<Vec<Value>, Error> {
+        values_of(&self.ask(lines_of(queries).as_bytes())?)
+    }
+}
+
+impl Drop for Session {
+    fn drop(&mut self) {
+        // SAFETY: the session is borrowed alone, is as a call left it, and isn't used again
+        unsafe { c::symq_close(&mut self.kept) }
+    }
 }
 
 #[cfg(feature = "json")]

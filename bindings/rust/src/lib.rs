@@ -11,7 +11,7 @@
 mod calls;
 mod error;
 
-pub use calls::{answer, strict_answer};
+pub use calls::{answer, strict_answer, Session};
 #[cfg(feature = "json")]
 pub use calls::{answer_values, strict_answer_values};
 #[cfg(feature = "json")]

@@ -1,9 +1,9 @@
-//! The stored cases of tests/cases by the call, byte for byte the program's, and what a host needs besides.
+//! The stored cases of tests/cases by the call and by a session, byte for byte the program's, and what a host needs besides.
 
 use std::fs;
 use std::path::{Path, PathBuf};
 use std::thread;
-use symq::{answer, strict_answer, Stop};
+use symq::{answer, strict_answer, Session, Stop};
 
 /// How a run ends: status, output and error line.
 type End = (u8, Vec<u8>, Vec<u8>);
@@ -57,13 +57,8 @@ fn cases() -> Vec<Case> {
     found
 }
 
-fn by_call(case: &Case) -> End {
-    let call = if case.is_strict {
-        strict_answer
-    } else {
-        answer
-    };
-    match call(&case.graph, &case.given) {
+fn end_of(told: Result<Vec<u8>, Stop>) -> End {
+    match told {
         Ok(answers) => (0, answers, Vec::new()),
         Err(stop) => (
             stop.status,
@@ -73,23 +68,68 @@ fn by_call(case: &Case) -> End {
     }
 }
 
+fn by_call(case: &Case) -> End {
+    let call = if case.is_strict {
+        strict_answer
+    } else {
+        answer
+    };
+    end_of(call(&case.graph, &case.given))
+}
+
+fn open(case: &Case) -> Result<Session, Stop> {
+    if case.is_strict {
+        Session::strict(&case.graph)
+    } else {
+        Session::open(&case.graph)
+    }
+}
+
+/// By a session, which is asked for each line by itself, on another thread.
+fn by_session(case: &Case) -> End {
+    let asked = |mut session: Session| {
+        let lines = case.given.split_inclusive(|&byte| byte == b'\n');
+        let parts: Result<Vec<Vec<u8>>, Stop> = lines.map(|it| session.ask(it)).collect();
+        parts.map(|it| it.concat())
+    };
+    end_of(open(case).and_then(|it| thread::scope(|on| on.spawn(|| asked(it)).join().unwrap())))
+}
+
 /// The names of the cases that end otherwise than the program does.
-fn wrong() -> Vec<String> {
+fn wrong(end: fn(&Case) -> End) -> Vec<String> {
     cases()
         .into_iter()
-        .filter(|it| by_call(it) != it.want)
+        .filter(|it| end(it) != it.want)
         .map(|it| it.name)
         .collect()
 }
 
 #[test]
 fn answers_are_the_programs() {
-    assert_eq!(wrong(), Vec::<String>::new());
+    assert_eq!(wrong(by_call), Vec::<String>::new());
+}
+
+#[test]
+fn a_sessions_answers_are_the_programs() {
+    assert_eq!(wrong(by_session), Vec::<String>::new());
+}
+
+#[test]
+fn many_sessions_at_once() {
+    let cases = cases();
+    let mut sessions: Vec<(&Case, Session)> = cases
+        .iter()
+        .filter_map(|it| Some((it, open(it).ok()?)))
+        .collect();
+    for (case, session) in sessions.iter_mut().rev() {
+        assert_eq!(session.ask(&case.given).unwrap(), case.want.1);
+        assert_eq!(session.ask(&case.given).unwrap(), case.want.1);
+    }
 }
 
 #[test]
 fn four_threads_at_once() {
-    let threads: Vec<_> = (0..4).map(|_| thread::spawn(wrong)).collect();
+    let threads: Vec<_> = (0..4).map(|_| thread::spawn(|| wrong(by_call))).collect();
     for it in threads {
         assert_eq!(it.join().unwrap(), Vec::<String>::new());
     }
@@ -101,6 +141,8 @@ fn long_answers_and_lines() {
     let lines = line + &"x\n".repeat(20_000);
     let want = format!("null\n{}", "{\"fault\":\"bad query\"}\n".repeat(20_000));
     assert_eq!(answer(b"{}", lines.as_bytes()).unwrap(), want.as_bytes());
+    let mut session = Session::open(b"{}").unwrap();
+    assert_eq!(session.ask(lines.as_bytes()).unwrap(), want.as_bytes());
 }
 
 /// The text of a graph of modules in a row, each of which passes on a name of the next one; the last declares it.
@@ -158,9 +200,15 @@ fn a_long_error_line() {
 #[test]
 fn values() {
     let query = serde_json::from_slice(b"[\"module\",\"a\"]").unwrap();
-    let found = symq::answer_values(b"{}", &[query, serde_json::from_slice(b"[]").unwrap()]);
-    let texts: Vec<String> = found.unwrap().iter().map(|it| it.to_string()).collect();
-    assert_eq!(texts, ["null", "{\"fault\":\"bad query\"}"]);
+    let queries = [query, serde_json::from_slice(b"[]").unwrap()];
+    let mut session = Session::open(b"{}").unwrap();
+    for found in [
+        symq::answer_values(b"{}", &queries),
+        session.ask_values(&queries),
+    ] {
+        let texts: Vec<String> = found.unwrap().iter().map(|it| it.to_string()).collect();
+        assert_eq!(texts, ["null", "{\"fault\":\"bad query\"}"]);
+    }
     assert!(
         matches!(symq::answer_values(b"{", &[]), Err(symq::Error::Stop(stop)) if stop.status == 4)
     );

@@ -1,2 +1,4 @@
 pub mod GraphTexts
 pub mod Handing
+pub mod Holding
+pub mod Sessions

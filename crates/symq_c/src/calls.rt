@@ -15,7 +15,30 @@ use crate::handing::{hand_out, hand_out_line};
 use crate::serving::{answers, graph_of};
 use std::alloc::Global;
 use symbols_root::root::Rules;
+use symbols_tree::check::ModuleGraph;
 use symq_core::program::Stop;
+
+/// Answers query lines by these rules over a graph.
+pub(crate) fn answer_over(
+    alloc: Global,
+    rules: Rules,
+    graph: &ModuleGraph,
+    lines: &[u8],
+    out: &mut [u8],
+    needed: &mut usize,
+) -> u8
+    ensures answered { result ≡ 0 → Hands (output_of (answer_text rules graph.now) lines.now) out.old out.new needed.new }
+    ensures memory { result ≡ 7 → Hands memory_line out.old out.new needed.new }
+    ensures no_other { (result ≡ 0) ⊎ (result ≡ 7) }
+{
+    match answers(alloc, rules, graph, lines) {
+        Ok(bytes) => {
+            hand_out(bytes.as_slice(), out, needed);
+            0
+        }
+        Err(fault) => hand_out_line(alloc, &Stop::Engine(fault), out, needed),
+    }
+}
 
 /// Answers query lines by these rules over the text of a graph.
 fn answer_by(
@@ -39,13 +62,7 @@ fn answer_by(
         Ok(graph) => graph,
         Err(stop) => return hand_out_line(alloc, &stop, out, needed),
     };
-    match answers(alloc, rules, &graph, lines) {
-        Ok(bytes) => {
-            hand_out(bytes.as_slice(), out, needed);
-            0
-        }
-        Err(fault) => hand_out_line(alloc, &Stop::Engine(fault), out, needed),
-    }
+    answer_over(alloc, rules, &graph, lines, out, needed)
 }
 
 /// Answers query lines by Deno's rules over the text of a graph (own rule). The status is 0, and the answers stand at
