@@ -1,12 +1,12 @@
 #!/usr/bin/env python3
-"""Times a call of the library beside a run of the program, on the same graph and lines.
+"""Times calls of the library beside a run of the program, on the same graph and lines.
 
     python3 bench/library.py PROGRAM LIBRARY [--graph GRAPH ..]    ./symq lib/libsymq.so
 
-Both read the graph anew and answer the same lines: a run starts a process, reads a file, and writes to a pipe; a call, from
-Python, has the text and the buffer in memory. Graphs are a small one, webs of ten modules, and those of files; lines ask
-each module for its exports. A figure is processor time in milliseconds, the least of some runs, which are taken in turn. The
-answers have to be the same.
+A run and a call both read the graph anew and answer the same lines: a run starts a process, reads a file, and writes to a pipe; a
+call, from Python, has the text and the buffer in memory. A session has read the graph before, and answers the lines. Graphs are
+a small one, webs of ten modules, and those of files; lines ask each module for its exports. A figure is processor time in
+milliseconds, the least of some runs, which are taken in turn. The answers have to be the same.
 """
 import argparse
 import ctypes
@@ -25,19 +25,36 @@ ROOM = 1 << 16
 SMALL = {'modules': [{'specifier': 'm', 'kind': 'esm', 'text': '', 'tree': {'nodes': [{'kind': 'Program', 'range': [0, 0]}]}}]}
 
 
-def call_of(path):
-    """The call of a library: from the text of a graph and lines to the answers."""
-    found = ctypes.CDLL(path).symq_answer
-    text = [ctypes.c_char_p, ctypes.c_size_t]
-    found.argtypes, found.restype = [*text, *text, ctypes.c_void_p, ctypes.c_size_t, ctypes.POINTER(ctypes.c_size_t)], ctypes.c_uint8
+class Kept(ctypes.Structure):
+    """`struct symq_session`."""
 
-    def call(text, lines, room):
-        needed, out = ctypes.c_size_t(), ctypes.create_string_buffer(room)
-        status = found(text, len(text), lines, len(lines), out, room, needed)
-        if status:
-            sys.exit('the library refuses a graph: %d' % status)
-        return out.raw[:needed.value]
-    return call
+    _fields_ = [('is_open', ctypes.c_bool), ('kept', ctypes.c_void_p)]
+
+
+class Library:
+    """The calls of a library, from Python."""
+
+    def __init__(self, path):
+        found = ctypes.CDLL(path)
+        text, out = [ctypes.c_char_p, ctypes.c_size_t], [ctypes.c_void_p, ctypes.c_size_t, ctypes.POINTER(ctypes.c_size_t)]
+        kept = ctypes.POINTER(Kept)
+        self.answer, self.open, self.ask, self.close = found.symq_answer, found.symq_open, found.symq_ask, found.symq_close
+        self.answer.argtypes, self.open.argtypes = [*text, *text, *out], [*text, kept, *out]
+        self.ask.argtypes, self.close.argtypes = [kept, *text, *out], [kept]
+        for call in (self.answer, self.open, self.ask):
+            call.restype = ctypes.c_uint8
+        self.close.restype = None
+
+
+def told(call, room, *given):
+    """The processor time of a call, and what it hands out."""
+    needed, out = ctypes.c_size_t(), ctypes.create_string_buffer(room)
+    before = time.process_time()
+    status = call(*given, out, room, needed)
+    took = time.process_time() - before
+    if status:
+        sys.exit('the library refuses a graph: %d' % status)
+    return took, out.raw[:needed.value]
 
 
 def run_time(program, path, lines):
@@ -48,27 +65,22 @@ def run_time(program, path, lines):
     return after.ru_utime + after.ru_stime - before.ru_utime - before.ru_stime, done.stdout
 
 
-def call_time(call, text, lines, room):
-    """The processor time of a call, and its answers."""
-    before = time.process_time()
-    answers = call(text, lines, room)
-    return time.process_time() - before, answers
-
-
-def row(program, call, path):
-    """What both take for the exports of each module."""
+def row(program, library, path):
+    """What each takes for the exports of each module."""
     with open(path, 'rb') as file:
         text = file.read()
     lines = b''.join(line('exports', it['specifier']) for it in json.loads(text)['modules'])
     _, answers = run_time(program, path, lines)
-    room, runs, calls = max(ROOM, len(answers)), [], []
+    room, kept, found = max(ROOM, len(answers)), Kept(), []
+    told(library.open, room, text, len(text), kept)
     for _ in range(RUNS):
-        runs.append(run_time(program, path, lines)[0])
-        took, told = call_time(call, text, lines, room)
-        calls.append(took)
-        if told != answers:
+        each = [run_time(program, path, lines), told(library.answer, room, text, len(text), lines, len(lines)),
+                told(library.ask, room, kept, lines, len(lines))]
+        if any(it[1] != answers for it in each):
             sys.exit('the answers differ')
-    return len(text) / 1e6, lines.count(b'\n'), 1000 * min(runs), 1000 * min(calls)
+        found.append([it[0] for it in each])
+    library.close(kept)
+    return len(text) / 1e6, lines.count(b'\n'), *(1000 * min(it) for it in zip(*found))
 
 
 def main():
@@ -77,8 +89,8 @@ def main():
     parser.add_argument('library', type=os.path.abspath)
     parser.add_argument('--graph', nargs='*', default=[])
     args = parser.parse_args()
-    call = call_of(args.library)
-    print('| graph | MB of text | lines | run, ms | call, ms | of the run |\n|---|---|---|---|---|---|')
+    library = Library(args.library)
+    print('| graph | MB of text | lines | run, ms | call, ms | of the run | session, ms | of the run |\n|' + '---|' * 8)
     with tempfile.TemporaryDirectory() as folder:
         made = [('one empty module', SMALL), ('webs of ten modules, 2000', webs_of(2000))]
         for number, (_, graph) in enumerate(made):
@@ -86,8 +98,9 @@ def main():
                 json.dump(graph, file, separators=(',', ':'))
         paths = [(name, os.path.join(folder, '%d.json' % at)) for at, (name, _) in enumerate(made)]
         for name, path in paths + [(os.path.basename(it), it) for it in args.graph]:
-            size, asked, run, called = row(args.program, call, path)
-            print('| %s | %.1f | %d | %.1f | %.1f | %.2f |' % (name, size, asked, run, called, called / run), flush=True)
+            size, asked, run, called, kept = row(args.program, library, path)
+            told_row = (name, size, asked, run, called, called / run, kept, kept / run)
+            print('| %s | %.1f | %d | %.1f | %.1f | %.2f | %.1f | %.2f |' % told_row, flush=True)
 
 
 if __name__ == '__main__':
