@@ -56,6 +56,15 @@ def passed_on(count):
     return json.dumps({"modules": modules, "resolutions": [["m%d" % n, *["m%d" % (n + 1)] * 2] for n in range(count - 1)]}).encode()
 
 
+def by_four_threads(work):
+    """Does the work in four threads at once."""
+    threads = [threading.Thread(target=work) for _ in range(4)]
+    for it in threads:
+        it.start()
+    for it in threads:
+        it.join()
+
+
 class Cases(unittest.TestCase):
     def test_there_are_cases(self):
         self.assertGreater(len(SERVED), 50)
@@ -92,11 +101,7 @@ class Sessions(unittest.TestCase):
     def test_threads_ask_one(self):
         case, wrong = max(SERVED, key=lambda it: len(it.graph)), []
         session = symq.Session(case.graph, strict=case.words == STRICT)
-        threads = [threading.Thread(target=lambda: wrong.extend(1 for _ in range(5) if session.ask(case.given) != case.want.output)) for _ in range(4)]
-        for it in threads:
-            it.start()
-        for it in threads:
-            it.join()
+        by_four_threads(lambda: wrong.extend(1 for _ in range(5) if session.ask(case.given) != case.want.output))
         self.assertEqual(wrong, [])
 
     def test_long_answers(self):
@@ -107,15 +112,7 @@ class Sessions(unittest.TestCase):
 class Hosts(unittest.TestCase):
     def test_four_threads_at_once(self):
         wrong = []
-
-        def work():
-            wrong.extend(it.name for it in SERVED if by_call(it) != tuple(it.want))
-
-        threads = [threading.Thread(target=work) for _ in range(4)]
-        for it in threads:
-            it.start()
-        for it in threads:
-            it.join()
+        by_four_threads(lambda: wrong.extend(it.name for it in SERVED if by_call(it) != tuple(it.want)))
         self.assertEqual(wrong, [])
 
     def test_long_answers_and_lines(self):

@@ -16,25 +16,6 @@ mod c {
         pub kept: *mut c_void,
     }
 
-    pub type Answers = unsafe extern "C" fn(
-        text: *const u8,
-        text_length: usize,
-        lines: *const u8,
-        lines_length: usize,
-        out: *mut u8,
-        out_length: usize,
-        needed: *mut usize,
-    ) -> u8;
-
-    pub type Opens = unsafe extern "C" fn(
-        text: *const u8,
-        text_length: usize,
-        session: *mut Kept,
-        out: *mut u8,
-        out_length: usize,
-        needed: *mut usize,
-    ) -> u8;
-
     extern "C" {
         pub fn symq_answer(
             text: *const u8,
@@ -103,7 +84,12 @@ fn told(mut call: impl FnMut(&mut [u8], &mut usize) -> u8) -> Result<Vec<u8>, St
     }
 }
 
-fn answered(call: c::Answers, graph: &[u8], lines: &[u8]) -> Result<Vec<u8>, Stop> {
+fn answered(is_strict: bool, graph: &[u8], lines: &[u8]) -> Result<Vec<u8>, Stop> {
+    let call = if is_strict {
+        c::symq_strict_answer
+    } else {
+        c::symq_answer
+    };
     told(|out, needed| {
         // SAFETY: each pointer and length are those of one slice, which is borrowed for the call and isn't null; `out` and `needed`
         // are borrowed alone
@@ -125,12 +111,12 @@ fn answered(call: c::Answers, graph: &[u8], lines: &[u8]) -> Result<Vec<u8>, Sto
 ///
 /// The graph is read anew at each call, and maybe twice where the answers are long.
 pub fn answer(graph: &[u8], lines: &[u8]) -> Result<Vec<u8>, Stop> {
-    answered(c::symq_answer, graph, lines)
+    answered(false, graph, lines)
 }
 
 /// As `answer`, by strict rules.
 pub fn strict_answer(graph: &[u8], lines: &[u8]) -> Result<Vec<u8>, Stop> {
-    answered(c::symq_strict_answer, graph, lines)
+    answered(true, graph, lines)
 }
 
 /// The graph of a text, read once, to be asked as often as wanted.
@@ -149,7 +135,12 @@ pub struct Session {
 unsafe impl Send for Session {}
 
 impl Session {
-    fn opened(call: c::Opens, graph: &[u8]) -> Result<Session, Stop> {
+    fn opened(is_strict: bool, graph: &[u8]) -> Result<Session, Stop> {
+        let call = if is_strict {
+            c::symq_strict_open
+        } else {
+            c::symq_open
+        };
         let mut session = Session {
             kept: c::Kept {
                 is_open: false,
@@ -174,12 +165,12 @@ impl Session {
 
     /// Reads and checks a graph, to be asked by Deno's rules.
     pub fn open(graph: &[u8]) -> Result<Session, Stop> {
-        Session::opened(c::symq_open, graph)
+        Session::opened(false, graph)
     }
 
     /// As `open`, to be asked by strict rules.
     pub fn strict(graph: &[u8]) -> Result<Session, Stop> {
-        Session::opened(c::symq_strict_open, graph)
+        Session::opened(true, graph)
     }
 
     /// The answers to lines of queries, each with its line end.
