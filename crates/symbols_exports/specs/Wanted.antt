@@ -1,17 +1,15 @@
 -- Which names a walk takes: all that it comes by, or one.
-use Rattle.std.specs.Prelude.{ℕ, Bool, true, false, List, [], ◌∷◌, find, option_to_list, if◌then◌else◌}
+use Rattle.std.specs.Prelude.{ℕ, Bool, true, false, List, [], ◌∷◌, find, option_to_list}
 use Rattle.std.specs.Str.{bytes_eq}
-use Rattle.symbols_syntax.specs.declared.ids.ModuleId.{ModuleId}
 use Rattle.symbols_syntax.specs.declared.ids.SymbolId.{SymbolId}
 use Rattle.symbols_syntax.specs.Graph.{GraphView}
-use Rattle.symbols_root.specs.Roots.{RootView, specifier_in}
 use Rattle.symbols_root.specs.declared.root.rules.Rules.{Rules}
 use Rattle.symbols_root.specs.declared.root.rules.Rules.TheVariants.{Deno, Strict}
 use Rattle.symbols_exports.specs.declared.exports.wanted.Wanted.{Wanted}
 use Rattle.symbols_exports.specs.declared.exports.wanted.Wanted.TheVariants.{AllNames, OneName}
 use Rattle.symbols_exports.specs.Exports.{Owned, default_name}
 use Rattle.symbols_exports.specs.StarStatements.{owned_of}
-use Rattle.symbols_exports.specs.Taking.{NameView, TakenView, with_names, offers_along, with_owners}
+use Rattle.symbols_exports.specs.Taking.{NameView}
 
 -- of the names that a module owns those that are wanted
 abbrev pub wanted_of : Wanted → List (List ℕ × SymbolId) → List (List ℕ × SymbolId)

@@ -1,7 +1,6 @@
 //! Which names a module exports, its own and those along `export *`.
 
 mod module_exports;
-mod names;
 mod offers;
 mod path;
 mod public;
@@ -12,6 +11,7 @@ mod taken;
 mod turn;
 mod walk;
 mod wanted;
+mod ways;
 
 pub use module_exports::{ModuleExports, UnresolvedSpecifier};
 pub use path::{

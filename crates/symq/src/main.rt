@@ -2,6 +2,7 @@
 #![tactic(auto)]
 
 use std::io;
+use std::mem::ManuallyDrop;
 use std::process::ExitCode;
 use std::rt::{Env, Files};
 use symbols_tree::check::ModuleGraph;
@@ -9,7 +10,8 @@ use symq_core::program::{ReaderInput, Stop, WriterOutput, read_words, serve_with
 
 fn run<R: Files + Env + AllocGlobal + Input + Print>(rt: &R) -> Result<(), Stop> {
     let (rules, raw) = read_words(rt)?;
-    let graph = ModuleGraph::new(rt.alloc(), raw).map_err(Stop::Graph)?;
+    // never let go: the process ends behind it, and all its memory with it
+    let graph = ManuallyDrop::new(ModuleGraph::new(rt.alloc(), raw).map_err(Stop::Graph)?);
     let mut input = ReaderInput::new(rt.reader());
     let mut output = WriterOutput::new(io::writer(rt));
     serve_with(rt.alloc(), &graph, rules, &mut input, &mut output).map_err(Stop::Engine)

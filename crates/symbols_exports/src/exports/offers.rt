@@ -5,10 +5,10 @@ ghost use Rattle.symbols_exports.specs.Paths.{resolved_export, statements_on};
 ghost use Rattle.symbols_exports.specs.Sharing.{are_shared, shared_only, comes_along};
 ghost use Rattle.symbols_exports.specs.Taking.{name_view, named_way, shared_view, shared_views, lists_in, with_other, group_of, groups_of};
 
-use crate::exports::names::path_along;
 use crate::exports::path::ResolvedExportOrReExportAllPath;
 use crate::exports::shared_name::SharedName;
 use crate::exports::turn::Turn;
+use crate::exports::ways::path_along;
 use indexmap::IndexMap;
 use std::alloc::{AllocError, Global};
 

@@ -8,12 +8,12 @@ ghost use Rattle.symbols_exports.specs.Taking.{names_view, shared_views, turn_to
 ghost use Rattle.symbols_exports.specs.Wanted.{is_done, owned_for};
 
 use crate::exports::module_exports::{ModuleExports, UnresolvedSpecifier};
-use crate::exports::names::{path_along, stays_behind};
 use crate::exports::offers::{Others, put_other, shared_names};
 use crate::exports::path::{ResolvedExport, ResolvedExportOrReExportAllPath};
 use crate::exports::statements::own_names;
 use crate::exports::turn::Turn;
 use crate::exports::wanted::Wanted;
+use crate::exports::ways::{path_along, stays_behind};
 use indexmap::IndexMap;
 use std::alloc::{AllocError, Global};
 use std::marker::Model;

@@ -35,6 +35,7 @@ pub(crate) fn specifier_of<'a>(root: &RootSymbol<'a>, module_id: ModuleId) -> &'
 }
 
 /// A statement `export *`: its referrer and its text.
+#[inline(always)]
 fn tell_statement(
     out: &mut Writer,
     root: &RootSymbol<'_>,
@@ -51,6 +52,7 @@ fn tell_statement(
 }
 
 /// The statements on a way, in order.
+#[inline(always)]
 #[tactic(auto, using(crate::proofs::Chains::statements_of_rests))]
 pub(crate) fn tell_chain(
     out: &mut Writer,

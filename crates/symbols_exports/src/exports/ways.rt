@@ -13,6 +13,7 @@ use crate::exports::turn::Turn;
 use std::alloc::{AllocError, Global};
 
 /// The way along the turns to an export.
+#[inline(always)]
 pub(crate) fn path_along<'a>(
     alloc: Global,
     above: &[Turn<'a>],
