@@ -140,9 +140,6 @@ shared_behind entry entries ways lists shared after more is pushed named owners 
     ∙ (append_assoc (shared_views shared) (shared_view more ∷ []) (shared_only comes_along (groups_of entries lists))
     ∙ (ap (λ v. shared_views shared ++ v ∷ shared_only comes_along (groups_of entries lists)) view ∙ rw is refl)))
 
--- where no lists are left, or no names, none is shared behind
+-- where no lists are left none is shared behind
 pub none_left : (entries : List NameEntry) (lists : List (List Way)) (shared all : List (Shared NameView)) → shared ++ shared_only comes_along (groups_of entries lists) ≡ all → lists ≡ [] → shared ≡ all
 none_left entries lists shared all are none = sym (append-nil shared) ∙ (ap (λ more. shared ++ more) (sym (one_way_each entries) ∙ ap (λ ls. shared_only comes_along (groups_of entries ls)) (sym none)) ∙ are)
-
-pub no_names_left : (entries : List NameEntry) (lists : List (List Way)) (shared all : List (Shared NameView)) → shared ++ shared_only comes_along (groups_of entries lists) ≡ all → entries ≡ [] → shared ≡ all
-no_names_left entries lists shared all are none = sym (append-nil shared) ∙ (ap (λ es. shared ++ shared_only comes_along (groups_of es lists)) (sym none) ∙ are)

@@ -101,13 +101,14 @@ pub(crate) fn shared_names<'a>(
     resolved: &IndexMap<String, ResolvedExportOrReExportAllPath<'a>>,
     others: Others<'a>,
 ) -> Result<Vec<SharedName<'a>>, AllocError>
+    requires few { length others.items ≤ length resolved.now.entries }
     ensures { IfOk result (λ shared. shared_views shared.items ≡ shared_only comes_along (groups_of resolved.now.entries (lists_in others.entry.items))) }
 {
     let mut shared = Vec::new(alloc);
     let mut names = resolved.iter();
     for ways in others {
         let Some((name, first)) = names.next() else {
-            break;
+            unreachable!()
         };
         if is_shared(first, &ways) {
             shared.push(shared_name(alloc, name.as_str(), first, ways)?)?;
