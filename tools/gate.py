@@ -1,6 +1,6 @@
 #!/usr/bin/env python3
-"""The whole gate: every proof from nothing, the wrong bodies, the borrows that the library allows, the table of public
-names, and the stored cases on the proved programs.
+"""The whole gate: every proof from nothing, the wrong bodies, the borrows that the library allows, the tables of kinds and
+of public names, and the stored cases on the proved programs.
 
     python3 tools/gate.py
 
@@ -161,14 +161,15 @@ def all_parts():
     os.environ.setdefault('RT_JOBS', str(max(2, processors // 2)))
     edits = {name: len(Crate(TOP, name, libraries).names()) for name in libraries}
     names = sorted((name for name in libraries if edits[name]), key=lambda it: -edits[it])
-    with tempfile.TemporaryDirectory(prefix='gate-') as folder, ThreadPoolExecutor(len(names) + 6) as pool:
+    with tempfile.TemporaryDirectory(prefix='gate-') as folder, ThreadPoolExecutor(len(names) + 7) as pool:
         proofs, lanes = Proofs(laid(folder, 'built')), laid(folder, 'lanes', max(2, processors - 1))
         tasks = [pool.submit(proofs_part, proofs), pool.submit(borrows_part, proofs), pool.submit(bindings_part, proofs)]
-        tasks += [pool.submit(tests_part, name) for name in ('wrong_bodies.py', 'public_names.py')]
+        tasks += [pool.submit(tests_part, name) for name in ('wrong_bodies.py', 'public_names.py', 'kinds.py')]
         tasks.append(pool.submit(model_part, 'model'))
         tasks += [pool.submit(wrong_bodies_part, name, libraries, proofs, lanes, turn) for name in names]
         parts = [it.result() for it in tasks]
-    parts += [Part('public names').run(tool('public_names.py')), Part('plain graphs').run(tool('run_plain.py'))]
+    parts += [Part('table of kinds').run(tool('kinds.py')), Part('public names').run(tool('public_names.py'))]
+    parts.append(Part('plain graphs').run(tool('run_plain.py')))
     parts += [model_part('program'), Part('symdir').run(tool('run_symdir.py'))]
     parts += [Part('refused calls').run(tool('run_refusing.py')), Part('long ways').run(tool('run_deep.py'))]
     return parts + [Part('cases').run(tool('run_cases.py', '--proved'))]

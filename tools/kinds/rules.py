@@ -1,0 +1,102 @@
+"""The rules that the table keeps."""
+from .blocks import BadTable
+
+# what may stand in a block beside its name and its comment: behind its name, and in its lines as a name with a value
+BESIDE = {'enum': (), 'kind': ('written', 'read by'), 'set': (), 'category': (), 'field': ()}
+VALUES = {'enum': ('reader',), 'field': ('matched in', 'in contracts')}
+
+# the children of a node are told in a list of so many places
+MOST = 5
+
+# keys that each node has
+OWN_KEYS = ('kind', 'range')
+
+
+def twice(names):
+    """The names that stand twice."""
+    return sorted({it for it in names if names.count(it) > 1})
+
+
+def wrong_blocks(blocks):
+    """What is wrong with blocks by themselves."""
+    for what, name in twice([(it.what, it.name) for it in blocks]):
+        yield '%s %s stands twice' % (what, name)
+    for block in blocks:
+        values = [words.partition(': ')[0] for _, words in block.lines] if block.what in VALUES else []
+        unknown = [it for it in block.said if it not in BESIDE[block.what]] + [it for it in values if it not in VALUES[block.what]]
+        for it in unknown:
+            yield '%s %s: nothing is called %s' % (block.what, block.name, it)
+        for it in twice(values):
+            yield '%s %s: %s stands twice' % (block.what, block.name, it)
+        if block.what == 'enum' and 'reader' not in values:
+            yield 'enum %s has no reader' % block.name
+        if not block.comment and block.what not in ('category', 'field'):
+            yield '%s %s has no comment' % (block.what, block.name)
+
+
+def wrong_kinds(table):
+    """What is wrong with kinds."""
+    for text in twice([kind.text for kind in table.kinds()]):
+        yield 'two kinds are written %s' % text
+    for reader in twice([(kind.enum, kind.reader) for kind in table.kinds()]):
+        yield 'two kinds of %s are read by %s' % reader
+    for kind in table.kinds():
+        for name in twice([it.name for it in kind.fields]):
+            yield '%s has two fields %s' % (kind.name, name)
+        for key in twice([*OWN_KEYS, *(it.key for it in kind.fields)]):
+            yield '%s has two values under the key %s' % (kind.name, key)
+        if not kind.fields:
+            yield '%s has no field' % kind.name
+        if len(kind.children()) > MOST:
+            yield '%s has more than %d fields that hold children' % (kind.name, MOST)
+        for it in kind.children():
+            if it.category not in table.categories:
+                yield '%s.%s: there is no category %s' % (kind.name, it.name, it.category)
+
+
+def wrong_set(table, one):
+    """What is wrong with a set: it names what is there, of sets those before it, and is of a form that can be written."""
+    before = list(table.sets)[: list(table.sets).index(one.name)]
+    for other in (*one.all_of, *one.none_of):
+        if other not in before:
+            yield 'set %s: no set %s stands before it' % (one.name, other)
+    forms = [one.kinds or len(one.all_of) > 1, one.but and len(one.all_of) == 1, one.but and len(one.none_of) == 1]
+    mixed = (one.kinds and one.but) or (one.none_of and (one.kinds or one.all_of)) or (one.but and len(one.all_of) > 1)
+    if mixed or not any(forms):
+        yield 'set %s is of no form that is known' % one.name
+
+
+def wrong_categories(table):
+    """What is wrong with sets and categories."""
+    names = {kind.name for kind in table.kinds()}
+    for one in (*table.sets.values(), *table.categories.values()):
+        for kind in twice([*one.kinds, *getattr(one, 'but', ())]):
+            yield '%s: %s stands twice' % (one.name, kind)
+        for kind in (*one.kinds, *getattr(one, 'but', ())):
+            if kind not in names:
+                yield '%s: there is no kind %s' % (one.name, kind)
+    for one in table.sets.values():
+        yield from wrong_set(table, one)
+    used = {it.category for kind in table.kinds() for it in kind.children()}
+    for one in table.categories.values():
+        if bool(one.kinds) == (one.name in table.sets):
+            yield 'category %s has its kinds here, or in the set of its name' % one.name
+        if one.name not in used:
+            yield 'category %s is of no field' % one.name
+        if not one.comment and one.name not in table.sets:
+            yield 'category %s has no comment' % one.name
+
+
+def wrong_fields(table):
+    """What is wrong with what is said of names of fields."""
+    names = {it.name for kind in table.kinds() for it in kind.children()}
+    for name in (*table.matched, *table.in_contracts):
+        if name not in names:
+            yield 'no field that holds children is called %s' % name
+
+
+def hold(table, blocks):
+    """Raises what is wrong with the table first."""
+    for check in (wrong_blocks(blocks), wrong_kinds(table), wrong_categories(table), wrong_fields(table)):
+        for fault in check:
+            raise BadTable(fault)

@@ -1,0 +1,37 @@
+"""The sorts of fields: how each is written in the code, in its contracts, and in a document."""
+from dataclasses import dataclass
+
+
+@dataclass(frozen=True)
+class Sort:
+    """A sort: its name in the table, its type in Rust, its name and what a variable of it holds in the contracts of the reader, the
+    function that reads it and whether that asks for memory, and its mark and word in a document. The word of a child is its category.
+    A sort that holds children also has the function that makes a field of them."""
+
+    name: str
+    rust: str
+    contract: str
+    held: str
+    call: str
+    memory: bool
+    mark: str
+    word: str = ''
+    children: str = ''
+
+
+ALL = (
+    Sort('child', 'NodeId', 'child', 'holds_child %s', 'fields::child', False, '', children='one'),
+    Sort('optional child', 'Option<NodeId>', 'optional_child', 'holds_optional_child %s',
+         'fields::optional_child', False, '?', children='optional'),
+    Sort('children', 'Vec<NodeId>', 'children', 'holds_children %s.items', 'fields::children', True, '*', children='many'),
+    Sort('text', 'String', 'text', 'holds_text (string_bytes %s)', 'fields::text', True, '', 'text'),
+    Sort('optional text', 'Option<String>', 'optional_text', 'holds_optional_text (option_map string_bytes %s)',
+         'fields::optional_text', True, '?', 'text'),
+    Sort('flag', 'bool', 'flag', 'holds_flag %s', 'fields::flag', False, '?', 'flag'),
+    Sort('identifier', 'Id', 'identifier', 'holds_identifier (identifier_view %s)', 'fields::identifier', True, '', 'name'),
+    Sort('accessibility', 'Option<Accessibility>', 'accessibility', 'holds_accessibility %s',
+         'words::accessibility', False, '?', 'access'),
+    Sort('method kind', 'MethodKind', 'method_kind', 'holds_method_kind %s', 'words::method_kind', False, '', 'method kind'),
+)
+
+SORTS = {it.name: it for it in ALL}

@@ -1,0 +1,368 @@
+"""What the tests of the table of kinds try: changes of files and of the table, and what is said then."""
+from .places import GRAPH, KINDS, PUBLIC, READER, SYMDIR, SYNTAX, TREE
+
+# what is spoilt in a file, and the parts that differ then
+SPOILT = [
+    ('a field is renamed', TREE + 'kinds.rt',
+     ('        init: Option<NodeId>,\n    },\n    /// `namespace', '        value: Option<NodeId>,\n    },\n    /// `namespace'),
+     'enum Decl'),
+    ('a field is left out', TREE + 'kinds.rt', ('        kind: MethodKind,\n', ''), 'enum Member'),
+    ('a field is of another sort', TREE + 'kinds.rt', ('        imported: Option<String>', '        imported: String'), 'enum Item'),
+    ('two fields are swapped', TREE + 'kinds.rt',
+     ('        obj: NodeId,\n        prop: NodeId,', '        prop: NodeId,\n        obj: NodeId,'), 'enum Expr'),
+    ('a comment is another', TREE + 'kinds.rt', ('/// A type parameter.', '/// Type parameters.'), 'enum Ty'),
+    ('the comment of an enum is another', TREE + 'kinds.rt', ('/// Types and what', '/// Types, and what'), 'enum Ty'),
+    ('an enum is left out', TREE + 'kinds.rt', ('    Pat(Pat),\n', ''), 'enum Kind'),
+    ('a name is left out', TREE + 'names.rt', ('    BigInt,\n', ''), 'enum KindName'),
+    ('a kind has another name', TREE + 'names.rt', ('=> KindName::FnExpr', '=> KindName::FnDecl'), 'names of Decl'),
+    ('another enum is asked', TREE + 'names.rt', ('=> decl.name()', '=> item.name()'), 'names of Kind'),
+    ('a kind of contracts has another name', SYNTAX + 'Names.antt', ('= Name.Arrow', '= Name.Assign'), 'expr_kind_name'),
+    ('a kind of contracts has a field more', SYNTAX + 'Names.antt', ('Ty.TsAsExpr _ _', 'Ty.TsAsExpr _ _ _'), 'ty_kind_name'),
+    ('another enum is asked in contracts', SYNTAX + 'Names.antt', ('= pat_kind_name k', '= ty_kind_name k'), 'kind_name'),
+    ('a set lacks a kind', TREE + 'categories.rt', ('                | KindName::Computed\n', ''), 'sets'),
+    ('a set is of others', TREE + 'categories.rt', ('self.is_key() ||', 'self.is_entity() ||'), 'sets'),
+    ('a category allows another kind', TREE + 'categories.rt', ('(name, KindName::TsTypeAnn)', '(name, KindName::Plain)'), 'allows'),
+    ('a category is left out', TREE + 'categories.rt', ('    /// A type parameter.\n    TypeParam,\n', ''), 'enum Category'),
+    ('a function is not brought', TREE + 'categories.rt', (' is_type,', ''), 'use of contracts'),
+    ('a set of contracts has a kind more', SYNTAX + 'Categories.antt', ('is_key _', 'is_key Name.Arrow = true\nis_key _'), 'sets'),
+    ('a category of contracts allows another kind', SYNTAX + 'Categories.antt',
+     ('allows Category.Class Name.Class ', 'allows Category.Class Name.Other '), 'allows'),
+    ('a field has another category', TREE + 'fields.rt', ('one(Category::AssignLeft, left)', 'one(Category::Pattern, left)'),
+     'fields of Expr'),
+    ('a field is optional', TREE + 'fields.rt', ('one(Category::MemberProp', 'optional(Category::MemberProp'), 'fields of Expr'),
+    ('a field that holds children is left out', TREE + 'fields.rt', ('                optional(Category::ModuleBody, body)\n', ''),
+     'fields of Decl'),
+    ('a field of contracts has another category', SYNTAX + 'Fields.antt', ('one Category.ParamPropPattern', 'one Category.Pattern'),
+     'member_fields'),
+    ('a method lacks a kind', TREE + 'child_fields.rt', ('                | Ty::TsTypeQuery { type_args, .. }\n', ''), 'methods'),
+    ('a method of another name', TREE + 'child_fields.rt', ('pub fn body_node', 'pub fn block'), 'methods'),
+    ('a match of kinds lacks a kind', TREE + 'child_fields.rt', ('            | Pat::ArrayPat { type_ann, .. }\n', ''), 'type_ann_of_kind'),
+    ('a child stands in another place', SYNTAX + 'ChildFields.antt',
+     ('Item.TsImportEqualsDecl _ child _ _', 'Item.TsImportEqualsDecl _ _ child _'), 'functions'),
+    ('another field is read', KINDS + 'members.rt', ('"method_kind"', '"kind"'), 'functions of Member'),
+    ('a text is another', KINDS + 'pats.rt', ('"Type" =>', '"Plain" =>'), 'functions of Pat'),
+    ('a function is read for another kind', KINDS + 'tys.rt', ('Some(ts_as_expr(', 'Some(ts_type_assertion('), 'functions of Ty'),
+    ('a key of contracts is another', READER + 'Kinds.antt', ('codes "super_class"', 'codes "super"'), 'fields_of'),
+    ('a sort of contracts is another', READER + 'Kinds.antt', ('(codes "declare", flag)', '(codes "declare", child)'), 'fields_of'),
+    ('a text of contracts is another', READER + 'Kinds.antt', ('codes "Type"', 'codes "Plain"'), 'pat_texts'),
+    ('two names of a row are swapped', READER + 'KindShapes.antt',
+     ('Item.TsImportEqualsDecl is_export id', 'Item.TsImportEqualsDecl id is_export'), 'item_slots'),
+    ('another list of texts is read', READER + 'KindShapes.antt', ('named ty_texts t', 'named pat_texts t'), 'read_ty'),
+    ('a shape has other fields', READER + 'KindShapes.antt', ('slots = expr_slots k', 'slots = pat_slots k'), 'expr_shape'),
+    ('a shape is of another enum', READER + 'KindShapes.antt', ('= expr_shape k', '= pat_shape k'), 'kind_shape'),
+    ('a field of the page may be absent', GRAPH, ('`src` text |\n| `TsImp', '`src?` text |\n| `TsImp'), 'kinds of Item'),
+    ('two kinds of the page are swapped', GRAPH,
+     ('| `Num` | a number; its text | `text` text |\n| `BigInt` | a big integer; its text | `text` text |\n',
+      '| `BigInt` | a big integer; its text | `text` text |\n| `Num` | a number; its text | `text` text |\n'), 'kinds of Expr'),
+    ('a category of the page has a kind more', GRAPH, ('| Entity | `Ident`,', '| Entity | `Ident`, `Str`,'), 'categories'),
+    ('the page counts otherwise', GRAPH, ('All 75 kinds', 'All 74 kinds'), 'count'),
+    ('a category stands twice', GRAPH,
+     ('| TypeParam | `TsTypeParam` |\n', '| TypeParam | `TsTypeParam` |\n| TypeParam | `TsTypeParam` |\n'), 'categories'),
+    ('a row with one cell', GRAPH, ('| Annotation | `TsTypeAnn` |\n', '| Annotation |\n'), 'categories'),
+    ('the last row of the page is gone', GRAPH, ('| Annotation | `TsTypeAnn` |\n', ''), 'categories'),
+    ('a category of one kind is left out', GRAPH, ('VarDeclarator | the kind', 'VarDecl | the kind'), 'categories'),
+    ('fewer are said to be in a set', GRAPH, ('the eight that', 'the seven that'), 'categories'),
+    ('a variant is no public name', PUBLIC,
+     ('ExprPat, Plain, Other }` | `deno_symbols::tree` |\n', 'ExprPat, Other }` | `deno_symbols::tree` |\n'), 'row of Pat'),
+    ('a method is no public name', PUBLIC, ('| `NodeRef::elems` | `deno_symbols::tree` |\n', ''), 'rows of NodeRef'),
+    ('a line has a space at its end', TREE + 'kinds.rt', ('        sym: Id,\n    },', '        sym: Id, \n    },'), 'enum Expr'),
+]
+
+# what is spoilt so that a part isn't found, and what is said then
+LOST = [
+    ('the first line is another', TREE + 'names.rt', ('pub enum KindName {', 'enum KindName {'),
+     'enum KindName: 0 lines begin with pub enum KindName {'),
+    ('the first line stands twice', TREE + 'kinds.rt', ('/// Members of', 'pub enum Decl {\n}\n\n/// Members of'),
+     'enum Decl: 2 lines begin with pub enum Decl {'),
+    ('a last line is gone', TREE + 'kinds.rt', ('    },\n}\n\n/// Types', '    },\n\n/// Types'), 'enum Member: ends in a part behind it'),
+    ('the line behind is gone', SYNTAX + 'Categories.antt', ('-- whether a kind may stand at', '-- whether a kind stands at'),
+     "sets: no line behind it is '-- whether a kind may stand at a place of the category'"),
+]
+
+PAGES = (GRAPH, SYMDIR)
+
+# what is changed in the table, and the files in which something differs then
+CHANGED = [
+    ('a text', ('    imported: optional text', '    original: optional text'),
+     (TREE + 'kinds.rt', KINDS + 'items.rt', READER + 'Kinds.antt', READER + 'KindShapes.antt', *PAGES)),
+    ('a child', ('    label: optional child', '    tag: optional child'), (TREE + 'kinds.rt', TREE + 'fields.rt', TREE + 'child_fields.rt',
+      SYNTAX + 'Fields.antt', SYNTAX + 'ChildFields.antt', KINDS + 'tys.rt', READER + 'Kinds.antt', READER + 'KindShapes.antt', PUBLIC,
+      *PAGES)),
+    ('a key', ('under method_kind', 'under sort'), (KINDS + 'members.rt', READER + 'Kinds.antt', READER + 'KindShapes.antt', *PAGES)),
+    ('a sort', ('    declare: flag', '    declare: text'),
+     (TREE + 'kinds.rt', KINDS + 'decls.rt', READER + 'Kinds.antt', READER + 'KindShapes.antt', *PAGES)),
+    ('a sort of children', ('    super_class: optional child', '    super_class: child'), (TREE + 'kinds.rt', TREE + 'fields.rt',
+      TREE + 'child_fields.rt', SYNTAX + 'Fields.antt', SYNTAX + 'ChildFields.antt', KINDS + 'decls.rt', READER + 'Kinds.antt',
+      READER + 'KindShapes.antt', *PAGES)),
+    ('the category of a field',
+     ('    init: optional child of Expression\n\nkind TsModuleDecl', '    init: optional child of Key\n\nkind TsModuleDecl'),
+     (TREE + 'fields.rt', SYNTAX + 'Fields.antt', *PAGES)),
+    ('a set', ('    Ident, TsQualifiedName', '    Ident, Str, TsQualifiedName'),
+     (TREE + 'categories.rt', SYNTAX + 'Categories.antt', *PAGES)),
+    ('a set that is unnamed in the page', ('ExportAll, TsImportEqualsDecl, TsExportAssignment', 'ExportAll, TsImportEqualsDecl'),
+     (TREE + 'categories.rt', SYNTAX + 'Categories.antt', *PAGES)),
+    ('the order of a set', ('    Ident, TsQualifiedName', '    TsQualifiedName, Ident'),
+     (TREE + 'categories.rt', SYNTAX + 'Categories.antt')),
+    ('the comment of a set', ('set Element: elements', 'set Element: parts'), (TREE + 'categories.rt', SYNTAX + 'Categories.antt')),
+    ('the comment of a category', ('Annotation: A type annotation.', 'Annotation: An annotation.'), (TREE + 'categories.rt',)),
+    ('the comment of a kind', ('TsTypeAnn: A type annotation.', 'TsTypeAnn: An annotation.'), (TREE + 'kinds.rt',)),
+    ('the comment of an enum', ('enum Pat: Patterns, other types', 'enum Pat: Patterns, types'),
+     (TREE + 'kinds.rt', KINDS + 'pats.rt', READER + 'Kinds.antt')),
+    ('the comment of a function', ('reader: The expression of', 'reader: An expression of'), (KINDS + 'exprs.rt',)),
+    ('a text in graphs', ('written Type', 'written Kind'), (KINDS + 'pats.rt', READER + 'Kinds.antt', *PAGES)),
+    ('a function', ('read by number', 'read by num'), (KINDS + 'exprs.rt',)),
+    ('where a match stands', ('matched in: key_of_kind', 'matched in: key_in'), (TREE + 'child_fields.rt',)),
+    ('a name in contracts', ('in contracts: children_field', 'in contracts: children_there'),
+     (TREE + 'child_fields.rt', SYNTAX + 'ChildFields.antt')),
+]
+
+# what is changed in the table, and why it is no table then
+BAD = [
+    ('a word that is no block', ('kind Program:', 'sort Program:'),
+     'is no first line of a block: sort Program: The whole module. It is node 0.'),
+    ('a line of no block', ('kind Program: The whole module. It is node 0.\n', ''), 'is of no block: body: children of Item'),
+    ('a kind without an enum',
+     ('enum Item: Items of a module, their parts, and statements.\n    reader: The item of a kind\'s text; none where no item has it.\n',
+      ''), 'a kind stands behind its enum'),
+    ('an unknown sort', ('    is_export: flag', '    is_export: bool'), 'is no field: is_export: bool'),
+    ('a text with a category', ('    is_export: flag', '    is_export: flag of Item'),
+     'a field has a category where it holds children, and nowhere else: is_export: flag of Item'),
+    ('a child without a category', ('    entity: optional child of Entity', '    entity: optional child'),
+     'a field has a category where it holds children, and nowhere else: entity: optional child'),
+    ('an unknown category', ('    orig: child of ExportOrig', '    orig: child of Orig'),
+     'ExportSpecifier.orig: there is no category Orig'),
+    ('a category of no field', ('    orig: child of ExportOrig', '    orig: child of Ident'), 'category ExportOrig is of no field'),
+    ('an unknown kind', ('    Ident, TsQualifiedName', '    Ident, TsName'), 'Entity: there is no kind TsName'),
+    ('an unknown kind that a set lacks', ('    but UsingDecl', '    but Using'), 'ExportedDeclaration: there is no kind Using'),
+    ('an unknown set', ('    all of Signature', '    all of Signatures'), 'set Pattern: no set Signatures stands before it'),
+    ('a set of itself', ('    all of Signature', '    all of Pattern'), 'set Pattern: no set Pattern stands before it'),
+    ('a set of no form', ('    but UsingDecl', '    but UsingDecl\n    Str'), 'set ExportedDeclaration is of no form that is known'),
+    ('a set with more than it can say', ('    none of ItemOnly\n', '    none of ItemOnly\n    all of Key\n'),
+     'set Any is of no form that is known'),
+    ('a set of two without some', ('    all of Declaration\n    but', '    all of Declaration\n    all of Key\n    but'),
+     'set ExportedDeclaration is of no form that is known'),
+    ('a kind twice in a set', ('    Ident, TsQualifiedName', '    Ident, TsQualifiedName, Ident'), 'Entity: Ident stands twice'),
+    ('a kind twice in a category', ('    TsModuleBlock, TsNamespaceDecl', '    TsModuleBlock, TsModuleBlock'),
+     'ModuleBody: TsModuleBlock stands twice'),
+    ('a category of another set', ('    TsModuleBlock, TsNamespaceDecl', '    TsModuleBlock\n    all of Key'),
+     'a category names kinds alone, or it is of a set: ModuleBody'),
+    ('a set of nothing', ('    Ident, TsQualifiedName\n', ''), 'set Entity is of no form that is known'),
+    ('a set that is another', ('    all of Declaration\n    but UsingDecl', '    all of Declaration'),
+     'set ExportedDeclaration is of no form that is known'),
+    ('a category with a set and kinds', ('category Key\n', 'category Key\n    Str\n'),
+     'category Key has its kinds here, or in the set of its name'),
+    ('a category without kinds', ('    ImportNamed, ImportDefault, ImportNamespace\n', ''),
+     'category ImportSpecifier has its kinds here, or in the set of its name'),
+    ('a category without a comment', ('category Class: What stands after the name of a class.', 'category Class'),
+     'category Class has no comment'),
+    ('a kind without a comment', ('kind ExprStmt: An expression as a statement.', 'kind ExprStmt'), 'kind ExprStmt has no comment'),
+    ('a kind twice', ('kind BigInt: ', 'kind Num: '), 'kind Num stands twice'),
+    ('a text twice', ('written Type', 'written Other'), 'two kinds are written Other'),
+    ('a function twice', ('read by string', 'read by number'), 'two kinds of Expr are read by number'),
+    ('a field twice', ('    is_block: flag', '    params: flag'), 'Arrow has two fields params'),
+    ('a key twice', ('under method_kind', 'under function'), 'ClassMethod has two values under the key function'),
+    ('a key that each node has', (', under method_kind', ''), 'ClassMethod has two values under the key kind'),
+    ('a kind without a field', ('    init: optional child of Expression\n\nkind TsModuleDecl', '\nkind TsModuleDecl'),
+     'TsEnumMember has no field'),
+    ('six fields with children', ('    super_class:', '    own: child of Class\n    super_class:'),
+     'Class has more than 5 fields that hold children'),
+    ('a word behind a name', ('kind Str, read by string', 'kind Str, told by string'), 'kind Str: nothing is called told by'),
+    ('a value of another name', ('    matched in: key_of_kind', '    match in: key_of_kind'), 'field key: nothing is called match in'),
+    ('a value twice', ('    matched in: key_of_kind', '    matched in: key_of_kind\n    matched in: key_of'),
+     'field key: matched in stands twice'),
+    ('a word twice', ('kind Str, read by string', 'kind Str, read by string, read by str'),
+     'says something twice: read by string, read by str'),
+    ('an enum without a reader', ("    reader: The member of a kind's text; none where no member has it.\n", ''),
+     'enum Member has no reader'),
+    ('a line without a value', ('    matched in: key_of_kind', '    key_of_kind'), 'has no value: key_of_kind'),
+    ('a list that is none', ('    Ident, TsQualifiedName', '    Ident TsQualifiedName'), 'is no list of names: Ident TsQualifiedName'),
+    ('a field of no kind', ('field type_ann', 'field type_annotation'), 'no field that holds children is called type_annotation'),
+]
+
+# what is changed in the table of symdir, and what is said then
+OF_SYMDIR = [
+    ('a mark', ("src? text'", "src text'"),
+     'fields: ExportNamed: there specifiers* ExportSpecifier, src text, in the table specifiers* ExportSpecifier, src? text'),
+    ('a kind less', ("  RestPat: 'arg Pattern, type_ann? Annotation',\n", ''),
+     'fields: RestPat: there None, in the table arg Pattern, type_ann? Annotation'),
+    ('a kind more', ("  Other: 'children* Any',\n", "  Other: 'children* Any',\n  More: 'children* Any',\n"),
+     'fields: More: there children* Any, in the table None'),
+    ('a category', ("  Annotation: 'TsTypeAnn',", "  Annotation: 'TsTypeAnn, Type',"),
+     "categories: Annotation: there ['TsTypeAnn', 'Type'], in the table ['TsTypeAnn']"),
+    ('a category in another', ("  QueryName: '+Entity,", "  QueryName: 'Entity,"),
+     "categories: QueryName: there ['Entity', 'TsImportType'], in the table ['Ident', 'TsImportType', 'TsQualifiedName']"),
+]
+
+# kinds that are new, one with fields of all sorts and one with a long name
+NEW_KINDS = """
+kind TsSatisfiesExpression, written Satisfies, read by satisfies: `expr satisfies ty`.
+    expr: child of Expression
+    ty: child of Type
+    how: optional child of Reason
+    notes: children of Reason
+    mark: identifier
+    sort: method kind, under method_kind
+    access: accessibility
+    said: optional text
+    is_sure: flag
+
+kind Valued: What has a value.
+    value: text
+    key: optional child of Key
+
+kind TsSatisfiesExpressionOfConstructorParam: A long one.
+    how: child of Cause
+    value: flag
+"""
+
+NEW_CATEGORIES = """
+set Cause: causes
+    all of ExportedDeclaration
+    all of ConstructorParam
+    TsSatisfiesExpression
+
+category Cause
+
+category Reason: Why it is so.
+    Str, Ident, Member, BigInt, Computed, TsSatisfiesExpression
+"""
+
+# what files have of the new kinds, in the layout of `rt fmt`
+MADE = [
+    (TREE + 'kinds.rt', """    /// `expr satisfies ty`.
+    TsSatisfiesExpression {
+        expr: NodeId,
+        ty: NodeId,
+        how: Option<NodeId>,
+        notes: Vec<NodeId>,
+        mark: Id,
+        sort: MethodKind,
+        access: Option<Accessibility>,
+        said: Option<String>,
+        is_sure: bool,
+    },
+"""),
+    (TREE + 'names.rt', """            Pat::TsSatisfiesExpression { .. } => KindName::TsSatisfiesExpression,
+            Pat::Valued { .. } => KindName::Valued,
+            Pat::TsSatisfiesExpressionOfConstructorParam { .. } =>
+                KindName::TsSatisfiesExpressionOfConstructorParam,
+"""),
+    (SYNTAX + 'Names.antt', 'pat_kind_name (Pat.TsSatisfiesExpression _ _ _ _ _ _ _ _ _) = Name.TsSatisfiesExpression\n'),
+    (TREE + 'fields.rt', """            Pat::TsSatisfiesExpression {
+                expr,
+                ty,
+                how,
+                notes,
+                ..
+            } => slots![
+                one(Category::Expression, expr),
+                one(Category::Type, ty),
+                optional(Category::Reason, how),
+                many(Category::Reason, notes)
+            ],
+            Pat::Valued { key, .. } => slots![optional(Category::Key, key)],
+            Pat::TsSatisfiesExpressionOfConstructorParam { how, .. } => slots![one(
+                Category::Cause,
+                how
+            )],
+"""),
+    (SYNTAX + 'Fields.antt', 'pat_fields (Pat.TsSatisfiesExpression expr ty how notes _ _ _ _ _) = one Category.Expression expr ∷ '
+     'one Category.Type ty ∷ optional Category.Reason how ∷ many Category.Reason notes.items ∷ []\n'),
+    (TREE + 'child_fields.rt', """    /// The `how` of `TsSatisfiesExpression`, `TsSatisfiesExpressionOfConstructorParam`.
+    pub fn how(self) -> Option<NodeRef<'a>>
+        ensures { option_map node_view result ≡ child_of (node_view self.entry) how_of }
+    {
+        let NodeRef { tree, number } = self;
+        let child = match &tree.nodes[number as usize].kind {
+            Kind::Pat(Pat::TsSatisfiesExpressionOfConstructorParam { how, .. }) => Some(*how),
+            Kind::Pat(Pat::TsSatisfiesExpression { how, .. }) => *how,
+            _ => None,
+        };
+        find(tree, child)
+    }
+
+    /// The `notes` of a `TsSatisfiesExpression`.
+    pub fn notes(self) -> &'a [NodeId]
+        ensures { result.now ≡ list_of (node_view self.entry) notes_of }
+    {
+        let NodeRef { tree, number } = self;
+        match &tree.nodes[number as usize].kind {
+            Kind::Pat(Pat::TsSatisfiesExpression { notes, .. }) => notes,
+            _ => &[],
+        }
+    }
+"""),
+    (TREE + 'child_fields.rt', 'arg_of, children_field_of, how_of, notes_of};\n'),
+    (SYNTAX + 'ChildFields.antt', """abbrev pub how_of : Kind → Option ℕ
+how_of (Kind.Pat (Pat.TsSatisfiesExpression _ _ child _ _ _ _ _ _)) = child
+how_of (Kind.Pat (Pat.TsSatisfiesExpressionOfConstructorParam child _)) = Some child
+how_of _ = None
+"""),
+    (TREE + 'categories.rt', """        self.is_exported_declaration()
+            || self.is_constructor_param()
+            || matches!(self, KindName::TsSatisfiesExpression)
+"""),
+    (TREE + 'categories.rt', """            Category::Reason => matches!(
+                name,
+                KindName::Str
+                    | KindName::Ident
+                    | KindName::Member
+                    | KindName::BigInt
+                    | KindName::Computed
+                    | KindName::TsSatisfiesExpression
+            ),
+"""),
+    (SYNTAX + 'Categories.antt', """-- causes
+abbrev pub is_cause : KindName → Bool
+is_cause Name.TsSatisfiesExpression = true
+is_cause k = is_exported_declaration k || is_constructor_param k
+"""),
+    (SYNTAX + 'Categories.antt', 'allows Category.Reason Name.TsSatisfiesExpression = true\nallows Category.Reason _ = false\n'),
+    (KINDS + 'pats.rt', """/// What the text calls a `Satisfies`.
+fn satisfies(alloc: Global, value: &Value<'_>) -> Result<Pat, FormatFault>
+    ensures { Gives pat_shape result (read_as Name.TsSatisfiesExpression (data_of value.now)) }
+{
+    Ok(Pat::TsSatisfiesExpression {
+        expr: fields::child(value, "expr")?,
+        ty: fields::child(value, "ty")?,
+        how: fields::optional_child(value, "how")?,
+        notes: fields::children(alloc, value, "notes")?,
+        mark: fields::identifier(alloc, value, "mark")?,
+        sort: words::method_kind(value, "method_kind")?,
+        access: words::accessibility(value, "access")?,
+        said: fields::optional_text(alloc, value, "said")?,
+        is_sure: fields::flag(value, "is_sure")?,
+    })
+}
+"""),
+    (KINDS + 'pats.rt', """fn valued(alloc: Global, value: &Value<'_>) -> Result<Pat, FormatFault>
+    ensures { Gives pat_shape result (read_as Name.Valued (data_of value.now)) }
+{
+    Ok(Pat::Valued {
+        value: fields::text(alloc, value, "value")?,
+        key: fields::optional_child(value, "key")?,
+    })
+}
+"""),
+    (KINDS + 'pats.rt', """    let how = fields::child(value, "how")?;
+    let value = fields::flag(value, "value")?;
+    Ok(Pat::TsSatisfiesExpressionOfConstructorParam { how, value })
+"""),
+    (KINDS + 'pats.rt', """        "TsSatisfiesExpressionOfConstructorParam" => Ok(Some(
+            ts_satisfies_expression_of_constructor_param(value)?,
+        )),
+"""),
+    (KINDS + 'pats.rt', 'use crate::{fields, words};\n'),
+    (READER + 'Kinds.antt', '    (codes "Satisfies", Name.TsSatisfiesExpression) ∷\n'),
+    (READER + 'KindShapes.antt', '(codes "mark", holds_identifier (identifier_view mark)) ∷ (codes "method_kind", holds_method_kind sort) ∷ '
+     '(codes "access", holds_accessibility access) ∷ (codes "said", holds_optional_text (option_map string_bytes said)) ∷ '
+     '(codes "is_sure", holds_flag is_sure) ∷ []\n'),
+    (GRAPH, '| `Satisfies` | `expr satisfies ty` | `expr` Expression, `ty` Type, `how?` Reason, `notes*` Reason, `mark` name, '
+     '`method_kind` method kind, `access?` access, `said?` text, `is_sure?` flag |\n'),
+    (GRAPH, '| Annotation | `TsTypeAnn` |\n| Cause | ExportedDeclaration, ConstructorParam, `Satisfies` |\n'
+     '| Reason | `Str`, `Ident`, `Member`, `BigInt`, `Computed`, `Satisfies` |\n'),
+    (GRAPH, 'All 78 kinds, with all their fields.'),
+    (PUBLIC, '| `NodeRef::children` | `deno_symbols::tree` |\n'
+     '| `NodeRef::how` | `deno_symbols::tree` |\n| `NodeRef::notes` | `deno_symbols::tree` |\n'),
+    (PUBLIC, 'ExprPat, Plain, Other, TsSatisfiesExpression, Valued, TsSatisfiesExpressionOfConstructorParam }` | `deno_symbols::tree` |\n'),
+]

@@ -1,0 +1,175 @@
+#!/usr/bin/env python3
+"""Tests of kinds.py on copies of what the table of kinds makes: that it finds what differs, and mends it.
+
+    python3 tools/test_kinds.py
+
+A line a test that fails; the last line is 'N passed, M failed'.
+"""
+import os
+import re
+import subprocess
+import sys
+import tempfile
+from contextlib import contextmanager
+
+from tested import told
+from kinds.blocks import BadTable
+from kinds.follow import TABLE, files_of, read, report
+from kinds.places import GRAPH, KINDS, SYMDIR, SYNTAX, TREE, regions_of
+from kinds.table import table_of
+from kinds.tried import BAD, CHANGED, LOST, MADE, NEW_CATEGORIES, NEW_KINDS, OF_SYMDIR, SPOILT
+from wrong.crates import TOP, write
+
+TEXT = read(TOP, TABLE)
+NAMES = [it.name for it in files_of(TOP, table_of(TEXT))]
+FILES = {name: read(TOP, name) for name in (TABLE, SYMDIR, *NAMES)}
+
+
+@contextmanager
+def laid(file='', change=('', '')):
+    """A folder with the table and what it makes, one text of them changed, which stands there once."""
+    with tempfile.TemporaryDirectory() as folder:
+        for name, text in FILES.items():
+            assert name != file or text.count(change[0]) == 1, (file, change, text.count(change[0]))
+            write(os.path.join(folder, name), text.replace(*change) if name == file else text)
+        yield folder
+
+
+def said_of(folder, writes=False):
+    """Which parts are said to differ, and how many failed."""
+    lines, _, failed = report(folder, writes)
+    return [it for it in lines if it.startswith(tuple(name + ': ' for name in FILES)) and 'follow from the table' not in it], failed
+
+
+def texts_of(folder):
+    return {name: read(folder, name) for name in FILES}
+
+
+def mended(file, change):
+    """What is said of a spoilt copy, and behind writing: what is said, and whether all is there as it was."""
+    with laid(file, change) as folder:
+        found = said_of(folder)
+        return found, said_of(folder, True), texts_of(folder) == FILES
+
+
+def lost(file, change):
+    """What is said of a copy in which a part isn't found, and whether it is said behind writing, too."""
+    with laid(file, change) as folder:
+        found = said_of(folder)
+        return found[0], found[1], said_of(folder, True)[0] == found[0]
+
+
+def files_that_differ(change):
+    """The files in which something differs from a table with a change."""
+    with laid(TABLE, change) as folder:
+        return sorted({it.split(': ')[0] for it in said_of(folder)[0]})
+
+
+def bad(change):
+    """Why a text is no table, without the number of the line."""
+    assert TEXT.count(change[0]) == 1, (change, TEXT.count(change[0]))
+    try:
+        table_of(TEXT.replace(*change))
+    except BadTable as fault:
+        return re.sub(r'^line \d+:? ', '', str(fault))
+    return ''
+
+
+def with_new_kinds():
+    """Which parts differ once new kinds are written, what files lack then, and which aren't as they were when the kinds are gone again."""
+    kinds, categories = '\n# ---- categories', '\n# ---- fields'
+    with laid() as folder:
+        write(os.path.join(folder, TABLE), TEXT.replace(kinds, NEW_KINDS + kinds).replace(categories, NEW_CATEGORIES + categories))
+        differ = said_of(folder, True)[0]
+        lack = [(name, text) for name, text in MADE if read(folder, name).count(text) != 1]
+        write(os.path.join(folder, TABLE), TEXT)
+        said_of(folder, True)
+        return [it.split(':')[0] for it in differ], lack, [name for name, text in FILES.items() if read(folder, name) != text]
+
+
+def command(*words, change=('', '')):
+    """The last line of the command on a copy, and its status."""
+    with laid(TREE + 'names.rt' if change[0] else '', change) as folder:
+        command = [sys.executable, os.path.join(TOP, 'tools', 'kinds.py'), *words, folder]
+        done = subprocess.run(command, stdout=subprocess.PIPE, text=True, check=False)
+        return done.stdout.rstrip('\n').split('\n')[-1].split(', ')[1], done.returncode
+
+
+def of_symdir(change):
+    """What is said of the converter's own table with a change, and whether it is left as it is behind writing."""
+    with laid(SYMDIR, change) as folder:
+        found, failed = said_of(folder)
+        said_of(folder, True)
+        return found, failed, read(folder, SYMDIR) == FILES[SYMDIR].replace(*change)
+
+
+def counted():
+    """How many more passed than the parts that follow, how many lines follow of a whole file and how many it has, how many of one of which a
+    part does, and whether what is said of all is the sum."""
+    with laid() as folder:
+        lines, passed, _ = report(folder)
+    table = table_of(TEXT)
+    found = re.findall(r'^(\S+): (\d+) of (\d+) lines follow', '\n'.join(lines), re.M)
+    counts = [(name, int(follow), int(count)) for name, follow, count in found]
+    whole = [it for it in counts if it[0] == KINDS + 'tys.rt']
+    part = [follow for name, follow, _ in counts if name == SYNTAX + 'Names.antt']
+    last = '%d of %d lines follow' % (sum(it[1] for it in counts), sum(it[2] for it in counts))
+    return passed - len(regions_of(table)), whole, part, lines[-1] == last
+
+
+def lost_alone():
+    """The row of categories with the kind of their name alone, once it is written where none stood, without the kinds' order."""
+    row = '| Ident, BindingIdent, Class, Function, VarDeclarator | the kind of that name alone |\n'
+    with laid(GRAPH, (row, '')) as folder:
+        found = said_of(folder), said_of(folder, True)
+        return found, [it for it in read(folder, GRAPH).split('\n') if 'alone |' in it]
+
+
+def lost_row():
+    """The row that a kind without one has in the page, once it is written."""
+    row = '| `RestPat` | `...arg` | `arg` Pattern, `type_ann?` Annotation |\n'
+    with laid(GRAPH, (row, '')) as folder:
+        said_of(folder, True)
+        return [it for it in read(folder, GRAPH).split('\n') if it.startswith('| `RestPat` |')]
+
+
+def without_a_file():
+    with laid() as folder:
+        os.remove(os.path.join(folder, KINDS + 'tys.rt'))
+        return said_of(folder)
+
+
+def tests():
+    """Each test's name with what was found and what is wanted."""
+    with laid() as folder:
+        yield 'nothing differs without a change', said_of(folder), ([], 0)
+    for name, file, change, part in SPOILT:
+        yield name, mended(file, change), (([f'{file}: {part}: differs'], 1), ([], 0), True)
+    for name, file, change, said in LOST:
+        yield name, lost(file, change), (['%s: %s' % (file, said)], 1, True)
+    for name, change, want in CHANGED:
+        yield 'in the table: ' + name, files_that_differ(change), sorted(want)
+    for name, change, want in BAD:
+        yield 'no table: ' + name, bad(change), want
+    all_lines, table = FILES[KINDS + 'tys.rt'].count('\n'), table_of(TEXT)
+    # (a row for each kind and for each enum, and the first lines of the functions that have them)
+    rows = len(table.kinds()) + 2 * len(table.enums) + 1
+    yield 'what is counted', counted(), (2, [(KINDS + 'tys.rt', all_lines, all_lines)], [rows], True)
+    kinds = table.of_category('Any')
+    found = len(kinds), 'Program' in kinds, 'Import' in kinds, 'ImportNamed' in kinds
+    yield 'the kinds of a set without others', found, (len(table.kinds()) - 9, False, False, True)
+    yield 'a row of several', lost_alone(), ((([GRAPH + ': categories: differs'], 1), ([], 0)),
+                                             ['| Ident, Class, Function, VarDeclarator, BindingIdent | the kind of that name alone |'])
+    yield 'a kind without a row', lost_row(), ['| `RestPat` | `...arg` as a pattern | `arg` Pattern, `type_ann?` Annotation |']
+    yield 'new kinds', with_new_kinds(), ([SYMDIR] * 5, [], [])
+    for name, change, want in OF_SYMDIR:
+        yield 'symdir: ' + name, of_symdir(change), (['%s: %s' % (SYMDIR, want)], 1, True)
+    yield 'a file that is not there', without_a_file(), (['%s: functions of Ty: 0 lines begin with //! ' % (KINDS + 'tys.rt')], 1)
+    spoilt = ('    BigInt,\n', '')
+    yield 'the command', command(), ('0 failed', 0)
+    yield 'the command on what differs', command('--check', change=spoilt), ('1 failed', 1)
+    yield 'the command that writes', command('--write', change=spoilt), ('0 failed', 0)
+
+
+if __name__ == '__main__':
+    sys.exit(told(tests()))
