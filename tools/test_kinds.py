@@ -13,6 +13,7 @@ import tempfile
 from contextlib import contextmanager
 
 from tested import told
+from kinds import layout
 from kinds.blocks import BadTable
 from kinds.follow import TABLE, files_of, read, report
 from kinds.places import GRAPH, KINDS, SYMDIR, SYNTAX, TREE, regions_of
@@ -75,6 +76,15 @@ def bad(change):
     return ''
 
 
+def line_of_fault(old, new):
+    """Whether the fault of a line names its number."""
+    try:
+        table_of(TEXT.replace(old, new))
+    except BadTable as fault:
+        return str(fault).startswith('line %d is' % (TEXT[: TEXT.index(old)].count('\n') + 1))
+    return False
+
+
 def with_new_kinds():
     """Which parts differ once new kinds are written, what files lack then, and which aren't as they were when the kinds are gone again."""
     kinds, categories = '\n# ---- categories', '\n# ---- fields'
@@ -117,6 +127,30 @@ def counted():
     return passed - len(regions_of(table)), whole, part, lines[-1] == last
 
 
+def lengths():
+    """Over how many lines each thing is laid that is as long as may be, and over how many with a letter more."""
+    for name, most, lay in (
+        ('fields', layout.STRUCT, lambda n: layout.struct('K', ['a' * 8, 'b' * (n - 10)])),
+        ('alternatives', layout.LINE, lambda n: layout.either([['a' * 40], ['b' * (n - 54)]], 10, ',')),
+        ('what is asked', layout.CALL, lambda n: layout.one_of('', 'k', ['a' * (n - 13)])),
+        ('a line that asks', layout.LINE, lambda n: layout.one_of(' ' * 8 + 'a' * (n - 33), 'k', ['K'], ',')),
+        ('kinds in a line', layout.LINE, lambda n: layout.one_of(' ' * 8, 'k', ['a' * 40, 'b' * (n - 75)], ',')[2:-1]),
+        ('what is given', layout.CALL, lambda n: layout.call('s![', ['one(a, b)', 'c' * (n - 11)], '],')),
+        ('a line that gives', layout.LINE, lambda n: layout.call(' ' * 8 + 'a' * (n - 19), ['one(a, b)'], '],')),
+        ('an arm', layout.LINE, lambda n: layout.arm(' ' * 8 + 'a' * (n - 14), 'b')),
+    ):
+        yield name, len(lay(most)), len(lay(most + 1))
+
+
+def arms():
+    """What long arms give, in lines without their indents; the last pattern is a letter longer."""
+    head = ' ' * 8 + 'K' * 78
+    for values, pattern in ((('Some(*class)', 'KindName::Class', 'Ok(Some(f(alloc, value)?))', 'Ok(Some(f(value)?))'), head),
+                            (('Ok(Some(f(value)?))',), head + 'K')):
+        for value in values:
+            yield [it.replace(pattern, '').strip() for it in layout.arm(pattern, value)]
+
+
 def lost_alone():
     """The row of categories with the kind of their name alone, once it is written where none stood, without the kinds' order."""
     row = '| Ident, BindingIdent, Class, Function, VarDeclarator | the kind of that name alone |\n'
@@ -151,6 +185,12 @@ def tests():
         yield 'in the table: ' + name, files_that_differ(change), sorted(want)
     for name, change, want in BAD:
         yield 'no table: ' + name, bad(change), want
+    yield 'limits of a layout', list(lengths()), [
+        ('fields', 1, 4), ('alternatives', 1, 2), ('what is asked', 1, 4), ('a line that asks', 1, 4), ('kinds in a line', 1, 2),
+        ('what is given', 1, 4), ('a line that gives', 1, 4), ('an arm', 1, 2)]
+    yield 'long arms', list(arms()), [
+        ['=> Some(', '*class,', '),'], ['=>', 'KindName::Class,'], ['=> Ok(Some(', 'f(alloc, value)?,', ')),'],
+        ['=> Ok(Some(f(', 'value,', ')?)),'], ['=> Ok(Some(', 'f(value)?,', ')),']]
     all_lines, table = FILES[KINDS + 'tys.rt'].count('\n'), table_of(TEXT)
     # (a row for each kind and for each enum, and the first lines of the functions that have them)
     rows = len(table.kinds()) + 2 * len(table.enums) + 1
@@ -161,6 +201,7 @@ def tests():
     yield 'a row of several', lost_alone(), ((([GRAPH + ': categories: differs'], 1), ([], 0)),
                                              ['| Ident, Class, Function, VarDeclarator, BindingIdent | the kind of that name alone |'])
     yield 'a kind without a row', lost_row(), ['| `RestPat` | `...arg` as a pattern | `arg` Pattern, `type_ann?` Annotation |']
+    yield 'the line of a fault', line_of_fault('    is_export: flag', '    is_export: bool'), True
     yield 'new kinds', with_new_kinds(), ([SYMDIR] * 5, [], [])
     for name, change, want in OF_SYMDIR:
         yield 'symdir: ' + name, of_symdir(change), (['%s: %s' % (SYMDIR, want)], 1, True)

@@ -4,6 +4,9 @@ import re
 # the most letters of a line, of what a call is given in one line, and of the fields of a struct in one line
 LINE, CALL, STRUCT = 100, 60, 18
 
+# calls in calls, each given one thing, down to the innermost or to the one in it
+NESTED = re.compile(r'((?:\w+\()+)([^(),]*)([)?]+)'), re.compile(r'((?:\w+\()+)(\w+\([^()]*\)\??)(\)+)')
+
 
 def space(count, text):
     return ' ' * count + text
@@ -55,11 +58,11 @@ def arm(head, value):
     indent, flat = len(head) - len(head.lstrip()), '%s => %s,' % (head, value)
     if len(flat) <= LINE:
         return [flat]
-    outer = re.match(r'(?:(?:Ok|Some)\()*', value)[0]
-    if not outer:
-        return [head + ' =>', space(indent + 4, value + ',')]
-    depth = outer.count('(')
-    return ['%s => %s' % (head, outer), space(indent + 4, value[len(outer) : -depth] + ','), space(indent, ')' * depth + ',')]
+    for form in NESTED:
+        parts = form.fullmatch(value)
+        if parts and len('%s => %s' % (head, parts[1])) <= LINE:
+            return ['%s => %s' % (head, parts[1]), space(indent + 4, parts[2] + ','), space(indent, parts[3] + ',')]
+    return [head + ' =>', space(indent + 4, value + ',')]
 
 
 def call(head, calls, end):
