@@ -22,6 +22,7 @@ from kinds.tried import BAD, CHANGED, LOST, MADE, NEW_CATEGORIES, NEW_KINDS, OF_
 from wrong.crates import TOP, write
 
 TEXT = read(TOP, TABLE)
+COMMAND = [sys.executable, os.path.join(TOP, 'tools', 'kinds.py')]
 NAMES = [it.name for it in files_of(TOP, table_of(TEXT))]
 FILES = {name: read(TOP, name) for name in (TABLE, SYMDIR, *NAMES)}
 
@@ -100,8 +101,7 @@ def with_new_kinds():
 def command(*words, change=('', '')):
     """The last line of the command on a copy, and its status."""
     with laid(TREE + 'names.rt' if change[0] else '', change) as folder:
-        command = [sys.executable, os.path.join(TOP, 'tools', 'kinds.py'), *words, folder]
-        done = subprocess.run(command, stdout=subprocess.PIPE, text=True, check=False)
+        done = subprocess.run([*COMMAND, *words, folder], stdout=subprocess.PIPE, text=True, check=False)
         return done.stdout.rstrip('\n').split('\n')[-1].split(', ')[1], done.returncode
 
 
@@ -168,9 +168,18 @@ def lost_row():
 
 
 def without_a_file():
+    """What is said where a file isn't there."""
     with laid() as folder:
         os.remove(os.path.join(folder, KINDS + 'tys.rt'))
         return said_of(folder)
+
+
+def without_a_table():
+    """What the command says where the table isn't there, and whether all else is as it was, though it is to be written."""
+    with laid() as folder:
+        os.remove(os.path.join(folder, TABLE))
+        done = subprocess.run([*COMMAND, '--write', folder], stdout=subprocess.PIPE, text=True, check=False)
+        return done.stdout, done.returncode, [name for name, text in FILES.items() if read(folder, name) != text]
 
 
 def tests():
@@ -206,6 +215,7 @@ def tests():
     for name, change, want in OF_SYMDIR:
         yield 'symdir: ' + name, of_symdir(change), (['%s: %s' % (SYMDIR, want)], 1, True)
     yield 'a file that is not there', without_a_file(), (['%s: functions of Ty: 0 lines begin with //! ' % (KINDS + 'tys.rt')], 1)
+    yield 'no table', without_a_table(), ('%s: there is no kind\n0 passed, 1 failed\n' % TABLE, 1, [TABLE])
     spoilt = ('    BigInt,\n', '')
     yield 'the command', command(), ('0 failed', 0)
     yield 'the command on what differs', command('--check', change=spoilt), ('1 failed', 1)

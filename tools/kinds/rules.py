@@ -36,6 +36,8 @@ def wrong_blocks(blocks):
 
 def wrong_kinds(table):
     """What is wrong with kinds."""
+    if not table.kinds():
+        yield 'there is no kind'
     for text in twice([kind.text for kind in table.kinds()]):
         yield 'two kinds are written %s' % text
     for reader in twice([(kind.enum, kind.reader) for kind in table.kinds()]):
