@@ -17,7 +17,7 @@ import path from 'node:path';
 import { fileURLToPath } from 'node:url';
 import { parseArgs } from 'node:util';
 
-import { isDefinition, Folder } from '../symdir/lib/folder/folder.js';
+import { begin } from '../symdir/lib/folder/begin.js';
 import { Files } from '../symdir/lib/folder/files.js';
 import { isJavaScript } from '../symdir/lib/language.js';
 import { findTypeScript } from '../symdir/lib/typescript.js';
@@ -63,9 +63,12 @@ function askChecker(folder) {
 
 /** @param {string} folder @param {string} symq what symdir finds */
 async function askSymdir(folder, symq) {
-  const opened = await Folder.read({
+  const begun = await begin({
     folder, skip: [/\.[mc]?jsx?$/], bodies: false, ambient: true, javascript: true, packages: false, cache: true, progress: () => {},
-  }, { entry: [] });
+  });
+  // loaded then, as the command does
+  const { isDefinition, Folder } = await import('../symdir/lib/folder/folder.js');
+  const opened = await Folder.read(begun, { entry: [] });
   opened.open({ symq });
   const specifiers = [...opened.sources.modules.keys()];
   const exports = (await opened.exports(specifiers)).flatMap((it) => it.exports);

@@ -4,10 +4,10 @@ import path from 'node:path';
 import { parseArgs } from 'node:util';
 
 import { Failure } from './failure.js';
-import { Folder } from './folder/folder.js';
+import { begin } from './folder/begin.js';
 import { checkFolder, withSlashes } from './folder/files.js';
 import { Paint, Progress } from './output.js';
-import { findSymq } from './symq.js';
+import { findSymq } from './program.js';
 import { help } from './help.js';
 
 /**
@@ -48,7 +48,7 @@ const OUT = /** @type {const} */ ({ type: 'string', short: 'o' });
  * @property {(run: Run) => Promise<void>} [check] what its words have to be, told before files are read
  * @property {boolean} [tellsFaults] whether what can't be parsed is told with its answer
  * @property {boolean} [isLookUp] whether its status is by its answer alone, and no other file's fault is a finding
- * @property {(run: Run, folder: Folder) => Promise<number>} [ask]
+ * @property {(run: Run, folder: import('./folder/folder.js').Folder) => Promise<number>} [ask]
  * @property {(run: Run) => Promise<number>} [act]
  */
 
@@ -84,7 +84,7 @@ function pattern(text) {
   }
 }
 
-/** @param {Run} run @returns {import('./folder/sources.js').Reading} */
+/** @param {Run} run @returns {import('./folder/begin.js').Reading} */
 function reading({ words, options }) {
   const progress = new Progress();
   if (!words[0]) throw new Failure('which folder? `symdir --help` shows how it is called', 2);
@@ -109,7 +109,9 @@ async function asked(run, command) {
   await command.check?.(run);
   // what answers has to be there before time is spent on files
   if (!run.options.unproved) findSymq(run.options.symq);
-  const folder = await Folder.read(how, { entry: run.options.entry ?? [] });
+  const begun = await begin(how);
+  const { Folder } = await import('./folder/folder.js');
+  const folder = await Folder.read(begun, { entry: run.options.entry ?? [] });
   try {
     const faults = command.tellsFaults ? [] : folder.sources.faults();
     faults.forEach(run.warn);

@@ -9,7 +9,7 @@ import test from 'node:test';
 
 import { Files } from '../lib/folder/files.js';
 import { isJavaScript, languageOf } from '../lib/language.js';
-import { findSymq } from '../lib/symq.js';
+import { findSymq } from '../lib/program.js';
 import { nodesText } from '../lib/tree/node.js';
 import { folderOf } from '../tests/helper.js';
 import { nodesOf } from '../lib/tree/convert.js';

@@ -6,7 +6,7 @@ import path from 'node:path';
 import test from 'node:test';
 import { fileURLToPath } from 'node:url';
 
-import { findSymq } from '../lib/symq.js';
+import { findSymq } from '../lib/program.js';
 import { folderOf, symdir } from './helper.js';
 
 const TOP = fileURLToPath(new URL('../../', import.meta.url));

@@ -3,7 +3,7 @@ import assert from 'node:assert/strict';
 import { spawnSync } from 'node:child_process';
 import test from 'node:test';
 
-import { findSymq } from '../lib/symq.js';
+import { findSymq } from '../lib/program.js';
 import { answer, folderOf, program, symdir } from './helper.js';
 
 /** `n` comes from b.ts and c.ts, `m` from c.ts alone; index.ts passes on what middle.ts shares. */

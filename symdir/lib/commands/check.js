@@ -6,7 +6,7 @@ import { Failure, fileFailure } from '../failure.js';
 import { formFaults, readJson } from '../check/form.js';
 import { graphFaults } from '../check/faults.js';
 import { counted } from '../output.js';
-import { findSymq } from '../symq.js';
+import { findSymq } from '../program.js';
 
 /** @typedef {import('../cli.js').Run} Run */
 

@@ -2,7 +2,8 @@
 import path from 'node:path';
 
 import { Failure } from '../failure.js';
-import { Symq, SymqAtOnce, findSymq, unprovedSymq } from '../symq.js';
+import { Symq, SymqAtOnce } from '../symq.js';
+import { findSymq, unprovedSymq } from '../program.js';
 import { KINDS } from '../kinds.js';
 import { entriesOf } from './entries.js';
 import { writeGraph } from './graph.js';
@@ -43,12 +44,12 @@ export class Folder {
   }
 
   /**
-   * @param {import('./sources.js').Reading} reading
+   * @param {import('./begin.js').Begun} begun
    * @param {{ entry: string[] }} options
    * @returns {Promise<Folder>}
    */
-  static async read(reading, { entry }) {
-    const sources = new Sources(reading);
+  static async read(begun, { entry }) {
+    const sources = new Sources(begun);
     await sources.read();
     if (sources.modules.size === 0) throw new Failure(sources.files.emptyText());
     return new Folder(sources, entriesOf(sources, entry));

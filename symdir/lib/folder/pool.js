@@ -6,16 +6,11 @@ import { Failure, reasonOf } from '../failure.js';
 import { useTypeScript } from '../tree/which.js';
 import { statsOf } from './files.js';
 import { queueOf, take } from './queue.js';
+import { Thread } from './thread.js';
 
-/** @typedef {import('./kept.js').Parsed} Parsed */
 /** @typedef {import('./queue.js').Job} Job */
 /** @typedef {import('./queue.js').Queue} Queue */
-/** @typedef {import('node:worker_threads').Worker} Worker */
-
-/**
- * Is given each file with what is known of its module, or with why it can't be read.
- * @typedef {(file: string, made: Parsed | null, error: string | null) => void} Done
- */
+/** @typedef {import('./thread.js').Done} Done */
 
 /** What each file takes besides its bytes, as so many of them. */
 const BYTES_OF_A_FILE = 500;
@@ -25,10 +20,6 @@ const BYTES_FOR_A_SECOND = 300_000;
 const BYTES_FOR_MORE = 4_000_000;
 /** For so many milliseconds at least this thread parses, before it hears of what others made and of signals. */
 const UNHEARD = 10;
-/** Trees are deep, and walked by recursion. */
-const STACK_MEGABYTES = 64;
-/** What one file makes is gone before so much is made. */
-const YOUNG_MEGABYTES = 96;
 
 /** @returns {number} how many processors nothing else uses, as far as the system tells that, and at least one */
 function freeProcessors() {
@@ -41,33 +32,53 @@ function wantedThreads(files, bytes) {
   return all < BYTES_FOR_A_SECOND ? 1 : 2 + Math.floor(all / BYTES_FOR_MORE);
 }
 
-/** @param {Job[]} jobs @returns {{ sorted: Job[], bytes: number }} the smallest first */
-function bySize(jobs) {
-  const sized = jobs.map((job) => ({ job, size: statsOf(job.file)?.size ?? 0 }));
-  sized.sort((a, b) => a.size - b.size);
-  return { sorted: sized.map((it) => it.job), bytes: sized.reduce((sum, it) => sum + it.size, 0) };
-}
-
 export class Pool {
   /** @param {import('../tree/which.js').Which & import('./parse.js').How} how */
   constructor(how) {
-    useTypeScript(how);
     this.how = how;
-    /** @type {Worker[]} */
-    this.workers = [];
+    /** @type {Thread[]} */
+    this.threads = [];
+    /** @type {Map<string, number>} by file */
+    this.sizes = new Map();
     /** @type {(() => void | Promise<void>) | null} has TypeScript's parser kept */
     this.keep = null;
+    useTypeScript(how);
+  }
+
+  /** @param {string} file @returns {number} its bytes */
+  sizeOf(file) {
+    const known = this.sizes.get(file) ?? statsOf(file)?.size ?? 0;
+    this.sizes.set(file, known);
+    return known;
+  }
+
+  /** @param {string[]} files @returns {number} how many threads parse them, with this one */
+  threadsFor(files) {
+    const bytes = files.reduce((sum, it) => sum + this.sizeOf(it), 0);
+    return Math.min(freeProcessors(), files.length, wantedThreads(files.length, bytes));
+  }
+
+  /** @param {number} count how many threads there are beside this one from then on, at least */
+  start(count) {
+    while (this.threads.length < count) this.threads.push(new Thread(this.how));
+    // what V8 is told when the parser is loaded has it refuse what Node keeps compiled for the start of a thread
+    useTypeScript(this.how, Promise.all(this.threads.map((it) => it.began)));
+  }
+
+  /** @param {string[]} files that will be parsed: their threads start, and this one can do something else until then */
+  begin(files) {
+    this.start(this.threadsFor(files) - 1);
   }
 
   /** @param {Job[]} jobs @param {Done} done @returns {Promise<void>} */
   async parse(jobs, done) {
     if (jobs.length === 0) return;
-    const { sorted, bytes } = bySize(jobs);
-    const count = Math.min(freeProcessors(), jobs.length, wantedThreads(jobs.length, bytes));
-    // several threads end together where the largest go first; one is done sooner where it warms up on small ones
-    if (count > 1) this.keep ??= () => asked(this.workers[0], null, () => {});
+    const count = this.threadsFor(jobs.map((it) => it.file));
+    // one thread is done sooner where it warms up on small files; several end together where the largest go first
+    const sorted = [...jobs].sort((a, b) => this.sizeOf(a.file) - this.sizeOf(b.file));
     const queue = queueOf(count > 1 ? sorted.reverse() : sorted);
-    const [deep] = await Promise.all([this.here(queue, done), this.inThreads(count - 1, queue, done)]);
+    if (count > 1) this.keep ??= () => this.threads[0].ask(null, () => {});
+    const [, deep] = await Promise.all([this.inThreads(count - 1, queue, done), this.here(queue, done)]);
     if (deep.length > 0) await this.inThreads(1, queueOf(deep), done);
   }
 
@@ -95,59 +106,18 @@ export class Pool {
   /** @param {number} count @param {Queue} queue @param {Done} done */
   async inThreads(count, queue, done) {
     if (count === 0) return;
-    const { Worker } = await import('node:worker_threads');
-    while (this.workers.length < count) this.workers.push(this.started(Worker));
-    const workers = this.workers.slice(0, count);
+    this.start(count);
     try {
-      await Promise.all(workers.map((it) => asked(it, queue, done)));
+      await Promise.all(this.threads.slice(0, count).map((it) => it.ask(queue, done)));
     } catch (error) {
       this.keep = null;
       throw new Failure(`a thread that parses ended: ${/** @type {Error} */ (error).message}`);
     }
   }
 
-  /** @param {typeof import('node:worker_threads').Worker} Thread @returns {Worker} */
-  started(Thread) {
-    return new Thread(new URL('./worker.js', import.meta.url), {
-      workerData: this.how,
-      resourceLimits: { stackSizeMb: STACK_MEGABYTES, maxYoungGenerationSizeMb: YOUNG_MEGABYTES, maxOldGenerationSizeMb: 4096 },
-    });
-  }
-
   /** Ends the threads. */
   async close() {
     await this.keep?.();
-    for (const it of this.workers) it.terminate();
+    for (const it of this.threads) it.end();
   }
-}
-
-/**
- * Asks a thread for what is in the queue, or to keep what it made. While it is asked nothing, it doesn't keep the process from its end.
- * @param {Worker} worker
- * @param {Queue | null} queue
- * @param {Done} done
- * @returns {Promise<void>}
- */
-function asked(worker, queue, done) {
-  return new Promise((resolve, reject) => {
-    /** @param {{ file: string, made?: Parsed, error?: string } | null} said of a file, or that no more comes */
-    const hear = (said) => {
-      if (said?.made) done(said.file, { ...said.made, text: bufferOf(said.made.text) }, null);
-      else if (said) done(said.file, null, said.error ?? '');
-      if (said !== null) return;
-      worker.off('message', hear);
-      worker.off('error', reject);
-      worker.unref();
-      resolve();
-    };
-    worker.ref();
-    worker.on('message', hear);
-    worker.on('error', reject);
-    worker.postMessage(queue);
-  });
-}
-
-/** @param {Uint8Array} bytes @returns {Buffer} that stands for them */
-function bufferOf({ buffer, byteOffset, byteLength }) {
-  return Buffer.from(buffer, byteOffset, byteLength);
 }

@@ -3,29 +3,15 @@ import { readFileSync } from 'node:fs';
 import path from 'node:path';
 
 import { isCode, isJavaScript } from '../language.js';
-import { findTypeScript } from '../typescript.js';
 import { Configs } from './configs.js';
 import { sourcesOf } from './endings.js';
-import { Files } from './files.js';
-import { Kept, hashOf, madeOf } from './kept.js';
+import { hashOf } from './kept.js';
 import { packageFile } from './packages.js';
 import { Resolver } from './resolve.js';
 import { shortOf } from './specifier.js';
 
 /** @typedef {import('./kept.js').Parsed} Parsed */
 /** @typedef {import('../tree/converter.js').Reference} Reference */
-
-/**
- * @typedef {object} Reading
- * @property {string} folder absolute
- * @property {RegExp[]} skip
- * @property {boolean} bodies
- * @property {boolean} ambient
- * @property {boolean} javascript whether JavaScript is read where declarations stand beside it
- * @property {boolean} packages whether modules of installed packages are read
- * @property {boolean} cache whether trees are kept
- * @property {(done: number, all: number) => void} progress
- */
 
 /**
  * @typedef {object} Module
@@ -35,11 +21,13 @@ import { shortOf } from './specifier.js';
  */
 
 export class Sources {
-  /** @param {Reading} reading */
-  constructor(reading) {
+  /** @param {import('./begin.js').Begun} begun */
+  constructor({ reading, files, kept, pool }) {
     this.reading = reading;
     this.folder = reading.folder;
-    this.files = new Files(reading.folder, reading.skip);
+    this.files = files;
+    this.kept = kept;
+    this.parsers = pool;
     this.configs = new Configs(this.files);
     this.resolver = new Resolver(this.files, this.configs);
     /** @type {Map<string, Module>} by specifier */
@@ -52,8 +40,6 @@ export class Sources {
     this.external = new Set();
     /** @type {{ file: string, error: string }[]} */
     this.unread = [];
-    /** @type {import('../typescript.js').Found | undefined} */
-    this.typescript = undefined;
     /** @type {import('./pool.js').Pool | undefined} */
     this.pool = undefined;
   }
@@ -81,13 +67,12 @@ export class Sources {
 
   /** Reads the modules of the folder, and then what they lead to. */
   async read() {
-    const kept = this.start();
     let isNew = false;
     try {
       let wanted = this.files.code().filter((it) => this.reading.javascript || !isJavaScript(it) || !this.hasTypes(it));
       this.unread.push(...this.files.unread.map((file) => ({ file: this.files.below(file), error: 'EACCES' })));
       while (wanted.length > 0) {
-        const parsed = await this.parse(wanted, kept);
+        const parsed = await this.parse(wanted);
         isNew ||= parsed > 0;
         wanted = this.resolveAll(wanted);
       }
@@ -95,9 +80,9 @@ export class Sources {
       await this.pool?.close();
       throw error;
     }
-    const isOther = isNew || kept?.modules.size !== this.modules.size;
+    const isOther = isNew || this.kept?.modules.size !== this.modules.size;
     this.keep = async () => {
-      await Promise.all([this.pool?.close(), isOther && kept?.write(new Map([...this.modules.values()].map((it) => [it.file, it.parsed])))]);
+      await Promise.all([this.pool?.close(), isOther && this.kept?.write(new Map([...this.modules.values()].map((it) => [it.file, it.parsed])))]);
     };
   }
 
@@ -109,37 +94,19 @@ export class Sources {
     return [...unread, ...faulty];
   }
 
-  /** @returns {Kept | null} the trees that are kept */
-  start() {
-    const { bodies, ambient, cache } = this.reading;
-    this.typescript = findTypeScript(this.folder);
-    return cache ? new Kept(JSON.stringify([this.folder, this.typescript.version, bodies, ambient])) : null;
-  }
-
-  /** @returns {Promise<import('./pool.js').Pool>} which isn't loaded where all trees are kept */
-  async parsers() {
-    const { bodies, ambient, cache } = this.reading;
-    const found = /** @type {import('../typescript.js').Found} */ (this.typescript);
-    const { Pool } = await import('./pool.js');
-    return (this.pool ??= new Pool({ typescript: found.file, kept: cache ? madeOf(found) : undefined, bodies, ambient }));
-  }
-
-  /**
-   * @param {string[]} wanted files
-   * @param {Kept | null} kept
-   * @returns {Promise<number>} how many were parsed
-   */
-  async parse(wanted, kept) {
+  /** @param {string[]} wanted files @returns {Promise<number>} how many were parsed */
+  async parse(wanted) {
     /** @type {Map<string, Parsed>} */
     const found = new Map();
     const jobs = [];
     for (const file of wanted) {
-      const known = kept?.modules.has(file) ? kept.get(file, this.hash(file)) : null;
+      const known = this.kept?.modules.has(file) ? this.kept.get(file, this.hash(file)) : null;
       if (known) found.set(file, known);
       else jobs.push({ file, specifier: this.specifierOf(file) });
     }
     let done = 0;
-    if (jobs.length > 0) await (await this.parsers()).parse(jobs, (file, made, error) => {
+    if (jobs.length > 0) this.pool = await this.parsers();
+    await this.pool?.parse(jobs, (file, made, error) => {
       this.reading.progress(++done, jobs.length);
       if (made) found.set(file, made);
       else this.unread.push({ file: this.files.below(file), error: error ?? '' });

@@ -3,14 +3,13 @@
 import { parentPort, workerData } from 'node:worker_threads';
 
 import { reasonOf } from '../failure.js';
-import { useTypeScript } from '../tree/which.js';
+import { keepCompiled } from '../tree/typescript.js';
+import { parseFile, tooDeep } from './parse.js';
 import { take } from './queue.js';
 
 /** @typedef {import('./queue.js').Job} Job */
 
 const port = /** @type {import('node:worker_threads').MessagePort} */ (parentPort);
-useTypeScript(workerData);
-const [{ parseFile, tooDeep }, { keepCompiled }] = await Promise.all([import('./parse.js'), import('../tree/typescript.js')]);
 
 /** @param {Job} job @returns {import('./kept.js').Parsed} */
 function parsed(job) {

@@ -9,10 +9,6 @@ import { Script } from 'node:vm';
 import { findTypeScript } from '../typescript.js';
 import { usedTypeScript } from './which.js';
 
-// Most runs end before what V8's optimizing compiler makes pays for itself: a function has to run some four times as long as it is set
-// to by itself before it is compiled anew.
-v8.setFlagsFromString('--interrupt-budget=250000');
-
 /** Where the last block of the parser begins, and what each block ends with. */
 const LAST_BLOCK = '\n    (function (IncrementalParser) {';
 const BLOCK_END = '\n})(ts || (ts = {}));\n';
@@ -82,7 +78,10 @@ function load(file, text, compiled) {
   return { script, value: module.exports };
 }
 
-const which = usedTypeScript() ?? { typescript: findTypeScript(process.cwd()).file };
+const which = (await usedTypeScript()) ?? { typescript: findTypeScript(process.cwd()).file };
+// Most runs end before what V8's optimizing compiler makes pays for itself: a function has to run some four times as long as it is set
+// to by itself before it is compiled anew.
+v8.setFlagsFromString('--interrupt-budget=250000');
 const kept = readKept(which.kept);
 const ascii = kept ? null : inAscii(readParser(which.typescript, 'latin1'));
 const text = kept?.text ?? Module.wrap(ascii ?? readParser(which.typescript, 'utf8'));

@@ -1,19 +1,23 @@
-// Which TypeScript this thread loads: to be said before `typescript.js` is imported, which loads it.
+// Which TypeScript this thread loads: to be said before `typescript.js` is imported, which loads it. One that is started to parse
+// is told so with its start.
+import { workerData } from 'node:worker_threads';
+
 /**
  * @typedef {object} Which
  * @property {string} typescript its file
  * @property {string} [kept] where what is made of it is kept, without an ending
  */
 
-/** @type {Which | null} */
-let which = null;
+/** @type {{ it: Which, when: Promise<unknown> } | null} */
+let which = workerData?.typescript ? { it: workerData, when: Promise.resolve() } : null;
 
-/** @param {Which} it */
-export function useTypeScript(it) {
-  which = it;
+/** @param {Which} it @param {Promise<unknown>} [when] it may be loaded */
+export function useTypeScript(it, when = Promise.resolve()) {
+  which = { it, when };
 }
 
-/** @returns {Which | null} */
-export function usedTypeScript() {
-  return which;
+/** @returns {Promise<Which | null>} as soon as it may be loaded */
+export async function usedTypeScript() {
+  await which?.when;
+  return which?.it ?? null;
 }
