@@ -14,10 +14,10 @@ import { Thread } from './thread.js';
 
 /** What each file takes besides its bytes, as so many of them. */
 const BYTES_OF_A_FILE = 500;
-/** A thread loads the parser and warms up for itself, so a second one is worth it from so many bytes on. */
-const BYTES_FOR_A_SECOND = 300_000;
-/** Several wait for one memory, so that each more has so many to parse. */
-const BYTES_FOR_MORE = 4_000_000;
+/** A thread loads the parser and warms up for itself, so each has so many bytes to parse at least. */
+const BYTES_OF_A_THREAD = 100_000;
+/** More threads than these wait for one another's memory and compilers longer than they parse. */
+const MOST_THREADS = 3;
 /** For so many milliseconds at least this thread parses, before it hears of what others made and of signals. */
 const UNHEARD = 10;
 
@@ -29,7 +29,7 @@ function freeProcessors() {
 /** @param {number} files @param {number} bytes that they have @returns {number} how many threads are worth it */
 function wantedThreads(files, bytes) {
   const all = bytes + files * BYTES_OF_A_FILE;
-  return all < BYTES_FOR_A_SECOND ? 1 : 2 + Math.floor(all / BYTES_FOR_MORE);
+  return Math.min(MOST_THREADS, Math.max(1, Math.floor(all / BYTES_OF_A_THREAD)));
 }
 
 export class Pool {

@@ -78,11 +78,13 @@ function load(file, text, compiled) {
   return { script, value: module.exports };
 }
 
-const which = (await usedTypeScript()) ?? { typescript: findTypeScript(process.cwd()).file };
-// Most runs end before what V8's optimizing compiler makes pays for itself: a function has to run some four times as long as it is set
-// to by itself before it is compiled anew.
-v8.setFlagsFromString('--interrupt-budget=250000');
+/** @type {import('./which.js').Which} */
+const which = usedTypeScript()?.it ?? { typescript: findTypeScript(process.cwd()).file };
 const kept = readKept(which.kept);
+await usedTypeScript()?.when;
+// Most runs end before what V8's optimizing compiler makes pays for itself, in each of a few threads even more so: a function has to
+// run several times as long as it is set to by itself before it is compiled anew.
+v8.setFlagsFromString('--interrupt-budget=750000');
 const ascii = kept ? null : inAscii(readParser(which.typescript, 'latin1'));
 const text = kept?.text ?? Module.wrap(ascii ?? readParser(which.typescript, 'utf8'));
 const loaded = load(which.typescript, text, kept?.compiled);

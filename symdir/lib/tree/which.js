@@ -8,16 +8,17 @@ import { workerData } from 'node:worker_threads';
  * @property {string} [kept] where what is made of it is kept, without an ending
  */
 
-/** @type {{ it: Which, when: Promise<unknown> } | null} */
-let which = workerData?.typescript ? { it: workerData, when: Promise.resolve() } : null;
+/** @typedef {{ it: Which, when: Promise<unknown> }} Use when it may be loaded */
+
+/** @type {Use | null} */
+let use = workerData?.typescript ? { it: workerData, when: Promise.resolve() } : null;
 
 /** @param {Which} it @param {Promise<unknown>} [when] it may be loaded */
 export function useTypeScript(it, when = Promise.resolve()) {
-  which = { it, when };
+  use = { it, when };
 }
 
-/** @returns {Promise<Which | null>} as soon as it may be loaded */
-export async function usedTypeScript() {
-  await which?.when;
-  return which?.it ?? null;
+/** @returns {Use | null} */
+export function usedTypeScript() {
+  return use;
 }
