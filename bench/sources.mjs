@@ -65,7 +65,7 @@ function askChecker(folder) {
 async function askSymdir(folder, symq) {
   const begun = await begin({
     folder, skip: [/\.[mc]?jsx?$/], bodies: false, ambient: true, javascript: true, packages: false, cache: true, progress: () => {},
-  });
+  }, { symq });
   // loaded then, as the command does
   const { isDefinition, Folder } = await import('../symdir/lib/folder/folder.js');
   const opened = await Folder.read(begun, { entry: [] });
@@ -110,9 +110,9 @@ function timeText(time, other) {
   return `clock ${text('clock')}, processors ${text('processors')}`;
 }
 
-/** @param {string} folder a cache, whose trees go */
+/** @param {string} folder a cache, whose trees and graphs go */
 function forgetTrees(folder) {
-  for (const it of readdirSync(folder)) if (it.endsWith('.trees')) rmSync(path.join(folder, it));
+  for (const it of readdirSync(folder)) if (/\.(trees|graph)$/.test(it)) rmSync(path.join(folder, it));
 }
 
 /** @param {string} folder @param {number} rounds @param {string} symq */

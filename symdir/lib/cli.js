@@ -109,7 +109,16 @@ async function asked(run, command) {
   await command.check?.(run);
   // what answers has to be there before time is spent on files
   if (!run.options.unproved) findSymq(run.options.symq);
-  const begun = await begin(how);
+  const begun = await begin(how, run.options);
+  try {
+    return await answered(run, command, begun);
+  } finally {
+    await begun.last?.close();
+  }
+}
+
+/** @param {Run} run @param {Command} command @param {import('./folder/begin.js').Begun} begun @returns {Promise<number>} */
+async function answered(run, command, begun) {
   const { Folder } = await import('./folder/folder.js');
   const folder = await Folder.read(begun, { entry: run.options.entry ?? [] });
   try {

@@ -111,7 +111,7 @@ test('a signal ends it as such, and its temporary folder is gone', async () => {
   const silent = program({}, 'symq', '#!/bin/sh\nexec cat > /dev/null\n');
   for (const signal of /** @type {const} */ (['SIGINT', 'SIGTERM', 'SIGHUP'])) {
     const TMPDIR = folderOf({});
-    const run = spawn(process.execPath, [BIN, 'api', folder, '--symq', silent], { env: { ...process.env, TMPDIR } });
+    const run = spawn(process.execPath, [BIN, 'api', folder, '--no-cache', '--symq', silent], { env: { ...process.env, TMPDIR } });
     const exit = once(run, 'exit');
     while (readdirSync(TMPDIR).length === 0 && run.exitCode === null) await setTimeout(20);
     assert.equal(readdirSync(TMPDIR).length, 1);
@@ -151,7 +151,7 @@ test('a folder that isn\'t there is told before a program that isn\'t', () => {
 });
 
 test('a temporary folder that can\'t be written', () => {
-  const { status, stderr } = symdir(['api', folderOf(FILES)], { env: { TMPDIR: '/none' } });
+  const { status, stderr } = symdir(['api', folderOf(FILES), '--no-cache'], { env: { TMPDIR: '/none' } });
   assert.deepEqual([status, stderr], [3, 'symdir: /none can\'t be written (ENOENT)\n']);
 });
 
@@ -162,7 +162,7 @@ test('the program of SYMQ, and none', () => {
 
 test('an output that nobody reads is no fault, and leaves nothing behind', () => {
   const TMPDIR = folderOf({});
-  const line = `("${process.execPath}" "${BIN}" api "${folderOf(FILES)}"; echo $? >&2) | true`;
+  const line = `("${process.execPath}" "${BIN}" api "${folderOf(FILES)}" --no-cache; echo $? >&2) | true`;
   const { stderr } = spawnSync('sh', ['-c', line], { encoding: 'utf8', env: { ...process.env, TMPDIR } });
   assert.equal(stderr, '0\n');
   assert.deepEqual(readdirSync(TMPDIR), []);
@@ -198,8 +198,8 @@ test('what is made of TypeScript is kept, and made anew where it is none', () =>
   const first = run();
   assert.deepEqual([first.status, first.stderr], [0, '']);
   const files = readdirSync(path.join(cache, 'symdir')).sort((a, b) => path.extname(a).localeCompare(path.extname(b)));
-  assert.deepEqual(files.map((it) => path.extname(it)), ['.compiled', '.js', '.trees']);
-  const [compiled, , trees] = files.map((it) => path.join(cache, 'symdir', it));
+  assert.deepEqual(files.map((it) => path.extname(it)), ['.compiled', '.graph', '.js', '.trees']);
+  const [compiled, , , trees] = files.map((it) => path.join(cache, 'symdir', it));
   writeFileSync(compiled, 'no compiled form');
   rmSync(trees);
   assert.deepEqual(run(), first);

@@ -4,7 +4,7 @@ import { closeSync, openSync } from 'node:fs';
 import { Failure, fileFailure } from '../failure.js';
 import { begin } from '../folder/begin.js';
 import { Sources } from '../folder/sources.js';
-import { writeGraph } from '../folder/graph.js';
+import { partsOf, piecesOf, writePieces } from '../folder/graph.js';
 import { counted } from '../output.js';
 
 /** @typedef {import('../cli.js').Run} Run */
@@ -21,10 +21,10 @@ function tryToWrite(file) {
 /** @param {Run} run @param {import('../folder/begin.js').Reading} reading @returns {Promise<number>} the status */
 export async function graph({ options, print, warn }, reading) {
   if (options.out) tryToWrite(options.out);
-  const sources = new Sources(await begin(reading));
+  const sources = new Sources(await begin(reading, null));
   await sources.read();
   if (sources.modules.size === 0) throw new Failure(sources.files.emptyText());
-  writeGraph(sources, options.out ?? 1);
+  writePieces(piecesOf(partsOf(sources)), options.out ?? 1);
   await sources.keep();
   const faults = sources.faults();
   faults.forEach(warn);

@@ -6,7 +6,7 @@ import { Symq, SymqAtOnce } from '../symq.js';
 import { findSymq, unprovedSymq } from '../program.js';
 import { KINDS } from '../kinds.js';
 import { entriesOf } from './entries.js';
-import { writeGraph } from './graph.js';
+import { nameOf, partsOf, piecesOf, writePieces } from './graph.js';
 import { Sources } from './sources.js';
 import { Temporary } from './temporary.js';
 import { Places } from './text.js';
@@ -27,13 +27,14 @@ export function isDefinition(it) {
 }
 
 export class Folder {
-  /** @param {Sources} sources @param {string[]} entries */
-  constructor(sources, entries) {
+  /** @param {Sources} sources @param {string[]} entries @param {Symq | null} last what answers on the graph that was asked last */
+  constructor(sources, entries, last) {
     this.sources = sources;
     this.entries = entries;
+    this.last = last;
     /** @type {Symq | SymqAtOnce | null} */
     this.symq = null;
-    /** @type {Temporary | undefined} where the graph is */
+    /** @type {Temporary | undefined} where the graph is, where it isn't kept */
     this.temporary = undefined;
     /** @type {Promise<void> | undefined} */
     this.keeping = undefined;
@@ -52,17 +53,30 @@ export class Folder {
     const sources = new Sources(begun);
     await sources.read();
     if (sources.modules.size === 0) throw new Failure(sources.files.emptyText());
-    return new Folder(sources, entriesOf(sources, entry));
+    return new Folder(sources, entriesOf(sources, entry), begun.last);
   }
 
-  /** @param {{ symq?: string, unproved?: boolean, strict?: boolean }} options writes the graph, and starts the process */
+  /** @param {import('./begin.js').Asked} asked as it was said when all began: it is given the graph */
   open({ symq, unproved, strict }) {
+    const parts = partsOf(this.sources);
+    const name = nameOf(parts);
+    if (this.last && name === this.sources.kept?.graph) this.symq = this.last;
+    else {
+      void this.last?.close();
+      const graph = this.write(name, piecesOf(parts));
+      this.symq = unproved ? new SymqAtOnce(unprovedSymq(), graph, this.ahead()) : new Symq(findSymq(symq), graph, strict);
+    }
+    this.keeping = this.sources.keep(name);
+  }
+
+  /** @param {string} name @param {Buffer[]} pieces of the graph @returns {string} the file that has it */
+  write(name, pieces) {
+    const file = this.sources.kept?.keepGraph(name, (it) => writePieces(pieces, it));
+    if (file) return file;
     this.temporary = new Temporary();
     const graph = path.join(this.temporary.path, 'graph.json');
-    writeGraph(this.sources, graph);
-    if (unproved) this.symq = new SymqAtOnce(unprovedSymq(), graph, this.ahead());
-    else this.symq = new Symq(findSymq(symq), graph, strict);
-    this.keeping = this.sources.keep();
+    writePieces(pieces, graph);
+    return graph;
   }
 
   /** @returns {unknown[][]} */
@@ -74,7 +88,7 @@ export class Folder {
   }
 
   async close() {
-    await Promise.all([this.symq?.close(), this.keeping]);
+    await Promise.all([this.symq?.close(), this.last?.close(), this.keeping]);
     this.temporary?.close();
   }
 

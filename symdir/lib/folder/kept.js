@@ -1,6 +1,7 @@
-// Trees that are kept from run to run, under the user's cache folder: one file for a folder of sources and how it is read.
+// Trees that are kept from run to run, under the user's cache folder: one file for a folder of sources and how it is read. The graph that
+// was asked last is kept beside it, so that it can be asked again before it is known that it is still the one.
 import { createHash } from 'node:crypto';
-import { readFileSync, readdirSync, rmSync, statSync } from 'node:fs';
+import { mkdirSync, readFileSync, readdirSync, renameSync, rmSync, statSync, utimesSync } from 'node:fs';
 import { mkdir, rename, writeFile } from 'node:fs/promises';
 import os from 'node:os';
 import path from 'node:path';
@@ -20,6 +21,8 @@ import { fileURLToPath } from 'node:url';
 
 /** What was written before so many days goes. */
 const DAYS = 30;
+/** A graph that another one takes the place of goes where no run has taken it for so many milliseconds. */
+const MILLISECONDS_OF_A_GRAPH = 60_000;
 
 /** @param {Buffer | string} bytes @returns {string} */
 export function hashOf(bytes) {
@@ -43,23 +46,27 @@ export function madeOf({ file, version }) {
 /** @returns {string} changes with what makes of a text what is kept */
 function maker() {
   const folder = fileURLToPath(new URL('../tree/', import.meta.url));
-  const files = [...readdirSync(folder).sort().map((it) => path.join(folder, it)), fileURLToPath(new URL('./parse.js', import.meta.url))];
+  const beside = ['parse.js', 'graph.js'].map((it) => fileURLToPath(new URL(it, import.meta.url)));
+  const files = [...readdirSync(folder).sort().map((it) => path.join(folder, it)), ...beside];
   return hashOf(files.map((it) => readFileSync(it, 'utf8')).join(''));
 }
 
-/** @param {string} folder removes what is old there */
-function prune(folder) {
-  const oldest = Date.now() - DAYS * 24 * 3600 * 1000;
+/** @param {string} folder removes what is old there @param {(file: string) => boolean} isReplaced which goes sooner */
+function prune(folder, isReplaced) {
   for (const name of readdirSync(folder)) {
     const file = path.join(folder, name);
-    if ((statSync(file, { throwIfNoEntry: false })?.mtimeMs ?? 0) < oldest) rmSync(file, { force: true });
+    const age = Date.now() - (statSync(file, { throwIfNoEntry: false })?.mtimeMs ?? 0);
+    if (age > (isReplaced(file) ? MILLISECONDS_OF_A_GRAPH : DAYS * 24 * 3600 * 1000)) rmSync(file, { force: true });
   }
 }
 
 export class Kept {
   /** @param {string} key all that what is kept depends on, besides the files */
   constructor(key) {
-    this.file = path.join(cacheFolder(), `${hashOf(`${maker()} ${key}`)}.trees`);
+    this.base = path.join(cacheFolder(), hashOf(`${maker()} ${key}`));
+    this.file = `${this.base}.trees`;
+    /** The name of the graph that was asked last. */
+    this.graph = '';
     /** @type {Map<string, Parsed>} by the path of the file */
     this.modules = new Map();
     try {
@@ -73,10 +80,41 @@ export class Kept {
   read(bytes) {
     const length = bytes.readUInt32LE(0);
     let at = 4 + length;
-    for (const [file, size, rest] of JSON.parse(bytes.toString('utf8', 4, at))) {
+    const { graph, rows } = JSON.parse(bytes.toString('utf8', 4, at));
+    for (const [file, size, rest] of rows) {
       if (at + size > bytes.length) throw new Error('cut off');
       this.modules.set(file, { ...rest, text: bytes.subarray(at, at + size) });
       at += size;
+    }
+    this.graph = graph;
+  }
+
+  /** @param {string} graph its name @returns {string} its file */
+  graphFile(graph) {
+    return `${this.base}.${graph}.graph`;
+  }
+
+  /** @returns {string | null} the file of the graph that was asked last, which stays for a while then */
+  lastGraph() {
+    try {
+      const [file, now] = [this.graphFile(this.graph), new Date()];
+      utimesSync(file, now, now);
+      return file;
+    } catch {
+      return null;
+    }
+  }
+
+  /** @param {string} graph its name @param {(file: string) => void} write @returns {string | null} its file; null where it can't be kept */
+  keepGraph(graph, write) {
+    try {
+      mkdirSync(path.dirname(this.file), { recursive: true });
+      const [file, part] = [this.graphFile(graph), `${this.base}.${process.pid}.graph`];
+      write(part);
+      renameSync(part, file);
+      return file;
+    } catch {
+      return null;
     }
   }
 
@@ -86,10 +124,10 @@ export class Kept {
     return found?.hash === hash ? found : null;
   }
 
-  /** @param {Map<string, Parsed>} modules what to keep; that it can't be kept is no failure @returns {Promise<void>} */
-  async write(modules) {
+  /** @param {Map<string, Parsed>} modules what to keep; that it can't be kept is no failure @param {string} graph the name of theirs @returns {Promise<void>} */
+  async write(modules, graph) {
     const rows = [...modules].map(([file, { text, ...rest }]) => [file, text.length, rest]);
-    const header = Buffer.from(JSON.stringify(rows));
+    const header = Buffer.from(JSON.stringify({ graph, rows }));
     const length = Buffer.alloc(4);
     length.writeUInt32LE(header.length);
     try {
@@ -97,7 +135,7 @@ export class Kept {
       const part = `${this.file}.${process.pid}`;
       await writeFile(part, Buffer.concat([length, header, ...[...modules.values()].map(({ text }) => text)]));
       await rename(part, this.file);
-      prune(path.dirname(this.file));
+      prune(path.dirname(this.file), (it) => it.startsWith(`${this.base}.`) && it.endsWith('.graph') && it !== this.graphFile(graph));
     } catch {
       // a cache folder that can't be written costs time alone
     }

@@ -34,7 +34,7 @@ export class Sources {
     this.modules = new Map();
     /** @type {Map<string, Map<string, string>>} by specifier and text */
     this.resolutions = new Map();
-    /** @type {() => Promise<void>} keeps what is new, and ends with the threads: to be called when nothing waits for this one */
+    /** @type {(graph?: string) => Promise<void>} keeps what is new, with the name of the graph that is asked, and ends with the threads: to be called when nothing waits for this one */
     this.keep = async () => {};
     /** @type {Set<string>} specifiers of modules that aren't read */
     this.external = new Set();
@@ -81,8 +81,9 @@ export class Sources {
       throw error;
     }
     const isOther = isNew || this.kept?.modules.size !== this.modules.size;
-    this.keep = async () => {
-      await Promise.all([this.pool?.close(), isOther && this.kept?.write(new Map([...this.modules.values()].map((it) => [it.file, it.parsed])))]);
+    this.keep = async (graph = this.kept?.graph ?? '') => {
+      const isKept = !isOther && graph === this.kept?.graph;
+      await Promise.all([this.pool?.close(), isKept || this.kept?.write(new Map([...this.modules.values()].map((it) => [it.file, it.parsed])), graph)]);
     };
   }
 
