@@ -1,11 +1,12 @@
 // From sources to answers, beside TypeScript's own checker: what each module of a folder exports, where each exported name is
 // defined, and where each imported one.
 //
-//   node bench/sources.mjs [--rounds N] [--symq FILE] FOLDER..
+//   node bench/sources.mjs [--rounds N] [--symq FILE] [--environment as-is] FOLDER..
 //
 // In each round four processes run one after the other: the checker; symdir with an empty cache; symdir with no trees kept, but
-// with TypeScript's compiled form, as any earlier run on any folder keeps it; and symdir with the trees of the run before. None of
-// them reads further certificates, as Node does before it starts where NODE_EXTRA_CA_CERTS names some.
+// with TypeScript's compiled form, as any earlier run on any folder keeps it; and symdir with the trees and the graph of the run
+// before. None of them reads further certificates, as Node does before it starts where NODE_EXTRA_CA_CERTS names some, unless the
+// environment is left as it is.
 // Told are the least of the rounds on the clock and of the processors, in seconds, the latter with all that the process started
 // and on Linux alone; and their ratios to the checker's. Both read the same files, the modules of TypeScript below the folder, and
 // both say how many names they found.
@@ -91,7 +92,8 @@ function processors() {
 
 /** @param {string[]} words @param {string} cache @returns {{ time: Time, count: string }} */
 function timed(words, cache) {
-  const { NODE_EXTRA_CA_CERTS: _, ...environment } = process.env;
+  const { NODE_EXTRA_CA_CERTS: _, ...plain } = process.env;
+  const environment = values.environment === 'as-is' ? process.env : plain;
   const [began, before] = [performance.now(), processors()];
   const { status, stdout, stderr } = spawnSync(process.execPath, [SELF, ...words], { encoding: 'utf8', env: { ...environment, XDG_CACHE_HOME: cache } });
   const time = { clock: (performance.now() - began) / 1000, processors: processors() - before };
@@ -144,7 +146,9 @@ function compare(folder, rounds, symq) {
 }
 
 const { values, positionals } = parseArgs({ allowPositionals: true, options: {
-  rounds: { type: 'string', default: '5' }, symq: { type: 'string', default: fileURLToPath(new URL('../crates/symq/out/symq', import.meta.url)) }, ask: { type: 'string' } } });
+  rounds: { type: 'string', default: '5' }, symq: { type: 'string', default: fileURLToPath(new URL('../crates/symq/out/symq', import.meta.url)) }, ask: { type: 'string' },
+  environment: { type: 'string', default: 'plain' } } });
+if (!['plain', 'as-is'].includes(String(values.environment))) throw new Error('--environment is plain or as-is');
 const folders = positionals.map((it) => path.resolve(it));
 if (values.ask === 'checker') console.log(JSON.stringify(askChecker(folders[0])));
 else if (values.ask) console.log(JSON.stringify(await askSymdir(folders[0], String(values.symq))));
