@@ -51,3 +51,15 @@ test('a thread that ends is told', async () => {
   await assert.rejects(pool.inThreads(1, queueOf(jobs()), () => {}), /^Error: a thread that parses ended: ENOENT/);
   await pool.close();
 });
+
+test('a thread that ends before it is asked is told, and holds nothing up', async () => {
+  const pool = new Pool({ ...HOW, typescript: '/none/typescript.js' });
+  pool.start(1);
+  const [thread] = pool.threads;
+  // nothing else keeps this process from its end meanwhile
+  thread.worker.ref();
+  await assert.rejects(thread.failed, /ENOENT/);
+  await thread.began;
+  await assert.rejects(pool.inThreads(1, queueOf(jobs()), () => {}), /^Error: a thread that parses ended: ENOENT/);
+  await pool.close();
+});

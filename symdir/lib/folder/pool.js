@@ -1,4 +1,5 @@
 // Parses files: in this thread, and in others beside it where they are worth it and processors are free.
+import { readFileSync } from 'node:fs';
 import os from 'node:os';
 import { setImmediate } from 'node:timers/promises';
 
@@ -21,9 +22,19 @@ const MOST_THREADS = 3;
 /** For so many milliseconds at least this thread parses, before it hears of what others made and of signals. */
 const UNHEARD = 10;
 
-/** @returns {number} how many processors nothing else uses, as far as the system tells that, and at least one */
+/** @returns {number} how many threads of the whole system run at the moment, this one apart; infinite where it doesn't tell that */
+function runningNow() {
+  try {
+    // as `0.20 0.18 0.12 1/80 11206`, this one among those before the slash
+    return Math.max(0, Number(readFileSync('/proc/loadavg', 'utf8').split(/[ /]/)[3]) - 1);
+  } catch {
+    return Infinity;
+  }
+}
+
+/** @returns {number} how many processors nothing else uses, and at least one: what ran in the last minute counts where it still runs */
 function freeProcessors() {
-  return Math.max(1, os.availableParallelism() - Math.round(os.loadavg()[0]));
+  return Math.max(1, os.availableParallelism() - Math.min(Math.round(os.loadavg()[0]), runningNow()));
 }
 
 /** @param {number} files @param {number} bytes that they have @returns {number} how many threads are worth it */
