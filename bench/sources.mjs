@@ -95,9 +95,9 @@ function timed(words, cache) {
   const { NODE_EXTRA_CA_CERTS: _, ...plain } = process.env;
   const environment = values.environment === 'as-is' ? process.env : plain;
   const [began, before] = [performance.now(), processors()];
-  const { status, stdout, stderr } = spawnSync(process.execPath, [SELF, ...words], { encoding: 'utf8', env: { ...environment, XDG_CACHE_HOME: cache } });
+  const { status, signal, stdout, stderr } = spawnSync(process.execPath, [SELF, ...words], { encoding: 'utf8', env: { ...environment, XDG_CACHE_HOME: cache } });
   const time = { clock: (performance.now() - began) / 1000, processors: processors() - before };
-  if (status !== 0) throw new Error(stderr);
+  if (status !== 0) throw new Error(`${words.join(' ')}: status ${status}, signal ${signal}: ${stderr}`);
   return { time, count: stdout.trim() };
 }
 

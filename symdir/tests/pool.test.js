@@ -1,4 +1,5 @@
 import assert from 'node:assert/strict';
+import { spawnSync } from 'node:child_process';
 import path from 'node:path';
 import test from 'node:test';
 
@@ -57,9 +58,18 @@ test('a thread that ends before it is asked is told, and holds nothing up', asyn
   pool.start(1);
   const [thread] = pool.threads;
   // nothing else keeps this process from its end meanwhile
-  thread.worker.ref();
-  await assert.rejects(thread.failed, /ENOENT/);
+  await assert.rejects(thread.holding(thread.failed), /ENOENT/);
   await thread.began;
   await assert.rejects(pool.inThreads(1, queueOf(jobs()), () => {}), /^Error: a thread that parses ended: ENOENT/);
   await pool.close();
+});
+
+test('a process that waits for the start of a thread alone goes on', () => {
+  const program = `
+    import { Thread } from ${JSON.stringify(new URL('../lib/folder/thread.js', import.meta.url).href)};
+    const thread = new Thread(${JSON.stringify(HOW)});
+    await thread.began;
+    console.log('it runs');`;
+  const { status, stdout } = spawnSync(process.execPath, ['--input-type=module', '-e', program], { encoding: 'utf8' });
+  assert.deepEqual([status, stdout], [0, 'it runs\n']);
 });

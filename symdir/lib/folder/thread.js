@@ -15,7 +15,7 @@ const STACK_MEGABYTES = 64;
 /** What one file makes is gone before so much is made. */
 const YOUNG_MEGABYTES = 96;
 
-/** While it is asked nothing, it doesn't keep the process from its end. */
+/** Once it runs, and while it is asked nothing, it doesn't keep the process from its end. */
 export class Thread {
   /** @param {import('../tree/which.js').Which & import('./parse.js').How} how */
   constructor(how) {
@@ -23,12 +23,25 @@ export class Thread {
       workerData: how,
       resourceLimits: { stackSizeMb: STACK_MEGABYTES, maxYoungGenerationSizeMb: YOUNG_MEGABYTES, maxOldGenerationSizeMb: 4096 },
     });
-    this.worker.unref();
+    /** How many wait for what it answers, or for its start. */
+    this.awaited = 0;
     /** @type {Promise<never>} fails where the thread does */
     this.failed = new Promise((_, reject) => this.worker.once('error', reject));
     this.failed.catch(() => {});
     /** When the thread runs, or has ended before that. */
-    this.began = new Promise((resolve) => ['online', 'exit'].forEach((it) => this.worker.once(it, resolve)));
+    this.began = this.holding(new Promise((resolve) => ['online', 'exit'].forEach((it) => this.worker.once(it, resolve))));
+  }
+
+  /** @template T @param {Promise<T>} answer @returns {Promise<T>} it; until then the process doesn't end by itself */
+  async holding(answer) {
+    this.awaited++;
+    this.worker.ref();
+    try {
+      return await answer;
+    } finally {
+      this.awaited--;
+      if (this.awaited === 0) this.worker.unref();
+    }
   }
 
   /**
@@ -37,9 +50,7 @@ export class Thread {
    * @param {Done} done
    */
   async ask(queue, done) {
-    this.worker.ref();
-    await Promise.race([this.failed, this.answered(queue, done)]);
-    this.worker.unref();
+    await this.holding(Promise.race([this.failed, this.answered(queue, done)]));
   }
 
   /** @param {Queue | null} queue @param {Done} done @returns {Promise<void>} when no more comes */
