@@ -96,24 +96,24 @@ one_less (x ∷ xs) some = omega arith
 
 -- ---- the loop over the definitions; these are left
 
-pub record IsWalking (old : RootView) (running : List AliasDecl) (begun found_met : List UniqueSymbolId) (s : UniqueSymbolId) (parts : Parts) (paths : List Trail) (root : RootView) (now : List AliasDecl) (rest : List Definition) (met : List UniqueSymbolId) (changed : List (Option Trail)) : Type 0 where
+pub record IsWalking (old : RootView) (running : List AliasDecl) (begun : List UniqueSymbolId) (parts : Parts) (paths : List Trail) (root : RootView) (now : List AliasDecl) (rest : List Definition) (met : List UniqueSymbolId) (changed : List (Option Trail)) : Type 0 where
   pub grown : HasGrown old root
   pub same : now ≡ running
   pub numbered : AreNumbered root met
   pub longer : length begun ≤ length met
   pub few : length begun ≤ 2 ^ 64 → length met ≤ 2 ^ 64
   pub stored : AreStored root (modules_of_trails (present changed))
-  pub told : (later : RootView) → HasGrown root later → IsStepping (links_in later) enough (running_told later running) (met_told later found_met) (first_part parts) (later_parts parts) (defined_within (trails_told later paths)) (map (definition_told later) rest) (met_told later met) (map (trails_of_option later) changed)
+  pub told : (later : RootView) → HasGrown root later → IsStepping (links_in later) enough (running_told later running) (met_told later begun) (first_part parts) (later_parts parts) (defined_within (trails_told later paths)) (map (definition_told later) rest) (met_told later met) (map (trails_of_option later) changed)
 
-pub walking_first : (root new : RootView) (running : List AliasDecl) (begun found_met : List UniqueSymbolId) (s : UniqueSymbolId) (parts : Parts) (paths : List Trail) (rest : List Definition) (now : List AliasDecl) → now ≡ running → HasGrown root new → HasSearched new begun found_met (modules_of_trails paths) → ((later : RootView) → map (definition_told later) rest ≡ defined_within (trails_told later paths)) → IsWalking root running begun found_met s parts paths new now rest found_met []
-walking_first root new running begun found_met s parts paths rest now same grown searched listed = record {
-  grown = grown;
-  same = same;
-  numbered = searched.numbered;
-  longer = searched.longer;
-  few = searched.few;
+pub walking_first : (root : RootView) (running : List AliasDecl) (begun : List UniqueSymbolId) (parts : Parts) (paths : List Trail) (rest : List Definition) → AreNumbered root begun → ((later : RootView) → map (definition_told later) rest ≡ defined_within (trails_told later paths)) → IsWalking root running begun parts paths root running rest begun []
+walking_first root running begun parts paths rest numbered listed = record {
+  grown = grown_not root;
+  same = refl;
+  numbered = numbered;
+  longer = omega arith;
+  few = λ h. h;
   stored = λ k d h. absurd (omega (arith, h));
-  told = λ later more. subst (λ xs. IsStepping (links_in later) enough (running_told later running) (met_told later found_met) (first_part parts) (later_parts parts) (defined_within (trails_told later paths)) xs (met_told later found_met) []) (sym (listed later)) (stepping_first (links_in later) enough (running_told later running) (met_told later found_met) (first_part parts) (later_parts parts) (defined_within (trails_told later paths)));
+  told = λ later more. subst (λ xs. IsStepping (links_in later) enough (running_told later running) (met_told later begun) (first_part parts) (later_parts parts) (defined_within (trails_told later paths)) xs (met_told later begun) []) (sym (listed later)) (stepping_first (links_in later) enough (running_told later running) (met_told later begun) (first_part parts) (later_parts parts) (defined_within (trails_told later paths)));
 }
 
 present_with : (changed : List (Option Trail)) (path : Option Trail) → present (changed ++ path ∷ []) ≡ present changed ++ option_to_list path
@@ -138,8 +138,8 @@ stored_on root (x ∷ xs) ys a b =
         first others zero d w = h 0 d (omega arith)
         first others (suc k) d w = others k d (omega (arith, w))
 
-module _ {old : RootView} {running : List AliasDecl} {begun found_met : List UniqueSymbolId} {s : UniqueSymbolId} {parts : Parts} {paths : List Trail} {root : RootView} {now : List AliasDecl} {rest : List Definition} {met : List UniqueSymbolId} {changed : List (Option Trail)} where
-  pub walking_next : {after : RootView} {mid : List UniqueSymbolId} (x : Definition) → IsWalking old running begun found_met s parts paths root now (x ∷ rest) met changed → HasGrown root after → (path : Option Trail) → IsChanged after now met x parts path mid → (onward : List AliasDecl) → onward ≡ now → HasSearched after met mid (modules_of_trails (option_to_list path)) → IsWalking old running begun found_met s parts paths after onward rest mid (changed ++ path ∷ [])
+module _ {old : RootView} {running : List AliasDecl} {begun : List UniqueSymbolId} {parts : Parts} {paths : List Trail} {root : RootView} {now : List AliasDecl} {rest : List Definition} {met : List UniqueSymbolId} {changed : List (Option Trail)} where
+  pub walking_next : {after : RootView} {mid : List UniqueSymbolId} (x : Definition) → IsWalking old running begun parts paths root now (x ∷ rest) met changed → HasGrown root after → (path : Option Trail) → IsChanged after now met x parts path mid → (onward : List AliasDecl) → onward ≡ now → HasSearched after met mid (modules_of_trails (option_to_list path)) → IsWalking old running begun parts paths after onward rest mid (changed ++ path ∷ [])
   walking_next {after = after} {mid = mid} x is kept path stepped onward on searched = record {
     grown = grown_on is.grown kept;
     same = on ∙ is.same;
@@ -147,18 +147,18 @@ module _ {old : RootView} {running : List AliasDecl} {begun found_met : List Uni
     longer = omega (arith, is.longer, searched.longer);
     few = λ h. searched.few (is.few h);
     stored = subst (λ ps. AreStored after (modules_of_trails ps)) (sym (present_with changed path)) (stored_on after (present changed) (option_to_list path) (all_still_stored kept (modules_of_trails (present changed)) is.stored) searched.stored);
-    told = λ later grown. subst (λ cs. IsStepping (links_in later) enough (running_told later running) (met_told later found_met) (first_part parts) (later_parts parts) (defined_within (trails_told later paths)) (map (definition_told later) rest) (met_told later mid) cs) (sym (map-append (trails_of_option later) changed (path ∷ [])))
+    told = λ later grown. subst (λ cs. IsStepping (links_in later) enough (running_told later running) (met_told later begun) (first_part parts) (later_parts parts) (defined_within (trails_told later paths)) (map (definition_told later) rest) (met_told later mid) cs) (sym (map-append (trails_of_option later) changed (path ∷ [])))
         (stepping_next (links_in later) enough (running_told later running) (definition_told later x) (is.told later (grown_on kept grown)) (subst (λ r. IsChanged after r met x parts path mid) is.same stepped later grown));
   }
 
-module _ {old : RootView} {running : List AliasDecl} {begun found_met : List UniqueSymbolId} {s : UniqueSymbolId} {parts : Parts} {paths : List Trail} {root : RootView} {now : List AliasDecl} {met : List UniqueSymbolId} {changed : List (Option Trail)} where
-  pub walking_last : {new : RootView} (found : List Trail) → IsWalking old running begun found_met s parts paths root now [] met changed → 0 < length parts → HasGrown new root → IsFound new running begun s paths found_met → ((later : RootView) → trails_told later found ≡ (rebuilt parts (trails_told later paths) (map (trails_of_option later) changed)).0) → IsWalked root running begun s parts found met
-  walking_last found is some since was_found told = λ later grown.
-      let it = stepping_last (links_in later) enough (running_told later running) (is.told later grown) (was_found later (grown_on since grown)) in
+module _ {old : RootView} {running : List AliasDecl} {begun : List UniqueSymbolId} {parts : Parts} {paths : List Trail} {root : RootView} {now : List AliasDecl} {met : List UniqueSymbolId} {changed : List (Option Trail)} where
+  pub walking_last : (before : List UniqueSymbolId) (s : UniqueSymbolId) (found : List Trail) → IsWalking old running begun parts paths root now [] met changed → 0 < length parts → IsFound old running before s paths begun → ((later : RootView) → trails_told later found ≡ (rebuilt parts (trails_told later paths) (map (trails_of_option later) changed)).0) → IsWalked root running before s parts found met
+  walking_last before s found is some was_found told = λ later grown.
+      let it = stepping_last (links_in later) enough (running_told later running) (is.told later grown) (was_found later (grown_on is.grown grown)) in
       let parts_are = some_parts parts some in
       let same : trails_told later found ≡ (rebuilt (first_part parts ∷ later_parts parts) (trails_told later paths) (map (trails_of_option later) changed)).0 = told later ∙ ap (λ ps. (rebuilt ps (trails_told later paths) (map (trails_of_option later) changed)).0) parts_are in
-      subst (λ ps. Walks (links_in later) enough (running_told later running) (met_told later begun) (named later s) ps (trails_told later found) (met_told later met)) (sym parts_are)
-      (subst (λ f. Walks (links_in later) enough (running_told later running) (met_told later begun) (named later s) (first_part parts ∷ later_parts parts) f (met_told later met)) (sym same) it)
+      subst (λ ps. Walks (links_in later) enough (running_told later running) (met_told later before) (named later s) ps (trails_told later found) (met_told later met)) (sym parts_are)
+      (subst (λ f. Walks (links_in later) enough (running_told later running) (met_told later before) (named later s) (first_part parts ∷ later_parts parts) f (met_told later met)) (sym same) it)
 
 -- ---- an alias
 

@@ -294,6 +294,35 @@ pub(crate) fn walk<'a>(
     if parts.is_empty() {
         return Ok(paths);
     }
+    walk_definitions(root, resolving, met, symbol, parts, paths)
+}
+
+/// The paths that were found of a symbol, under parts. Apart from `walk`, which a chain of aliases
+/// leaves open once for each.
+#[cycle(search)]
+#[inline(never)]
+fn walk_definitions<'a>(
+    root: &mut RootSymbol<'a>,
+    resolving: &mut IndexSet<AliasDecl>,
+    met: &mut IndexSet<UniqueSymbolId>,
+    symbol: UniqueSymbolId,
+    parts: &SharedParts,
+    paths: Vec<Trail<'a>>,
+) -> Result<Vec<Trail<'a>>, SymbolsFault>
+    requires known { symbol.module_id.0 < length root.old.stored }
+    requires some { 0 < length (parts_told parts.now) }
+    requires found { (before : List UniqueSymbolId) × IsFound root.old resolving.old.keys before symbol paths.items met.old.keys }
+    requires stored { AreStored root.old (modules_of_trails paths.items) }
+    requires met { AreNumbered root.old met.old.keys }
+    requires resolving { AreAliasesNumbered root.old resolving.old.keys }
+    requires once { IsDistinct bytes_eq root.old.stored }
+    ensures kept { HasGrown root.old root.new }
+    ensures walked { IfOk result (λ found. (before : List UniqueSymbolId) → IsFound root.old resolving.old.keys before symbol paths.entry.items met.old.keys → IsWalked root.new resolving.old.keys before symbol (parts_told parts.now) found.items met.new.keys) }
+    ensures searched { IfOk result (λ found. HasSearched root.new met.old.keys met.new.keys (modules_of_trails found.items)) }
+    ensures same { OnOk result (resolving.new.keys ≡ resolving.old.keys) }
+    ensures refused { IfErr result (IsRefused root.new (specifier_in root.old symbol.module_id)) }
+    ensures enough { root.old.limits ≡ widest → IfErr result (λ fault. fault ≡ OutOfMemory) }
+{
     let mut changed = VecDeque::new(root.alloc());
     let definitions = definitions_in(root.alloc(), &paths)?;
     for definition in definitions {

@@ -1,4 +1,4 @@
-use Rattle.std.proofs.Common.{◌≡◌, ◌<◌, ◌^◌, true, false, List, [], ◌∷◌, refl, rules, length, None, Some, Result, Ok, Err, IfOk, IfErr, ◌+◌, option_map, sym, ap, subst, ◌∙◌, arith}
+use Rattle.std.proofs.Common.{◌≡◌, ◌<◌, ◌^◌, true, false, List, [], ◌∷◌, refl, rules, length, None, Some, Result, Ok, Err, IfOk, IfErr, OnOk, ◌+◌, option_map, sym, ap, subst, ◌∙◌, arith}
 use Rattle.std.proofs.lemmas.List.{length-append, nil_from_length}
 use Rattle.symbols_syntax.specs.declared.ids.ModuleId.{ModuleId}
 use Rattle.symbols_table.specs.declared.info.fault.SymbolsFault.{SymbolsFault}
@@ -13,7 +13,7 @@ use Rattle.symbols_paths.specs.Leads.{own_export, passes_on}
 use Rattle.symbols_paths.specs.Views.{named, texts_of, later_parts}
 use Rattle.symbols_paths.specs.Trails.{parts_told, trails_told, modules_of_trails}
 use Rattle.symbols_paths.specs.Needed.{IsNeeded, IsRefused}
-use Rattle.symbols_paths.specs.Searching.{AreNumbered, AreAliasesNumbered, IsRead}
+use Rattle.symbols_paths.specs.Searching.{AreNumbered, AreAliasesNumbered, IsRead, IsFound, IsWalked}
 use Rattle.symbols_paths.proofs.Growing.{still_numbered, all_still_stored}
 use Rattle.symbols_paths.proofs.Told.{none_at, some_at}
 use Rattle.symbols_paths.proofs.Trailing.{is_some, is_none, not_none}
@@ -31,6 +31,10 @@ use Rattle.symbols_paths.proofs.paths.search.+search.Goals as goal
 on_answer : {A : Type 0} {P Q : A → Type 0} (r : Result A SymbolsFault) → ((x : A) → P x → Q x) → IfOk r P → IfOk r Q
 on_answer (Ok x) f h = f x h
 on_answer (Err e) f h = tt
+
+on_ok : {A : Type 0} {P Q : Type 0} (r : Result A SymbolsFault) → (P → Q) → OnOk r P → OnOk r Q
+on_ok (Ok x) f h = f h
+on_ok (Err e) f h = tt
 
 on_fault : {A : Type 0} {P Q : SymbolsFault → Type 0} (r : Result A SymbolsFault) → ((e : SymbolsFault) → P e → Q e) → IfErr r P → IfErr r Q
 on_fault (Ok x) f h = tt
@@ -375,7 +379,7 @@ resolve-walk-requires t c =
     let none_met : length c.new-met.result.keys ≡ 0 = ap length c.new-met.ensures.empty in
     let short = short_parts c.args.parts.now in
     let parts = length (parts_told c.args.parts.now) in
-    let less = subst (λ n. left n parts (length c.new-met.result.keys) 6 < left (length running) 0 (2 ^ 64) 3) (sym longer) (subst (λ n. left (length running + 1) parts n 6 < left (length running) 0 (2 ^ 64) 3) (sym none_met) (one_alias_more (length running) parts 6 3 few short (omega arith))) in
+    let less = subst (λ n. left n parts (length c.new-met.result.keys) 7 < left (length running) 0 (2 ^ 64) 3) (sym longer) (subst (λ n. left (length running + 1) parts n 7 < left (length running) 0 (2 ^ 64) 3) (sym none_met) (one_alias_more (length running) parts 7 3 few short (omega arith))) in
     let numbered = subst (AreAliasesNumbered c.args.root.now) (sym new.1) (aliases_with c.args.root.now running c.args.alias c.requires.resolving c.requires.alias) in
     let met = subst (AreNumbered c.args.root.now) (sym c.new-met.ensures.empty) (λ k d h. absurd (omega (arith, h))) in
     (omega (arith, c.decreases, less), (c.requires.known, (met, (numbered, c.requires.once))))
@@ -399,78 +403,114 @@ resolve-returns-clause-same t c =
 -- ---- a walk
 
 pub walk-find-requires : goal.walk-find-requires
-walk-find-requires t c = (omega (arith, c.decreases, without_parts (length c.args.resolving.now.keys) (length (parts_told c.args.parts.now)) (length c.args.met.now.keys) 0 6 (omega arith)), (c.requires.known, (c.requires.met, (c.requires.resolving, c.requires.once))))
+walk-find-requires t c = (omega (arith, c.decreases, without_parts (length c.args.resolving.now.keys) (length (parts_told c.args.parts.now)) (length c.args.met.now.keys) 0 7 (omega arith)), (c.requires.known, (c.requires.met, (c.requires.resolving, c.requires.once))))
 
 pub walk-returns-then-is_empty-clause-walked : goal.walk-returns-then-is_empty-clause-walked
 walk-returns-then-is_empty-clause-walked t c = walked_alone c.find.new.root c.args.resolving.now.keys c.args.met.now.keys c.find.new.met.keys c.args.symbol (parts_told c.args.parts.now) c.in-Ok.paths.items (none_at (length (parts_told c.args.parts.now)) (sym c.if-is_empty.true ∙ c.is_empty.ensures)) c.in-Ok.ensures.found
 
-pub walk-loop-definition-init : goal.walk-loop-definition-init
-walk-loop-definition-init t c =
-    let root = c.find.new.root in
+pub walk-walk_definitions-requires : goal.walk-walk_definitions-requires
+walk-walk_definitions-requires t c =
+    let kept = c.in-Ok.ensures.kept in
+    let same = c.in-Ok.ensures.same in
     let searched = c.in-Ok.ensures.searched in
+    let running = c.args.resolving.now.keys in
+    let parts = length (parts_told c.args.parts.now) in
+    let less = subst (λ (r : List AliasDecl). left (length r) parts (length c.find.new.met.keys) 6 < left (length running) parts (length c.args.met.now.keys) 7) (sym same) (fewer_steps (length running) parts (length c.args.met.now.keys) (length c.find.new.met.keys) 6 7 searched.longer (omega arith)) in
+    let some = some_at parts (sym c.if-is_empty.false ∙ c.is_empty.ensures) in
+    let found = subst (λ (r : List AliasDecl). IsFound c.find.new.root r c.args.met.now.keys c.args.symbol c.in-Ok.paths.items c.find.new.met.keys) (sym same) c.in-Ok.ensures.found in
+    let numbered = subst (AreAliasesNumbered c.find.new.root) (sym same) (still_aliases kept running c.requires.resolving) in
+    (omega (arith, c.decreases, less), (still_stored kept c.args.symbol.module_id.0 c.requires.known, (some, ((c.args.met.now.keys, found), (searched.stored, (searched.numbered, (numbered, kept.once c.requires.once)))))))
+
+pub walk-returns-clause-kept : goal.walk-returns-clause-kept
+walk-returns-clause-kept t c = grown_on c.in-Ok.ensures.kept c.walk_definitions.ensures.kept
+
+pub walk-returns-clause-walked : goal.walk-returns-clause-walked
+walk-returns-clause-walked t c =
+    let same = c.in-Ok.ensures.same in
+    let found = subst (λ (r : List AliasDecl). IsFound c.find.new.root r c.args.met.now.keys c.args.symbol c.in-Ok.paths.items c.find.new.met.keys) (sym same) c.in-Ok.ensures.found in
+    on_answer c.walk_definitions.result (λ paths walked. subst (λ (r : List AliasDecl). IsWalked c.walk_definitions.new.root r c.args.met.now.keys c.args.symbol (parts_told c.args.parts.now) paths.items c.walk_definitions.new.met.keys) same (walked c.args.met.now.keys found)) c.walk_definitions.ensures.walked
+
+pub walk-returns-clause-searched : goal.walk-returns-clause-searched
+walk-returns-clause-searched t c =
+    let first = c.in-Ok.ensures.searched in
+    on_answer c.walk_definitions.result (λ paths then. record { numbered = then.numbered; longer = omega (arith, first.longer, then.longer); few = λ h. then.few (first.few h); stored = then.stored }) c.walk_definitions.ensures.searched
+
+pub walk-returns-clause-same : goal.walk-returns-clause-same
+walk-returns-clause-same t c = on_ok c.walk_definitions.result (λ same. same ∙ c.in-Ok.ensures.same) c.walk_definitions.ensures.same
+
+pub walk-returns-clause-refused : goal.walk-returns-clause-refused
+walk-returns-clause-refused t c = on_fault c.walk_definitions.result (λ fault refused. subst (λ v. IsRefused c.walk_definitions.new.root v fault) (same_specifier c.in-Ok.ensures.kept c.args.symbol.module_id c.requires.known) refused) c.walk_definitions.ensures.refused
+
+pub walk-returns-clause-enough : goal.walk-returns-clause-enough
+walk-returns-clause-enough t c = λ wide. c.walk_definitions.ensures.enough (c.in-Ok.ensures.kept.limits ∙ wide)
+
+-- ---- the definitions that a walk found
+
+pub walk_definitions-loop-definition-init : goal.walk_definitions-loop-definition-init
+walk_definitions-loop-definition-init t c =
+    let root = c.args.root.now in
+    let running = c.args.resolving.now.keys in
+    let begun = c.args.met.now.keys in
+    let found = c.requires.found in
     let told = rw c.deref.ensures.value at c.in_ok-definitions.ensures.told in
     let kept = rw c.deref.ensures.value at c.in_ok-definitions.ensures.stored in
-    let listed = kept root searched.stored in
+    let listed = kept root c.requires.stored in
     let given : c.into_iter-definition-iterator.result.rest.items ≡ c.in_ok-definitions.definitions.items = c.into_iter-definition-iterator.ensures.into_iter_gives.0 in
-    rw (c.new-changed.ensures.items, given) (walking_first root root c.args.resolving.now.keys c.args.met.now.keys c.find.new.met.keys c.args.symbol (parts_told c.args.parts.now) c.in-Ok.paths.items c.in_ok-definitions.definitions.items c.find.new.resolving.keys c.in-Ok.ensures.same (grown_not root) searched told, given_first root c.args.resolving.now.keys c.args.met.now.keys c.find.new.met.keys c.args.symbol c.in-Ok.paths.items c.in_ok-definitions.definitions.items c.in-Ok.ensures.found (told root) listed)
+    rw (c.new-changed.ensures.items, given) (walking_first root running begun (parts_told c.args.parts.now) c.args.paths.items c.in_ok-definitions.definitions.items c.requires.met told, given_first root running found.0 begun c.args.symbol c.args.paths.items c.in_ok-definitions.definitions.items found.1 (told root) listed)
 
-pub walk-step-requires : goal.walk-step-requires
-walk-step-requires t c =
+pub walk_definitions-step-requires : goal.walk_definitions-step-requires
+walk_definitions-step-requires t c =
     let is = c.loop-definition.invariant.0 in
     let given = first_given c.in-Some.definition c.next.new.self.rest.items (subst (AreGiven c.args.symbol c.loop-definition.root) c.in-Some.ensures.steps.0 c.loop-definition.invariant.1) in
     let parts = length (parts_told c.args.parts.now) in
     let less = subst (λ (r : List AliasDecl). left (length r) parts (length c.loop-definition.met.keys) 5 < left (length c.args.resolving.now.keys) parts (length c.args.met.now.keys) 6) (sym is.same) (fewer_steps (length c.args.resolving.now.keys) parts (length c.args.met.now.keys) (length c.loop-definition.met.keys) 5 6 is.longer (omega arith)) in
-    let grown = grown_on c.in-Ok.ensures.kept is.grown in
-    let numbered = subst (AreAliasesNumbered c.loop-definition.root) (sym is.same) (still_aliases grown c.args.resolving.now.keys c.requires.resolving) in
-    let some = some_at parts (sym c.if-is_empty.false ∙ c.is_empty.ensures) in
-    (omega (arith, c.decreases, less), (given.within, (some, (given.declared, (is.numbered, (numbered, grown.once c.requires.once))))))
+    let numbered = subst (AreAliasesNumbered c.loop-definition.root) (sym is.same) (still_aliases is.grown c.args.resolving.now.keys c.requires.resolving) in
+    (omega (arith, c.decreases, less), (given.within, (c.requires.some, (given.declared, (is.numbered, (numbered, is.grown.once c.requires.once))))))
 
-pub walk-returns-in_err-push_back-in-Ok-step-clause-kept : goal.walk-returns-in_err-push_back-in-Ok-step-clause-kept
-walk-returns-in_err-push_back-in-Ok-step-clause-kept t c = grown_on (grown_on c.in-Ok.ensures.kept c.loop-definition.invariant.0.grown) c.in-Ok-step.ensures.kept
+pub walk_definitions-returns-in_err-push_back-in-Ok-clause-kept : goal.walk_definitions-returns-in_err-push_back-in-Ok-clause-kept
+walk_definitions-returns-in_err-push_back-in-Ok-clause-kept t c = grown_on c.loop-definition.invariant.0.grown c.in-Ok.ensures.kept
 
-pub walk-returns-in_err-rebuild-clause-kept : goal.walk-returns-in_err-rebuild-clause-kept
-walk-returns-in_err-rebuild-clause-kept t c = grown_on c.in-Ok.ensures.kept c.loop-definition.invariant.0.grown
+pub walk_definitions-returns-in_err-rebuild-clause-kept : goal.walk_definitions-returns-in_err-rebuild-clause-kept
+walk_definitions-returns-in_err-rebuild-clause-kept t c = c.loop-definition.invariant.0.grown
 
-pub walk-returns-in-Err-step-clause-kept : goal.walk-returns-in-Err-step-clause-kept
-walk-returns-in-Err-step-clause-kept t c = grown_on (grown_on c.in-Ok.ensures.kept c.loop-definition.invariant.0.grown) c.in-Err-step.ensures.kept
+pub walk_definitions-returns-in-Err-clause-kept : goal.walk_definitions-returns-in-Err-clause-kept
+walk_definitions-returns-in-Err-clause-kept t c = grown_on c.loop-definition.invariant.0.grown c.in-Err.ensures.kept
 
-pub walk-returns-in-Err-step-clause-refused : goal.walk-returns-in-Err-step-clause-refused
-walk-returns-in-Err-step-clause-refused t c =
+pub walk_definitions-returns-in-Err-clause-refused : goal.walk_definitions-returns-in-Err-clause-refused
+walk_definitions-returns-in-Err-clause-refused t c =
     let given = first_given c.in-Some.definition c.next.new.self.rest.items (subst (AreGiven c.args.symbol c.loop-definition.root) c.in-Some.ensures.steps.0 c.loop-definition.invariant.1) in
-    refused_given c.args.root.now c.step.new.root c.in-Some.definition c.in-Err-step.fault c.requires.known (grown_on c.in-Ok.ensures.kept c.loop-definition.invariant.0.grown) c.in-Err-step.ensures.kept given c.in-Err-step.ensures.refused
+    refused_given c.args.root.now c.step.new.root c.in-Some.definition c.in-Err.fault c.requires.known c.loop-definition.invariant.0.grown c.in-Err.ensures.kept given c.in-Err.ensures.refused
 
-pub walk-returns-in-Err-step-clause-enough : goal.walk-returns-in-Err-step-clause-enough
-walk-returns-in-Err-step-clause-enough t c = λ wide. c.in-Err-step.ensures.enough (c.loop-definition.invariant.0.grown.limits ∙ (c.in-Ok.ensures.kept.limits ∙ wide))
+pub walk_definitions-returns-in-Err-clause-enough : goal.walk_definitions-returns-in-Err-clause-enough
+walk_definitions-returns-in-Err-clause-enough t c = λ wide. c.in-Err.ensures.enough (c.loop-definition.invariant.0.grown.limits ∙ wide)
 
-pub walk-loop-definition-preserved : goal.walk-loop-definition-preserved
-walk-loop-definition-preserved t c =
-    let root = c.find.new.root in
+pub walk_definitions-loop-definition-preserved : goal.walk_definitions-loop-definition-preserved
+walk_definitions-loop-definition-preserved t c =
     let here = c.loop-definition.root in
     let rest = c.next.new.self.rest.items in
-    let is = subst (λ (r : List Definition). IsWalking root c.args.resolving.now.keys c.args.met.now.keys c.find.new.met.keys c.args.symbol (parts_told c.args.parts.now) c.in-Ok.paths.items here c.loop-definition.resolving.keys r c.loop-definition.met.keys c.loop-definition.changed.items) c.in-Some.ensures.steps.0 c.loop-definition.invariant.0 in
+    let is = subst (λ (r : List Definition). IsWalking c.args.root.now c.args.resolving.now.keys c.args.met.now.keys (parts_told c.args.parts.now) c.args.paths.items here c.loop-definition.resolving.keys r c.loop-definition.met.keys c.loop-definition.changed.items) c.in-Some.ensures.steps.0 c.loop-definition.invariant.0 in
     let given = subst (AreGiven c.args.symbol here) c.in-Some.ensures.steps.0 c.loop-definition.invariant.1 in
-    let known = still_stored (grown_on c.in-Ok.ensures.kept is.grown) c.args.symbol.module_id.0 c.requires.known in
-    rw c.in_ok-push_back-in-Ok-step.ensures.items (walking_next c.in-Some.definition is c.in-Ok-step.ensures.kept c.in-Ok-step.path c.in-Ok-step.ensures.changed c.step.new.resolving.keys c.in-Ok-step.ensures.same c.in-Ok-step.ensures.searched, others_given c.in-Some.definition rest known c.in-Ok-step.ensures.kept given)
+    let known = still_stored is.grown c.args.symbol.module_id.0 c.requires.known in
+    rw c.in_ok-push_back-in-Ok.ensures.items (walking_next c.in-Some.definition is c.in-Ok.ensures.kept c.in-Ok.path c.in-Ok.ensures.changed c.step.new.resolving.keys c.in-Ok.ensures.same c.in-Ok.ensures.searched, others_given c.in-Some.definition rest known c.in-Ok.ensures.kept given)
 
-pub walk-returns-clause-kept : goal.walk-returns-clause-kept
-walk-returns-clause-kept t c = grown_on c.in-Ok.ensures.kept c.loop-definition.invariant.0.grown
+pub walk_definitions-returns-clause-kept : goal.walk_definitions-returns-clause-kept
+walk_definitions-returns-clause-kept t c = c.loop-definition.invariant.0.grown
 
-pub walk-returns-clause-same : goal.walk-returns-clause-same
-walk-returns-clause-same t c = c.loop-definition.invariant.0.same
+pub walk_definitions-returns-clause-same : goal.walk_definitions-returns-clause-same
+walk_definitions-returns-clause-same t c = c.loop-definition.invariant.0.same
 
-pub walk-returns-clause-walked : goal.walk-returns-clause-walked
-walk-returns-clause-walked t c =
+pub walk_definitions-returns-clause-walked : goal.walk_definitions-returns-clause-walked
+walk_definitions-returns-clause-walked t c =
     let rest = c.loop-definition.definition-iterator.rest in
     let over = nil_from_length rest.items (omega (arith, c.in-None.ensures.steps.0, rest.ok.0)) in
-    let is = subst (λ (r : List Definition). IsWalking c.find.new.root c.args.resolving.now.keys c.args.met.now.keys c.find.new.met.keys c.args.symbol (parts_told c.args.parts.now) c.in-Ok.paths.items c.loop-definition.root c.loop-definition.resolving.keys r c.loop-definition.met.keys c.loop-definition.changed.items) over c.loop-definition.invariant.0 in
-    let some = some_at (length (parts_told c.args.parts.now)) (sym c.if-is_empty.false ∙ c.is_empty.ensures) in
-    walking_last c.in_ok-rebuild.field-0.items is some is.grown c.in-Ok.ensures.found c.in_ok-rebuild.ensures.found
+    let is = subst (λ (r : List Definition). IsWalking c.args.root.now c.args.resolving.now.keys c.args.met.now.keys (parts_told c.args.parts.now) c.args.paths.items c.loop-definition.root c.loop-definition.resolving.keys r c.loop-definition.met.keys c.loop-definition.changed.items) over c.loop-definition.invariant.0 in
+    λ before found. walking_last before c.args.symbol c.in_ok-rebuild.field-0.items is c.requires.some found c.in_ok-rebuild.ensures.found
 
-pub walk-returns-clause-searched : goal.walk-returns-clause-searched
-walk-returns-clause-searched t c =
+pub walk_definitions-returns-clause-searched : goal.walk_definitions-returns-clause-searched
+walk_definitions-returns-clause-searched t c =
     let is = c.loop-definition.invariant.0 in
     let root = c.loop-definition.root in
-    let stored = c.in_ok-rebuild.ensures.stored root (all_still_stored is.grown (modules_of_trails c.in-Ok.paths.items) c.in-Ok.ensures.searched.stored) is.stored in
+    let stored = c.in_ok-rebuild.ensures.stored root (all_still_stored is.grown (modules_of_trails c.args.paths.items) c.requires.stored) is.stored in
     record { numbered = is.numbered; longer = is.longer; few = is.few; stored = stored.0 }
 
 -- ---- under the parts behind the first
@@ -481,7 +521,7 @@ walk_on-walk-requires t c =
     let rest = parts_told c.in_ok-rest.rest in
     let shorter : length rest + 1 ≡ length parts = ap (λ ps. length ps + 1) c.in_ok-rest.ensures ∙ one_less parts c.requires.some in
     let met = length c.args.met.now.keys in
-    let less = one_part_less (length c.args.resolving.now.keys) (length parts) (length rest) met met 6 4 shorter (omega arith) (omega arith) in
+    let less = one_part_less (length c.args.resolving.now.keys) (length parts) (length rest) met met 7 4 shorter (omega arith) (omega arith) in
     (omega (arith, c.decreases, less), (c.requires.known, (c.requires.met, (c.requires.resolving, c.requires.once))))
 
 pub walk_on-returns-clause-walked : goal.walk_on-returns-clause-walked

@@ -40,7 +40,10 @@ abbrev pub decreases-resolve : goal.decreases-resolve
 decreases-resolve l = left (length l.resolving.now.keys) 0 (2 ^ 64) 3
 
 abbrev pub decreases-walk : goal.decreases-walk
-decreases-walk l = left (length l.resolving.now.keys) (length (parts_told l.parts.now)) (length l.met.now.keys) 6
+decreases-walk l = left (length l.resolving.now.keys) (length (parts_told l.parts.now)) (length l.met.now.keys) 7
+
+abbrev pub decreases-walk_definitions : goal.decreases-walk_definitions
+decreases-walk_definitions l = left (length l.resolving.now.keys) (length (parts_told l.parts.now)) (length l.met.now.keys) 6
 
 abbrev pub decreases-walk_on : goal.decreases-walk_on
 decreases-walk_on l = left (length l.resolving.now.keys) (length (parts_told l.parts.now)) (length l.met.now.keys) 4
@@ -48,5 +51,5 @@ decreases-walk_on l = left (length l.resolving.now.keys) (length (parts_told l.p
 abbrev pub decreases-step : goal.decreases-step
 decreases-step l = left (length l.resolving.now.keys) (length (parts_told l.parts.now)) (length l.met.now.keys) 5
 
-abbrev pub invariant-walk-loop-definition : goal.invariant-walk-loop-definition
-invariant-walk-loop-definition l = IsWalking l.initial.root l.fn.resolving.keys l.fn.met.keys l.initial.met.keys l.fn.symbol (parts_told l.parts) l.paths.items l.root l.resolving.keys l.definition-iterator.rest.items l.met.keys l.changed.items × AreGiven l.fn.symbol l.root l.definition-iterator.rest.items
+abbrev pub invariant-walk_definitions-loop-definition : goal.invariant-walk_definitions-loop-definition
+invariant-walk_definitions-loop-definition l = IsWalking l.fn.root l.fn.resolving.keys l.fn.met.keys (parts_told l.parts) l.paths.items l.root l.resolving.keys l.definition-iterator.rest.items l.met.keys l.changed.items × AreGiven l.fn.symbol l.root l.definition-iterator.rest.items
