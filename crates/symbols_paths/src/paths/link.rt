@@ -1,9 +1,10 @@
 //! The parts that trails are made of.
 
-ghost use Rattle.std.specs.Prelude.{◌≡◌, ◌<◌, ◌++◌, [], length, IfOk, IfSome, OnOk};
+ghost use Rattle.std.specs.Prelude.{◌≡◌, ◌<◌, ◌++◌, ◌∷◌, [], length, Option, IfOk, IfSome, OnOk};
 ghost use Rattle.std.specs.Option.{option_to_list};
 ghost use Rattle.symbols_syntax.specs.Ids.{id_view};
 ghost use Rattle.symbols_root.specs.Roots.{RootView, specifier_in};
+ghost use Rattle.symbols_paths.specs.declared.paths.trail.Trail.{Trail};
 ghost use Rattle.symbols_paths.specs.Trees.{leaf, link, one, link_to, definition, unresolved, no_symbol, no_part};
 ghost use Rattle.symbols_paths.specs.Views.{named, decl_told, star_of, reason_told, texts_of, unresolved_told, AreStored};
 ghost use Rattle.symbols_paths.specs.Trails.{parts_told, step_head, trail_told, trails_told, trails_of_option, modules_of_trail, modules_of_trails};
@@ -55,7 +56,7 @@ fn link_by<'a>(
 }
 
 /// A step to a symbol by a declaration of its module; none where nothing is next.
-pub(crate) fn link<'a>(
+fn link<'a>(
     alloc: Global,
     symbol: UniqueSymbolId,
     symbol_decl: DeclRef,
@@ -173,7 +174,7 @@ pub(crate) fn copied_parts(alloc: Global, parts: &[String]) -> Result<Vec<String
 }
 
 /// A step by a declaration that names a name which stands for no symbol, with the parts after it.
-pub(crate) fn unmapped<'a>(
+fn unmapped<'a>(
     alloc: Global,
     symbol: UniqueSymbolId,
     symbol_decl: DeclRef,
@@ -187,4 +188,69 @@ pub(crate) fn unmapped<'a>(
     let missing = copied_parts(alloc, parts.texts())?;
     let next = unresolved(alloc, symbol.module_id, kind, missing)?;
     link_under(alloc, symbol, symbol_decl, parts, next)
+}
+
+/// Adds the trail that is a definition alone.
+#[inline(never)]
+pub(crate) fn add_defined<'a>(
+    alloc: Global,
+    module: ModuleId,
+    symbol_decl: DeclRef,
+    kind: DefinitionKind<'a>,
+    range: SourceRange,
+    trails: &mut Vec<Trail<'a>>,
+) -> Result<(), AllocError>
+    ensures { OnOk result ((trail : Trail) × (trails.new.items ≡ trails.old.items ++ trail ∷ []) × ((root : RootView) → trail_told root trail ≡ one (leaf (definition (record { decl = decl_told root «module» symbol_decl; range = range; star = star_of kind.entry })))) × ((root : RootView) → «module».0 < length root.stored → AreStored root (modules_of_trail trail))) }
+{
+    let trail = defined(alloc, module, symbol_decl, kind, range);
+    trails.push(trail)?;
+    Ok(())
+}
+
+/// Adds a step to a symbol by a declaration of its module, if something is next.
+#[inline(never)]
+pub(crate) fn add_link<'a>(
+    alloc: Global,
+    symbol: UniqueSymbolId,
+    symbol_decl: DeclRef,
+    next: Vec<Trail<'a>>,
+    trails: &mut Vec<Trail<'a>>,
+) -> Result<(), AllocError>
+    ensures { OnOk result ((trail : Option Trail) × (trails.new.items ≡ trails.old.items ++ option_to_list trail) × ((root : RootView) → trails_of_option root trail ≡ link_to (record { symbol = named root symbol; decl = decl_told root symbol.module_id symbol_decl; parts = [] }) (trails_told root next.entry.items)) × ((root : RootView) → symbol.module_id.0 < length root.stored → AreStored root (modules_of_trails next.entry.items) → IfSome trail (λ t. AreStored root (modules_of_trail t)))) }
+{
+    let trail = link(alloc, symbol, symbol_decl, next)?;
+    add(trails, trail)
+}
+
+/// Adds a step to a symbol by a declaration of its module, where parts are looked for, if something
+/// is next.
+#[inline(never)]
+pub(crate) fn add_link_under<'a>(
+    alloc: Global,
+    symbol: UniqueSymbolId,
+    symbol_decl: DeclRef,
+    parts: &SharedParts,
+    next: Vec<Trail<'a>>,
+    trails: &mut Vec<Trail<'a>>,
+) -> Result<(), AllocError>
+    ensures { OnOk result ((trail : Option Trail) × (trails.new.items ≡ trails.old.items ++ option_to_list trail) × ((root : RootView) → trails_of_option root trail ≡ link_to (record { symbol = named root symbol; decl = decl_told root symbol.module_id symbol_decl; parts = parts_told parts.now }) (trails_told root next.entry.items)) × ((root : RootView) → symbol.module_id.0 < length root.stored → AreStored root (modules_of_trails next.entry.items) → IfSome trail (λ t. AreStored root (modules_of_trail t)))) }
+{
+    let trail = link_under(alloc, symbol, symbol_decl, parts, next)?;
+    add(trails, trail)
+}
+
+/// Adds a step by a declaration that names a name which stands for no symbol, with the parts after it.
+#[inline(never)]
+pub(crate) fn add_unmapped<'a>(
+    alloc: Global,
+    symbol: UniqueSymbolId,
+    symbol_decl: DeclRef,
+    id: &Id,
+    parts: &SharedParts,
+    trails: &mut Vec<Trail<'a>>,
+) -> Result<(), AllocError>
+    ensures { OnOk result ((trail : Option Trail) × (trails.new.items ≡ trails.old.items ++ option_to_list trail) × ((root : RootView) → trails_of_option root trail ≡ one (link (record { symbol = named root symbol; decl = decl_told root symbol.module_id symbol_decl; parts = parts_told parts.now }) (one (leaf (unresolved (record { specifier = specifier_in root symbol.module_id; reason = no_symbol (id_view id.now); parts = parts_told parts.now })))))) × ((root : RootView) → symbol.module_id.0 < length root.stored → IfSome trail (λ t. AreStored root (modules_of_trail t)))) }
+{
+    let trail = unmapped(alloc, symbol, symbol_decl, id, parts)?;
+    add(trails, trail)
 }

@@ -131,6 +131,7 @@ pub(crate) fn text_part(
 }
 
 /// What the first of some parts of a definition or star import of a stored module leads to.
+#[inline(never)]
 pub(crate) fn part_of(
     root: &mut RootSymbol<'_>,
     definition: &Definition<'_>,

@@ -1,6 +1,6 @@
 //! The search for definitions: it goes from declaration to declaration, each symbol once.
 
-ghost use Rattle.std.specs.Prelude.{◌≡◌, ◌<◌, List, [], length, Contains, Some, IfOk, IfErr, IfSome, OnOk};
+ghost use Rattle.std.specs.Prelude.{◌≡◌, ◌<◌, ◌++◌, List, [], length, Contains, Option, Some, IfOk, IfErr, IfSome, OnOk};
 ghost use Rattle.std.specs.List.{IsDistinct};
 ghost use Rattle.std.specs.Option.{option_to_list};
 ghost use Rattle.std.specs.Str.{bytes_eq};
@@ -9,6 +9,7 @@ ghost use Rattle.symbols_table.specs.declared.info.fault.SymbolsFault.TheVariant
 ghost use Rattle.symbols_table.specs.DeclViews.{Declaration};
 ghost use Rattle.symbols_root.specs.Roots.{widest, specifier_in};
 ghost use Rattle.symbols_root.specs.Growing.{HasGrown};
+ghost use Rattle.symbols_paths.specs.declared.paths.trail.Trail.{Trail};
 ghost use Rattle.symbols_paths.specs.Leads.{declarations_of};
 ghost use Rattle.symbols_paths.specs.Views.{named, later_parts, definition_told, AreStored};
 ghost use Rattle.symbols_paths.specs.Trails.{parts_told, modules_of_trails};
@@ -18,7 +19,8 @@ ghost use Rattle.symbols_paths.specs.Searching.{AreNumbered, AreAliasesNumbered,
 use crate::paths::definition::{DeclRef, Definition};
 use crate::paths::leads::{Lead, NamedImport, lead_at, own_export, passes_on, star_text};
 use crate::paths::link::{
-    add, defined, link, link_under, no_export, one_unresolved, unmapped, unresolved,
+    add_defined, add_link, add_link_under, add_unmapped, defined, link_under, no_export,
+    one_unresolved, unresolved,
 };
 use crate::paths::parts::{PartWay, part_of};
 use crate::paths::rebuild::{definitions_in, rebuild};
@@ -59,16 +61,16 @@ pub(crate) fn find<'a>(
     }
     let mut index = 0;
     while let Some(lead) = lead_at(root, symbol, index)? {
-        match follow(root, resolving, met, symbol, index, &lead) {
+        match follow(root, resolving, met, symbol, index, &lead, &mut paths) {
             Err(fault) => return Err(fault),
-            Ok(path) => add(&mut paths, path)?,
+            Ok(()) => {}
         }
         index += 1;
     }
     Ok(paths)
 }
 
-/// The path along a declaration of a symbol, if there is one.
+/// Adds the path along a declaration of a symbol, if there is one.
 #[cycle(search)]
 fn follow<'a>(
     root: &mut RootSymbol<'a>,
@@ -77,15 +79,15 @@ fn follow<'a>(
     symbol: UniqueSymbolId,
     index: u32,
     lead: &Lead<'a>,
-) -> Result<Option<Trail<'a>>, SymbolsFault>
+    paths: &mut Vec<Trail<'a>>,
+) -> Result<(), SymbolsFault>
     requires known { symbol.module_id.0 < length root.old.stored }
     requires met { AreNumbered root.old met.old.keys }
     requires resolving { AreAliasesNumbered root.old resolving.old.keys }
     requires once { IsDistinct bytes_eq root.old.stored }
     requires declared { (decl : Declaration) × Contains (declarations_of root.old.graph (named root.old symbol)) decl × IsImportOf lead.now decl }
     ensures kept { HasGrown root.old root.new }
-    ensures followed { IfOk result (λ path. IsFollowed root.new resolving.old.keys met.old.keys symbol index lead.now path met.new.keys) }
-    ensures searched { IfOk result (λ path. HasSearched root.new met.old.keys met.new.keys (modules_of_trails (option_to_list path))) }
+    ensures followed { OnOk result ((path : Option Trail) × (paths.new.items ≡ paths.old.items ++ option_to_list path) × IsFollowed root.new resolving.old.keys met.old.keys symbol index lead.now path met.new.keys × HasSearched root.new met.old.keys met.new.keys (modules_of_trails (option_to_list path))) }
     ensures same { OnOk result (resolving.new.keys ≡ resolving.old.keys) }
     ensures refused { IfErr result (IsRefused root.new (specifier_in root.old symbol.module_id)) }
     ensures enough { root.old.limits ≡ widest → IfErr result (λ fault. fault ≡ OutOfMemory) }
@@ -97,14 +99,14 @@ fn follow<'a>(
     match lead {
         Lead::Defines(kind, range) => {
             let module = symbol.module_id;
-            Ok(Some(defined(root.alloc(), module, decl, *kind, *range)))
+            Ok(add_defined(root.alloc(), module, decl, *kind, *range, paths)?)
         }
-        Lead::Nowhere => Ok(None),
+        Lead::Nowhere => Ok(()),
         Lead::Target(symbol_id) => {
             let target = UniqueSymbolId::new(symbol.module_id, *symbol_id);
             match find(root, resolving, met, target) {
                 Err(fault) => Err(fault),
-                Ok(next) => Ok(link(root.alloc(), target, decl, next)?),
+                Ok(next) => Ok(add_link(root.alloc(), target, decl, next, paths)?),
             }
         }
         Lead::Alias(symbol_id, parts) => {
@@ -115,13 +117,15 @@ fn follow<'a>(
             };
             match resolve(root, resolving, alias, target, parts) {
                 Err(fault) => Err(fault),
-                Ok(next) => Ok(link_under(root.alloc(), symbol, decl, parts, next)?),
+                Ok(next) => Ok(add_link_under(root.alloc(), symbol, decl, parts, next, paths)?),
             }
         }
-        Lead::Unmapped(id, parts) => Ok(unmapped(root.alloc(), symbol, decl, id, parts)?),
+        Lead::Unmapped(id, parts) => {
+            Ok(add_unmapped(root.alloc(), symbol, decl, id, parts, paths)?)
+        }
         Lead::Import(taken) => match import(root, resolving, met, symbol, taken) {
             Err(fault) => Err(fault),
-            Ok(next) => Ok(link(root.alloc(), symbol, decl, next)?),
+            Ok(next) => Ok(add_link(root.alloc(), symbol, decl, next, paths)?),
         },
     }
 }
@@ -170,6 +174,7 @@ fn import<'a>(
 /// The paths of the first export of a name along the statements `export *` of a module that has one,
 /// or one unresolved entry.
 #[cycle(search)]
+#[inline(never)]
 fn import_along<'a>(
     root: &mut RootSymbol<'a>,
     resolving: &mut IndexSet<AliasDecl>,

@@ -1,4 +1,4 @@
-use Rattle.std.proofs.Common.{◌≡◌, ◌<◌, ◌^◌, true, false, List, [], ◌∷◌, refl, rules, length, None, Some, Result, Ok, Err, IfOk, IfErr, OnOk, ◌+◌, option_map, sym, ap, subst, ◌∙◌, arith}
+use Rattle.std.proofs.Common.{◌≡◌, ◌<◌, ◌^◌, true, false, List, [], ◌∷◌, refl, rules, length, None, Some, Result, Ok, Err, IfOk, IfErr, OnOk, ◌+◌, option_map, sym, ap, subst, ◌∙◌, arith, append-nil}
 use Rattle.std.proofs.lemmas.List.{length-append, nil_from_length}
 use Rattle.symbols_syntax.specs.declared.ids.ModuleId.{ModuleId}
 use Rattle.symbols_table.specs.declared.info.fault.SymbolsFault.{SymbolsFault}
@@ -84,25 +84,27 @@ find-overflow_add-index t c =
     let read : IsRead c.loop-paths.root.rules c.loop-paths.root.graph (named c.loop-paths.root c.args.symbol) c.loop-paths.index c.in-Some.lead = rw c.in-Some.is at c.in_ok-lead.ensures.reads in
     record { fits = omega (arith, index_within read, c.lead_at.ensures.few) }
 
-pub find-loop-paths-smaller-in_ok-add-in-Ok : goal.find-loop-paths-smaller-in_ok-add-in-Ok
-find-loop-paths-smaller-in_ok-add-in-Ok t c =
+pub find-loop-paths-smaller-in-Ok : goal.find-loop-paths-smaller-in-Ok
+find-loop-paths-smaller-in-Ok t c =
     let read : IsRead c.loop-paths.root.rules c.loop-paths.root.graph (named c.loop-paths.root c.args.symbol) c.loop-paths.index c.in-Some.lead = rw c.in-Some.is at c.in_ok-lead.ensures.reads in
     omega (arith, index_before c.loop-paths.invariant c.requires.known c.in-Some.lead read)
 
-pub find-loop-paths-preserved-in_ok-add-in-Ok : goal.find-loop-paths-preserved-in_ok-add-in-Ok
-find-loop-paths-preserved-in_ok-add-in-Ok t c =
+pub find-loop-paths-preserved-in-Ok : goal.find-loop-paths-preserved-in-Ok
+find-loop-paths-preserved-in-Ok t c =
     let read : IsRead c.loop-paths.root.rules c.loop-paths.root.graph (named c.loop-paths.root c.args.symbol) c.loop-paths.index c.in-Some.lead = rw c.in-Some.is at c.in_ok-lead.ensures.reads in
-    rw c.in_ok-add-in-Ok.ensures (finding_next c.loop-paths.invariant c.requires.known c.in-Some.lead read c.in-Ok.ensures.kept c.in-Ok.path c.in-Ok.ensures.followed c.follow.new.resolving.keys c.in-Ok.ensures.same c.in-Ok.ensures.searched)
+    let added = c.in-Ok.ensures.followed in
+    rw added.1 (finding_next c.loop-paths.invariant c.requires.known c.in-Some.lead read c.in-Ok.ensures.kept added.0 added.2 c.follow.new.resolving.keys c.in-Ok.ensures.same added.3)
 
-pub find-loop-paths-smaller-in_ok-add-in-Ok-2 : goal.find-loop-paths-smaller-in_ok-add-in-Ok-2
-find-loop-paths-smaller-in_ok-add-in-Ok-2 t c =
+pub find-loop-paths-smaller-in-Ok-2 : goal.find-loop-paths-smaller-in-Ok-2
+find-loop-paths-smaller-in-Ok-2 t c =
     let read : IsRead c.loop-paths.root.rules c.loop-paths.root.graph (named c.loop-paths.root c.args.symbol) c.loop-paths.index c.in-Some.lead = rw c.in-Some.is at c.in_ok-lead.ensures.reads in
     omega (arith, index_before c.loop-paths.invariant c.requires.known c.in-Some.lead read)
 
-pub find-loop-paths-preserved-in_ok-add-in-Ok-2 : goal.find-loop-paths-preserved-in_ok-add-in-Ok-2
-find-loop-paths-preserved-in_ok-add-in-Ok-2 t c =
+pub find-loop-paths-preserved-in-Ok-2 : goal.find-loop-paths-preserved-in-Ok-2
+find-loop-paths-preserved-in-Ok-2 t c =
     let read : IsRead c.loop-paths.root.rules c.loop-paths.root.graph (named c.loop-paths.root c.args.symbol) c.loop-paths.index c.in-Some.lead = rw c.in-Some.is at c.in_ok-lead.ensures.reads in
-    rw c.in_ok-add-in-Ok.ensures (finding_next c.loop-paths.invariant c.requires.known c.in-Some.lead read c.in-Ok.ensures.kept c.in-Ok.path c.in-Ok.ensures.followed c.follow.new.resolving.keys c.in-Ok.ensures.same c.in-Ok.ensures.searched)
+    let added = c.in-Ok.ensures.followed in
+    rw added.1 (finding_next c.loop-paths.invariant c.requires.known c.in-Some.lead read c.in-Ok.ensures.kept added.0 added.2 c.follow.new.resolving.keys c.in-Ok.ensures.same added.3)
 
 pub find-loop-paths-smaller : goal.find-loop-paths-smaller
 find-loop-paths-smaller t c =
@@ -112,7 +114,8 @@ find-loop-paths-smaller t c =
 pub find-loop-paths-preserved : goal.find-loop-paths-preserved
 find-loop-paths-preserved t c =
     let read : IsRead c.loop-paths.root.rules c.loop-paths.root.graph (named c.loop-paths.root c.args.symbol) c.loop-paths.index c.in-Some.lead = rw c.in-Some.is at c.in_ok-lead.ensures.reads in
-    rw c.in_ok-add-in-Ok.ensures (finding_next c.loop-paths.invariant c.requires.known c.in-Some.lead read c.in-Ok.ensures.kept c.in-Ok.path c.in-Ok.ensures.followed c.follow.new.resolving.keys c.in-Ok.ensures.same c.in-Ok.ensures.searched)
+    let added = c.in-Ok.ensures.followed in
+    rw added.1 (finding_next c.loop-paths.invariant c.requires.known c.in-Some.lead read c.in-Ok.ensures.kept added.0 added.2 c.follow.new.resolving.keys c.in-Ok.ensures.same added.3)
 
 pub find-returns-clause-same : goal.find-returns-clause-same
 find-returns-clause-same t c = c.loop-paths.invariant.same
@@ -130,32 +133,35 @@ follow-find-requires t c =
     let less = fewer_steps (length c.args.resolving.now.keys) 0 (length c.args.met.now.keys) (length c.args.met.now.keys) 0 4 (omega arith) (omega arith) in
     (omega (arith, c.decreases, less), (subst (λ (id : ModuleId). id.0 < length c.args.root.now.stored) (sym c.new-target.ensures.module) c.requires.known, (c.requires.met, (c.requires.resolving, c.requires.once))))
 
-pub follow-returns-in-Defines-clause-followed : goal.follow-returns-in-Defines-clause-followed
-follow-returns-in-Defines-clause-followed t c = rw c.in-Defines.is (followed_itself c.args.root.now c.args.resolving.now.keys c.args.met.now.keys c.args.symbol c.args.index c.in-Defines.kind c.in-Defines.range c.defined.result c.defined.ensures.told)
+pub follow-returns-in_ok-add_defined-in-Defines-clause-followed : goal.follow-returns-in_ok-add_defined-in-Defines-clause-followed
+follow-returns-in_ok-add_defined-in-Defines-clause-followed t c =
+    let added = c.in_ok-add_defined-in-Defines.ensures in
+    let root = c.args.root.now in
+    (Some added.0, added.1, rw c.in-Defines.is (followed_itself root c.args.resolving.now.keys c.args.met.now.keys c.args.symbol c.args.index c.in-Defines.kind c.in-Defines.range added.0 added.2), record { numbered = c.requires.met; longer = omega arith; few = λ h. h; stored = option_stored root (Some added.0) (added.3 root c.requires.known) })
 
 pub follow-returns-in-Nowhere-clause-followed : goal.follow-returns-in-Nowhere-clause-followed
-follow-returns-in-Nowhere-clause-followed t c = rw c.in-Nowhere.is (followed_nowhere c.args.root.now c.args.resolving.now.keys c.args.met.now.keys c.args.symbol c.args.index)
+follow-returns-in-Nowhere-clause-followed t c =
+    (None, sym (append-nil c.args.paths.now.items), rw c.in-Nowhere.is (followed_nowhere c.args.root.now c.args.resolving.now.keys c.args.met.now.keys c.args.symbol c.args.index), record { numbered = c.requires.met; longer = omega arith; few = λ h. h; stored = option_stored c.args.root.now None tt })
 
-pub follow-returns-in_ok-link-in-Ok-clause-followed : goal.follow-returns-in_ok-link-in-Ok-clause-followed
-follow-returns-in_ok-link-in-Ok-clause-followed t c = rw c.in-Target.is (followed_target c.find.new.root c.args.resolving.now.keys c.args.met.now.keys c.find.new.met.keys c.args.symbol c.new-target.result c.in-Target.symbol_id c.args.index c.in-Ok.next.items c.in_ok-link-in-Ok.field-0 c.new-target.ensures.module c.new-target.ensures.symbol c.in-Ok.ensures.found c.in_ok-link-in-Ok.ensures.told)
-
-pub follow-returns-in_ok-link-in-Ok-clause-searched : goal.follow-returns-in_ok-link-in-Ok-clause-searched
-follow-returns-in_ok-link-in-Ok-clause-searched t c =
+pub follow-returns-in_ok-add_link-in-Ok-clause-followed : goal.follow-returns-in_ok-add_link-in-Ok-clause-followed
+follow-returns-in_ok-add_link-in-Ok-clause-followed t c =
+    let added = c.in_ok-add_link-in-Ok.ensures in
     let is = c.in-Ok.ensures.searched in
     let within = still_stored c.in-Ok.ensures.kept c.new-target.result.module_id.0 (subst (λ (id : ModuleId). id.0 < length c.args.root.now.stored) (sym c.new-target.ensures.module) c.requires.known) in
-    record { numbered = is.numbered; longer = is.longer; few = is.few; stored = option_stored c.find.new.root c.in_ok-link-in-Ok.field-0 (c.in_ok-link-in-Ok.ensures.stored c.find.new.root within is.stored) }
+    (added.0, added.1, rw c.in-Target.is (followed_target c.find.new.root c.args.resolving.now.keys c.args.met.now.keys c.find.new.met.keys c.args.symbol c.new-target.result c.in-Target.symbol_id c.args.index c.in-Ok.next.items added.0 c.new-target.ensures.module c.new-target.ensures.symbol c.in-Ok.ensures.found added.2), record { numbered = is.numbered; longer = is.longer; few = is.few; stored = option_stored c.find.new.root added.0 (added.3 c.find.new.root within is.stored) })
 
-pub follow-returns-in_ok-unmapped-in-Unmapped-clause-followed : goal.follow-returns-in_ok-unmapped-in-Unmapped-clause-followed
-follow-returns-in_ok-unmapped-in-Unmapped-clause-followed t c =
-    rw c.in-Unmapped.is (followed_unmapped c.args.root.now c.args.resolving.now.keys c.args.met.now.keys c.args.symbol c.args.index c.in-Unmapped.id c.in-Unmapped.parts c.in_ok-unmapped-in-Unmapped.field-0 c.in_ok-unmapped-in-Unmapped.ensures.told)
+pub follow-returns-in_ok-add_unmapped-in-Unmapped-clause-followed : goal.follow-returns-in_ok-add_unmapped-in-Unmapped-clause-followed
+follow-returns-in_ok-add_unmapped-in-Unmapped-clause-followed t c =
+    let added = c.in_ok-add_unmapped-in-Unmapped.ensures in
+    let root = c.args.root.now in
+    (added.0, added.1, rw c.in-Unmapped.is (followed_unmapped root c.args.resolving.now.keys c.args.met.now.keys c.args.symbol c.args.index c.in-Unmapped.id c.in-Unmapped.parts added.0 added.2), record { numbered = c.requires.met; longer = omega arith; few = λ h. h; stored = option_stored root added.0 (added.3 root c.requires.known) })
 
-pub follow-returns-in_ok-link-in-Ok-import-clause-followed : goal.follow-returns-in_ok-link-in-Ok-import-clause-followed
-follow-returns-in_ok-link-in-Ok-import-clause-followed t c = rw c.in-Import.is (followed_import c.import.new.root c.args.resolving.now.keys c.args.met.now.keys c.import.new.met.keys c.args.symbol c.in-Import.taken c.args.index c.in-Ok-import.next.items c.in_ok-link-in-Ok-import.field-0 c.in-Ok-import.ensures.tried c.in_ok-link-in-Ok-import.ensures.told)
-
-pub follow-returns-in_ok-link-in-Ok-import-clause-searched : goal.follow-returns-in_ok-link-in-Ok-import-clause-searched
-follow-returns-in_ok-link-in-Ok-import-clause-searched t c =
+pub follow-returns-in_ok-add_link-in-Ok-import-clause-followed : goal.follow-returns-in_ok-add_link-in-Ok-import-clause-followed
+follow-returns-in_ok-add_link-in-Ok-import-clause-followed t c =
+    let added = c.in_ok-add_link-in-Ok-import.ensures in
     let is = c.in-Ok-import.ensures.searched in
-    record { numbered = is.numbered; longer = is.longer; few = is.few; stored = option_stored c.import.new.root c.in_ok-link-in-Ok-import.field-0 (c.in_ok-link-in-Ok-import.ensures.stored c.import.new.root (still_stored c.in-Ok-import.ensures.kept c.args.symbol.module_id.0 c.requires.known) is.stored) }
+    let root = c.import.new.root in
+    (added.0, added.1, rw c.in-Import.is (followed_import root c.args.resolving.now.keys c.args.met.now.keys c.import.new.met.keys c.args.symbol c.in-Import.taken c.args.index c.in-Ok-import.next.items added.0 c.in-Ok-import.ensures.tried added.2), record { numbered = is.numbered; longer = is.longer; few = is.few; stored = option_stored root added.0 (added.3 root (still_stored c.in-Ok-import.ensures.kept c.args.symbol.module_id.0 c.requires.known) is.stored) })
 
 pub follow-import-requires : goal.follow-import-requires
 follow-import-requires t c =
@@ -351,16 +357,13 @@ follow-resolve-requires t c =
     let within : c.new-target-in-Alias.result.module_id.0 < length c.args.root.now.stored = subst (λ (id : ModuleId). id.0 < length c.args.root.now.stored) (sym c.new-target-in-Alias.ensures.module) c.requires.known in
     (omega (arith, c.decreases, for_alias (length c.args.resolving.now.keys) (length c.args.met.now.keys) 3 4 (omega arith)), (within, (c.requires.known, (c.requires.resolving, c.requires.once))))
 
-pub follow-returns-in_ok-link_under-in-Ok-resolve-clause-followed : goal.follow-returns-in_ok-link_under-in-Ok-resolve-clause-followed
-follow-returns-in_ok-link_under-in-Ok-resolve-clause-followed t c =
-    rw c.in-Alias.is (followed_alias c.resolve.new.root c.args.resolving.now.keys c.args.met.now.keys c.args.symbol c.new-target-in-Alias.result c.in-Alias.symbol_id c.args.index c.in-Alias.parts c.in-Ok-resolve.next.items c.in_ok-link_under-in-Ok-resolve.field-0 c.new-target-in-Alias.ensures.module c.new-target-in-Alias.ensures.symbol c.in-Ok-resolve.ensures.resolved c.in_ok-link_under-in-Ok-resolve.ensures.told)
-
-pub follow-returns-in_ok-link_under-in-Ok-resolve-clause-searched : goal.follow-returns-in_ok-link_under-in-Ok-resolve-clause-searched
-follow-returns-in_ok-link_under-in-Ok-resolve-clause-searched t c =
+pub follow-returns-in_ok-add_link_under-in-Ok-resolve-clause-followed : goal.follow-returns-in_ok-add_link_under-in-Ok-resolve-clause-followed
+follow-returns-in_ok-add_link_under-in-Ok-resolve-clause-followed t c =
+    let added = c.in_ok-add_link_under-in-Ok-resolve.ensures in
     let kept = c.in-Ok-resolve.ensures.kept in
     let root = c.resolve.new.root in
     let within = still_stored kept c.args.symbol.module_id.0 c.requires.known in
-    record { numbered = still_numbered kept c.args.met.now.keys c.requires.met; longer = omega arith; few = λ h. h; stored = option_stored root c.in_ok-link_under-in-Ok-resolve.field-0 (c.in_ok-link_under-in-Ok-resolve.ensures.stored root within c.in-Ok-resolve.ensures.stored) }
+    (added.0, added.1, rw c.in-Alias.is (followed_alias root c.args.resolving.now.keys c.args.met.now.keys c.args.symbol c.new-target-in-Alias.result c.in-Alias.symbol_id c.args.index c.in-Alias.parts c.in-Ok-resolve.next.items added.0 c.new-target-in-Alias.ensures.module c.new-target-in-Alias.ensures.symbol c.in-Ok-resolve.ensures.resolved added.2), record { numbered = still_numbered kept c.args.met.now.keys c.requires.met; longer = omega arith; few = λ h. h; stored = option_stored root added.0 (added.3 root within c.in-Ok-resolve.ensures.stored) })
 
 pub resolve-returns-then-not-is_new-clause-resolved : goal.resolve-returns-then-not-is_new-clause-resolved
 resolve-returns-then-not-is_new-clause-resolved t c =
