@@ -19,7 +19,7 @@ use Rattle.symbols_paths.specs.Choice.{IsChosen, IsChosenUnder}
 use Rattle.symbols_paths.specs.Views.{named_in, forest_told, modules_in, AreStored}
 use Rattle.symbols_paths.specs.Needed.{IsRefused}
 
--- the paths of a symbol under parts: each is derived, each leaf is one of the symbol's under the parts, and what a leaf of first reach comes to under the parts is there; no leaf is lost where no alias is met in its own search and no symbol reached with two different remaining parts in one, and so none where no alias is met at all and the search itself reaches no symbol with two; and of all such lists it is the choice
+-- the paths of a symbol under parts: each is derived, each leaf is one of the symbol's under the parts, and what a leaf of first reach comes to under the parts is there; no leaf to which first candidates lead is lost where no alias is met in its own search and no symbol reached with two different remaining parts in one, and so none of them where no alias is met at all and the search itself reaches no symbol with two; and of all such lists it is the choice
 pub record ArePathsUnder (rules : Rules) (graph : GraphView) (s : NamedSymbol) (ps : Parts) (paths : Forest) : Type 0 where
   pub derived : IsDerivedUnder (links_of rules graph) s ps paths
   pub leaves : (x : Leaf) → Contains (leaves_in paths) x → IsWalk (links_of rules graph) s ps x
@@ -28,7 +28,7 @@ pub record ArePathsUnder (rules : Rules) (graph : GraphView) (s : NamedSymbol) (
   pub all_without_alias : MeetsNoAlias (links_of rules graph) s ps → HasOneRestItself (links_of rules graph) s ps → (x : Leaf) → IsFirstWalk (links_of rules graph) s ps x → Contains (leaves_in paths) x
   pub chosen : IsChosenUnder (links_of rules graph) s ps paths
 
--- the paths of a symbol: the same without parts; no leaf of first reach is lost, where no alias is met none is lost and no declaration is given twice, and a part that isn't resolved, behind no alias, stands only where all else is told
+-- the paths of a symbol: the same without parts; no leaf of first reach is lost, where no alias is met no leaf to which first candidates lead is lost and no declaration is given twice, and a part that isn't resolved, behind no alias, stands only where all else is told
 pub record ArePaths (rules : Rules) (graph : GraphView) (s : NamedSymbol) (paths : Forest) : Type 0 where
   pub derived : IsDerived (links_of rules graph) s paths
   pub leaves : (x : Leaf) → Contains (leaves_in paths) x → IsLeaf (links_of rules graph) s x
