@@ -4,23 +4,22 @@
 
 use anyhow::{Context, Result};
 use deno_symbols::check::ModuleGraph;
-use deno_symbols::exports::exports;
+use deno_symbols::exports::{ModuleExports, exports};
 use deno_symbols::root::RootSymbol;
 use std::fs;
 use std::rt::Files;
 use symq_reader::read_graph;
 
-/// Each name that the module exports, with the module that owns it and its symbol there.
-fn print_exports<R: Files + AllocGlobal + Print>(rt: &R, specifier: &str) -> Result<()> {
-    let bytes = fs::read(rt, "graph.json")?;
+/// The graph whose text a file has, checked.
+fn graph_of<R: Files + AllocGlobal>(rt: &R, path: &str) -> Result<ModuleGraph> {
+    let bytes = fs::read(rt, path)?;
     let raw = read_graph(rt.alloc(), bytes.as_slice())?;
-    let graph = ModuleGraph::new(rt.alloc(), raw)?;
-    let mut root = RootSymbol::new(rt.alloc(), &graph);
-    let id = root
-        .module_from_specifier(specifier)?
-        .context("no such module")?;
-    let names = exports(&mut root, id)?.resolved;
-    for (name, path) in &names {
+    Ok(ModuleGraph::new(rt.alloc(), raw)?)
+}
+
+/// Each name that was found, with the module that owns it and its symbol there.
+fn print_names<R: Print>(rt: &R, root: &RootSymbol<'_>, found: &ModuleExports<'_>) -> Result<()> {
+    for (name, path) in &found.resolved {
         let export = path.as_resolved_export();
         let owner = root
             .module_from_id(export.module)
@@ -31,6 +30,17 @@ fn print_exports<R: Files + AllocGlobal + Print>(rt: &R, specifier: &str) -> Res
     Ok(())
 }
 
+/// What the module exports that a specifier stands for.
+fn print_exports<R: Print>(rt: &R, root: &mut RootSymbol<'_>, specifier: &str) -> Result<()> {
+    let id = root
+        .module_from_specifier(specifier)?
+        .context("no such module")?;
+    let found = exports(root, id)?;
+    print_names(rt, root, &found)
+}
+
 fn main(rt: HostRuntime) -> Result<()> {
-    print_exports(&rt, "file:///a.ts")
+    let graph = graph_of(&rt, "graph.json")?;
+    let mut root = RootSymbol::new(rt.alloc(), &graph);
+    print_exports(&rt, &mut root, "file:///a.ts")
 }
