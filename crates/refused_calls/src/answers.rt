@@ -1,33 +1,46 @@
 //! What queries are answered with, on a line or more.
 
-use anyhow::Result;
 use deno_symbols::exports::PublicName;
 use deno_symbols::paths::{DeclRef, DefinitionUnresolvedKind};
 use deno_symbols::queries::{
     Answer, DeclDeps, NamedDefinition, NamedEnd, NamedEntry, NamedExport, NamedExports, NamedLink,
     NamedPath, NamedUnresolved,
 };
+use std::io;
 
-fn print_export<R: Print>(rt: &R, export: &NamedExport<'_>) -> Result<()> {
-    let symbol = export.symbol;
-    println!(rt;
-        "      {} of {}, its symbol {symbol:?}",
-        export.name, export.module
-    )?;
-    for statement in &export.chain {
-        println!(rt;
-            "        by {} of {}",
-            statement.specifier, statement.referrer
-        )?;
+/// What stands on lines of its own.
+pub(crate) trait Lines {
+    fn print_lines<R: Print>(&self, rt: &R) -> io::Result<()>;
+}
+
+/// A line, and behind it those of each item.
+fn print_each<R: Print, T: Lines>(rt: &R, line: &str, items: &[T]) -> io::Result<()> {
+    println!(rt; "{line}")?;
+    for item in items {
+        item.print_lines(rt)?;
     }
     Ok(())
 }
 
-fn print_exports<R: Print>(rt: &R, named: &NamedExports<'_>) -> Result<()> {
-    println!(rt; "    exports")?;
-    for export in &named.exports {
-        print_export(rt, export)?;
+impl Lines for NamedExport<'_> {
+    fn print_lines<R: Print>(&self, rt: &R) -> io::Result<()> {
+        let symbol = self.symbol;
+        println!(rt;
+            "      {} of {}, its symbol {symbol:?}",
+            self.name, self.module
+        )?;
+        for statement in &self.chain {
+            println!(rt;
+                "        by {} of {}",
+                statement.specifier, statement.referrer
+            )?;
+        }
+        Ok(())
     }
+}
+
+fn print_exports<R: Print>(rt: &R, named: &NamedExports<'_>) -> io::Result<()> {
+    print_each(rt, "    exports", &named.exports)?;
     for statement in &named.unresolved {
         println!(rt;
             "      {} of {} leads nowhere",
@@ -37,41 +50,39 @@ fn print_exports<R: Print>(rt: &R, named: &NamedExports<'_>) -> Result<()> {
     Ok(())
 }
 
-fn print_names<R: Print>(rt: &R, names: &[PublicName]) -> Result<()> {
-    println!(rt; "    names")?;
-    for name in names {
-        println!(rt; "      {} {:?}", name.name, name.member)?;
+impl Lines for PublicName {
+    fn print_lines<R: Print>(&self, rt: &R) -> io::Result<()> {
+        println!(rt; "      {} {:?}", self.name, self.member)
     }
-    Ok(())
 }
 
-fn print_deps<R: Print>(rt: &R, deps: &[DeclDeps<'_>]) -> Result<()> {
-    println!(rt; "    declarations")?;
-    for declaration in deps {
+impl Lines for DeclDeps<'_> {
+    fn print_lines<R: Print>(&self, rt: &R) -> io::Result<()> {
         println!(rt; "      one that refers to")?;
-        for (reference, namespace) in declaration {
+        for (reference, namespace) in self {
             println!(rt; "        {reference:?} as {namespace:?}")?;
         }
+        Ok(())
     }
-    Ok(())
 }
 
 /// A declaration of a module.
-fn print_decl<R: Print>(rt: &R, module: &str, decl: DeclRef) -> Result<()> {
+fn print_decl<R: Print>(rt: &R, module: &str, decl: DeclRef) -> io::Result<()> {
     let symbol = decl.symbol;
     let index = decl.index;
-    println!(rt; "        declaration {index} of symbol {symbol:?} of {module}")?;
-    Ok(())
+    println!(rt; "        declaration {index} of symbol {symbol:?} of {module}")
 }
 
-fn print_definition<R: Print>(rt: &R, definition: &NamedDefinition<'_>) -> Result<()> {
-    let start = definition.range.start;
-    let end = definition.range.end;
-    println!(rt; "      {:?} at {start}..{end}", definition.kind)?;
-    print_decl(rt, definition.module, definition.decl)
+impl Lines for NamedDefinition<'_> {
+    fn print_lines<R: Print>(&self, rt: &R) -> io::Result<()> {
+        let start = self.range.start;
+        let end = self.range.end;
+        println!(rt; "      {:?} at {start}..{end}", self.kind)?;
+        print_decl(rt, self.module, self.decl)
+    }
 }
 
-fn print_unresolved<R: Print>(rt: &R, unresolved: &NamedUnresolved<'_>) -> Result<()> {
+fn print_unresolved<R: Print>(rt: &R, unresolved: &NamedUnresolved<'_>) -> io::Result<()> {
     let (word, text) = match &unresolved.kind {
         DefinitionUnresolvedKind::Id(id) => ("name", &id.name),
         DefinitionUnresolvedKind::Specifier(text) => ("text", text),
@@ -80,94 +91,69 @@ fn print_unresolved<R: Print>(rt: &R, unresolved: &NamedUnresolved<'_>) -> Resul
     println!(rt;
         "      no {word} {text} of {}, then {:?}",
         unresolved.module, unresolved.parts
-    )?;
-    Ok(())
+    )
 }
 
-fn print_end<R: Print>(rt: &R, end: &NamedEnd<'_>) -> Result<()> {
-    match end {
-        NamedEnd::Definition(definition) => print_definition(rt, definition),
-        NamedEnd::Unresolved(unresolved) => print_unresolved(rt, unresolved),
+impl Lines for NamedEnd<'_> {
+    fn print_lines<R: Print>(&self, rt: &R) -> io::Result<()> {
+        match self {
+            NamedEnd::Definition(definition) => definition.print_lines(rt),
+            NamedEnd::Unresolved(unresolved) => print_unresolved(rt, unresolved),
+        }
     }
 }
 
-fn print_link<R: Print>(rt: &R, link: &NamedLink<'_>) -> Result<()> {
+fn print_link<R: Print>(rt: &R, link: &NamedLink<'_>) -> io::Result<()> {
     let symbol = link.symbol;
     println!(rt; "      link to symbol {symbol:?}, then {:?}", link.parts)?;
     print_decl(rt, link.module, link.decl)
 }
 
 /// The first step of a path.
-fn print_step<R: Print>(rt: &R, path: &NamedPath<'_>) -> Result<()> {
+fn print_step<R: Print>(rt: &R, path: &NamedPath<'_>) -> io::Result<()> {
     match path {
         NamedPath::Link(link) => print_link(rt, link),
-        NamedPath::Definition(definition) => print_definition(rt, definition),
+        NamedPath::Definition(definition) => definition.print_lines(rt),
         NamedPath::Unresolved(unresolved) => print_unresolved(rt, unresolved),
     }
 }
 
-/// The first two steps of a path: those that are asked for have no more.
-fn print_path<R: Print>(rt: &R, path: &NamedPath<'_>) -> Result<()> {
-    print_step(rt, path)?;
-    if let NamedPath::Link(link) = path {
-        for next in &link.next {
-            print_step(rt, next)?;
+impl Lines for NamedPath<'_> {
+    /// The first two steps of a path: those that are asked for have no more.
+    fn print_lines<R: Print>(&self, rt: &R) -> io::Result<()> {
+        print_step(rt, self)?;
+        if let NamedPath::Link(link) = self {
+            for next in &link.next {
+                print_step(rt, next)?;
+            }
+        }
+        Ok(())
+    }
+}
+
+impl Lines for NamedEntry<'_> {
+    fn print_lines<R: Print>(&self, rt: &R) -> io::Result<()> {
+        match self {
+            NamedEntry::Path(path) => path.print_lines(rt),
+            NamedEntry::ImportType(specifier) => println!(rt; "      all of {specifier}"),
         }
     }
-    Ok(())
 }
 
-fn print_paths<R: Print>(rt: &R, paths: &[NamedPath<'_>]) -> Result<()> {
-    println!(rt; "    paths")?;
-    for path in paths {
-        print_path(rt, path)?;
-    }
-    Ok(())
-}
-
-fn print_definitions<R: Print>(rt: &R, definitions: &[NamedDefinition<'_>]) -> Result<()> {
-    println!(rt; "    definitions")?;
-    for definition in definitions {
-        print_definition(rt, definition)?;
-    }
-    Ok(())
-}
-
-fn print_ends<R: Print>(rt: &R, ends: &[NamedEnd<'_>]) -> Result<()> {
-    println!(rt; "    leaves")?;
-    for end in ends {
-        print_end(rt, end)?;
-    }
-    Ok(())
-}
-
-fn print_entry<R: Print>(rt: &R, entry: &NamedEntry<'_>) -> Result<()> {
-    match entry {
-        NamedEntry::Path(path) => print_path(rt, path),
-        NamedEntry::ImportType(specifier) => Ok(println!(rt; "      all of {specifier}")?),
-    }
-}
-
-fn print_entries<R: Print>(rt: &R, entries: &[NamedEntry<'_>]) -> Result<()> {
-    println!(rt; "    entries")?;
-    for entry in entries {
-        print_entry(rt, entry)?;
-    }
-    Ok(())
-}
-
-pub(crate) fn print_answer<R: Print>(rt: &R, answer: &Answer<'_>) -> Result<()> {
-    match answer {
-        Answer::NoModule => Ok(println!(rt; "    no module")?),
-        Answer::Module(specifier) => Ok(println!(rt; "    module {specifier}")?),
-        Answer::Exports(named) => print_exports(rt, named),
-        Answer::Names(names) => print_names(rt, names),
-        Answer::Symbol(symbol) => Ok(println!(rt; "    symbol {symbol:?}")?),
-        Answer::Name(name) => Ok(println!(rt; "    name {name:?}")?),
-        Answer::Deps(deps) => print_deps(rt, deps),
-        Answer::Paths(paths) => print_paths(rt, paths),
-        Answer::Definitions(definitions) => print_definitions(rt, definitions),
-        Answer::Leaves(ends) => print_ends(rt, ends),
-        Answer::Resolve(entries) => print_entries(rt, entries),
+impl Lines for Answer<'_> {
+    fn print_lines<R: Print>(&self, rt: &R) -> io::Result<()> {
+        match self {
+            Answer::NoModule => println!(rt; "    no module"),
+            Answer::Module(specifier) => println!(rt; "    module {specifier}"),
+            Answer::Exports(named) => print_exports(rt, named),
+            Answer::Names(names) => print_each(rt, "    names", names),
+            Answer::Symbol(symbol) => println!(rt; "    symbol {symbol:?}"),
+            Answer::Name(name) => println!(rt; "    name {name:?}"),
+            Answer::Deps(deps) => print_each(rt, "    declarations", deps),
+            Answer::Paths(paths) => print_each(rt, "    paths", paths),
+            Answer::Definitions(definitions) => print_each(rt, "    definitions", definitions),
+            Answer::Leaves(ends) => print_each(rt, "    leaves", ends),
+            Answer::Resolve(entries) => print_each(rt, "    entries", entries),
+        }
     }
 }

@@ -74,40 +74,41 @@ fn reference(alloc: Global) -> Result<SymbolNodeDep<'static>, AllocError> {
     Ok(SymbolNodeDep::ImportType("./a", parts))
 }
 
-/// Queries of each form on what modules have themselves.
-fn push_own(alloc: Global, queries: &mut Vec<Query<'static>>) -> Result<(), AllocError> {
-    let y = SymbolId::from_number(2);
-    let x = Id {
+/// The modules that the queries are on, in the order in which they are asked. There is none of the first name.
+const ASKED: [&str; 11] = ["absent", "a", "a", "b", "a", "b", "q", "q", "q", "q", "q"];
+
+/// The name `x` of scope 1.
+fn name_x(alloc: Global) -> Result<Id, AllocError> {
+    Ok(Id {
         name: text(alloc, "x")?,
         scope: 1,
-    };
-    queries.push(Query::Module(text(alloc, "absent")?))?;
-    queries.push(Query::Module(text(alloc, "a")?))?;
-    queries.push(Query::Symbol(text(alloc, "a")?, x))?;
-    queries.push(Query::Name(text(alloc, "b")?, y))?;
-    Ok(())
+    })
 }
 
-/// Queries of each form on what comes from other modules.
-fn push_others(alloc: Global, queries: &mut Vec<Query<'static>>) -> Result<(), AllocError> {
-    let y = SymbolId::from_number(1);
-    let w = SymbolId::from_number(2);
-    let v = SymbolId::from_number(3);
-    let mode = ResolveDepsMode::TypesAndExpressions;
-    queries.push(Query::Exports(text(alloc, "a")?))?;
-    queries.push(Query::Names(text(alloc, "b")?))?;
-    queries.push(Query::Deps(text(alloc, "q")?, v, mode))?;
-    queries.push(Query::Paths(text(alloc, "q")?, y))?;
-    queries.push(Query::Definitions(text(alloc, "q")?, y))?;
-    queries.push(Query::Leaves(text(alloc, "q")?, w))?;
-    queries.push(Query::Resolve(text(alloc, "q")?, reference(alloc)?))?;
-    Ok(())
+/// The query of a place among them, on its module. Symbol 1 of `q` is `y`, 2 is `w` and 3 is `v`; symbol 2 of `b` is `y`.
+fn query(alloc: Global, place: usize, module: String) -> Result<Query<'static>, AllocError> {
+    let first = SymbolId::from_number(1);
+    let second = SymbolId::from_number(2);
+    let third = SymbolId::from_number(3);
+    Ok(match place {
+        2 => Query::Symbol(module, name_x(alloc)?),
+        3 => Query::Name(module, second),
+        4 => Query::Exports(module),
+        5 => Query::Names(module),
+        6 => Query::Deps(module, third, ResolveDepsMode::TypesAndExpressions),
+        7 => Query::Paths(module, first),
+        8 => Query::Definitions(module, first),
+        9 => Query::Leaves(module, second),
+        10 => Query::Resolve(module, reference(alloc)?),
+        _ => Query::Module(module),
+    })
 }
 
 /// A query of each form, and one on a module that isn't there.
 pub(crate) fn queries(alloc: Global) -> Result<Vec<Query<'static>>, AllocError> {
-    let mut queries: Vec<Query<'static>> = Vec::new(alloc);
-    push_own(alloc, &mut queries)?;
-    push_others(alloc, &mut queries)?;
+    let mut queries = Vec::new(alloc);
+    for (place, module) in ASKED.iter().enumerate() {
+        queries.push(query(alloc, place, text(alloc, *module)?)?)?;
+    }
     Ok(queries)
 }

@@ -7,7 +7,7 @@ mod graph;
 mod tables;
 mod views;
 
-use crate::answers::print_answer;
+use crate::answers::Lines;
 use crate::graph::{GRAPH, queries};
 use crate::tables::print_stored;
 use crate::views::print_views;
@@ -16,7 +16,14 @@ use deno_symbols::check::{GraphFault, ModuleGraph, RawGraph};
 use deno_symbols::info::SymbolsFault;
 use deno_symbols::queries::{Answer, AnswerQueries, Query};
 use deno_symbols::root::RootSymbol;
+use std::io;
 use symq_reader::{FormatFault, read_graph};
+
+/// A value, once a line is printed. It is let go if that fails.
+fn told<R: Print, T: Drop>(rt: &R, line: &str, value: T) -> io::Result<T> {
+    println!(rt; "{line}")?;
+    Ok(value)
+}
 
 fn read<R: AllocGlobal + Print>(rt: &R) -> Result<RawGraph> {
     println!(rt; "read_graph")?;
@@ -25,32 +32,25 @@ fn read<R: AllocGlobal + Print>(rt: &R) -> Result<RawGraph> {
             println!(rt; "  out of memory")?;
             Ok(read_graph(rt.alloc(), GRAPH.as_bytes())?)
         }
-        raw => {
-            println!(rt; "  a graph")?;
-            Ok(raw?)
-        }
+        raw => Ok(told(rt, "  a graph", raw)??),
     }
 }
 
 fn checked<R: AllocGlobal + Print>(rt: &R) -> Result<ModuleGraph> {
-    let raw = read(rt)?;
-    println!(rt; "ModuleGraph::new")?;
+    let raw = told(rt, "ModuleGraph::new", read(rt)?)?;
     match ModuleGraph::new(rt.alloc(), raw) {
         Err(GraphFault::OutOfMemory) => {
             println!(rt; "  out of memory")?;
             let raw = read_graph(rt.alloc(), GRAPH.as_bytes())?;
             Ok(ModuleGraph::new(rt.alloc(), raw)?)
         }
-        graph => {
-            println!(rt; "  accepted")?;
-            Ok(graph?)
-        }
+        graph => Ok(told(rt, "  accepted", graph)??),
     }
 }
 
-fn print_answers<R: Print>(rt: &R, answers: &[Answer<'_>]) -> Result<()> {
+fn print_answers<R: Print>(rt: &R, answers: &[Answer<'_>]) -> io::Result<()> {
     for answer in answers {
-        print_answer(rt, answer)?;
+        answer.print_lines(rt)?;
     }
     Ok(())
 }
@@ -60,24 +60,34 @@ fn ask<R: Print>(rt: &R, root: &mut RootSymbol<'_>, queries: &[Query<'_>]) -> Re
     match root.run(queries) {
         Err(SymbolsFault::OutOfMemory) => println!(rt; "  out of memory")?,
         answers => {
-            println!(rt; "  answers")?;
-            print_answers(rt, &answers?)?;
+            let answers = told(rt, "  answers", answers)??;
+            print_answers(rt, &answers)?;
         }
     }
-    print_stored(rt, root)
+    Ok(print_stored(rt, root)?)
 }
 
-fn print_calls<R: AllocGlobal + Print>(rt: &R) -> Result<()> {
-    let graph = checked(rt)?;
-    let queries = queries(rt.alloc())?;
-    let mut root = RootSymbol::new(rt.alloc(), &graph);
+/// The answers to the queries, twice, and then what is lent.
+fn print_asked<'a, R: Print>(
+    rt: &R,
+    graph: &'a ModuleGraph,
+    root: &mut RootSymbol<'a>,
+    queries: &[Query<'_>],
+) -> Result<()> {
     println!(rt; "run")?;
-    ask(rt, &mut root, &queries)?;
+    ask(rt, root, queries)?;
     println!(rt; "run once more")?;
-    ask(rt, &mut root, &queries)?;
-    print_views(rt, &graph, &mut root)
+    ask(rt, root, queries)?;
+    print_views(rt, graph, root)
+}
+
+fn print_calls<R: AllocGlobal + Print>(rt: &R, graph: &ModuleGraph) -> Result<()> {
+    let queries = queries(rt.alloc())?;
+    let mut root = RootSymbol::new(rt.alloc(), graph);
+    print_asked(rt, graph, &mut root, &queries)
 }
 
 fn main(rt: HostRuntime) -> Result<()> {
-    print_calls(&rt)
+    let graph = checked(&rt)?;
+    print_calls(&rt, &graph)
 }

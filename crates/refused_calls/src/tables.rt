@@ -1,12 +1,12 @@
 //! The tables of the modules that are stored. They are lent, so no memory is taken.
 
-use anyhow::Result;
 use deno_symbols::decl::{Symbol, SymbolDecl};
 use deno_symbols::ids::ModuleId;
 use deno_symbols::info::ModuleInfoRef;
 use deno_symbols::root::RootSymbol;
+use std::io;
 
-fn print_decl<R: Print>(rt: &R, decl: &SymbolDecl<'_>) -> Result<()> {
+fn print_decl<R: Print>(rt: &R, decl: &SymbolDecl<'_>) -> io::Result<()> {
     let start = decl.range.start;
     let end = decl.range.end;
     let word = if decl.kind.is_definition() {
@@ -14,10 +14,10 @@ fn print_decl<R: Print>(rt: &R, decl: &SymbolDecl<'_>) -> Result<()> {
     } else {
         "taken"
     };
-    Ok(println!(rt; "      {word} at {start}..{end}")?)
+    println!(rt; "      {word} at {start}..{end}")
 }
 
-fn print_symbol<R: Print>(rt: &R, symbol: &Symbol<'_>) -> Result<()> {
+fn print_symbol<R: Print>(rt: &R, symbol: &Symbol<'_>) -> io::Result<()> {
     let number = symbol.symbol_id();
     let parent = symbol.parent_id();
     println!(rt; "    symbol {number:?} in {parent:?}")?;
@@ -36,7 +36,7 @@ fn print_symbol<R: Print>(rt: &R, symbol: &Symbol<'_>) -> Result<()> {
     Ok(())
 }
 
-fn print_module<R: Print>(rt: &R, info: ModuleInfoRef<'_, '_>) -> Result<()> {
+fn print_module<R: Print>(rt: &R, info: ModuleInfoRef<'_, '_>) -> io::Result<()> {
     println!(rt; "  module {} of {}", info.module_id(), info.specifier())?;
     for symbol in info.symbols() {
         print_symbol(rt, symbol)?;
@@ -45,7 +45,7 @@ fn print_module<R: Print>(rt: &R, info: ModuleInfoRef<'_, '_>) -> Result<()> {
 }
 
 /// The modules in the order of their numbers.
-pub(crate) fn print_stored<R: Print>(rt: &R, root: &RootSymbol<'_>) -> Result<()> {
+pub(crate) fn print_stored<R: Print>(rt: &R, root: &RootSymbol<'_>) -> io::Result<()> {
     for number in 0..=u32::MAX {
         match root.module_from_id(ModuleId::from_number(number)) {
             Some(info) => print_module(rt, info)?,

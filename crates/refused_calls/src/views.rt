@@ -8,8 +8,9 @@ use deno_symbols::exports::{ModuleExports, ResolvedExportOrReExportAllPath, expo
 use deno_symbols::ids::{ModuleId, SymbolId};
 use deno_symbols::paths::{Definition, DefinitionsIter, FindDefinitions};
 use deno_symbols::root::RootSymbol;
+use std::io;
 
-fn print_graph_module<R: Print>(rt: &R, module: &GraphModule) -> Result<()> {
+fn print_graph_module<R: Print>(rt: &R, module: &GraphModule) -> io::Result<()> {
     let types = module.types_dependency();
     let is_json = module.is_json();
     let has_tree = module.tree().is_some();
@@ -17,11 +18,10 @@ fn print_graph_module<R: Print>(rt: &R, module: &GraphModule) -> Result<()> {
         "  {:?} of {}: {types:?}, JSON {is_json}, tree {has_tree}",
         module.text(),
         module.specifier()
-    )?;
-    Ok(())
+    )
 }
 
-fn print_graph<R: Print>(rt: &R, graph: &ModuleGraph) -> Result<()> {
+fn print_graph<R: Print>(rt: &R, graph: &ModuleGraph) -> io::Result<()> {
     for specifier in SPECIFIERS {
         if let Some(module) = graph.get(specifier) {
             print_graph_module(rt, module)?;
@@ -34,7 +34,7 @@ fn print_graph<R: Print>(rt: &R, graph: &ModuleGraph) -> Result<()> {
     Ok(())
 }
 
-fn print_root<R: Print>(rt: &R, root: &RootSymbol<'_>) -> Result<()> {
+fn print_root<R: Print>(rt: &R, root: &RootSymbol<'_>) -> io::Result<()> {
     for specifier in SPECIFIERS {
         println!(rt; "  {specifier} is stored: {}", root.has_analyzed(specifier))?;
     }
@@ -46,7 +46,7 @@ fn print_way<R: Print>(
     rt: &R,
     root: &RootSymbol<'_>,
     way: &ResolvedExportOrReExportAllPath<'_>,
-) -> Result<()> {
+) -> io::Result<()> {
     for rest in way.iter() {
         if let ResolvedExportOrReExportAllPath::ReExportAllPath(link) = rest {
             println!(rt; "    by {} to {}", link.specifier, link.resolved_module())?;
@@ -55,11 +55,14 @@ fn print_way<R: Print>(
     let export = way.as_resolved_export();
     let is_there = export.symbol(root).is_some();
     let symbol = export.symbol_id;
-    println!(rt; "    to symbol {symbol:?} of {}: {is_there}", export.module)?;
-    Ok(())
+    println!(rt; "    to symbol {symbol:?} of {}: {is_there}", export.module)
 }
 
-fn print_ways<R: Print>(rt: &R, root: &RootSymbol<'_>, found: &ModuleExports<'_>) -> Result<()> {
+fn print_ways<R: Print>(
+    rt: &R,
+    root: &RootSymbol<'_>,
+    found: &ModuleExports<'_>,
+) -> io::Result<()> {
     for (name, way) in &found.resolved {
         println!(rt; "  {name}")?;
         print_way(rt, root, way)?;
@@ -71,7 +74,7 @@ fn print_definition<R: Print>(
     rt: &R,
     root: &RootSymbol<'_>,
     definition: &Definition<'_>,
-) -> Result<()> {
+) -> io::Result<()> {
     let text = match root.module_from_id(definition.module) {
         Some(info) => definition.text(info.text()),
         None => None,
@@ -79,19 +82,43 @@ fn print_definition<R: Print>(
     println!(rt;
         "  {text:?} defines symbol {:?} of {}",
         definition.symbol, definition.module
-    )?;
-    Ok(())
+    )
 }
 
 fn print_definitions<R: Print>(
     rt: &R,
     root: &RootSymbol<'_>,
     definitions: DefinitionsIter<'_>,
-) -> Result<()> {
+) -> io::Result<()> {
     for definition in definitions {
         print_definition(rt, root, &definition)?;
     }
     Ok(())
+}
+
+/// What is lent of a graph, of a root and of the names that a module of it exports.
+fn print_lent<'a, R: Print>(
+    rt: &R,
+    graph: &ModuleGraph,
+    root: &RootSymbol<'a>,
+    found: &ModuleExports<'a>,
+) -> io::Result<()> {
+    println!(rt; "views")?;
+    print_graph(rt, graph)?;
+    print_root(rt, root)?;
+    print_ways(rt, root, found)
+}
+
+fn print_found<'a, R: Print>(
+    rt: &R,
+    graph: &'a ModuleGraph,
+    root: &mut RootSymbol<'a>,
+    found: &ModuleExports<'a>,
+) -> Result<()> {
+    let q = ModuleId::from_number(3);
+    let definitions = root.go_to_definitions(q, SymbolId::from_number(1))?;
+    print_lent(rt, graph, root, found)?;
+    Ok(print_definitions(rt, root, definitions)?)
 }
 
 /// What the calls give that take no memory, behind what has to be asked for before.
@@ -101,12 +128,6 @@ pub(crate) fn print_views<'a, R: Print>(
     root: &mut RootSymbol<'a>,
 ) -> Result<()> {
     let a = ModuleId::from_number(0);
-    let q = ModuleId::from_number(3);
     let found = exports(root, a)?;
-    let definitions = root.go_to_definitions(q, SymbolId::from_number(1))?;
-    println!(rt; "views")?;
-    print_graph(rt, graph)?;
-    print_root(rt, root)?;
-    print_ways(rt, root, &found)?;
-    print_definitions(rt, root, definitions)
+    print_found(rt, graph, root, &found)
 }
