@@ -1,5 +1,5 @@
 // Parses files: in this thread, and in others beside it where they are worth it and processors are free.
-import { readFileSync } from 'node:fs';
+import { readFileSync, readdirSync } from 'node:fs';
 import os from 'node:os';
 import { setImmediate } from 'node:timers/promises';
 
@@ -22,11 +22,22 @@ const MOST_THREADS = 3;
 /** For so many milliseconds at least this thread parses, before it hears of what others made and of signals. */
 const UNHEARD = 10;
 
-/** @returns {number} how many threads of the whole system run at the moment, this one apart; infinite where it doesn't tell that */
-function runningNow() {
+/** @param {string} thread one of this process @returns {boolean} whether it runs at the moment */
+function isRunning(thread) {
   try {
-    // as `0.20 0.18 0.12 1/80 11206`, this one among those before the slash
-    return Math.max(0, Number(readFileSync('/proc/loadavg', 'utf8').split(/[ /]/)[3]) - 1);
+    // as `11206 (node) R 1 11206 ..`, where the name may have anything in it
+    return readFileSync(`/proc/self/task/${thread}/stat`, 'utf8').split(') ').at(-1)?.startsWith('R') ?? false;
+  } catch {
+    return false;
+  }
+}
+
+/** @returns {number} how many threads of other processes run at the moment; infinite where the system doesn't tell that */
+function othersRunning() {
+  try {
+    // as `0.20 0.18 0.12 1/80 11206`: those of all processes before the slash
+    const running = Number(readFileSync('/proc/loadavg', 'utf8').split(/[ /]/)[3]);
+    return Math.max(0, running - readdirSync('/proc/self/task').filter(isRunning).length);
   } catch {
     return Infinity;
   }
@@ -34,7 +45,7 @@ function runningNow() {
 
 /** @returns {number} how many processors nothing else uses, and at least one: what ran in the last minute counts where it still runs */
 function freeProcessors() {
-  return Math.max(1, os.availableParallelism() - Math.min(Math.round(os.loadavg()[0]), runningNow()));
+  return Math.max(1, os.availableParallelism() - Math.min(Math.round(os.loadavg()[0]), othersRunning()));
 }
 
 /** @param {number} files @param {number} bytes that they have @returns {number} how many threads are worth it */
