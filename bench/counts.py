@@ -32,8 +32,8 @@ and what is counted of a run:
                    taken of the other program's analyse
 
 'growth' is the figure of 2n by that of n, and that of 4n by that of 2n. 'of other' is by the figure of the other program, for
-n and for 2n: its read is its whole run without queries, which like ours starts, reads the file, makes the graph and lets all
-go; its other stages are taken like ours; it has no checker. A dash stands where the count to divide by is below 100.
+n and for 2n: its read is its whole run without queries, which starts, reads the file, makes the graph and lets all go, where
+ours leaves the graph to the system; its other stages are taken like ours; it has no checker. A dash stands where the count to divide by is below 100.
 """
 import argparse
 import json

@@ -5,8 +5,8 @@
     python3 bench/reading.py PROGRAM --beside OTHER --graph GRAPH .. on graphs of files too
     python3 bench/reading.py PROGRAM --before OLD                    refused graphs beside an earlier program
 
-A run without queries starts, reads the file, makes the graph, checks it and lets all go; the other program doesn't
-check. It prints a table with a row for each graph: the text in megabytes, then of a run
+A run without queries starts, reads the file, makes the graph and checks it, and leaves the graph to the system; the other
+program doesn't check, and lets the graph go. It prints a table with a row for each graph: the text in megabytes, then of a run
 
     ms             processor time, the least of some runs; those of all programs and of n and 2n are taken in turn, so
                    that a slow minute of the machine falls on each. It illustrates: it varies with what else the machine does
