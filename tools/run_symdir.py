@@ -15,6 +15,7 @@ import signal
 import subprocess
 import sys
 import tempfile
+from contextlib import contextmanager
 
 from set_up import ensure, may_install, quiet
 
@@ -43,17 +44,29 @@ def node_types(folder):
 def set_up():
     """Returns whether the types can be checked: TypeScript and Graphviz are there then in any case."""
     ensure(['node', 'tsc', 'dot'])
-    modules = os.path.join(PACKAGE, 'node_modules')
-    os.makedirs(os.path.join(modules, '@types'), exist_ok=True)
-    typescript = os.path.join(modules, 'typescript')
-    if not os.path.exists(typescript):
-        os.symlink(os.path.dirname(os.path.dirname(os.path.realpath(shutil.which('tsc')))), typescript)
-    types = os.path.join(modules, '@types', 'node')
+    types = os.path.join(PACKAGE, 'node_modules', '@types', 'node')
+    os.makedirs(os.path.dirname(types), exist_ok=True)
     return os.path.isdir(types) or node_types(types)
 
 
-def check_types():
-    done = quiet(['node', os.path.join(PACKAGE, 'node_modules/typescript/lib/tsc.js'), '-p', PACKAGE])
+@contextmanager
+def with_typescript():
+    """TypeScript among the package's modules, as long as it is checked and tested: `rt ci` refuses a repository with a link in it."""
+    place = os.path.join(PACKAGE, 'node_modules', 'typescript')
+    if os.path.islink(place):
+        os.unlink(place)
+    if os.path.exists(place):
+        yield place
+        return
+    os.symlink(os.path.dirname(os.path.dirname(os.path.realpath(shutil.which('tsc')))), place)
+    try:
+        yield place
+    finally:
+        os.unlink(place)
+
+
+def check_types(typescript):
+    done = quiet(['node', os.path.join(typescript, 'lib', 'tsc.js'), '-p', PACKAGE])
     if done.returncode != 0:
         print(done.stdout[-6000:])
     return done.returncode == 0
@@ -92,13 +105,13 @@ def main():
     folder = os.path.join(PACKAGE, 'packages' if packages else 'tests')
     files = sorted(os.path.join(folder, it) for it in os.listdir(folder) if it.endswith('.test.js'))
     passed, failed = 0, 0
-    if not packages:
-        if can_check and check_types():
-            passed += 1
-        else:
-            print('the types of symdir are not right' if can_check else 'the types of Node are not there: install @types/node in symdir')
-            failed += 1
-    with tempfile.TemporaryDirectory() as cache:
+    with with_typescript() as typescript, tempfile.TemporaryDirectory() as cache:
+        if not packages:
+            if can_check and check_types(typescript):
+                passed += 1
+            else:
+                print('the types of symdir are not right' if can_check else 'the types of Node are not there: install @types/node in symdir')
+                failed += 1
         ran = run_tests(files, {**os.environ, 'SYMQ': symq, 'XDG_CACHE_HOME': cache, 'NO_COLOR': '1'})
     print(f'{passed + ran[0]} passed, {failed + ran[1]} failed')
     return 1 if failed + ran[1] else 0
