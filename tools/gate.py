@@ -1,6 +1,6 @@
 #!/usr/bin/env python3
 """The whole gate: every proof from nothing, the wrong bodies, the borrows that the library allows, the tables of kinds and
-of public names, and the stored cases on the proved programs.
+of public names, the counts of wrong bodies, and the stored cases on the proved programs.
 
     python3 tools/gate.py
 
@@ -8,8 +8,8 @@ of public names, and the stored cases on the proved programs.
 libraries below the crate are proved, over copies of what it built of them: those that are due, as `wrong_bodies.py` says,
 by the number of commits. Beside them the model of `evidence/` is held to what it was read from, and the static library is built and
 called from other languages. What needs the proved programs comes last: random graphs, the command over folders, calls that are refused
-in turn, long ways, the cases. Behind all a line for each part says what it took, on the clock and of the processors; the last line is
-'N passed, M failed'.
+in turn, long ways, the cases. Behind all stand the lines of what failed, once more, and a line for each part of what it took, on the clock and
+of the processors; the last line is 'N passed, M failed'.
 """
 import os
 import re
@@ -63,7 +63,7 @@ class Part:
 
     def __init__(self, name, may_be_empty=False):
         self.name, self.may_be_empty, self.passed, self.failed = name, may_be_empty, 0, 1
-        self.clock, self.processors = 0.0, 0.0
+        self.clock, self.processors, self.told = 0.0, 0.0, []
 
     def run(self, command, read=None):
         """Runs the command, whose lines are passed on as they come where someone reads them, and else at its end."""
@@ -83,6 +83,7 @@ class Part:
                 print(''.join(lines), end='', flush=True)
         self.clock, self.processors = (time.time() - began) / 60, (used.ru_utime + used.ru_stime) / 60
         self.count(lines[-1] if lines else '', started.returncode)
+        self.told = [it for it in lines if 'FAILED' in it] or lines[-20:]
         return self
 
     def count(self, last, status):
@@ -115,8 +116,13 @@ def wrong_bodies_part(name, libraries, proofs, lanes, turn):
     part = Part('wrong bodies: ' + name, may_be_empty=True)
     if not proofs.has(libraries_below(name, libraries)):
         return part
-    words = ['--libraries', proofs.folder, '--lanes', lanes, '--turn', turn, name]
+    words = ['--checks', '--libraries', proofs.folder, '--lanes', lanes, '--turn', turn, name]
     return part.run(['nice', '-n', '5', *tool('wrong_bodies.py', *words)])
+
+
+def shown_part(lanes):
+    """Runs what wrong bodies name that break a proof by hand."""
+    return Part('wrong bodies: shown by runs').run(['nice', '-n', '5', *tool('wrong_bodies.py', '--runs', '--lanes', lanes)])
 
 
 def borrows_part(proofs):
@@ -161,14 +167,15 @@ def all_parts():
     os.environ.setdefault('RT_JOBS', str(max(2, processors // 2)))
     edits = {name: len(Crate(TOP, name, libraries).names()) for name in libraries}
     names = sorted((name for name in libraries if edits[name]), key=lambda it: -edits[it])
-    with tempfile.TemporaryDirectory(prefix='gate-') as folder, ThreadPoolExecutor(len(names) + 7) as pool:
+    with tempfile.TemporaryDirectory(prefix='gate-') as folder, ThreadPoolExecutor(len(names) + 8) as pool:
         proofs, lanes = Proofs(laid(folder, 'built')), laid(folder, 'lanes', max(2, processors - 1))
         tasks = [pool.submit(proofs_part, proofs), pool.submit(borrows_part, proofs), pool.submit(bindings_part, proofs)]
         tasks += [pool.submit(tests_part, name) for name in ('wrong_bodies.py', 'public_names.py', 'kinds.py')]
-        tasks.append(pool.submit(model_part, 'model'))
+        tasks += [pool.submit(model_part, 'model'), pool.submit(shown_part, lanes)]
         tasks += [pool.submit(wrong_bodies_part, name, libraries, proofs, lanes, turn) for name in names]
         parts = [it.result() for it in tasks]
     parts += [Part('table of kinds').run(tool('kinds.py')), Part('public names').run(tool('public_names.py'))]
+    parts.append(Part('counts of wrong bodies').run(tool('edit_counts.py')))
     parts.append(Part('plain graphs').run(tool('run_plain.py')))
     parts += [model_part('program'), Part('symdir').run(tool('run_symdir.py'))]
     parts += [Part('refused calls').run(tool('run_refusing.py')), Part('long ways').run(tool('run_deep.py'))]
@@ -177,6 +184,9 @@ def all_parts():
 
 def main():
     began, parts = time.time(), all_parts()
+    for part in parts:
+        if part.failed:
+            print('%s: what failed, again:\n%s' % (part.name, ''.join(part.told)), end='')
     for part in parts:
         word = ', FAILED' if part.failed else ''
         print('%s: %.1f minutes, %.1f of the processors%s' % (part.name, part.clock, part.processors, word))

@@ -144,11 +144,11 @@ def run_programs(paths, cases):
         return list(pool.map(lambda case: run_program(paths[case.program], case), cases))
 
 
-def write_trial(folder, key, case):
-    """The files from which `rt try --cases` runs a case: its standard input and its words, and the graph apart."""
-    graph = os.path.join(folder, key + '.json')
+def write_trial(folder, key, case, word=''):
+    """The files from which `rt try --cases` runs a case: its standard input and its words, and the graph apart, with a word before its name."""
+    graph = os.path.join(folder, word + key + '.json')
     if case.graph is not None:
-        write(folder, key + '.json', case.graph)
+        write(folder, word + key + '.json', case.graph)
     words = [graph] if case.words is None else [graph if it == 'graph.json' and case.graph is not None else it for it in case.words]
     trials = os.path.join(folder, 'trials')
     write(trials, key, case.given)
@@ -167,24 +167,32 @@ def trial_outcomes(output, report):
             for error, key, run, status in ends if run in (b'ended', b'fault')}
 
 
+def tried_outcomes(program, cases, top=ROOT, words=None, environment=None):
+    """The outcomes of the cases' runs by an unproved build of a program of the repository at `top`, a case without an outcome left out, by the
+    numbers of the cases; and the last words of the build. Words, one for each case, stand before the names of the graphs' files."""
+    with tempfile.TemporaryDirectory() as folder:
+        trials = os.path.join(folder, 'trials')
+        os.mkdir(trials)
+        for number, case in enumerate(cases):
+            write_trial(folder, '%05d' % number, case, words[number] if words else '')
+        try:
+            # (the kit's interpreter can't run a program that reads its words: one step of it is enough)
+            run = subprocess.run(['rt', 'try', '--steps', '1', '--cases', trials], cwd=os.path.join(top, 'crates', program),
+                                 stdout=subprocess.PIPE, stderr=subprocess.PIPE, env=environment)
+        except OSError as error:
+            return {}, str(error)
+    # (what a build of code in C says stands before what the first run wrote)
+    found = trial_outcomes(run.stdout, re.sub(rb'\A(?:rt: compiling .*\n)+', b'', run.stderr))
+    return {int(key): it for key, it in found.items()}, run.stderr.decode('utf-8', 'replace')[-400:]
+
+
 def try_program(program, cases):
     """What is wrong with the runs of an unproved build of a program, case by case."""
     if not cases:
         return []
-    with tempfile.TemporaryDirectory() as folder:
-        trials = os.path.join(folder, 'trials')
-        os.mkdir(trials)
-        keys = [b'%05d' % number for number in range(len(cases))]
-        for key, case in zip(keys, cases):
-            write_trial(folder, key.decode(), case)
-        try:
-            run = subprocess.run(['rt', 'try', '--cases', trials], cwd=os.path.join(ROOT, 'crates', program),
-                                 stdout=subprocess.PIPE, stderr=subprocess.PIPE)
-        except OSError as error:
-            return [str(error)] * len(cases)
-    found = trial_outcomes(run.stdout, run.stderr)
-    last_words = 'no run; the last words of rt try: ' + run.stderr.decode('utf-8', 'replace')[-400:]
-    return [difference(case, found[key]) if key in found else last_words for key, case in zip(keys, cases)]
+    found, said = tried_outcomes(program, cases)
+    last_words = 'no run; the last words of rt try: ' + said
+    return [difference(case, found[number]) if number in found else last_words for number, case in enumerate(cases)]
 
 
 def try_programs(cases):

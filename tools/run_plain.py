@@ -8,8 +8,14 @@ That a graph is read node by node, no contract can say: a reader that makes a va
 the same graphs. It takes over ten times the text for that, and reading node by node at most seven. So the modules of the
 stored cases are repeated to a text of some megabytes, in each of the ways in which a graph of the plain form may be
 written, and the program may take eight times the text: it has to accept each. Texts of another form are accepted without a
-bound; within it memory has to be refused, which shows that the bound tells the two apart. The last line is
-'N passed, M failed'.
+bound; within it memory has to be refused, which shows that the bound tells the two apart.
+
+Nor can a contract say that no value is made of a node. One node whose list of children is as long as the text takes over
+eight times the text by its value, and under five by its tokens: the program may take six and a half times the text.
+
+Nor that a list of modules is read in pieces. One reader for the whole text takes as much more as the text is long: where the modules
+come first, as symdir writes them, the program may take six times the text, within which memory is refused where they come last.
+The last line is 'N passed, M failed'.
 """
 import json
 import os
@@ -20,7 +26,7 @@ import tempfile
 
 from run_cases import ROOT, TESTS
 
-SIZE, TIMES = 6_000_000, 8
+SIZE, TIMES, TIMES_OF_ONE_NODE, TIMES_IN_PIECES = 6_000_000, 8, 6.5, 6
 
 
 def stored_modules():
@@ -69,11 +75,13 @@ def plain_texts(graph):
     """A graph in the ways of the plain form, by what each is."""
     text = compact(graph, ensure_ascii=False)
     nothing = [('extra', {'deep': [[{}], None, True, 'x', 18446744073709551615]})]
+    values = ('x', 18446744073709551615, True, None, [], [1], [1, 2], [1, 2, 3], ['x', 1], {})
     yield 'as stored', text
     yield 'with escapes', compact(graph).replace('"kind"', '"\\u006bind"').replace('"nodes"', '"nod\\u0065s"')
     yield 'with white space', json.dumps(graph, indent=1)
     yield 'keys in another order', compact(rebuilt(graph, lambda members: members[::-1]))
     yield 'keys that count for nothing', compact(rebuilt(graph, lambda members: nothing + members))
+    yield 'more keys that count for nothing', compact(rebuilt(graph, lambda members: members + [('x%d' % i, it) for i, it in enumerate(values)]))
     yield 'a key twice', text.replace('"specifier":', '"specifier":"x","specifier":')
     yield 'null where it may be absent', compact(rebuilt(graph, with_nulls))
     yield 'no lists', compact({'modules': graph['modules'], 'redirects': None})
@@ -84,8 +92,24 @@ def odd_texts(graph):
     rest = compact(graph, ensure_ascii=False)[1:]
     yield 'modules twice', '{"modules":[],' + rest
     yield 'a fraction that a later value replaces', '{"extra":0.5,"extra":1,' + rest
+    yield 'a list of texts in a node', '{"resolutions":[],' + rest.replace('{"kind":"Program",', '{"x":["a","b"],"kind":"Program",', 1)
     yield 'a tree of a JSON module that is none', '{"resolutions":[],' + rest.replace(
         '"modules":[', '"modules":[{"specifier":"j","kind":"json","text":"","tree":[]},', 1)
+
+
+def in_pieces(graph):
+    """The graph as symdir writes it, a module a line, which is read in pieces; and with its modules behind the rest, where it isn't."""
+    text = compact(graph, ensure_ascii=False)
+    lines = text.replace('{"modules":[', '{"modules":[\n', 1).replace('},{"specifier":', '},\n{"specifier":')
+    rest = {key: value for key, value in graph.items() if key != 'modules'}
+    yield 'modules in lines', lines, 0
+    yield 'modules behind the rest', compact({**rest, 'modules': graph['modules']}, ensure_ascii=False), 7
+
+
+def one_node():
+    """A graph of one node, whose children are as many as take most room in a list that doubles. None is a node: it is refused."""
+    children = ','.join(['4294967295'] * (2 ** 20 + 1))
+    return '{"modules":[{"specifier":"m","kind":"esm","text":"","tree":{"nodes":[{"kind":"Program","range":[0,0],"body":[%s]}]}}]}' % children
 
 
 def status(program, path, memory=None):
@@ -101,20 +125,21 @@ def status(program, path, memory=None):
 def main(words):
     program = os.path.abspath(words[0] if words else os.path.join(ROOT, 'crates', 'symq', 'out', 'symq'))
     graph = large_graph()
-    sorts = [(text, [(True, 0)]) for text in plain_texts(graph)]
-    sorts += [(text, [(False, 0), (True, 7)]) for text in odd_texts(graph)]
+    sorts = [(text, [(TIMES, 0)]) for text in plain_texts(graph)]
+    sorts += [(text, [(None, 0), (TIMES, 7)]) for text in odd_texts(graph)]
+    sorts += [((name, text), [(TIMES_IN_PIECES, want)]) for name, text, want in in_pieces(graph)]
+    sorts.append((('one node of many children', one_node()), [(TIMES_OF_ONE_NODE, 5)]))
     passed, failed = 0, 0
     for (name, text), wants in sorts:
         with tempfile.TemporaryDirectory() as folder:
             path = os.path.join(folder, 'graph.json')
             with open(path, 'w', encoding='utf-8') as file:
                 file.write(text)
-            memory = TIMES * os.path.getsize(path)
-            for bounded, want in wants:
-                got = status(program, path, memory if bounded else None)
+            for times, want in wants:
+                got = status(program, path, times and int(times * os.path.getsize(path)))
                 passed, failed = passed + (got == want), failed + (got != want)
                 if got != want:
-                    print('%s, memory %s: status %d, not %d' % (name, 'bounded' if bounded else 'free', got, want))
+                    print('%s, memory %s: status %d, not %d' % (name, '%g times the text' % times if times else 'free', got, want))
     print('%d passed, %d failed' % (passed, failed))
     return 1 if failed else 0
 

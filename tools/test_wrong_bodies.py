@@ -8,11 +8,12 @@ A line a test that fails; the last line is 'N passed, M failed'.
 import os
 import sys
 import tempfile
+from dataclasses import replace
 
 from tested import told
 from wrong import record, shown
 from wrong.crates import Crate, kit, libraries_of, write
-from wrong.outcomes import try_crate
+from wrong.outcomes import run_named, try_crate
 from wrong.rooms import Lanes, words_of
 
 HERE = os.path.dirname(os.path.abspath(__file__))
@@ -139,21 +140,30 @@ TESTS = '''//! Tests of the small crate.
 #![tactic(auto)]
 
 #[cfg(test)]
-mod numbers {
-    use small::{doubled, next};
-    use std::test::Fail;
+mod numbers;
+'''
 
-    #[test]
-    fn doubles(rt: HostRuntime) -> Result<(), Fail> {
-        assert_eq!(rt; doubled(2), 4);
-        Ok(())
-    }
+NUMBERS = '''//! Tests of numbers.
 
-    #[test]
-    fn counts(rt: HostRuntime) -> Result<(), Fail> {
-        assert_eq!(rt; next(2), 3);
-        Ok(())
-    }
+use small::{doubled, next};
+use std::test::Fail;
+
+#[test]
+fn doubles(rt: HostRuntime) -> Result<(), Fail> {
+    assert_eq!(rt; doubled(2), 4);
+    Ok(())
+}
+
+#[test]
+fn counts(rt: HostRuntime) -> Result<(), Fail> {
+    assert_eq!(rt; next(2), 3);
+    Ok(())
+}
+
+#[test]
+fn miscounts(rt: HostRuntime) -> Result<(), Fail> {
+    assert_eq!(rt; next(2), 4);
+    Ok(())
 }
 '''
 
@@ -205,7 +215,7 @@ FILES = {
 }
 
 # the outcomes that are recorded
-RECORDED = ('refused', 'shown')
+RECORDED = ('refused', 'named')
 # a name, what is changed into what, how the edit has to end, and what it says shows it wrong
 EDITS = [
     ('one_more', [('    x + 1', '    x + 2')], 'refused', ''),
@@ -231,10 +241,26 @@ EDITS = [
     ('a_fault_that_is_not_allowed', [('return Err(fault)', 'return Err(Fault::Zero)')], 'proof broken', ''),
     # right, but nothing proves it
     ('twice_in_other_words', [('    x + x', '    2 * x')], 'proof broken', ''),
-    ('twice_and_one', [('    x + x', '    x + x + 1')], 'shown', 'small_tests/numbers::doubles'),
-    ('twice_and_two', [('    x + x', '    x + x + 2')], 'shown', ''),
-    ('twice_and_three', [('    x + x', '    x + x + 3')], 'proof broken', 'small_tests/numbers::counts'),
+    ('twice_and_one', [('    x + x', '    x + x + 1')], 'named', 'small_tests/numbers::doubles'),
+    ('twice_and_two', [('    x + x', '    x + x + 2')], 'named', ''),
+    ('twice_and_three', [('    x + x', '    x + x + 3')], 'named', 'small_tests/numbers::counts'),
+    ('twice_and_four', [('    x + x', '    x + x + 4')], 'named', 'small_tests/numbers::miscounts'),
+    ('twice_and_five', [('    x + x', '    x + x + 5')], 'named', 'small_tests/numbers::absent'),
+    ('twice_of_a_name_that_is_not_there', [('    x + x', '    y + x')], 'not reached', 'small_tests/numbers::doubles'),
+    ('twice_by_another_head', [('pub fn doubled(x: u8) -> u8', 'pub fn doubled(mut x: u8) -> u8'), ('    x + x', '    x += x; x + 1')], 'named', 'small_tests/numbers::doubles'),
+    ('next_and_five', [('    x + 1', '    x + 5')], 'refused', 'small_tests/numbers::counts'),
 ]
+# what the runs say of those that name something: nothing where a test shows the edit wrong
+RUNS = {
+    'twice_and_one': '',
+    'twice_and_two': '',
+    'twice_and_three': 'numbers::counts does not fail with it',
+    'twice_and_four': 'numbers::miscounts does not hold without an edit',
+    'twice_and_five': 'numbers::absent does not hold without an edit',
+    'twice_of_a_name_that_is_not_there': 'no build with it runs',
+    'twice_by_another_head': 'it changes more than the lines of a body',
+    'next_and_five': '',
+}
 
 
 def lay(folder, source):
@@ -242,6 +268,7 @@ def lay(folder, source):
     write(os.path.join(folder, 'crates.txt'), 'small:\nsmall_tests: small\n')
     write(os.path.join(folder, 'HANDLES'), 'Handles allowed: none.\n')
     write(os.path.join(folder, 'crates', 'small_tests', 'src', 'lib.rt'), TESTS)
+    write(os.path.join(folder, 'crates', 'small_tests', 'src', 'numbers.rt'), NUMBERS)
     crate = os.path.join(folder, 'crates', 'small')
     for path, text in FILES.items():
         write(os.path.join(crate, path), text)
@@ -275,6 +302,31 @@ def tests_of_outcomes(folder):
     yield 'what passes is recorded, and nothing else', sorted(record.recorded(crate)), sorted(name for name, _, how, _ in EDITS if how in RECORDED)
 
 
+def tests_of_runs(folder):
+    """What edits name is run with them and without, where the tests before stand. One that doesn't compile is told apart from those of its build."""
+    crate = Crate(folder, 'small', libraries_of(folder))
+    named = [it.name for it in crate.edits(crate.names())[0] if it.shown]
+    yield 'each edit that names something has an outcome', named, sorted(RUNS)
+    left, few = 'twice_of_a_name_that_is_not_there', ['twice_and_one', 'twice_of_a_name_that_is_not_there']
+    for names in ([it for it in crate.names() if it != left], few):
+        runs = run_named([(crate, names)], Lanes())
+        found = {edit.name: why for edit, why in zip(runs.edits, runs.whys)}
+        wanted = {name: why for name, why in RUNS.items() if name in names}
+        yield 'each edit that names something is run', sorted(found), sorted(wanted)
+        for name, why in wanted.items():
+            yield 'the run of ' + name, found.get(name, 'no run')[: len(why) or None], why
+        wrong = sum(bool(it) for it in wanted.values())
+        yield 'runs are counted', (runs.passed_count(), runs.failures()), (len(wanted) - wrong, wrong)
+    yield 'an edit that changes nothing is none that a test fails with', shown.all_that_show(crate, unchanged(crate, 'twice_and_one'), Lanes()), []
+
+
+def unchanged(crate, name):
+    """The edit without its change."""
+    edit = crate.edit(name)
+    own = crate.texts[edit.function.file].split('\n')[edit.function.first : edit.function.last + 1]
+    return replace(edit, lines=tuple(own))
+
+
 def tests_of_the_record(folder):
     """What is due, where the record of the test before stands."""
     crate = Crate(folder, 'small', libraries_of(folder))
@@ -293,7 +345,23 @@ def tests_of_the_record(folder):
     yield 'a record that is false is found by its sum', ['one_more' in {it.name for it in record.due(crate, edits, turn)} for turn in range(record.TURNS)], [True] * record.TURNS
     write(path, lines)
     yield 'a contract that changes makes all due', changed_sums(folder, 'ensures { result ≡ x + 2 }', 'ensures { result ≡ 2 + x }', passed), passed
-    yield 'a body that changes makes no edit of another function due', changed_sums(folder, '    x + x\n', '    x + x + 0\n', passed), {'twice_and_one', 'twice_and_two'}
+    of_doubled = {name for name in passed if name.startswith('twice_')}
+    yield 'a body that changes makes no edit of another function due', changed_sums(folder, '    x + x\n', '    x + x + 0\n', passed), of_doubled
+    yield from tests_of_kits(crate, edits, passed)
+
+
+def tests_of_kits(crate, edits, passed):
+    """What is recorded by one kit is due by another, and stays recorded for its own as long as it fits."""
+    path, own = record.path_of(crate), record.recorded(crate)
+    with open(path, encoding='utf-8') as f:
+        lines = f.read()
+    sums = record.sums_of(crate, edits, 'another kit')
+    write(path, 'kit: another kit\none_more %s\nthe_same_number 0\n' % sums['one_more'])
+    yield 'what another kit recorded is due by this one', record.fitting(crate, edits), set()
+    record.record(crate, {'once_alone': ''})
+    yield 'what fits stays for the other kit', sorted(record.recorded(crate, 'another kit')), ['one_more']
+    yield 'and this kit has its own', record.recorded(crate), {'once_alone': own['once_alone']}
+    write(path, lines)
 
 
 def changed_sums(folder, old, new, names):
@@ -320,7 +388,7 @@ def tests_of_what_names_nothing(folder):
     """An edit that breaks a proof by hand fails where it names nothing that shows it wrong, though a test would fail with it."""
     crate = lay(folder, SOURCE)
     outcome = outcome_of(crate, ['twice_and_two', 'twice_and_one'])
-    yield 'an edit that names nothing fails', (outcome.passed(), outcome.failures()), (['twice_and_one'], 1)
+    yield 'an edit that names nothing fails', (outcome.named(), outcome.failures()), (['twice_and_one'], 1)
     told_failed = [line.split(': ')[0] for line in outcome.lines() if ': FAILED: proof broken: it names no case and no test' in line]
     yield 'that it names nothing is told', told_failed, ['small/twice_and_two']
     yield 'where nothing is looked for, none is written into it', crate.edit('twice_and_two').shown, ''
@@ -343,12 +411,13 @@ def tests():
     """Each test's name with what was found and what is wanted."""
     with tempfile.TemporaryDirectory() as folder:
         yield from tests_of_outcomes(folder)
+        yield from tests_of_runs(folder)
         yield from tests_of_the_record(folder)
     with tempfile.TemporaryDirectory() as folder:
         yield from tests_of_contracts(folder)
     with tempfile.TemporaryDirectory() as folder:
         yield from tests_of_what_names_nothing(folder)
-    yield 'a test that ran out of its time is none that fails', shown.failed_in(SAID), ['numbers::counts']
+    yield 'a test that ran out of its time tells nothing', shown.told_of_tests(SAID), {'numbers::adds': False, 'numbers::counts': True}
 
 
 if __name__ == '__main__':

@@ -6,7 +6,8 @@
     python3 tools/wrong_bodies.py CRATE/EDIT ..         some edits
     python3 tools/wrong_bodies.py --turn N ..           those alone that are due at the commit of this number
     python3 tools/wrong_bodies.py --base ..             with a check of each crate without an edit, before the others
-    python3 tools/wrong_bodies.py --record ..           runs what shows edits wrong anew, too, and writes which edits ended well
+    python3 tools/wrong_bodies.py --record ..           writes which edits ended well
+    python3 tools/wrong_bodies.py --checks ..           checks alone, and --runs: runs alone of what edits name
     python3 tools/wrong_bodies.py --libraries FOLDER .. over the built libraries of a folder, NAME.rlib
     python3 tools/wrong_bodies.py --lanes FOLDER ..     as many checks at once, with others', as the folder has files
 
@@ -25,22 +26,23 @@ what their contracts promise, and which bear its name: so each of them may have 
                     at which it is false, or proves that clause by itself where no edit is made
     proof broken    where answers by hand are no fit to the change, or a loop's invariant isn't, and no such goal is open
                     without them. That is no refusal: a right body may break a proof. The edit names what shows it wrong,
-                    by a line 'shown: tests/cases/NAME' or 'shown: CRATE/TEST': that case or test fails in a build with
-                    the edit, which isn't proved
+                    by a line 'shown: tests/cases/NAME' or 'shown: CRATE/TEST'
     let through     where the function is proved with the edit, also without answers by hand that are no fit
     not reached     where the text doesn't apply, or the batch doesn't compile: it is halved until the edit is found
     undecided       where neither a goal was named nor the function proved; such an edit is tried once more, alone
 
-and only the first, and the second where it is shown wrong, pass. The file wrong/refused of a crate records those that
-pass, each with a sum of all that its verdict rests on: the kit, these programs, the crate as a check of the edit reads it,
-what can be read of the libraries below, and what shows it wrong. Due are the edits whose sum isn't recorded, and of the
-others each sixth, in turn: `--turn` takes the number of commits. What is recorded as shown isn't built again then.
-`--record` builds and runs all that shows edits wrong, and writes into those that name nothing what does, if anything does. With `--base` the
-functions that are changed must all be proved without an edit, in the setting in which edits are tried. `make wrong` does
-both, with all edits.
+and only the first, and the second where it names something, pass. What edits name is run, for all of them at each run: the
+case or test has to fail with the edit, in a build that isn't proved, and to hold without it. One build of a program, or of a
+crate of tests, has all of these edits in it: a function that has some asks which one is chosen.
+
+The file wrong/refused of a crate records the edits that pass by a check, each with a sum of all that its verdict rests on: the
+kit, these programs, the crate as a check of the edit reads it, and what can be read of the libraries below. Due are the edits
+whose sum isn't recorded, and of the others each sixth, in turn: `--turn` takes the number of commits. `--record` writes it, and
+writes into edits that broke a proof and name nothing what shows them wrong, if anything does. With `--base` the functions that
+are changed must all be proved without an edit, in the setting in which edits are tried. `make wrong` does both, with all edits.
 
 The libraries below a crate must be built: where no folder is named, those in their out/, as `rt check` of the crate
-leaves them. A line an edit, with what refused it; the last line is 'N passed, M failed'.
+leaves them. A line an edit, with what refused it, and one for each run; the last line is 'N passed, M failed'.
 """
 import argparse
 import os
@@ -51,7 +53,7 @@ import time
 from concurrent.futures import ThreadPoolExecutor
 
 from wrong.crates import TOP, Crate, kit, libraries_of
-from wrong.outcomes import try_crate
+from wrong.outcomes import Runs, run_named, try_crate
 from wrong.rooms import Lanes, words_of
 
 
@@ -67,9 +69,9 @@ def wanted(top, words):
     return sorted((it for it in found.values() if it[1]), key=lambda it: -len(it[1]))
 
 
-def run(top, args, lanes):
-    """Tries the edits that the words name, and returns the outcomes."""
-    crates, kit_folder, printing, outcomes = wanted(top, args.edits), kit(), threading.Lock(), []
+def checked(crates, args, lanes):
+    """Tries edits of the crates by checks, and returns the outcomes."""
+    kit_folder, printing, outcomes = kit(), threading.Lock(), []
 
     def work(crate, names):
         began = time.time()
@@ -85,6 +87,15 @@ def run(top, args, lanes):
     return outcomes
 
 
+def run(crates, args, lanes):
+    """Tries the edits by checks and by runs, as far as is asked for, and returns how they ended."""
+    outcomes = [] if args.runs else checked(crates, args, lanes)
+    runs = Runs([], []) if args.checks else run_named(crates, lanes)
+    for line in runs.lines():
+        print(line)
+    return [*outcomes, runs]
+
+
 def arguments(words):
     parser = argparse.ArgumentParser(description='Tries wrong bodies of the crates\' functions.', epilog='The head of the file says what the outcomes are.')
     parser.add_argument('edits', nargs='*', metavar='CRATE[/EDIT]', help='the edits of a crate, or one of them; all, where none is named')
@@ -92,15 +103,19 @@ def arguments(words):
     parser.add_argument('--lanes', metavar='FOLDER', type=os.path.abspath, help='as many checks at once as the folder has files')
     parser.add_argument('--turn', metavar='N', type=int, help='the edits alone that are due at this number of commits')
     parser.add_argument('--base', action='store_true', help='checks each crate without an edit first')
-    parser.add_argument('--record', action='store_true', help='runs what shows edits wrong anew, and writes the record')
+    parser.add_argument('--record', action='store_true', help='writes the record, and what shows edits wrong that name nothing')
+    which = parser.add_mutually_exclusive_group()
+    which.add_argument('--checks', action='store_true', help='checks alone')
+    which.add_argument('--runs', action='store_true', help='runs alone of what edits name')
     return parser.parse_args(words)
 
 
 def main():
     args = arguments(sys.argv[1:])
-    outcomes = run(TOP, args, Lanes(args.lanes))
-    passed, failed = sum(len(it.passed()) for it in outcomes), sum(it.failures() for it in outcomes)
-    if not outcomes:
+    crates = wanted(TOP, args.edits)
+    outcomes = run(crates, args, Lanes(args.lanes))
+    passed, failed = (sum(it) for it in zip(*[(it.passed_count(), it.failures()) for it in outcomes]))
+    if not crates:
         print('no edit was found')
         failed = 1
     elif not passed and not failed:

@@ -3,13 +3,14 @@
 
     python3 evidence/model/compare.py crates/symq/out/symq --seeds 0..20000
     python3 evidence/model/compare.py crates/symq/out/symq --every
+    python3 evidence/model/compare.py crates/symq/out/symq --mutated --seeds 0..200000
     python3 evidence/model/compare.py 'python3 evidence/model/symq.py' --seeds 0..100
 
 PROGRAM is one word of the shell. A seed is one graph with up to 160 queries, in one run: 12 of 20 are accepted, the others
 broken in a tree, a list, a field, a value or the text; three in ten are asked by strict rules, with `--strict`. A program that
 has none is told as one failure, and asked by Deno's rules alone. The first difference is made small and printed, and the status is 1.
 --every takes, in place of random graphs, each field of each kind with each wrong value, each kind in each place of a child,
-and so on. The last line is `N passed, M failed`.
+and so on; --mutated takes random graphs that are accepted, the text of each changed at one to three places. The last line is `N passed, M failed`.
 """
 import argparse
 import sys
@@ -17,7 +18,7 @@ import sys
 from differ.comparing import compare
 from differ.running import NO_STRICT_RULES, Program, has_strict_rules
 from differ.words import command_of, seeds_of
-from graphs.cases import case_of_seed
+from graphs.cases import case_of_seed, mutated_case
 from graphs.every import every_case
 from rules.stack import with_big_stack
 
@@ -28,6 +29,8 @@ def cases_of(a, rules):
         every = every_case()
         cases = ((at, every[at]) for at in (a.seeds or range(len(every))) if at < len(every))
         return ((at, case.by(rules == 'strict') if rules else case) for at, case in cases)
+    if a.mutated:
+        return ((seed, mutated_case(seed).by(rules == 'strict')) for seed in a.seeds or range(1000))
     strict = rules == 'strict' if rules else None
     return ((seed, case_of_seed(seed, a.accepted, strict)) for seed in a.seeds or range(1000))
 
@@ -39,6 +42,7 @@ def main() -> int:
     p.add_argument('--seconds', type=float, help='stop after so long')
     p.add_argument('--accepted', action='store_true', help='graphs that are accepted alone')
     p.add_argument('--every', action='store_true', help='every small case, about 13,700')
+    p.add_argument('--mutated', action='store_true', help='graphs whose texts are changed')
     p.add_argument('--rules', choices=['Deno', 'strict'], help='by these rules all graphs')
     p.add_argument('--go-on', action='store_true', help='tell each difference in one line, and go on')
     p.add_argument('--shrink-seconds', type=float, default=30)

@@ -20,7 +20,7 @@ def fields_lines(enum):
 def row_of(name, kind):
     """The row of a kind, in the function of contracts that tells its fields."""
     given = [it.name if it.sort.children else '_' for it in kind.fields]
-    views = ['%s Category.%s %s%s ∷ ' % (it.sort.children, it.category, it.name, '.items' if it.is_list() else '') for it in kind.children()]
+    views = ['%s_field Category.%s %s%s ∷ ' % (it.sort.children, it.category, it.name, '.items' if it.is_list() else '') for it in kind.children()]
     return '%s (%s.%s %s) = %s[]' % (name, kind.enum, kind.name, ' '.join(given), ''.join(views))
 
 

@@ -3,15 +3,15 @@ from .layout import LINE, STRUCT, arm, clause, space_all
 
 USES = (
     'Rattle.std.specs.Prelude.{option_map}',
-    'Rattle.symq_reader.specs.Plain.{data_of}',
     'Rattle.symbols_syntax.specs.declared.tree.names.KindName.TheVariants as Name',
-    'Rattle.symq_reader.specs.Reading.{Gives}',
+    'Rattle.symq_reader.specs.inner.Objects.{object_data}',
+    'Rattle.symq_reader.specs.inner.Reading.{Gives}',
 )
 
 
 def call_of(field):
     """The call that reads a field."""
-    return '%s(%svalue, "%s")?' % (field.sort.call, 'alloc, ' if field.sort.memory else '', field.key)
+    return '%s(%sobject, "%s")?' % (field.sort.call, 'alloc, ' if field.sort.memory else '', field.key)
 
 
 def asks(kind):
@@ -22,7 +22,7 @@ def asks(kind):
 def are_read_apart(kind):
     """Whether the fields are read one by one: few with short names, of which none but the last takes the name of what is read."""
     names = [it.name for it in kind.fields]
-    return len(names) <= 2 and len(', '.join(names)) <= STRUCT and not {'alloc', 'value'} & set(names[:-1])
+    return len(names) <= 2 and len(', '.join(names)) <= STRUCT and not {'alloc', 'object'} & set(names[:-1])
 
 
 def body_lines(kind):
@@ -46,20 +46,20 @@ def head_lines(start, given, result):
 def kind_lines(enum, kind):
     """The function that reads a kind."""
     said = ['/// What the text calls a `%s`.' % kind.text] if kind.text != kind.name else []
-    given = ["value: &Value<'_>"]
+    given = ["object: &Object<'_, '_>"]
     head = head_lines('fn ' + kind.reader, ['alloc: Global', *given] if asks(kind) else given, enum.name)
-    promise = 'ensures { Gives %s_shape result (read_as Name.%s (data_of value.now)) }' % (enum.small(), kind.name)
+    promise = 'ensures { Gives %s_shape result (read_as_kind Name.%s (object_data object.now)) }' % (enum.small(), kind.name)
     return [*said, *head, '    ' + promise, '{', *space_all(4, body_lines(kind)), '}']
 
 
 def chosen_lines(enum):
     """The function that reads the kind of a text, if it is one of the enum."""
-    name, given = enum.small(), ['alloc: Global', 'kind: &str', "value: &Value<'_>"]
+    name, given = enum.small(), ['alloc: Global', 'kind: &str', "object: &Object<'_, '_>"]
     head = head_lines('pub(crate) fn ' + name, given, 'Option<%s>' % enum.name)
     arms = []
     for it in enum.kinds:
-        arms += arm('        "%s"' % it.text, 'Ok(Some(%s(%svalue)?))' % (it.reader, 'alloc, ' if asks(it) else ''))
-    promise = 'ensures { Gives (option_map %s_shape) result (read_%s kind.now (data_of value.now)) }' % (name, name)
+        arms += arm('        "%s"' % it.text, 'Ok(Some(%s(%sobject)?))' % (it.reader, 'alloc, ' if asks(it) else ''))
+    promise = 'ensures { Gives (option_map %s_shape) result (read_%s kind.now (object_data object.now)) }' % (name, name)
     return ['/// ' + enum.reader, '#[tactic(auto, unfolding(crate::specs::KindShapes::read_%s))]' % name, *head,
             '    ' + promise, '{', '    match kind {', *arms, '        _ => Ok(None),', '    }', '}']
 
@@ -67,10 +67,10 @@ def chosen_lines(enum):
 def file_lines(enum):
     """The file of an enum."""
     name = enum.small()
-    uses = [*USES, 'Rattle.symq_reader.specs.KindShapes.{read_as, read_%s, %s_shape}' % (name, name)]
+    uses = [*USES, 'Rattle.symq_reader.specs.KindShapes.{read_as_kind, read_%s, %s_shape}' % (name, name)]
     words = any(it.sort.call.startswith('words::') for kind in enum.kinds for it in kind.fields)
     lines = ['//! ' + enum.comment, '', *('ghost use %s;' % it for it in uses), '', 'use crate::faults::FormatFault;',
-             'use crate::{fields, words};' if words else 'use crate::fields;', 'use json::Value;', 'use std::alloc::Global;',
+             'use crate::fields::{self, Object};', *(['use crate::words;'] if words else []), 'use std::alloc::Global;',
              'use symbols_syntax::tree::%s;' % enum.name, '']
     for kind in enum.kinds:
         lines += [*kind_lines(enum, kind), '']
@@ -108,7 +108,7 @@ def chosen_contract_lines(enum):
     """The function of contracts that reads the kind of a text, if it is one of the enum."""
     name = enum.small()
     return ['unfoldable pub read_%s : List ℕ → Data → Option (Option KindShape)' % name,
-            'read_%s t d = read_if (named %s_texts t) d' % (name, name)]
+            'read_%s t d = read_if (kind_of_text %s_texts t) d' % (name, name)]
 
 
 def shape_lines(enum):

@@ -32,7 +32,7 @@ SPOILT = [
     ('a field is optional', TREE + 'fields.rt', ('one(Category::MemberProp', 'optional(Category::MemberProp'), 'fields of Expr'),
     ('a field that holds children is left out', TREE + 'fields.rt', ('                optional(Category::ModuleBody, body)\n', ''),
      'fields of Decl'),
-    ('a field of contracts has another category', SYNTAX + 'Fields.antt', ('one Category.ParamPropPattern', 'one Category.Pattern'),
+    ('a field of contracts has another category', SYNTAX + 'Fields.antt', ('one_field Category.ParamPropPattern', 'one_field Category.Pattern'),
      'member_fields'),
     ('a method lacks a kind', TREE + 'child_fields.rt', ('                | Ty::TsTypeQuery { type_args, .. }\n', ''), 'methods'),
     ('a method of another name', TREE + 'child_fields.rt', ('pub fn body_node', 'pub fn block'), 'methods'),
@@ -47,7 +47,7 @@ SPOILT = [
     ('a text of contracts is another', READER + 'Kinds.antt', ('codes "Type"', 'codes "Plain"'), 'pat_texts'),
     ('two names of a row are swapped', READER + 'KindShapes.antt',
      ('Item.TsImportEqualsDecl is_export id', 'Item.TsImportEqualsDecl id is_export'), 'item_slots'),
-    ('another list of texts is read', READER + 'KindShapes.antt', ('named ty_texts t', 'named pat_texts t'), 'read_ty'),
+    ('another list of texts is read', READER + 'KindShapes.antt', ('kind_of_text ty_texts t', 'kind_of_text pat_texts t'), 'read_ty'),
     ('a shape has other fields', READER + 'KindShapes.antt', ('slots = expr_slots k', 'slots = pat_slots k'), 'expr_shape'),
     ('a shape is of another enum', READER + 'KindShapes.antt', ('= expr_shape k', '= pat_shape k'), 'kind_shape'),
     ('a field of the page may be absent', GRAPH, ('`src` text |\n| `TsImp', '`src?` text |\n| `TsImp'), 'kinds of Item'),
@@ -207,7 +207,7 @@ kind TsSatisfiesExpression, written Satisfies, read by satisfies: `expr satisfie
     is_sure: flag
 
 kind Valued: What has a value.
-    value: text
+    object: text
     key: optional child of Key
 
 kind TsSatisfiesExpressionOfConstructorParam: A long one.
@@ -266,8 +266,8 @@ MADE = [
                 how
             )],
 """),
-    (SYNTAX + 'Fields.antt', 'pat_fields (Pat.TsSatisfiesExpression expr ty how notes _ _ _ _ _) = one Category.Expression expr ∷ '
-     'one Category.Type ty ∷ optional Category.Reason how ∷ many Category.Reason notes.items ∷ []\n'),
+    (SYNTAX + 'Fields.antt', 'pat_fields (Pat.TsSatisfiesExpression expr ty how notes _ _ _ _ _) = one_field Category.Expression expr ∷ '
+     'one_field Category.Type ty ∷ optional_field Category.Reason how ∷ many_field Category.Reason notes.items ∷ []\n'),
     (TREE + 'child_fields.rt', """    /// The `how` of `TsSatisfiesExpression`, `TsSatisfiesExpressionOfConstructorParam`.
     pub fn how(self) -> Option<NodeRef<'a>>
         ensures { option_map node_view result ≡ child_of (node_view self.entry) how_of }
@@ -319,40 +319,40 @@ is_cause k = is_exported_declaration k || is_constructor_param k
 """),
     (SYNTAX + 'Categories.antt', 'allows Category.Reason Name.TsSatisfiesExpression = true\nallows Category.Reason _ = false\n'),
     (KINDS + 'pats.rt', """/// What the text calls a `Satisfies`.
-fn satisfies(alloc: Global, value: &Value<'_>) -> Result<Pat, FormatFault>
-    ensures { Gives pat_shape result (read_as Name.TsSatisfiesExpression (data_of value.now)) }
+fn satisfies(alloc: Global, object: &Object<'_, '_>) -> Result<Pat, FormatFault>
+    ensures { Gives pat_shape result (read_as_kind Name.TsSatisfiesExpression (object_data object.now)) }
 {
     Ok(Pat::TsSatisfiesExpression {
-        expr: fields::child(value, "expr")?,
-        ty: fields::child(value, "ty")?,
-        how: fields::optional_child(value, "how")?,
-        notes: fields::children(alloc, value, "notes")?,
-        mark: fields::identifier(alloc, value, "mark")?,
-        sort: words::method_kind(value, "method_kind")?,
-        access: words::accessibility(value, "access")?,
-        said: fields::optional_text(alloc, value, "said")?,
-        is_sure: fields::flag(value, "is_sure")?,
+        expr: fields::child(object, "expr")?,
+        ty: fields::child(object, "ty")?,
+        how: fields::optional_child(object, "how")?,
+        notes: fields::children(alloc, object, "notes")?,
+        mark: fields::identifier(alloc, object, "mark")?,
+        sort: words::method_kind(object, "method_kind")?,
+        access: words::accessibility(object, "access")?,
+        said: fields::optional_text(alloc, object, "said")?,
+        is_sure: fields::flag(object, "is_sure")?,
     })
 }
 """),
-    (KINDS + 'pats.rt', """fn valued(alloc: Global, value: &Value<'_>) -> Result<Pat, FormatFault>
-    ensures { Gives pat_shape result (read_as Name.Valued (data_of value.now)) }
+    (KINDS + 'pats.rt', """fn valued(alloc: Global, object: &Object<'_, '_>) -> Result<Pat, FormatFault>
+    ensures { Gives pat_shape result (read_as_kind Name.Valued (object_data object.now)) }
 {
     Ok(Pat::Valued {
-        value: fields::text(alloc, value, "value")?,
-        key: fields::optional_child(value, "key")?,
+        object: fields::text(alloc, object, "object")?,
+        key: fields::optional_child(object, "key")?,
     })
 }
 """),
-    (KINDS + 'pats.rt', """    let how = fields::child(value, "how")?;
-    let value = fields::flag(value, "value")?;
+    (KINDS + 'pats.rt', """    let how = fields::child(object, "how")?;
+    let value = fields::flag(object, "value")?;
     Ok(Pat::TsSatisfiesExpressionOfConstructorParam { how, value })
 """),
     (KINDS + 'pats.rt', """        "TsSatisfiesExpressionOfConstructorParam" => Ok(Some(
-            ts_satisfies_expression_of_constructor_param(value)?,
+            ts_satisfies_expression_of_constructor_param(object)?,
         )),
 """),
-    (KINDS + 'pats.rt', 'use crate::{fields, words};\n'),
+    (KINDS + 'pats.rt', 'use crate::words;\n'),
     (READER + 'Kinds.antt', '    (codes "Satisfies", Name.TsSatisfiesExpression) ∷\n'),
     (READER + 'KindShapes.antt', '(codes "mark", holds_identifier (identifier_view mark)) ∷ (codes "method_kind", holds_method_kind sort) ∷ '
      '(codes "access", holds_accessibility access) ∷ (codes "said", holds_optional_text (option_map string_bytes said)) ∷ '

@@ -1,22 +1,20 @@
-"""How the edits of a crate end, all that are asked for."""
-import os
-from concurrent.futures import ThreadPoolExecutor
-from dataclasses import dataclass, replace
+"""How the edits of a crate end, all that are asked for: by checks, and by runs of what edits name."""
+from dataclasses import dataclass
 
 from . import record, shown
-from .crates import read, write
 from .trying import try_edits
 from .verdicts import Verdict
 
-# the outcomes that pass, each with its last word in the record; how each is told
-PASSES = {'refused': '', 'shown': 'shown'}
-TOLD = {'shown': 'proof broken, shown wrong'}
+# the outcomes of a check that may pass, each with its last word in the record, and how each is told; the second passes where what the
+# edit names shows it wrong
+PASSES = {'refused': '', 'named': 'broken'}
+TOLD = {'named': 'proof broken, names what shows it wrong'}
 
 
 @dataclass
 class Outcome:
-    """How a crate's edits ended: a verdict each by its name, what is wrong with the crate itself, how many checks it took, and how many edits
-    weren't due."""
+    """How a crate's edits ended by checks: a verdict each by its name, what is wrong with the crate itself, how many checks it took, and how
+    many edits weren't due."""
 
     crate: object
     verdicts: dict
@@ -25,7 +23,14 @@ class Outcome:
     left: int
 
     def passed(self):
-        return [name for name, it in self.verdicts.items() if it.how in PASSES]
+        """The edits that passed by their check alone."""
+        return [name for name, it in self.verdicts.items() if it.how == 'refused']
+
+    def named(self):
+        return [name for name, it in self.verdicts.items() if it.how == 'named']
+
+    def passed_count(self):
+        return len(self.passed())
 
     def failures(self):
         return sum(it.how not in PASSES for it in self.verdicts.values()) + len(self.wrong)
@@ -38,43 +43,18 @@ class Outcome:
             yield '%s: FAILED: %s' % (self.crate.name, line[:300])
 
     def count(self, seconds):
-        refused, by_runs = (sum(it.how == how for it in self.verdicts.values()) for how in PASSES)
-        words = (self.crate.name, refused, len(self.verdicts), by_runs, self.left, self.checks, seconds)
-        return '%s: %d of %d edits refused, %d shown wrong by a run, %d more by the record, by %d checks in %d s' % words
+        words = (self.crate.name, len(self.passed()), len(self.verdicts), len(self.named()), self.left, self.checks, seconds)
+        return '%s: %d of %d edits refused, %d name what shows them wrong, %d more by the record, by %d checks in %d s' % words
 
 
-def named(crate, edit):
-    """The edit with a line of what shows it wrong, written into its file: of the cases and tests that fail with it one whose name is like its
-    own, and else the first. As it is, where none fails."""
-    words = set(edit.name.split('_'))
-    found = shown.all_that_show(crate, edit)
-    best = max(found, key=lambda it: len(words & set(it.replace('/', '_').replace('::', '_').split('_'))), default='')
-    if best:
-        path = os.path.join(crate.folder, 'wrong', edit.name + '.edit')
-        write(path, read(path).rstrip('\n') + '\nshown: %s\n' % best)
-    return replace(edit, shown=best)
-
-
-def shown_wrong(crate, edit, lanes, may_name):
-    """The verdict on an edit that broke a proof by hand: whether what it names fails with it, or, where it names nothing and that is wanted,
-    what does. One that nothing shows wrong fails."""
-    with lanes.taken():
-        if not edit.shown and may_name:
-            edit = named(crate, edit)
-            return Verdict('shown', edit.shown) if edit.shown else Verdict('proof broken', 'no case and no test fails with it')
-        if not edit.shown:
-            return Verdict('proof broken', 'it names no case and no test that shows it wrong')
-        return Verdict('shown', edit.shown) if shown.is_shown(crate, edit) else Verdict('proof broken', edit.shown + ' does not fail with it')
-
-
-def shown_all(crate, broken, lanes, is_record):
-    """The verdicts on the edits that broke proofs by hand, each by its name. What is recorded as shown wrong isn't run again, but for the record."""
-    fits = set() if is_record else record.fitting(crate, broken)
-    verdicts = {it.name: Verdict('shown', it.shown + ', by the record') for it in broken if it.shown and it.name in fits}
-    asked = [it for it in broken if it.name not in verdicts]
-    with ThreadPoolExecutor(max(1, len(asked))) as pool:
-        verdicts.update(zip([it.name for it in asked], pool.map(lambda it: shown_wrong(crate, it, lanes, is_record), asked)))
-    return verdicts
+def told_broken(crate, edit, verdict, lanes, may_name):
+    """The verdict on an edit that broke a proof by hand: whether it names what shows it wrong. Where it doesn't and that is wanted, what does
+    is looked for, and written into it."""
+    named = edit.shown or may_name and shown.name_what_shows(crate, edit, lanes)
+    if named:
+        return Verdict('named', '%s (%s)' % (named, verdict.why))
+    why = 'no case and no test fails with it' if may_name else 'it names no case and no test that shows it wrong'
+    return Verdict('proof broken', '%s (%s)' % (why, verdict.why))
 
 
 def try_crate(crate, names, words, lanes, turn=None, with_base=False, is_record=False):
@@ -83,10 +63,35 @@ def try_crate(crate, names, words, lanes, turn=None, with_base=False, is_record=
     edits, bad = crate.edits(names)
     chosen = edits if turn is None else record.due(crate, edits, turn)
     verdicts, wrong, checks = try_edits(crate, chosen, words, lanes, with_base)
-    broken = [it for it in chosen if it.name in verdicts and verdicts[it.name].how == 'proof broken']
-    for name, verdict in shown_all(crate, broken, lanes, is_record).items():
-        verdicts[name] = Verdict(verdict.how, '%s (%s)' % (verdict.why, verdicts[name].why))
+    for edit in chosen:
+        if edit.name in verdicts and verdicts[edit.name].how == 'proof broken':
+            verdicts[edit.name] = told_broken(crate, edit, verdicts[edit.name], lanes, is_record)
     verdicts.update({name: Verdict('not reached', why) for name, why in bad.items()})
     if is_record:
         record.record(crate, {name: PASSES.get(it.how) for name, it in verdicts.items()})
     return Outcome(crate, verdicts, wrong, checks, len(edits) - len(chosen))
+
+
+@dataclass
+class Runs:
+    """Of edits that name a case or a test, each with its name: why what it names doesn't show it wrong, or nothing where it does."""
+
+    edits: list
+    whys: list
+
+    def failures(self):
+        return sum(bool(it) for it in self.whys)
+
+    def passed_count(self):
+        return len(self.whys) - self.failures()
+
+    def lines(self):
+        for edit, why in zip(self.edits, self.whys):
+            yield '%s/%s: %s' % (edit.crate, edit.name, 'FAILED: ' + why if why else 'shown wrong: ' + edit.shown)
+
+
+def run_named(crates, lanes):
+    """Runs what edits name: `crates` has crates, each with names of edits, of which those that name nothing are left out."""
+    asked = [it for crate, names in crates for it in crate.edits(names)[0] if it.shown]
+    top = crates[0][0].top if crates else None
+    return Runs(asked, shown.not_shown(top, asked, lanes) if asked else [])

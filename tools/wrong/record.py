@@ -20,30 +20,26 @@ def face_of(crate):
 
 
 def tool_texts():
-    """The texts of the programs by which edits are tried."""
+    """The texts of the programs by which a check of an edit is made and judged."""
     folder = os.path.dirname(os.path.abspath(__file__))
-    return [read(os.path.join(folder, it)) for it in sorted(os.listdir(folder)) if it.endswith('.py')]
+    return [read(os.path.join(folder, it)) for it in ('crates.py', 'rooms.py', 'trying.py', 'verdicts.py')]
 
 
-def shown_texts(top, shown):
-    """The texts of what shows an edit wrong: the files of a stored case, or the sources of a crate of tests."""
-    parts = shown.split('/')
-    if shown.startswith('tests/'):
-        folder = os.path.join(top, *parts[:3])
-        return sorted(files_below(folder, '')) if os.path.isdir(folder) else [shown]
-    return sorted(files_below(os.path.join(top, 'crates', parts[0]), 'src')) if shown else []
+def kit_here():
+    """The line that tells which kit this is."""
+    return read(os.path.join(kit(), 'KIT-ID')).strip()
 
 
-def sums_of(crate, edits):
-    """By the name of each edit the sum of all that a check of it alone would read: the kit, these programs, what can be read of the libraries
-    below, the crate as it is laid, and what shows the edit wrong."""
+def sums_of(crate, edits, kit_line=None):
+    """By the name of each edit the sum of all that a check of it alone would read, by a kit, this one if none is named: the kit, these programs,
+    what can be read of the libraries below, and the crate as it is laid."""
     libraries = [Crate(crate.top, it, crate.libraries) for it in libraries_below(crate.name, crate.libraries)]
-    basis = digest([read(os.path.join(kit(), 'KIT-ID')), tool_texts(), [face_of(it) for it in libraries]])
+    basis = digest([kit_line or kit_here(), tool_texts(), [face_of(it) for it in libraries]])
     room = Room(crate, [], '', None)
 
     def sum_of(edit):
         laid = room.laid([edit], [edit.function])
-        return digest([basis, sorted(laid.items()), edit.shown, shown_texts(crate.top, edit.shown)])[:16]
+        return digest([basis, sorted(laid.items())])[:16]
 
     return {it.name: sum_of(it) for it in edits}
 
@@ -52,32 +48,49 @@ def path_of(crate):
     return os.path.join(crate.folder, 'wrong', 'refused')
 
 
-def recorded(crate):
-    """The sums of the edits that ended well, by name: lines of the file wrong/refused, of which some end in 'shown'."""
-    lines = read(path_of(crate)).splitlines() if os.path.isfile(path_of(crate)) else []
-    return {it.split()[0]: it.split()[1] for it in lines}
+def lines_by_kit(crate):
+    """The lines of the file wrong/refused, below the kit's line above them: each a name and a sum, and behind it 'broken' where only a proof by
+    hand broke."""
+    found, own = {}, {}
+    for line in read(path_of(crate)).splitlines() if os.path.isfile(path_of(crate)) else []:
+        key, _, value = line.partition(': ')
+        if key == 'kit':
+            own = found.setdefault(value, {})
+        else:
+            own[line.split()[0]] = line
+    return found
+
+
+def recorded(crate, kit_line=None):
+    """The sums of the edits that ended well by a kit, this one if none is named, by their names."""
+    lines = lines_by_kit(crate).get(kit_line or kit_here(), {})
+    return {name: line.split()[1] for name, line in lines.items()}
+
+
+def fitting(crate, edits, kit_line=None):
+    """The names of the edits whose recorded sum is what it is now."""
+    known = recorded(crate, kit_line)
+    sums = sums_of(crate, edits, kit_line) if known else {}
+    return {it.name for it in edits if it.name in known and known[it.name] == sums[it.name]}
 
 
 def record(crate, ended):
-    """Writes the sums of the edits that ended well, each with a last word, and keeps those of edits that weren't tried."""
+    """Writes the sums of the edits that ended well by this kit, each with a last word, and keeps those that fit of edits that weren't tried, and
+    of other kits."""
     edits, _ = crate.edits(crate.names())
-    sums, known = sums_of(crate, edits), recorded(crate)
-    old = read(path_of(crate)).splitlines() if os.path.isfile(path_of(crate)) else []
-    kept = {it.split()[0]: it for it in old if it.split()[0] not in ended and known[it.split()[0]] == sums.get(it.split()[0])}
-    new = {name: ('%s %s %s' % (name, sums[name], word)).strip() for name, word in ended.items() if word is not None}
-    write(path_of(crate), ''.join(line + '\n' for _, line in sorted({**kept, **new}.items())))
+    sums, lines = sums_of(crate, edits), lines_by_kit(crate)
+    kept = {line: {name: own[name] for name in fitting(crate, edits, line)} for line, own in lines.items()}
+    own = {name: line for name, line in kept.get(kit_here(), {}).items() if name not in ended}
+    own.update({name: ('%s %s %s' % (name, sums[name], word)).strip() for name, word in ended.items() if word is not None})
+    kept[kit_here()] = own
+    texts = ['kit: %s\n%s' % (line, ''.join(it + '\n' for _, it in sorted(own.items()))) for line, own in sorted(kept.items()) if own]
+    write(path_of(crate), ''.join(texts))
 
 
 def place_of(crate, edit):
     """Which turn an edit is in: one number for those of a function, and for those of a cycle of calls, which a check proves at once."""
     group = edit.function.cycle_key() or edit.function.path
     return int(digest((crate.name, group)), 16)
-
-
-def fitting(crate, edits):
-    """The names of the edits whose recorded sum is what it is now."""
-    sums, known = sums_of(crate, edits), recorded(crate)
-    return {it.name for it in edits if known.get(it.name) == sums[it.name]}
 
 
 def due(crate, edits, turn):

@@ -1,77 +1,155 @@
-"""What shows an edit wrong, where the prover can't: a stored case or a test that fails in a build with the edit, which isn't proved."""
+"""What shows an edit wrong, where the prover can't: a stored case or a test that fails in a build with the edit, which isn't proved, and holds
+where no edit is chosen. A build has all edits that are asked for."""
 import os
 import re
 import shutil
 import subprocess
-import sys
-import tempfile
-from contextlib import contextmanager
+from concurrent.futures import ThreadPoolExecutor
+from contextlib import suppress
 
-from .crates import libraries_of
+import run_cases
 
-# what a build reads of the repository
-PARTS = ('crates.txt', 'HANDLES', 'tests', 'tools')
+from .choosing import CRATE, choices_of, test_name, tests_of, with_edits, word_of
+from .crates import Crate, libraries_of, read, write
 
-
-@contextmanager
-def with_edit(crate, edit):
-    """A copy of the repository with the edit, for builds without a proof: no proofs stand in it."""
-    with tempfile.TemporaryDirectory(prefix='shown-') as folder:
-        for part in PARTS:
-            os.symlink(os.path.join(crate.top, part), os.path.join(folder, part))
-        os.mkdir(os.path.join(folder, 'bin'))
-        os.symlink(shutil.which('true'), os.path.join(folder, 'bin', 'sh'))
-        for name in libraries_of(crate.top):
-            to, of = os.path.join(folder, 'crates', name), os.path.join(crate.top, 'crates', name)
-            shutil.copytree(os.path.join(of, 'src'), os.path.join(to, 'src'))
-            if os.path.isdir(os.path.join(of, 'specs')):
-                shutil.copytree(os.path.join(of, 'specs'), os.path.join(to, 'specs'))
-        for file, text in crate.edited([edit]).items():
-            with open(os.path.join(folder, 'crates', crate.name, file), 'w', encoding='utf-8') as f:
-                f.write(text)
-        yield folder
+# the sorts of cases in the order in which they are looked through, each with the program that runs them
+SORTS = (('cases', 'symq'), ('tables', 'symq_tables'), ('forms', 'symq'))
 
 
-def run(words, top, at=''):
-    """What a command says, at a place in a copy of the repository. Beside each build `rt try` starts a check by `sh`, which gives a hint at
-    reserved names, no more, and would take as long as the build: here its `sh` ends at once."""
-    path = {'PATH': os.path.join(top, 'bin') + os.pathsep + os.environ['PATH']}
+def environment(folder):
+    """What builds run with. Beside each `rt try` starts a check by `sh`, which gives a hint at reserved names, no more, and would take as long
+    as the build: here its `sh` ends at once."""
+    bin_folder = os.path.join(folder, 'bin')
+    os.makedirs(bin_folder, exist_ok=True)
+    with suppress(FileExistsError):
+        os.symlink(shutil.which('true'), os.path.join(bin_folder, 'sh'))
+    return {**os.environ, 'PATH': bin_folder + os.pathsep + os.environ['PATH'], 'RT_ALLOW_C': CRATE}
+
+
+def case_of(cases, shown):
+    """The stored case that an edit names, in its own order; none where there is none."""
+    return next((it for it in cases if 'tests/' + it.name == shown), None)
+
+
+def by_cases(folder, program, asked):
+    """Of numbered edits, each with a case of the program: why the case doesn't show the edit wrong, or nothing where it does. None for an
+    edit whose run has no outcome."""
+    cases = [*{case.name: case for _, case in asked}.values()]
+    runs = [*[('', it) for it in cases], *[(word_of(number), case) for number, case in asked]]
+    words, given = [word for word, _ in runs], [case for _, case in runs]
+    found, said = run_cases.tried_outcomes(program, given, folder, words, environment(folder))
+    if not found:
+        return None, said
+    holds = {case.name: found.get(at) == case.want for at, case in enumerate(cases)}
+    outcomes = [(number, case, found.get(len(cases) + at)) for at, (number, case) in enumerate(asked)]
+    return {number: why_not(case.name, holds[case.name], outcome and outcome != case.want) for number, case, outcome in outcomes}, said
+
+
+def why_not(name, holds, fails):
+    """Why what an edit names doesn't show it wrong; nothing where it does."""
+    if not holds:
+        return '%s does not hold without an edit' % name
+    return '' if fails else '%s does not fail with it' % name
+
+
+def told_of_tests(said):
+    """By the name of each test whether it failed, in what `rt try --test` says. One that ran out of its time is told as failed, too, and says
+    nothing of the edit: it is left out."""
+    found = re.findall(r'^test (\S+) \.\.\. (\w+)\n((?: .*\n)*)', said, re.M)
+    return {name: how == 'FAILED' for name, how, why in found if 'run=no-answer\n' not in why}
+
+
+def said_of_tests(folder, crate):
     how = {'stdin': subprocess.DEVNULL, 'stdout': subprocess.PIPE, 'stderr': subprocess.STDOUT, 'text': True, 'errors': 'replace'}
-    return subprocess.run(words, cwd=os.path.join(top, at), env={**os.environ, **path}, **how).stdout
+    return subprocess.run(['rt', 'try', '--steps', '1', '--test'], cwd=os.path.join(folder, 'crates', crate), env=environment(folder), **how).stdout
 
 
-def failing_cases(folder, *names):
-    """The stored cases that fail in this copy of the repository, of these names or sorts; none where it can't be built."""
-    tool = os.path.join(folder, 'tools', 'run_cases.py')
-    said = run([sys.executable, tool, '--once', *names], folder)
-    return sorted({'tests/' + it for it in re.findall(r'^((?:cases|tables|forms)/[\w:.-]+)(?:, [a-z ]+)?: got ', said, re.M)})
+def by_tests(folder, crate, asked):
+    """The same of numbered edits, each with a test of the crate."""
+    said = said_of_tests(folder, crate)
+    failed = told_of_tests(said)
+    if not failed:
+        return None, said
+    return {number: why_not(test, failed.get(test) is False, failed.get(test_name(number, test))) for number, test in asked}, said
 
 
-def failed_in(said):
-    """The tests that failed, in what `rt try --test` says. One that ran out of its time is told as failed, too, and says nothing of the edit."""
-    return [name for name, why in re.findall(r'^test (\S+) \.\.\. FAILED\n((?: .*\n)*)', said, re.M) if 'run=no-answer\n' not in why]
+def sorted_out(top, edits):
+    """What is run for numbered edits: for each program, or crate of tests, a function and the edits, each with its case or test; and why what
+    some edits name can't be run."""
+    libraries, (cases, _), runs, bad = libraries_of(top), run_cases.all_cases(), {}, {}
+    for number, edit in edits:
+        crate, _, test = edit.shown.partition('/')
+        case = case_of(cases, edit.shown)
+        if case:
+            runs.setdefault((by_cases, case.program), []).append((number, case))
+        elif crate in libraries and test:
+            runs.setdefault((by_tests, crate), []).append((number, test))
+        else:
+            bad[number] = 'there is no %s' % edit.shown
+    return runs, bad
 
 
-def failing_tests(folder, crate):
-    """The tests of a crate that fail in this copy of the repository; none where it can't be built."""
-    said = run(['rt', 'try', '--test'], folder, os.path.join('crates', crate))
-    return ['%s/%s' % (crate, it) for it in failed_in(said)]
+def shown_together(top, edits, lanes):
+    """Of numbered edits by one build for each program or crate of tests: why what they name doesn't show them wrong. A build that can't be made
+    is made of each half of them."""
+    runs, whys = sorted_out(top, edits)
+    tests = [(number, crate, test) for (by, crate), asked in runs.items() if by is by_tests for number, test in asked]
+    with with_edits(top, edits, tests) as folder:
+
+        def work(key):
+            with lanes.taken():
+                return key[0](folder, key[1], runs[key])
+
+        with ThreadPoolExecutor(max(1, len(runs))) as pool:
+            results = dict(zip(runs, pool.map(work, runs)))
+    for key, (found, said) in results.items():
+        own = [(number, edit) for number, edit in edits if number in dict(runs[key])]
+        if found is not None:
+            whys.update(found)
+        elif len(edits) == 1:
+            whys[own[0][0]] = 'no build with it runs: ' + (said.strip().split('\n') or [''])[-1]
+        else:
+            for half in (own[: len(own) // 2], own[len(own) // 2 :]):
+                whys.update(shown_together(top, half, lanes) if half else {})
+    return whys
 
 
-def is_shown(crate, edit):
-    """Whether what the edit names fails with it."""
-    with with_edit(crate, edit) as folder:
-        if edit.shown.startswith('tests/'):
-            return edit.shown in failing_cases(folder, edit.shown[len('tests/') :])
-        return edit.shown in failing_tests(folder, edit.shown.split('/')[0])
+def not_shown(top, edits, lanes):
+    """Of edits that name a case or a test, one after the other: why it doesn't show the edit wrong, or nothing where it does."""
+    libraries = libraries_of(top)
+    crates = {name: Crate(top, name, libraries) for name in {it.crate for it in edits}}
+    numbered = [(number, it) for number, it in enumerate(edits, 1) if choices_of(crates[it.crate], it)]
+    whys = shown_together(top, numbered, lanes) if numbered else {}
+    left = 'it changes more than the lines of a body, so it is no choice'
+    return [whys.get(number, 'nothing was run for it') if (number, it) in numbered else left for number, it in enumerate(edits, 1)]
 
 
-def all_that_show(crate, edit):
-    """The cases that fail with the edit, of the sort by which it is first shown wrong, and else the tests of a crate of tests that do."""
-    tests = [it for it in libraries_of(crate.top) if it.endswith('_tests')]
-    with with_edit(crate, edit) as folder:
-        for find, name in [*[(failing_cases, it) for it in ('cases', 'tables', 'forms')], *[(failing_tests, it) for it in tests]]:
-            found = find(folder, name)
-            if found:
-                return found
+def name_what_shows(crate, edit, lanes):
+    """Writes into an edit the case or test that shows it wrong: of the first sort of which some fail with it the one whose name is like its own,
+    or else the first. Returns it; nothing where none fails."""
+    found = all_that_show(crate, edit, lanes)
+    words = set(edit.name.split('_'))
+    best = max(found, key=lambda it: len(words & set(re.split(r'/|::|_', it))), default='')
+    if best:
+        path = os.path.join(crate.folder, 'wrong', edit.name + '.edit')
+        write(path, read(path).rstrip('\n') + '\nshown: %s\n' % best)
+    return best
+
+
+def all_that_show(crate, edit, lanes):
+    """The cases that fail with the edit, of the first sort of which some do, and else the tests of a crate of tests; all hold without it."""
+    libraries, (cases, _) = libraries_of(crate.top), run_cases.all_cases()
+    tests = [(1, name, it) for name in libraries if name.endswith('_tests') for it in tests_of(Crate(crate.top, name, libraries))]
+    with with_edits(crate.top, [(1, edit)], tests) as folder, lanes.taken():
+        for sort, program in SORTS if 'symq' in libraries else ():
+            own = [it for it in cases if it.name.startswith(sort + '/') and ',' not in it.name]
+            found, _ = run_cases.tried_outcomes(program, own, folder, [word_of(1)] * len(own), environment(folder))
+            failed = sorted('tests/' + own[at].name for at, outcome in found.items() if outcome != own[at].want)
+            if failed:
+                return failed
+        for name in sorted({name for _, name, _ in tests}):
+            told = told_of_tests(said_of_tests(folder, name))
+            failed = [it for it in told if told.get(it) is False and told.get(test_name(1, it))]
+            if failed:
+                return sorted('%s/%s' % (name, it) for it in failed)
     return []

@@ -63,10 +63,6 @@ pub(crate) const GRAPH: &str = r#"{"modules": [
 /// The specifiers of its modules, in the order in which the queries need them.
 pub(crate) const SPECIFIERS: [&str; 4] = ["a", "b", "c", "q"];
 
-fn text(alloc: Global, text: &str) -> Result<String, AllocError> {
-    String::from_str(alloc, text)
-}
-
 /// The reference `import("./a").z`.
 fn reference(alloc: Global) -> Result<SymbolNodeDep<'static>, AllocError> {
     let mut parts = Vec::new(alloc);
@@ -80,13 +76,13 @@ const ASKED: [&str; 11] = ["absent", "a", "a", "b", "a", "b", "q", "q", "q", "q"
 /// The name `x` of scope 1.
 fn name_x(alloc: Global) -> Result<Id, AllocError> {
     Ok(Id {
-        name: text(alloc, "x")?,
+        name: String::from_str(alloc, "x")?,
         scope: 1,
     })
 }
 
 /// The query of a place among them, on its module. Symbol 1 of `q` is `y`, 2 is `w` and 3 is `v`; symbol 2 of `b` is `y`.
-fn query(alloc: Global, place: usize, module: String) -> Result<Query<'static>, AllocError> {
+fn query(alloc: Global, place: usize, module: &'static str) -> Result<Query<'static>, AllocError> {
     let first = SymbolId::from_number(1);
     let second = SymbolId::from_number(2);
     let third = SymbolId::from_number(3);
@@ -108,7 +104,7 @@ fn query(alloc: Global, place: usize, module: String) -> Result<Query<'static>, 
 pub(crate) fn queries(alloc: Global) -> Result<Vec<Query<'static>>, AllocError> {
     let mut queries = Vec::new(alloc);
     for (place, module) in ASKED.iter().enumerate() {
-        queries.push(query(alloc, place, text(alloc, *module)?)?)?;
+        queries.push(query(alloc, place, *module)?)?;
     }
     Ok(queries)
 }

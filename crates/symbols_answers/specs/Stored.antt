@@ -6,7 +6,7 @@ use Rattle.symbols_exports.specs.Chains.{IsReached}
 use Rattle.symbols_exports.specs.Shared.{Shared}
 use Rattle.symbols_exports.specs.StarStatements.{statements_of}
 use Rattle.symbols_exports.specs.Told.{ToldExport, ToldStatement}
-use Rattle.symbols_paths.specs.Trees.{Defined, Leaf, definition, unresolved, Tree, Forest, leaf, link, none, more}
+use Rattle.symbols_paths.specs.Trees.{Defined, Leaf, definition, unresolved, PathTree, Forest, leaf, link, no_trees, more_trees}
 use Rattle.symbols_paths.specs.DepAnswers.{EntryView, a_path, a_module}
 use Rattle.symbols_answers.specs.Questions.{QuestionView, asks_module, asks_exports, asks_names, asks_symbol, asks_name, asks_deps, asks_paths, asks_definitions, asks_leaves, asks_entries, QueryView}
 use Rattle.symbols_answers.specs.Answers.{AnswerView, tells_nothing, tells_module, tells_exports, tells_names, tells_symbol, tells_name, tells_deps, tells_paths, tells_definitions, tells_leaves, tells_entries}
@@ -14,11 +14,11 @@ use Rattle.symbols_answers.specs.Answers.{AnswerView, tells_nothing, tells_modul
 -- ---- the modules that an answer names
 
 -- of a statement its referrer, of an export its owner and the referrers on its way
-abbrev pub referrer : ToldStatement → List ℕ
-referrer statement = statement.0
+abbrev pub referrer_of : ToldStatement → List ℕ
+referrer_of statement = statement.0
 
 abbrev pub modules_of_export : ToldExport → List (List ℕ)
-modules_of_export export = export.owner ∷ map referrer export.statements
+modules_of_export export = export.owner ∷ map referrer_of export.statements
 
 -- of the names that modules share those of their owners
 abbrev pub modules_of_shared : Shared ToldExport → List (List ℕ)
@@ -37,13 +37,13 @@ module_of_leaf (definition x) = module_of_defined x
 module_of_leaf (unresolved x) = x.specifier
 
 abbrev mutual
-  pub modules_of_tree : Tree → List (List ℕ)
+  pub modules_of_tree : PathTree → List (List ℕ)
   modules_of_tree (leaf x) = module_of_leaf x ∷ []
   modules_of_tree (link head next) = head.symbol.specifier ∷ head.decl.symbol.specifier ∷ modules_of_forest next
 
   pub modules_of_forest : Forest → List (List ℕ)
-  modules_of_forest none = []
-  modules_of_forest (more t f) = modules_of_tree t ++ modules_of_forest f
+  modules_of_forest no_trees = []
+  modules_of_forest (more_trees t f) = modules_of_tree t ++ modules_of_forest f
 
 -- of an entry those of its path, or the module that it is
 abbrev pub modules_of_standing : EntryView → List (List ℕ)
@@ -54,7 +54,7 @@ modules_of_standing (a_module specifier) = specifier ∷ []
 abbrev pub modules_told : AnswerView → List (List ℕ)
 modules_told tells_nothing = []
 modules_told (tells_module specifier) = specifier ∷ []
-modules_told (tells_exports exports shared statements) = flat_map modules_of_export exports ++ (modules_of_sharing shared ++ map referrer statements)
+modules_told (tells_exports exports shared statements) = flat_map modules_of_export exports ++ (modules_of_sharing shared ++ map referrer_of statements)
 modules_told (tells_names names) = []
 modules_told (tells_symbol symbol) = []
 modules_told (tells_name name) = []

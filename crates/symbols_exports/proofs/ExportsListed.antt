@@ -8,8 +8,9 @@ use Rattle.std.proofs.lemmas.Option.{slice_get-get_or, slice_get_within, get_or_
 use Rattle.std.proofs.lemmas.Slice.Eq.{bytes_eq-Decides}
 use Rattle.symbols_syntax.specs.declared.ids.SymbolId.{SymbolId}
 use Rattle.symbols_syntax.specs.Graph.{GraphView}
+use Rattle.symbols_table.specs.Events.{default_name}
 use Rattle.symbols_exports.specs.Chains.{chain_end, IsBefore, IsUpTo}
-use Rattle.symbols_exports.specs.Exports.{Owned, Entry, default_name, IsOffered, IsExport, StandsBefore, InOrder, AreExports}
+use Rattle.symbols_exports.specs.Exports.{Owned, Entry, IsOffered, IsExport, StandsBefore, InOrder, AreExports}
 use Rattle.symbols_exports.specs.StarStatements.{statements_of, owned_of}
 use Rattle.symbols_exports.specs.Ways.{Way, ways_of, is_passed_by, offered_by, offered_at, same_name, exports_of}
 use Rattle.symbols_exports.proofs.Distinct.{owns_once, owned_place}

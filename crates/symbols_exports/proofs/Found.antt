@@ -6,8 +6,9 @@ use Rattle.std.proofs.lemmas.Option.{get_or_from_slice_get, slice_get_within}
 use Rattle.std.proofs.lemmas.List.Elements.{Contains-push, Contains-push_cases, Contains-append_left, Contains-get_or}
 use Rattle.std.proofs.lemmas.List.Quantifiers.{all_pairs_push}
 use Rattle.symbols_syntax.specs.declared.ids.SymbolId.{SymbolId}
+use Rattle.symbols_table.specs.Events.{default_name}
 use Rattle.symbols_exports.specs.Chains.{Statements, chain_end, IsBefore, IsUpTo, AreReached}
-use Rattle.symbols_exports.specs.Exports.{Owned, Entry, default_name, IsOffered, IsExport, InOrder, AreExports}
+use Rattle.symbols_exports.specs.Exports.{Owned, Entry, IsOffered, IsExport, InOrder, AreExports}
 use Rattle.symbols_exports.proofs.Order.{up_to_then_up_to, same_both_ways}
 use Rattle.symbols_exports.proofs.Ends.{same_module}
 use Rattle.symbols_exports.proofs.Places.{Meeting}

@@ -2,7 +2,7 @@
 use Rattle.std.proofs.Common.{◌≡◌, ℕ, zero, suc, ◌+◌, ◌≤◌, ◌↔◌, inl, inr, List, [], ◌∷◌, ◌++◌, length, take, get_or, Some, refl, sym, ◌∙◌, ap, subst, arith, add-one}
 use Rattle.std.specs.Prelude.{Contains}
 use Rattle.std.proofs.lemmas.List.{take-take, take_at, length-take-le, length-append, take_more, take_all}
-use Rattle.symbols_exports.specs.Chains.{Statements, target, chain_end, IsSimpleChain, IsBefore, IsUpTo, IsLeastChain, AreReached}
+use Rattle.symbols_exports.specs.Chains.{Statements, statement_target, chain_end, IsSimpleChain, IsBefore, IsUpTo, IsLeastChain, AreReached}
 use Rattle.symbols_exports.proofs.Order.{with_one_more, before_then_before, up_to_then_before, up_to_then_up_to, same_both_ways, up_to_or_behind, beginning_up_to}
 use Rattle.symbols_exports.proofs.Ends.{same_module, leads_back, beginning_leads, first_is_there}
 use Rattle.symbols_exports.proofs.Places.{Meeting, IsMetUpTo, StandsAt}
@@ -33,7 +33,7 @@ module _ (statements : Statements) (start place : List ℕ) (met : List Meeting)
   one_further k x v within begins so_far leads =
       let from = leads_back statements start v (take k chain) x leads in
       let same : so_far.0 ≡ from.0 = same_module so_far.0 from.0 (sym so_far.1 ∙ from.1) in
-      let next : target statements so_far.0 x ≡ Some v = ap (λ w. target statements w x) same ∙ from.2 in
+      let next : statement_target statements so_far.0 x ≡ Some v = ap (λ w. statement_target statements w x) same ∙ from.2 in
       let c = so_far.2.0 in
       let up_to = pushed k x within so_far.0 c so_far.1 so_far.2.1 so_far.2.2 in
       let before = up_to_then_before (c ++ x ∷ []) chain place (up_to_then_up_to (c ++ x ∷ []) (take k chain ++ x ∷ []) chain up_to begins) earlier in

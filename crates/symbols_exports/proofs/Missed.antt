@@ -3,7 +3,7 @@ use Rattle.std.proofs.Common.{◌≡◌, ℕ, ◌+◌, ◌<◌, ◌≤◌, ◌�
 use Rattle.std.specs.Prelude.{Contains, AllPairs}
 use Rattle.std.proofs.lemmas.List.Elements.{Contains-push, Contains-push_cases, Contains-append_left, Contains-get_or}
 use Rattle.std.proofs.lemmas.List.Quantifiers.{all_pairs_push}
-use Rattle.symbols_exports.specs.Chains.{Statements, target, IsBefore, IsLeastChain, AreReached}
+use Rattle.symbols_exports.specs.Chains.{Statements, statement_target, IsBefore, IsLeastChain, AreReached}
 use Rattle.symbols_exports.specs.Exports.{Statement, IsUnresolved, StatementsInOrder, AreUnresolved}
 use Rattle.symbols_exports.proofs.Least.{met_are_least, least_is_one}
 use Rattle.symbols_exports.proofs.Order.{before_then_before, between_neighbours, between_module_and_next}
@@ -17,7 +17,7 @@ abbrev pub IsThere : Statements → Kept
 IsThere statements u k = k < length (statements u)
 
 abbrev pub LeadsNowhere : Statements → Kept
-LeadsNowhere statements u k = (k < length (statements u)) × (target statements u k ≡ None)
+LeadsNowhere statements u k = (k < length (statements u)) × (statement_target statements u k ≡ None)
 
 -- the statement is one of a module that was met, and before the place
 abbrev pub IsBehind : List ℕ → List Meeting → List ℕ → ℕ → Type 0

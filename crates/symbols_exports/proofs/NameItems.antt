@@ -13,7 +13,8 @@ use Rattle.symbols_table.specs.declared.info.fault.SymbolsFault.TheVariants.{Out
 use Rattle.symbols_root.specs.Roots.{RootView}
 use Rattle.symbols_exports.specs.Answers.{IsAnswer, IsFault, AreListed}
 use Rattle.symbols_exports.specs.Exports.{Entry}
-use Rattle.symbols_exports.specs.PublicNames.{NameItem, is_nameless, exported_by, members_under, items_under, public_names_of, IsOwned, items_of}
+use Rattle.symbols_exports.specs.PublicNames.{NameItem, is_nameless, exported_by, members_under, items_under, public_names_of}
+use Rattle.symbols_exports.specs.inner.PublicNames.{IsOwned, items_of}
 use Rattle.symbols_exports.specs.Shared.{Shared}
 use Rattle.symbols_exports.specs.StarStatements.{owned_of}
 use Rattle.symbols_exports.specs.Taking.{NameView}

@@ -9,7 +9,7 @@ use Rattle.symbols_root.specs.Roots.{RootView, specifier_in}
 use Rattle.symbols_exports.specs.declared.exports.path.ResolvedExportOrReExportAllPath.{ResolvedExportOrReExportAllPath}
 use Rattle.symbols_exports.specs.Exports.{Entry}
 use Rattle.symbols_exports.specs.OneName.{IsNameAnswer, export_named}
-use Rattle.symbols_exports.specs.Taking.{NameView, name_view, names_view, named_way}
+use Rattle.symbols_exports.specs.Taking.{NameView, name_view, names_view, path_view}
 use Rattle.symbols_exports.specs.Told.{ToldExport, told_export, told_name}
 use Rattle.symbols_exports.specs.Ways.{exports_of}
 use Rattle.symbols_exports.proofs.NamedExport.{found_there}
@@ -40,10 +40,10 @@ one_told {old} {new} {start} {name} names view answer = by names (few (export_na
     by [] short = refl
     by (x ∷ xs) short = absurd (omega (arith, short))
 
-pub popped_answer : {old new : RootView} {start : ModuleId} (name : List ℕ) {asked : ℕ} (before : List NameEntry) (key : String Global) (path : ResolvedExportOrReExportAllPath) (entries : List NameEntry) → entries ≡ before ++ (key, path) ∷ [] → IsNameAnswer old new start name (names_view entries) asked → IsNameAnswer old new start name (named_way name path ∷ []) asked
+pub popped_answer : {old new : RootView} {start : ModuleId} (name : List ℕ) {asked : ℕ} (before : List NameEntry) (key : String Global) (path : ResolvedExportOrReExportAllPath) (entries : List NameEntry) → entries ≡ before ++ (key, path) ∷ [] → IsNameAnswer old new start name (names_view entries) asked → IsNameAnswer old new start name (path_view name path ∷ []) asked
 popped_answer {old} {new} {start} name {asked} before key path entries are answer =
     let views : names_view entries ≡ names_view before ++ name_view (key, path) ∷ [] = ap names_view are ∙ map-append name_view before ((key, path) ∷ []) in
     let told = subst (λ views. IsNameAnswer old new start name views asked) views answer in
     let alone = subst (λ views. IsNameAnswer old new start name (views ++ name_view (key, path) ∷ []) asked) (one_told (names_view before) (name_view (key, path)) told) told in
     let called : string_bytes key ≡ name = name_told (name_view (key, path)) alone in
-    subst (λ q. IsNameAnswer old new start name (named_way q path ∷ []) asked) called alone
+    subst (λ q. IsNameAnswer old new start name (path_view q path ∷ []) asked) called alone

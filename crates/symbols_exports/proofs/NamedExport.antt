@@ -5,8 +5,9 @@ use Rattle.std.specs.Str.{bytes_eq}
 use Rattle.std.proofs.lemmas.Option.{none-some, same_Some, slice_get_within}
 use Rattle.std.proofs.lemmas.Slice.Eq.{bytes_eq-Decides}
 use Rattle.symbols_syntax.specs.declared.ids.SymbolId.{SymbolId}
+use Rattle.symbols_table.specs.Events.{default_name}
 use Rattle.symbols_exports.specs.Chains.{Statements, chain_end, IsBefore, IsUpTo}
-use Rattle.symbols_exports.specs.Exports.{Owned, Entry, default_name, IsOffered, IsExport, InOrder, AreExports}
+use Rattle.symbols_exports.specs.Exports.{Owned, Entry, IsOffered, IsExport, InOrder, AreExports}
 use Rattle.symbols_exports.specs.OneName.{last_chain, IsWithin}
 use Rattle.symbols_exports.proofs.Ends.{same_module}
 use Rattle.symbols_exports.proofs.Found.{OwnOnce, AreFound}

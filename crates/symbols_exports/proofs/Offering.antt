@@ -6,15 +6,17 @@ use Rattle.std.proofs.lemmas.List.{map-append}
 use Rattle.symbols_syntax.specs.declared.ids.ModuleId.{ModuleId}
 use Rattle.symbols_syntax.specs.declared.ids.SymbolId.{SymbolId}
 use Rattle.symbols_syntax.specs.Graph.{GraphView}
+use Rattle.symbols_table.specs.Events.{default_name}
 use Rattle.symbols_root.specs.Roots.{RootView, specifier_in}
-use Rattle.symbols_exports.specs.Exports.{Owned, Entry, default_name}
+use Rattle.symbols_exports.specs.Exports.{Owned, Entry}
 use Rattle.symbols_exports.specs.Shared.{Shared}
 use Rattle.symbols_exports.specs.Sharing.{offers_of}
 use Rattle.symbols_root.specs.declared.root.rules.Rules.{Rules}
 use Rattle.symbols_root.specs.declared.root.rules.Rules.TheVariants.{Deno, Strict}
 use Rattle.symbols_exports.specs.StarStatements.{owned_of}
-use Rattle.symbols_exports.specs.Taking.{NameView, TakenView, WalkView, is_way, offer_along, offers_along, with_owner, with_owners, with_names, with_owned, view_name}
-use Rattle.symbols_exports.specs.Wanted.{owned_for, keeps_offers}
+use Rattle.symbols_exports.specs.Taking.{NameView}
+use Rattle.symbols_exports.specs.inner.Taking.{TakenView, WalkView, has_statements, offer_along, offers_along, with_owner, with_owners, with_names, with_owned, view_name}
+use Rattle.symbols_exports.specs.inner.Wanted.{owned_for, keeps_offers}
 use Rattle.symbols_exports.specs.declared.exports.wanted.Wanted.{Wanted}
 use Rattle.symbols_exports.specs.declared.exports.wanted.Wanted.TheVariants.{AllNames, OneName}
 use Rattle.symbols_exports.specs.Told.{told_chain, told_export, told_number, told_name, AreNumbered, AllNumbered}
@@ -36,10 +38,10 @@ offers_push owned [] now = append-nil (offered_by now.0 now.1 (owned now.1))
 offers_push owned (m ∷ met) now = ap (λ rest. offered_by m.0 m.1 (owned m.1) ++ rest) (offers_push owned met now) ∙ sym (append_assoc (offered_by m.0 m.1 (owned m.1)) (offers_of owned met) (offered_by now.0 now.1 (owned now.1)))
 
 module _ (graph : GraphView) (root : RootView) (start : List ℕ) (now : Meeting) (way : List (ModuleId × List ℕ)) (owner : ModuleId) (along : told_chain graph start now.0 ≡ map (told_number root) way) (at_end : now.1 ≡ specifier_in root owner) where
-  passed_alike : (own : List ℕ × SymbolId) → is_passed_by now.0 own ≡ not (bytes_eq own.0 default_name && is_way way)
+  passed_alike : (own : List ℕ × SymbolId) → is_passed_by now.0 own ≡ not (bytes_eq own.0 default_name && has_statements way)
   passed_alike own = by now.0 way along (bytes_eq own.0 default_name) refl
     where
-      by : (chain : List ℕ) (w : List (ModuleId × List ℕ)) → told_chain graph start chain ≡ map (told_number root) w → (b : Bool) → bytes_eq own.0 default_name ≡ b → is_passed_by chain own ≡ not (bytes_eq own.0 default_name && is_way w)
+      by : (chain : List ℕ) (w : List (ModuleId × List ℕ)) → told_chain graph start chain ≡ map (told_number root) w → (b : Bool) → bytes_eq own.0 default_name ≡ b → is_passed_by chain own ≡ not (bytes_eq own.0 default_name && has_statements w)
       by [] [] same true is = rw is refl
       by [] [] same false is = rw is refl
       by [] (s ∷ w) same b is = absurd cc
@@ -52,10 +54,10 @@ module _ (graph : GraphView) (root : RootView) (start : List ℕ) (now : Meeting
 
   offered_told : (own : List (List ℕ × SymbolId)) → map (told_export graph start) (offered_by now.0 now.1 own) ≡ map (told_name root) (offers_along way owner own)
   offered_told [] = refl
-  offered_told (x ∷ own) = by (is_passed_by now.0 x) (not (bytes_eq x.0 default_name && is_way way)) (passed_alike x) (offered_told own)
+  offered_told (x ∷ own) = by (is_passed_by now.0 x) (not (bytes_eq x.0 default_name && has_statements way)) (passed_alike x) (offered_told own)
     where
       by : (b c : Bool) → b ≡ c → map (told_export graph start) (offered_by now.0 now.1 own) ≡ map (told_name root) (offers_along way owner own)
-          → map (told_export graph start) (map (λ (y : List ℕ × SymbolId). record { name = y.0; chain = now.0; owner = now.1; symbol = y.1 }) (if b then x ∷ filter (is_passed_by now.0) own else filter (is_passed_by now.0) own)) ≡ map (told_name root) (map (offer_along way owner) (if c then x ∷ filter (λ (y : List ℕ × SymbolId). not (bytes_eq y.0 default_name && is_way way)) own else filter (λ (y : List ℕ × SymbolId). not (bytes_eq y.0 default_name && is_way way)) own))
+          → map (told_export graph start) (map (λ (y : List ℕ × SymbolId). record { name = y.0; chain = now.0; owner = now.1; symbol = y.1 }) (if b then x ∷ filter (is_passed_by now.0) own else filter (is_passed_by now.0) own)) ≡ map (told_name root) (map (offer_along way owner) (if c then x ∷ filter (λ (y : List ℕ × SymbolId). not (bytes_eq y.0 default_name && has_statements way)) own else filter (λ (y : List ℕ × SymbolId). not (bytes_eq y.0 default_name && has_statements way)) own))
       by true true same rest = λ i. one_told x i ∷ rest i
       by true false same rest = absurd cc
       by false true same rest = absurd cc
@@ -73,10 +75,10 @@ module _ (graph : GraphView) (root : RootView) (start : List ℕ) (now : Meeting
 
 -- of what a module owns the first, then the others
 pub owned_first : (way : List (ModuleId × List ℕ)) (owner : ModuleId) (walk after : WalkView) (x : List ℕ × SymbolId) (own : List (List ℕ × SymbolId)) (all : WalkView) → after ≡ with_owned way owner (x ∷ []) walk → with_owned way owner (x ∷ own) walk ≡ all → with_owned way owner own after ≡ all
-owned_first way owner walk after x own all taken are = ap (with_owned way owner own) taken ∙ ((λ i. record { keeps = walk.keeps; taken = record { names = with_names way owner (x ∷ own) walk.taken.names; offers = by walk.keeps (not (bytes_eq x.0 default_name && is_way way)) i; unresolved = walk.taken.unresolved } }) ∙ are)
+owned_first way owner walk after x own all taken are = ap (with_owned way owner own) taken ∙ ((λ i. record { keeps = walk.keeps; taken = record { names = with_names way owner (x ∷ own) walk.taken.names; offers = by walk.keeps (not (bytes_eq x.0 default_name && has_statements way)) i; unresolved = walk.taken.unresolved } }) ∙ are)
   where
     passed : List (List ℕ × SymbolId) → List (List ℕ × SymbolId)
-    passed own = filter (λ (y : List ℕ × SymbolId). not (bytes_eq y.0 default_name && is_way way)) own
+    passed own = filter (λ (y : List ℕ × SymbolId). not (bytes_eq y.0 default_name && has_statements way)) own
 
     by : (keeps passes : Bool) → (if keeps then with_owners (if keeps then with_owners walk.taken.offers (map (offer_along way owner) (if passes then x ∷ [] else [])) else walk.taken.offers) (map (offer_along way owner) (passed own)) else (if keeps then with_owners walk.taken.offers (map (offer_along way owner) (if passes then x ∷ [] else [])) else walk.taken.offers)) ≡ (if keeps then with_owners walk.taken.offers (map (offer_along way owner) (if passes then x ∷ passed own else passed own)) else walk.taken.offers)
     by true true = refl
@@ -126,8 +128,8 @@ names_both root names (x ∷ more) are also = by (names_both root (names ++ x �
 pub offers_numbered : (root : RootView) (keeps : Bool) (way : List (ModuleId × List ℕ)) (owner : ModuleId) (own : List (List ℕ × SymbolId)) → AreNumbered root way → owner.0 < length root.stored → AllNumbered root (offers_now keeps way owner own)
 offers_numbered root false way owner own way_in owner_in = no_names_numbered root
 offers_numbered root true way owner [] way_in owner_in = no_names_numbered root
-offers_numbered root true way owner (x ∷ own) way_in owner_in = by (not (bytes_eq x.0 default_name && is_way way)) (offers_numbered root true way owner own way_in owner_in)
+offers_numbered root true way owner (x ∷ own) way_in owner_in = by (not (bytes_eq x.0 default_name && has_statements way)) (offers_numbered root true way owner own way_in owner_in)
   where
-    by : (b : Bool) → AllNumbered root (offers_along way owner own) → AllNumbered root (map (offer_along way owner) (if b then x ∷ filter (λ (y : List ℕ × SymbolId). not (bytes_eq y.0 default_name && is_way way)) own else filter (λ (y : List ℕ × SymbolId). not (bytes_eq y.0 default_name && is_way way)) own))
+    by : (b : Bool) → AllNumbered root (offers_along way owner own) → AllNumbered root (map (offer_along way owner) (if b then x ∷ filter (λ (y : List ℕ × SymbolId). not (bytes_eq y.0 default_name && has_statements way)) own else filter (λ (y : List ℕ × SymbolId). not (bytes_eq y.0 default_name && has_statements way)) own))
     by true rest = names_both root (offer_along way owner x ∷ []) (offers_along way owner own) (names_push root [] (offer_along way owner x) (no_names_numbered root) (record { statements_in = way_in; export_in = owner_in })) rest
     by false rest = rest

@@ -4,7 +4,7 @@ use Rattle.std.specs.Prelude.{Contains, AllPairs}
 use Rattle.std.proofs.lemmas.List.{take_all, length_push, take-append-le}
 use Rattle.std.proofs.lemmas.List.Elements.{Contains-push, Contains-push_cases, Contains-append_left, Contains-get_or}
 use Rattle.std.proofs.lemmas.List.Quantifiers.{all_pairs_push}
-use Rattle.symbols_exports.specs.Chains.{Statements, target, chain_end, IsSimpleChain, IsBefore, IsUpTo}
+use Rattle.symbols_exports.specs.Chains.{Statements, statement_target, chain_end, IsSimpleChain, IsBefore, IsUpTo}
 use Rattle.symbols_exports.proofs.Order.{before_then_before, before_behind, between_neighbours, between_module_and_next}
 use Rattle.symbols_exports.proofs.Ends.{same_module, leads_on}
 
@@ -26,7 +26,7 @@ pub record StandsAt (statements : Statements) (start : List ℕ) (place : List �
   pub are_chains : (c u : List ℕ) → Contains met (c, u) → IsSimpleChain statements start c u
   pub met_once : (c d u : List ℕ) → Contains met (c, u) → Contains met (d, u) → c ≡ d
   pub along : (c u : List ℕ) → Contains met (c, u) → (k : ℕ) → k ≤ length c → (w : List ℕ) × Contains met (take k c, w)
-  pub followed : (c u v : List ℕ) (k : ℕ) → Contains met (c, u) → IsBefore (c ++ k ∷ []) place → target statements u k ≡ Some v → IsMetUpTo met v (c ++ k ∷ [])
+  pub followed : (c u v : List ℕ) (k : ℕ) → Contains met (c, u) → IsBefore (c ++ k ∷ []) place → statement_target statements u k ≡ Some v → IsMetUpTo met v (c ++ k ∷ [])
   pub ordered : AllPairs MeetsInOrder met
 
 -- two chains that were met and are the same lead to the same module
@@ -35,7 +35,7 @@ met_by_one statements start place met stands c d u v cu dv same =
     same_module u v (sym (stands.are_chains c u cu).leads ∙ (ap (chain_end statements start) same ∙ (stands.are_chains d v dv).leads))
 
 -- a walk with the same meetings at a later place, if all that lies between was followed
-pub moved_on : (statements : Statements) (start place next : List ℕ) (met : List Meeting) → StandsAt statements start place met → IsBefore place next → ((c u v : List ℕ) (k : ℕ) → Contains met (c, u) → IsBefore (c ++ k ∷ []) next → target statements u k ≡ Some v → IsMetUpTo met v (c ++ k ∷ [])) → StandsAt statements start next met
+pub moved_on : (statements : Statements) (start place next : List ℕ) (met : List Meeting) → StandsAt statements start place met → IsBefore place next → ((c u v : List ℕ) (k : ℕ) → Contains met (c, u) → IsBefore (c ++ k ∷ []) next → statement_target statements u k ≡ Some v → IsMetUpTo met v (c ++ k ∷ [])) → StandsAt statements start next met
 moved_on statements start place next met stands later followed = record {
   begun = stands.begun;
   before = λ c u cu. before_then_before c place next (stands.before c u cu) later;
@@ -50,16 +50,16 @@ pub next_is_later : (q : List ℕ) (i : ℕ) → IsBefore (q ++ i ∷ []) (q ++ 
 next_is_later q i = before_behind q (i ∷ []) ((i + 1) ∷ []) (inl (omega arith))
 
 -- behind a statement that leads nowhere, or to a module that was met, comes the next
-pub stands_next : (statements : Statements) (start q u : List ℕ) (i : ℕ) (met : List Meeting) → StandsAt statements start (q ++ i ∷ []) met → Contains met (q, u) → ((v : List ℕ) → target statements u i ≡ Some v → (d : List ℕ) × Contains met (d, v)) → StandsAt statements start (q ++ (i + 1) ∷ []) met
+pub stands_next : (statements : Statements) (start q u : List ℕ) (i : ℕ) (met : List Meeting) → StandsAt statements start (q ++ i ∷ []) met → Contains met (q, u) → ((v : List ℕ) → statement_target statements u i ≡ Some v → (d : List ℕ) × Contains met (d, v)) → StandsAt statements start (q ++ (i + 1) ∷ []) met
 stands_next statements start q u i met stands here leads = moved_on statements start (q ++ i ∷ []) (q ++ (i + 1) ∷ []) met stands (next_is_later q i) followed
   where
-    this_one : (c w v : List ℕ) (k : ℕ) → Contains met (c, w) → c ≡ q → k ≡ i → target statements w k ≡ Some v → IsMetUpTo met v (c ++ k ∷ [])
+    this_one : (c w v : List ℕ) (k : ℕ) → Contains met (c, w) → c ≡ q → k ≡ i → statement_target statements w k ≡ Some v → IsMetUpTo met v (c ++ k ∷ [])
     this_one c w v k cw same at next =
         let to = leads v (rw (← met_by_one statements start (q ++ i ∷ []) met stands c q w u cw here same, ← at) next) in
         let place : q ++ i ∷ [] ≡ c ++ k ∷ [] = cc in
         (to.0, to.1, inr (subst (IsBefore to.0) place (stands.before to.0 v to.1)))
 
-    followed : (c w v : List ℕ) (k : ℕ) → Contains met (c, w) → IsBefore (c ++ k ∷ []) (q ++ (i + 1) ∷ []) → target statements w k ≡ Some v → IsMetUpTo met v (c ++ k ∷ [])
+    followed : (c w v : List ℕ) (k : ℕ) → Contains met (c, w) → IsBefore (c ++ k ∷ []) (q ++ (i + 1) ∷ []) → statement_target statements w k ≡ Some v → IsMetUpTo met v (c ++ k ∷ [])
     followed c w v k cw before next = elim (between_neighbours c q i k (stands.before c w cw) before) [
       | inl earlier ↦ stands.followed c w v k cw earlier next
       | inr equal ↦ this_one c w v k cw equal.0 equal.1 next
@@ -69,16 +69,16 @@ pub back_is_later : (q : List ℕ) (j i : ℕ) → IsBefore (q ++ j ∷ i ∷ []
 back_is_later q j i = before_behind q (j ∷ i ∷ []) ((j + 1) ∷ []) (inl (omega arith))
 
 -- behind the last statement of a module comes the one behind the statement that led to it
-pub stands_back : (statements : Statements) (start q u : List ℕ) (j i : ℕ) (met : List Meeting) → StandsAt statements start ((q ++ j ∷ []) ++ i ∷ []) met → Contains met (q ++ j ∷ [], u) → ((k : ℕ) → i ≤ k → target statements u k ≡ None) → StandsAt statements start (q ++ (j + 1) ∷ []) met
+pub stands_back : (statements : Statements) (start q u : List ℕ) (j i : ℕ) (met : List Meeting) → StandsAt statements start ((q ++ j ∷ []) ++ i ∷ []) met → Contains met (q ++ j ∷ [], u) → ((k : ℕ) → i ≤ k → statement_target statements u k ≡ None) → StandsAt statements start (q ++ (j + 1) ∷ []) met
 stands_back statements start q u j i met stands here ended = moved_on statements start ((q ++ j ∷ []) ++ i ∷ []) (q ++ (j + 1) ∷ []) met stands (rw append_assoc (back_is_later q j i)) followed
   where
-    none_left : (c w v : List ℕ) (k : ℕ) → Contains met (c, w) → c ≡ q ++ j ∷ [] → i ≤ k → target statements w k ≡ Some v → ⊥
+    none_left : (c w v : List ℕ) (k : ℕ) → Contains met (c, w) → c ≡ q ++ j ∷ [] → i ≤ k → statement_target statements w k ≡ Some v → ⊥
     none_left c w v k cw same from next =
-        let there : target statements u k ≡ Some v = rw (← met_by_one statements start ((q ++ j ∷ []) ++ i ∷ []) met stands c (q ++ j ∷ []) w u cw here same) next in
+        let there : statement_target statements u k ≡ Some v = rw (← met_by_one statements start ((q ++ j ∷ []) ++ i ∷ []) met stands c (q ++ j ∷ []) w u cw here same) next in
         let none : None ≡ Some v = sym (ended k from) ∙ there in
         cc
 
-    followed : (c w v : List ℕ) (k : ℕ) → Contains met (c, w) → IsBefore (c ++ k ∷ []) (q ++ (j + 1) ∷ []) → target statements w k ≡ Some v → IsMetUpTo met v (c ++ k ∷ [])
+    followed : (c w v : List ℕ) (k : ℕ) → Contains met (c, w) → IsBefore (c ++ k ∷ []) (q ++ (j + 1) ∷ []) → statement_target statements w k ≡ Some v → IsMetUpTo met v (c ++ k ∷ [])
     followed c w v k cw before next = elim (between_module_and_next c q j i k (rw append_assoc at (stands.before c w cw)) before) [
       | inl earlier ↦ stands.followed c w v k cw (rw append_assoc earlier) next
       | inr own ↦ absurd (none_left c w v k cw own.0 own.1 next)
@@ -134,7 +134,7 @@ part_of q i k within = go (shorter_or_all k (length q) (omega (arith, within, le
     go (inr equal) = inr (omega (arith, equal, length_push q i), take_all k (q ++ i ∷ []) (omega (arith, equal, length_push q i)))
 
 -- a statement that leads to a module not met: the walk meets it, and comes to its first statement
-module _ (statements : Statements) (start q u v : List ℕ) (i : ℕ) (met : List Meeting) (stands : StandsAt statements start (q ++ i ∷ []) met) (here : Contains met (q, u)) (leads : target statements u i ≡ Some v) (fresh : (d : List ℕ) → Contains met (d, v) → ⊥) where
+module _ (statements : Statements) (start q u v : List ℕ) (i : ℕ) (met : List Meeting) (stands : StandsAt statements start (q ++ i ∷ []) met) (here : Contains met (q, u)) (leads : statement_target statements u i ≡ Some v) (fresh : (d : List ℕ) → Contains met (d, v) → ⊥) where
   abbrev pub more : List Meeting
   more = met ++ (q ++ i ∷ [], v) ∷ []
 
@@ -203,7 +203,7 @@ module _ (statements : Statements) (start q u v : List ℕ) (i : ℕ) (met : Lis
       by_case (inl was) = let x = stands.along c w was k within in (x.0, still (take k c) x.0 x.1)
       by_case (inr is) = subst (λ d. (x : List ℕ) × Contains more (take k d, x)) is.0 (on_this (subst (λ d. k ≤ length d) (sym is.0) within))
 
-  followed_entered : (c w x : List ℕ) (k : ℕ) → Contains more (c, w) → IsBefore (c ++ k ∷ []) ((q ++ i ∷ []) ++ 0 ∷ []) → target statements w k ≡ Some x → IsMetUpTo more x (c ++ k ∷ [])
+  followed_entered : (c w x : List ℕ) (k : ℕ) → Contains more (c, w) → IsBefore (c ++ k ∷ []) ((q ++ i ∷ []) ++ 0 ∷ []) → statement_target statements w k ≡ Some x → IsMetUpTo more x (c ++ k ∷ [])
   followed_entered c w x k cw before next = by_case (was_or_is c w cw)
     where
       this_one : Contains met (c, w) → c ≡ q → k ≡ i → IsMetUpTo more x (c ++ k ∷ [])

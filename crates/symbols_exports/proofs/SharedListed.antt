@@ -5,10 +5,11 @@ use Rattle.std.specs.Str.{bytes_eq}
 use Rattle.std.proofs.lemmas.Slice.Eq.{bytes_eq-Decides}
 use Rattle.symbols_syntax.specs.declared.ids.SymbolId.{SymbolId}
 use Rattle.symbols_syntax.specs.Graph.{GraphView}
+use Rattle.symbols_table.specs.Events.{default_name}
 use Rattle.symbols_exports.specs.Chains.{chain_end, IsSimpleChain, IsBefore, IsUpTo, IsLeastChain}
-use Rattle.symbols_exports.specs.Exports.{Entry, default_name, IsOffered, IsExport, InOrder}
+use Rattle.symbols_exports.specs.Exports.{Entry, IsOffered, IsExport, InOrder}
 use Rattle.symbols_exports.specs.Shared.{Shared, IsOwner, HasTwoOwners, IsShared, NamesInOrder, AreShared}
-use Rattle.symbols_exports.specs.Sharing.{reached_of, offers_of, together, are_shared, is_chain, shared_of}
+use Rattle.symbols_exports.specs.Sharing.{reached_of, offers_of, grouped_by_name, is_shared_group, has_position, shared_of}
 use Rattle.symbols_exports.specs.StarStatements.{statements_of, owned_of}
 use Rattle.symbols_exports.specs.Ways.{Way, offered_by}
 use Rattle.symbols_exports.proofs.Distinct.{owns_once}
@@ -31,16 +32,16 @@ abbrev entry_name : Entry → List ℕ
 entry_name e = e.name
 
 abbrev along : Entry → Bool
-along e = is_chain e.chain
+along e = has_position e.chain
 
 -- a list that is shared begins so
-begins : (xs : List Entry) → are_shared along xs ≡ true → (x : Entry) × (y : Entry) × (rest : List Entry) × (xs ≡ x ∷ y ∷ rest) × (is_chain x.chain ≡ true)
+begins : (xs : List Entry) → is_shared_group along xs ≡ true → (x : Entry) × (y : Entry) × (rest : List Entry) × (xs ≡ x ∷ y ∷ rest) × (has_position x.chain ≡ true)
 begins [] is = absurd (true≢false (sym is))
 begins (x ∷ []) is = absurd (true≢false (sym is))
 begins (x ∷ y ∷ rest) is = (x, y, rest, refl, is)
 
 -- with two members that differ and a first that comes along a statement it is shared
-are_two : (xs : List Entry) (x y : Entry) → Contains xs x → Contains xs y → (x ≡ y → ⊥) → ((e : Entry) → Contains xs e → e.chain ≡ [] → ⊥) → are_shared along xs ≡ true
+are_two : (xs : List Entry) (x y : Entry) → Contains xs x → Contains xs y → (x ≡ y → ⊥) → ((e : Entry) → Contains xs e → e.chain ≡ [] → ⊥) → is_shared_group along xs ≡ true
 are_two [] x y has_x has_y differ behind = absurd (contains_nothing x has_x)
 are_two (a ∷ []) x y has_x has_y differ behind = absurd (differ (sym (only x has_x) ∙ only y has_y))
   where
@@ -51,11 +52,11 @@ are_two (a ∷ []) x y has_x has_y differ behind = absurd (differ (sym (only x h
     ]
 are_two (a ∷ b ∷ rest) x y has_x has_y differ behind = by a.chain (behind a (contains_first a (b ∷ rest)))
   where
-    by : (chain : List ℕ) → (chain ≡ [] → ⊥) → is_chain chain ≡ true
+    by : (chain : List ℕ) → (chain ≡ [] → ⊥) → has_position chain ≡ true
     by [] never = absurd (never refl)
     by (k ∷ chain) never = refl
 
-chain_not_nothing : (chain : List ℕ) → is_chain chain ≡ true → chain ≡ [] → ⊥
+chain_not_nothing : (chain : List ℕ) → has_position chain ≡ true → chain ≡ [] → ⊥
 chain_not_nothing [] is none = true≢false (sym is)
 chain_not_nothing (k ∷ chain) is none = cc
 
@@ -123,7 +124,7 @@ module _ (graph : GraphView) (start : List ℕ) where
 
   -- ---- a group of one name
 
-  module _ (group : Shared Entry) (has_group_there : Contains (together entry_name offers) group) where
+  module _ (group : Shared Entry) (has_group_there : Contains (grouped_by_name entry_name offers) group) where
     abbrev has_name : Entry → Bool
     has_name e = bytes_eq group.name e.name
 
@@ -160,8 +161,8 @@ module _ (graph : GraphView) (start : List ℕ) where
     owner_there passed e owner = in_owners e (offer_there e owner.leads (subst (λ q. Contains (owned_of graph e.owner) (q, e.symbol)) (sym owner.named) owner.owns) (λ default. absurd (passed (sym owner.named ∙ default)))) owner.named
 
     -- where it is shared
-    module _ (is : are_shared along group.owners ≡ true) where
-      parts : (x : Entry) × (y : Entry) × (rest : List Entry) × (group.owners ≡ x ∷ y ∷ rest) × (is_chain x.chain ≡ true)
+    module _ (is : is_shared_group along group.owners ≡ true) where
+      parts : (x : Entry) × (y : Entry) × (rest : List Entry) × (group.owners ≡ x ∷ y ∷ rest) × (has_position x.chain ≡ true)
       parts = begins group.owners is
 
       has_first : Contains group.owners parts.0
@@ -212,10 +213,10 @@ module _ (graph : GraphView) (start : List ℕ) where
   -- ---- the shared names
 
   abbrev kept : Shared Entry → Bool
-  kept group = are_shared along group.owners
+  kept group = is_shared_group along group.owners
 
   is_shared : (shared : Shared Entry) → Contains (shared_of graph start) shared → IsShared (statements_of graph) (owned_of graph) start shared
-  is_shared shared has = let from = filtered_from kept (together entry_name offers) shared has in shared_there shared from.0 from.1
+  is_shared shared has = let from = filtered_from kept (grouped_by_name entry_name offers) shared has in shared_there shared from.0 from.1
 
   is_listed : (shared : Shared Entry) → IsShared (statements_of graph) (owned_of graph) start shared → Contains (shared_of graph start) shared
   is_listed shared they =
@@ -231,10 +232,10 @@ module _ (graph : GraphView) (start : List ℕ) where
       let same : found.0 ≡ shared = (λ i. record { name = named i; owners = owners i }) in
       let has_one : Contains found.0.owners two.one = subst (λ es. Contains es two.one) (sym owners) ((they.owners two.one).1 two.one_owns) in
       let has_other : Contains found.0.owners two.other = subst (λ es. Contains es two.other) (sym owners) ((they.owners two.other).1 two.other_owns) in
-      let is : are_shared along found.0.owners ≡ true = are_two found.0.owners two.one two.other has_one has_other (λ equal. two.are_two (ap (λ (e : Entry). e.owner) equal)) (behind found.0 found.1 named) in
-      subst (Contains (shared_of graph start)) same (contains_filtered kept (together entry_name offers) found.0 found.1 is)
+      let is : is_shared_group along found.0.owners ≡ true = are_two found.0.owners two.one two.other has_one has_other (λ equal. two.are_two (ap (λ (e : Entry). e.owner) equal)) (behind found.0 found.1 named) in
+      subst (Contains (shared_of graph start)) same (contains_filtered kept (grouped_by_name entry_name offers) found.0 found.1 is)
     where
-      behind : (group : Shared Entry) → Contains (together entry_name offers) group → group.name ≡ shared.name → (e : Entry) → Contains group.owners e → e.chain ≡ [] → ⊥
+      behind : (group : Shared Entry) → Contains (grouped_by_name entry_name offers) group → group.name ≡ shared.name → (e : Entry) → Contains group.owners e → e.chain ≡ [] → ⊥
       behind group has_it named e has none =
           let owner = owner_from group has_it e has in
           let at_start : start ≡ e.owner = same_module start e.owner (sym (ap (chain_end (statements_of graph) start) none) ∙ owner.leads.is_chain.leads) in
@@ -243,7 +244,7 @@ module _ (graph : GraphView) (start : List ℕ) where
   -- ---- their order
 
   -- the export by a shared name is its first owner
-  export_first : (group : Shared Entry) → Contains (together entry_name offers) group → (group.name ≡ default_name → ⊥) → (e : Entry) → IsExport (statements_of graph) (owned_of graph) start e → e.name ≡ group.name → IsFirst e group.owners
+  export_first : (group : Shared Entry) → Contains (grouped_by_name entry_name offers) group → (group.name ≡ default_name → ⊥) → (e : Entry) → IsExport (statements_of graph) (owned_of graph) start e → e.name ≡ group.name → IsFirst e group.owners
   export_first group has_it passed e export named = by group.owners (in_owners group has_it e there named) (chains_sorted group has_it) (λ f has. in_offers group has_it f has)
     where
       offered_too : (other : List ℕ) → IsSimpleChain (statements_of graph) start other e.owner → IsOffered (statements_of graph) (owned_of graph) start (record { name = e.name; chain = other; owner = e.owner; symbol = e.symbol })
@@ -265,12 +266,12 @@ module _ (graph : GraphView) (start : List ℕ) where
       ]
 
   listed_sorted : IsSorted (NamesInOrder (statements_of graph) (owned_of graph) start) (shared_of graph start)
-  listed_sorted = sorted_so (FirstsInOrder entry_name (InOrder (owned_of graph))) (NamesInOrder (statements_of graph) (owned_of graph) start) (shared_of graph start) by_exports (sorted_filter (FirstsInOrder entry_name (InOrder (owned_of graph))) kept (together entry_name offers) (groups_sorted entry_name (InOrder (owned_of graph)) offers offers_sorted))
+  listed_sorted = sorted_so (FirstsInOrder entry_name (InOrder (owned_of graph))) (NamesInOrder (statements_of graph) (owned_of graph) start) (shared_of graph start) by_exports (sorted_filter (FirstsInOrder entry_name (InOrder (owned_of graph))) kept (grouped_by_name entry_name offers) (groups_sorted entry_name (InOrder (owned_of graph)) offers offers_sorted))
     where
       by_exports : (x y : Shared Entry) → Contains (shared_of graph start) x → Contains (shared_of graph start) y → FirstsInOrder entry_name (InOrder (owned_of graph)) x y → NamesInOrder (statements_of graph) (owned_of graph) start x y
       by_exports x y has_x has_y firsts = λ e f export_e export_f named_e named_f.
-          let from_x = filtered_from kept (together entry_name offers) x has_x in
-          let from_y = filtered_from kept (together entry_name offers) y has_y in
+          let from_x = filtered_from kept (grouped_by_name entry_name offers) x has_x in
+          let from_y = filtered_from kept (grouped_by_name entry_name offers) y has_y in
           firsts e f (export_first x from_x.0 (not_default x from_x.0 from_x.1) e export_e named_e) (export_first y from_y.0 (not_default y from_y.0 from_y.1) f export_f named_f)
 
   pub shared_are_listed : AreShared (statements_of graph) (owned_of graph) start (shared_of graph start)

@@ -12,11 +12,13 @@ use Rattle.symbols_exports.specs.declared.exports.wanted.Wanted.TheVariants.{All
 use Rattle.symbols_exports.specs.Chains.{AreReached}
 use Rattle.symbols_exports.specs.Exports.{Entry}
 use Rattle.symbols_exports.specs.Shared.{Shared}
-use Rattle.symbols_exports.specs.Sharing.{offers_of, together, are_shared, shared_only, shared_among, is_chain, shared_by, told_shared, comes_along, told_sharing, AllShareNumbered}
+use Rattle.symbols_exports.specs.Sharing.{offers_of, grouped_by_name, is_shared_group, shared_only, shared_among, has_position, shared_by, told_shared, told_sharing, AllShareNumbered}
+use Rattle.symbols_exports.specs.inner.Sharing.{comes_along}
 use Rattle.symbols_exports.specs.StarStatements.{statements_of, owned_of}
-use Rattle.symbols_exports.specs.Taking.{NameView, is_way, with_owners, view_name}
+use Rattle.symbols_exports.specs.Taking.{NameView}
+use Rattle.symbols_exports.specs.inner.Taking.{has_statements, with_owners, view_name}
 use Rattle.symbols_exports.specs.Told.{ToldStatement, ToldExport, told_chain, told_export, told_number, told_name, IsNumbered, AllNumbered}
-use Rattle.symbols_exports.specs.Wanted.{keeps_offers}
+use Rattle.symbols_exports.specs.inner.Wanted.{keeps_offers}
 use Rattle.symbols_exports.proofs.Offering.{offers_met}
 use Rattle.symbols_exports.proofs.Places.{Meeting}
 use Rattle.symbols_exports.proofs.ReachedListed.{reached_are_one}
@@ -38,14 +40,14 @@ told_called told = told.name
 view_along : (root : RootView) (view : NameView) → told_along (told_name root view) ≡ comes_along view
 view_along root view = by view.statements
   where
-    by : (statements : List (ModuleId × List ℕ)) → has_statement (map (told_number root) statements) ≡ is_way statements
+    by : (statements : List (ModuleId × List ℕ)) → has_statement (map (told_number root) statements) ≡ has_statements statements
     by [] = refl
     by (statement ∷ rest) = refl
 
-entry_along : (graph : GraphView) (start : List ℕ) (entry : Entry) → told_along (told_export graph start entry) ≡ is_chain entry.chain
+entry_along : (graph : GraphView) (start : List ℕ) (entry : Entry) → told_along (told_export graph start entry) ≡ has_position entry.chain
 entry_along graph start entry = by entry.chain
   where
-    by : (chain : List ℕ) → has_statement (told_chain graph start chain) ≡ is_chain chain
+    by : (chain : List ℕ) → has_statement (told_chain graph start chain) ≡ has_position chain
     by [] = refl
     by (position ∷ rest) = refl
 
@@ -53,7 +55,7 @@ abbrev entry_name : Entry → List ℕ
 entry_name entry = entry.name
 
 abbrev entry_chained : Entry → Bool
-entry_chained entry = is_chain entry.chain
+entry_chained entry = has_position entry.chain
 
 -- what is told alike has the same shared names
 module _ (graph : GraphView) (root : RootView) (start : List ℕ) where
@@ -82,12 +84,12 @@ shared_numbered root offered are = subst (λ groups. AllShareNumbered root (shar
     one : (view : NameView) → Contains offered view → IsNumbered root view
     one view has = subst (IsNumbered root) has.2 (are has.0 view has.1)
 
-    in_group : (group : Shared NameView) → Contains (shared_only comes_along (together view_name offered)) group → AllNumbered root group.owners
+    in_group : (group : Shared NameView) → Contains (shared_only comes_along (grouped_by_name view_name offered)) group → AllNumbered root group.owners
     in_group group has j e j_in =
-        let kept = filtered_from (λ (g : Shared NameView). are_shared comes_along g.owners) (together view_name offered) group has in
+        let kept = filtered_from (λ (g : Shared NameView). is_shared_group comes_along g.owners) (grouped_by_name view_name offered) group has in
         let view : NameView = get_or group.owners j e in
         let among : Contains (filter (λ (y : NameView). bytes_eq group.name y.name) offered) view = subst (λ (views : List NameView). Contains views view) (owners_are view_name offered group kept.0) (Contains-get_or group.owners j e j_in) in
         one view (filtered_from (λ (y : NameView). bytes_eq group.name y.name) offered view among).0
 
-    together_in : AllShareNumbered root (shared_only comes_along (together view_name offered))
-    together_in i d i_in = in_group (get_or (shared_only comes_along (together view_name offered)) i d) (Contains-get_or (shared_only comes_along (together view_name offered)) i d i_in)
+    together_in : AllShareNumbered root (shared_only comes_along (grouped_by_name view_name offered))
+    together_in i d i_in = in_group (get_or (shared_only comes_along (grouped_by_name view_name offered)) i d) (Contains-get_or (shared_only comes_along (grouped_by_name view_name offered)) i d i_in)

@@ -9,7 +9,7 @@ use Rattle.std.proofs.lemmas.Option.{none-some}
 use Rattle.std.proofs.lemmas.Slice.Eq.{bytes_eq-Decides}
 use Rattle.symbols_syntax.specs.Graph.{GraphView, ModuleView}
 use Rattle.symbols_root.specs.Specifiers.{module_under, is_among}
-use Rattle.symbols_exports.specs.Chains.{Statements, target, chain_end, IsSimpleChain}
+use Rattle.symbols_exports.specs.Chains.{Statements, statement_target, chain_end, IsSimpleChain}
 use Rattle.symbols_exports.specs.StarStatements.{statements_of, star_texts, text_target}
 use Rattle.symbols_exports.proofs.Known.{target_known}
 use Rattle.symbols_exports.proofs.Unmet.{unmet, weighed, unmet_entered}
@@ -18,7 +18,7 @@ use Rattle.symbols_exports.proofs.Ways.{some_is}
 -- a chain from a module to another that comes by no module again, nor by one of those before
 abbrev pub Goes : Statements → List (List ℕ) → List ℕ → List ℕ → List ℕ → Type 0
 Goes statements before here [] end = (is_among before here ≡ false) × (here ≡ end)
-Goes statements before here (k ∷ chain) end = (is_among before here ≡ false) × ((next : List ℕ) × (target statements here k ≡ Some next) × Goes statements (before ++ here ∷ []) next chain end)
+Goes statements before here (k ∷ chain) end = (is_among before here ≡ false) × ((next : List ℕ) × (statement_target statements here k ≡ Some next) × Goes statements (before ++ here ∷ []) next chain end)
 
 pub starts_fresh : (statements : Statements) (before : List (List ℕ)) (here chain end : List ℕ) → Goes statements before here chain end → is_among before here ≡ false
 starts_fresh statements before here [] end goes = goes.0
@@ -52,7 +52,7 @@ not_among_more before here q none other = rw (among_more before here q, none) (b
 
 -- ---- such a chain is a simple one
 
-step_leads : (statements : Statements) (here next : List ℕ) (k : ℕ) (chain : List ℕ) → target statements here k ≡ Some next → chain_end statements here (k ∷ chain) ≡ chain_end statements next chain
+step_leads : (statements : Statements) (here next : List ℕ) (k : ℕ) (chain : List ℕ) → statement_target statements here k ≡ Some next → chain_end statements here (k ∷ chain) ≡ chain_end statements next chain
 step_leads statements here next k chain leads = ap (option_and_then (λ u. chain_end statements u chain)) leads
 
 pub goes_leads : (statements : Statements) (before : List (List ℕ)) (here chain end : List ℕ) → Goes statements before here chain end → chain_end statements here chain ≡ Some end
@@ -85,9 +85,9 @@ goes_simple statements start chain end goes = record { leads = goes_leads statem
 
 goes_from : (statements : Statements) (before : List (List ℕ)) (here chain end : List ℕ) → chain_end statements here chain ≡ Some end → ((j : ℕ) (w : List ℕ) → j ≤ length chain → chain_end statements here (take j chain) ≡ Some w → is_among before w ≡ false) → ((i j : ℕ) → i ≤ length chain → j ≤ length chain → chain_end statements here (take i chain) ≡ chain_end statements here (take j chain) → i ≡ j) → Goes statements before here chain end
 goes_from statements before here [] end leads apart once = (apart 0 here (omega arith) refl, some_is here end leads)
-goes_from statements before here (k ∷ chain) end leads apart once = by (target statements here k) refl leads (λ v at later. goes_from statements (before ++ here ∷ []) v chain end later (further_apart v at) (further_once v at))
+goes_from statements before here (k ∷ chain) end leads apart once = by (statement_target statements here k) refl leads (λ v at later. goes_from statements (before ++ here ∷ []) v chain end later (further_apart v at) (further_once v at))
   where
-    further_apart : (v : List ℕ) → target statements here k ≡ Some v → (j : ℕ) (w : List ℕ) → j ≤ length chain → chain_end statements v (take j chain) ≡ Some w → is_among (before ++ here ∷ []) w ≡ false
+    further_apart : (v : List ℕ) → statement_target statements here k ≡ Some v → (j : ℕ) (w : List ℕ) → j ≤ length chain → chain_end statements v (take j chain) ≡ Some w → is_among (before ++ here ∷ []) w ≡ false
     further_apart v at j w within ends =
         let from_here : chain_end statements here (k ∷ take j chain) ≡ Some w = step_leads statements here v k (take j chain) at ∙ ends in
         not_among_more before here w (apart (suc j) w (omega (arith, within)) from_here) (λ same. absurd (again (once zero (suc j) (omega arith) (omega (arith, within)) (ap (λ u. Some u) (sym same) ∙ sym from_here))))
@@ -95,12 +95,12 @@ goes_from statements before here (k ∷ chain) end leads apart once = by (target
         again : zero ≡ suc j → ⊥
         again equal = omega (arith, equal)
 
-    further_once : (v : List ℕ) → target statements here k ≡ Some v → (i j : ℕ) → i ≤ length chain → j ≤ length chain → chain_end statements v (take i chain) ≡ chain_end statements v (take j chain) → i ≡ j
+    further_once : (v : List ℕ) → statement_target statements here k ≡ Some v → (i j : ℕ) → i ≤ length chain → j ≤ length chain → chain_end statements v (take i chain) ≡ chain_end statements v (take j chain) → i ≡ j
     further_once v at i j i_in j_in same =
         let equal : suc i ≡ suc j = once (suc i) (suc j) (omega (arith, i_in)) (omega (arith, j_in)) (step_leads statements here v k (take i chain) at ∙ (same ∙ sym (step_leads statements here v k (take j chain) at))) in
         omega (arith, equal)
 
-    by : (next : Option (List ℕ)) → target statements here k ≡ next → option_and_then (λ u. chain_end statements u chain) next ≡ Some end → ((v : List ℕ) → target statements here k ≡ Some v → chain_end statements v chain ≡ Some end → Goes statements (before ++ here ∷ []) v chain end) → Goes statements before here (k ∷ chain) end
+    by : (next : Option (List ℕ)) → statement_target statements here k ≡ next → option_and_then (λ u. chain_end statements u chain) next ≡ Some end → ((v : List ℕ) → statement_target statements here k ≡ Some v → chain_end statements v chain ≡ Some end → Goes statements (before ++ here ∷ []) v chain end) → Goes statements before here (k ∷ chain) end
     by None at none rest = absurd (none-some end none)
     by (Some v) at later rest = (apart 0 here (omega arith) refl, (v, at, rest v at later))
 

@@ -9,11 +9,12 @@ use Rattle.std.specs.Str.{bytes_eq}
 use Rattle.std.proofs.lemmas.List.{map-append}
 use Rattle.symbols_syntax.specs.declared.ids.ModuleId.{ModuleId}
 use Rattle.symbols_syntax.specs.declared.ids.SymbolId.{SymbolId}
+use Rattle.symbols_table.specs.Events.{default_name}
 use Rattle.symbols_exports.specs.declared.exports.path.ResolvedExport.{ResolvedExport}
 use Rattle.symbols_exports.specs.declared.exports.path.ResolvedExportOrReExportAllPath.{ResolvedExportOrReExportAllPath}
-use Rattle.symbols_exports.specs.Exports.{default_name}
 use Rattle.symbols_exports.specs.Paths.{resolved_export, statements_on}
-use Rattle.symbols_exports.specs.Taking.{NameView, WalkView, Way, name_view, named_way, names_view, view_name, has_name, is_way, with_name, with_other, with_owner, with_owners, offers_along, groups_of, with_owned}
+use Rattle.symbols_exports.specs.Taking.{NameView, name_view, path_view, names_view}
+use Rattle.symbols_exports.specs.inner.Taking.{WalkView, ExportPath, view_name, has_name, has_statements, with_name, with_other, with_owner, with_owners, offers_along, groups_of, with_owned}
 use Rattle.symbols_exports.proofs.OtherWays.{put_behind, put_new}
 
 abbrev pub NameEntry : Type 0
@@ -40,11 +41,11 @@ inserted_last (entry ∷ entries) key path new = by (bytes_eq (string_bytes key)
     by false is rest = ap (λ xs. entry ∷ xs) (rest is)
 
 -- a name that was taken before
-pub with_old_name : (way : List (ModuleId × List ℕ)) (owner : ModuleId) (names : List NameView) (own : List ℕ × SymbolId) → (bytes_eq own.0 default_name && is_way way) ≡ false → has_name names own.0 ≡ true → names ≡ with_name way owner names own
+pub with_old_name : (way : List (ModuleId × List ℕ)) (owner : ModuleId) (names : List NameView) (own : List ℕ × SymbolId) → (bytes_eq own.0 default_name && has_statements way) ≡ false → has_name names own.0 ≡ true → names ≡ with_name way owner names own
 with_old_name way owner names own passes had = rw (passes, had) refl
 
 -- a name that wasn't, behind the others
-pub with_new_name : (way : List (ModuleId × List ℕ)) (export : ResolvedExport) (entries after : List NameEntry) (key : String Global) (path : ResolvedExportOrReExportAllPath) (q : List ℕ) → after ≡ insert_entry (λ a b. bytes_eq (string_bytes a) (string_bytes b)) entries key path → (bytes_eq q default_name && is_way way) ≡ false → has_name (names_view entries) q ≡ false → string_bytes key ≡ q → statements_on path ≡ way → resolved_export path ≡ export
+pub with_new_name : (way : List (ModuleId × List ℕ)) (export : ResolvedExport) (entries after : List NameEntry) (key : String Global) (path : ResolvedExportOrReExportAllPath) (q : List ℕ) → after ≡ insert_entry (λ a b. bytes_eq (string_bytes a) (string_bytes b)) entries key path → (bytes_eq q default_name && has_statements way) ≡ false → has_name (names_view entries) q ≡ false → string_bytes key ≡ q → statements_on path ≡ way → resolved_export path ≡ export
     → names_view after ≡ with_name way export.«module» (names_view entries) (q, export.symbol_id)
 with_new_name way export entries after key path q inserted passes new called along ends =
     let view : name_view (key, path) ≡ record { name = q; statements = way; export = export } = (λ i. record { name = called i; statements = along i; export = ends i }) in
@@ -54,7 +55,7 @@ with_new_name way export entries after key path q inserted passes new called alo
 -- ---- with the ways behind the first
 
 -- what a walk took, by its parts
-abbrev pub walk_view : List NameEntry → Bool → List (List Way) → List (ModuleId × List ℕ) → WalkView
+abbrev pub walk_view : List NameEntry → Bool → List (List ExportPath) → List (ModuleId × List ℕ) → WalkView
 walk_view entries keeps lists unresolved = record { keeps = keeps; taken = record { names = names_view entries; offers = if keeps then groups_of entries lists else []; unresolved = unresolved } }
 
 -- where the map has a name, it was taken
@@ -62,11 +63,11 @@ had_name : (q : List ℕ) (entries : List NameEntry) (at : Bool) → is_some (lo
 had_name q entries at is = sym (taken_is entries q) ∙ is
 
 -- one more way of a name that was taken before
-pub with_other_way : (way : List (ModuleId × List ℕ)) (export : ResolvedExport) (entries : List NameEntry) (keeps : Bool) (lists after : List (List Way)) (unresolved : List (ModuleId × List ℕ)) (q : List ℕ) (place : ℕ) (path : Way) → (bytes_eq q default_name && is_way way) ≡ false → keeps ≡ true → Some place ≡ position (λ (key : String Global). bytes_eq q (string_bytes key)) (keys_of entries) → is_some (lookup (λ (key : String Global). bytes_eq q (string_bytes key)) entries) ≡ true → after ≡ with_other place path lists → statements_on path ≡ way → resolved_export path ≡ export
+pub with_other_way : (way : List (ModuleId × List ℕ)) (export : ResolvedExport) (entries : List NameEntry) (keeps : Bool) (lists after : List (List ExportPath)) (unresolved : List (ModuleId × List ℕ)) (q : List ℕ) (place : ℕ) (path : ExportPath) → (bytes_eq q default_name && has_statements way) ≡ false → keeps ≡ true → Some place ≡ position (λ (key : String Global). bytes_eq q (string_bytes key)) (keys_of entries) → is_some (lookup (λ (key : String Global). bytes_eq q (string_bytes key)) entries) ≡ true → after ≡ with_other place path lists → statements_on path ≡ way → resolved_export path ≡ export
     → walk_view entries keeps after unresolved ≡ with_owned way export.«module» ((q, export.symbol_id) ∷ []) (walk_view entries keeps lists unresolved)
 with_other_way way export entries keeps lists after unresolved q place path passes kept at has put along ends =
     let had : has_name (names_view entries) q ≡ true = had_name q entries true has in
-    let view : named_way q path ≡ record { name = q; statements = way; export = export } = (λ i. record { name = q; statements = along i; export = ends i }) in
+    let view : path_view q path ≡ record { name = q; statements = way; export = export } = (λ i. record { name = q; statements = along i; export = ends i }) in
     let groups : groups_of entries after ≡ with_owner view_name (groups_of entries lists) (record { name = q; statements = way; export = export }) = ap (groups_of entries) put ∙ (put_behind q path entries lists place at ∙ ap (with_owner view_name (groups_of entries lists)) view) in
     λ i. record { keeps = keeps; taken = record { names = with_old_name way export.«module» (names_view entries) (q, export.symbol_id) passes had i; offers = by keeps kept groups i; unresolved = unresolved } }
   where
@@ -75,7 +76,7 @@ with_other_way way export entries keeps lists after unresolved q place path pass
     by false is groups = absurd (true≢false (sym is))
 
 -- where no other ways are kept
-pub without_other_way : (way : List (ModuleId × List ℕ)) (export : ResolvedExport) (entries : List NameEntry) (keeps : Bool) (lists : List (List Way)) (unresolved : List (ModuleId × List ℕ)) (q : List ℕ) → (bytes_eq q default_name && is_way way) ≡ false → keeps ≡ false → is_some (lookup (λ (key : String Global). bytes_eq q (string_bytes key)) entries) ≡ true
+pub without_other_way : (way : List (ModuleId × List ℕ)) (export : ResolvedExport) (entries : List NameEntry) (keeps : Bool) (lists : List (List ExportPath)) (unresolved : List (ModuleId × List ℕ)) (q : List ℕ) → (bytes_eq q default_name && has_statements way) ≡ false → keeps ≡ false → is_some (lookup (λ (key : String Global). bytes_eq q (string_bytes key)) entries) ≡ true
     → walk_view entries keeps lists unresolved ≡ with_owned way export.«module» ((q, export.symbol_id) ∷ []) (walk_view entries keeps lists unresolved)
 without_other_way way export entries keeps lists unresolved q passes not_kept has =
     let had : has_name (names_view entries) q ≡ true = had_name q entries true has in
@@ -86,11 +87,11 @@ without_other_way way export entries keeps lists unresolved q passes not_kept ha
     by false is = refl
 
 -- the first way of a name
-pub with_first_way : (way : List (ModuleId × List ℕ)) (export : ResolvedExport) (entries after : List NameEntry) (keeps : Bool) (lists : List (List Way)) (unresolved : List (ModuleId × List ℕ)) (q : List ℕ) (key : String Global) (path : Way) → (bytes_eq q default_name && is_way way) ≡ false → is_some (lookup (λ (key : String Global). bytes_eq q (string_bytes key)) entries) ≡ false → length lists ≤ length entries → after ≡ insert_entry (λ a b. bytes_eq (string_bytes a) (string_bytes b)) entries key path → string_bytes key ≡ q → statements_on path ≡ way → resolved_export path ≡ export
+pub with_first_way : (way : List (ModuleId × List ℕ)) (export : ResolvedExport) (entries after : List NameEntry) (keeps : Bool) (lists : List (List ExportPath)) (unresolved : List (ModuleId × List ℕ)) (q : List ℕ) (key : String Global) (path : ExportPath) → (bytes_eq q default_name && has_statements way) ≡ false → is_some (lookup (λ (key : String Global). bytes_eq q (string_bytes key)) entries) ≡ false → length lists ≤ length entries → after ≡ insert_entry (λ a b. bytes_eq (string_bytes a) (string_bytes b)) entries key path → string_bytes key ≡ q → statements_on path ≡ way → resolved_export path ≡ export
     → walk_view after keeps lists unresolved ≡ with_owned way export.«module» ((q, export.symbol_id) ∷ []) (walk_view entries keeps lists unresolved)
 with_first_way way export entries after keeps lists unresolved q key path passes lacks few inserted called along ends =
     let new : has_name (names_view entries) q ≡ false = had_name q entries false lacks in
-    let view : named_way q path ≡ record { name = q; statements = way; export = export } = (λ i. record { name = q; statements = along i; export = ends i }) in
+    let view : path_view q path ≡ record { name = q; statements = way; export = export } = (λ i. record { name = q; statements = along i; export = ends i }) in
     let groups : groups_of after lists ≡ with_owner view_name (groups_of entries lists) (record { name = q; statements = way; export = export }) = ap (λ es. groups_of es lists) inserted ∙ (put_new q path entries lists key few lacks called ∙ ap (with_owner view_name (groups_of entries lists)) view) in
     λ i. record { keeps = keeps; taken = record { names = with_new_name way export entries after key path q inserted passes new called along ends i; offers = by keeps groups i; unresolved = unresolved } }
   where

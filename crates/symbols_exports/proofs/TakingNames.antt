@@ -9,10 +9,12 @@ use Rattle.std.proofs.lemmas.Slice.Eq.{bytes_eq-Decides}
 use Rattle.symbols_syntax.specs.declared.ids.ModuleId.{ModuleId}
 use Rattle.symbols_syntax.specs.declared.ids.SymbolId.{SymbolId}
 use Rattle.symbols_syntax.specs.Graph.{GraphView}
+use Rattle.symbols_table.specs.Events.{default_name}
 use Rattle.symbols_root.specs.Roots.{RootView, specifier_in}
 use Rattle.symbols_exports.specs.Chains.{IsBefore}
-use Rattle.symbols_exports.specs.Exports.{Owned, Entry, default_name}
-use Rattle.symbols_exports.specs.Taking.{NameView, has_name, is_way, with_name, with_names}
+use Rattle.symbols_exports.specs.Exports.{Owned, Entry}
+use Rattle.symbols_exports.specs.Taking.{NameView}
+use Rattle.symbols_exports.specs.inner.Taking.{has_name, has_statements, with_name, with_names}
 use Rattle.symbols_exports.specs.Told.{ToldExport, told_chain, told_export, told_number, told_name}
 use Rattle.symbols_exports.proofs.Places.{Meeting}
 use Rattle.symbols_exports.proofs.Found.{AreFound, name_passed_over, name_added}
@@ -51,18 +53,18 @@ abbrev Tells : GraphView → RootView → List ℕ → List Entry → List NameV
 Tells graph root start found names = map (told_export graph start) found ≡ map (told_name root) names
 
 module _ (graph : GraphView) (root : RootView) (start : List ℕ) (owned : Owned) (met : List Meeting) (now : Meeting) (behind : (c u : List ℕ) → Contains met (c, u) → IsBefore c now.0) (way : List (ModuleId × List ℕ)) (owner : ModuleId) (along : told_chain graph start now.0 ≡ map (told_number root) way) (at_end : now.1 ≡ specifier_in root owner) where
-  no_way : is_way way ≡ false → now.0 ≡ []
+  no_way : has_statements way ≡ false → now.0 ≡ []
   no_way none = by now.0 way along none
     where
-      by : (chain : List ℕ) (w : List (ModuleId × List ℕ)) → told_chain graph start chain ≡ map (told_number root) w → is_way w ≡ false → chain ≡ []
+      by : (chain : List ℕ) (w : List (ModuleId × List ℕ)) → told_chain graph start chain ≡ map (told_number root) w → has_statements w ≡ false → chain ≡ []
       by [] w same empty = refl
       by (k ∷ chain) [] same empty = absurd cc
       by (k ∷ chain) (s ∷ w) same empty = absurd (true≢false empty)
 
-  a_way : is_way way ≡ true → now.0 ≡ [] → ⊥
+  a_way : has_statements way ≡ true → now.0 ≡ [] → ⊥
   a_way some nothing = by now.0 way along some nothing
     where
-      by : (chain : List ℕ) (w : List (ModuleId × List ℕ)) → told_chain graph start chain ≡ map (told_number root) w → is_way w ≡ true → chain ≡ [] → ⊥
+      by : (chain : List ℕ) (w : List (ModuleId × List ℕ)) → told_chain graph start chain ≡ map (told_number root) w → has_statements w ≡ true → chain ≡ [] → ⊥
       by [] [] same has empty = true≢false (sym has)
       by [] (s ∷ w) same has empty = cc
       by (k ∷ chain) w same has empty = cc
@@ -71,22 +73,22 @@ module _ (graph : GraphView) (root : RootView) (start : List ℕ) (owned : Owned
   Taken k names = (found : List Entry) × AreFound owned met now k found × Tells graph root start found names
 
   one_taken : (k : ℕ) (names : List NameView) (own : List ℕ × SymbolId) → slice_get (owned now.1) k ≡ Some own → Taken k names → Taken (k + 1) (with_name way owner names own)
-  one_taken k names own at_k taken = by (bytes_eq own.0 default_name && is_way way) (has_name names own.0) refl refl
+  one_taken k names own at_k taken = by (bytes_eq own.0 default_name && has_statements way) (has_name names own.0) refl refl
     where
       this : Entry
       this = record { name = own.0; chain = now.0; owner = now.1; symbol = own.1 }
 
-      behind_default : (bytes_eq own.0 default_name && is_way way) ≡ true → (own.0 ≡ default_name → now.0 ≡ []) → (first : Entry) × Contains taken.0 first × (first.name ≡ own.0)
+      behind_default : (bytes_eq own.0 default_name && has_statements way) ≡ true → (own.0 ≡ default_name → now.0 ≡ []) → (first : Entry) × Contains taken.0 first × (first.name ≡ own.0)
       behind_default stays passes = split (bytes_eq own.0 default_name) refl stays
         where
-          split : (b : Bool) → bytes_eq own.0 default_name ≡ b → (b && is_way way) ≡ true → (first : Entry) × Contains taken.0 first × (first.name ≡ own.0)
+          split : (b : Bool) → bytes_eq own.0 default_name ≡ b → (b && has_statements way) ≡ true → (first : Entry) × Contains taken.0 first × (first.name ≡ own.0)
           split true is has = absurd (a_way has (passes ((bytes_eq-Decides own.0 default_name).0 is)))
           split false is has = absurd (true≢false (sym has))
 
-      passes_on : (bytes_eq own.0 default_name && is_way way) ≡ false → own.0 ≡ default_name → now.0 ≡ []
+      passes_on : (bytes_eq own.0 default_name && has_statements way) ≡ false → own.0 ≡ default_name → now.0 ≡ []
       passes_on goes is = no_way (rw ((bytes_eq-Decides own.0 default_name).1 is) at goes)
 
-      by : (stays had : Bool) → (bytes_eq own.0 default_name && is_way way) ≡ stays → has_name names own.0 ≡ had
+      by : (stays had : Bool) → (bytes_eq own.0 default_name && has_statements way) ≡ stays → has_name names own.0 ≡ had
           → Taken (k + 1) (if stays || had then names else names ++ record { name = own.0; statements = way; export = record { «module» = owner; symbol_id = own.1 } } ∷ [])
       by true had stays has = (taken.0, name_passed_over owned met now k taken.0 behind taken.1 own.0 own.1 at_k (behind_default stays), taken.2)
       by false true goes has = (taken.0, name_passed_over owned met now k taken.0 behind taken.1 own.0 own.1 at_k (λ passes. found_named graph root start names taken.0 taken.2 own.0 has), taken.2)

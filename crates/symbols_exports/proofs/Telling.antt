@@ -6,11 +6,12 @@ use Rattle.std.proofs.lemmas.List.{same_from_push, length_push, get_or_append_le
 use Rattle.symbols_syntax.specs.declared.ids.ModuleId.{ModuleId}
 use Rattle.symbols_syntax.specs.declared.ids.SymbolId.{SymbolId}
 use Rattle.symbols_syntax.specs.Graph.{GraphView}
+use Rattle.symbols_table.specs.Events.{default_name}
 use Rattle.symbols_root.specs.Roots.{RootView, with_stored}
-use Rattle.symbols_exports.specs.Chains.{target, chain_end}
-use Rattle.symbols_exports.specs.Exports.{default_name}
+use Rattle.symbols_exports.specs.Chains.{statement_target, chain_end}
 use Rattle.symbols_exports.specs.StarStatements.{statements_of}
-use Rattle.symbols_exports.specs.Taking.{NameView, has_name, is_way, with_name, with_names}
+use Rattle.symbols_exports.specs.Taking.{NameView}
+use Rattle.symbols_exports.specs.inner.Taking.{has_name, has_statements, with_name, with_names}
 use Rattle.symbols_exports.specs.Told.{ToldStatement, told_statement, told_chain, told_number, told_name, AreNumbered, IsNumbered, AllNumbered}
 use Rattle.symbols_exports.proofs.Numbers.{number_kept, still_within, same_under}
 
@@ -20,7 +21,7 @@ some_is a b same = cc
 -- a chain with one more statement
 pub told_push : (graph : GraphView) (start end : List ℕ) (chain : List ℕ) (k : ℕ) → chain_end (statements_of graph) start chain ≡ Some end → told_chain graph start (chain ++ k ∷ []) ≡ told_chain graph start chain ++ told_statement graph (end, k) ∷ []
 told_push graph start end [] k leads = rw (some_is start end leads) refl
-told_push graph start end (i ∷ chain) k leads = by (target (statements_of graph) start i) leads (λ v later. told_push graph v end chain k later)
+told_push graph start end (i ∷ chain) k leads = by (statement_target (statements_of graph) start i) leads (λ v later. told_push graph v end chain k later)
   where
     by : (next : Option (List ℕ)) → option_and_then (λ v. chain_end (statements_of graph) v chain) next ≡ Some end → ((v : List ℕ) → chain_end (statements_of graph) v chain ≡ Some end → told_chain graph v (chain ++ k ∷ []) ≡ told_chain graph v chain ++ told_statement graph (end, k) ∷ [])
         → told_statement graph (start, i) ∷ told_chain graph (unwrap_or next []) (chain ++ k ∷ []) ≡ (told_statement graph (start, i) ∷ told_chain graph (unwrap_or next []) chain) ++ told_statement graph (end, k) ∷ []
@@ -57,7 +58,7 @@ names_push root names name are is i d i_in = elim (short_or_last names name i i_
 -- names that are taken by numbers of stored modules
 pub taken_numbered : (root : RootView) (way : List (ModuleId × List ℕ)) (owner : ModuleId) → AreNumbered root way → owner.0 < length root.stored → (own : List (List ℕ × SymbolId)) (names : List NameView) → AllNumbered root names → AllNumbered root (with_names way owner own names)
 taken_numbered root way owner way_in owner_in [] names are = are
-taken_numbered root way owner way_in owner_in (x ∷ own) names are = taken_numbered root way owner way_in owner_in own (with_name way owner names x) (by ((bytes_eq x.0 default_name && is_way way) || has_name names x.0))
+taken_numbered root way owner way_in owner_in (x ∷ own) names are = taken_numbered root way owner way_in owner_in own (with_name way owner names x) (by ((bytes_eq x.0 default_name && has_statements way) || has_name names x.0))
   where
     by : (b : Bool) → AllNumbered root (if b then names else names ++ record { name = x.0; statements = way; export = record { «module» = owner; symbol_id = x.1 } } ∷ [])
     by true = are

@@ -6,8 +6,8 @@ use Rattle.std.proofs.lemmas.Cmp.{nat_list_eq_equiv}
 use Rattle.std.proofs.lemmas.List.Elements.{filter-append}
 use Rattle.std.proofs.lemmas.Slice.Eq.{bytes_eq-Decides}
 use Rattle.symbols_exports.specs.Shared.{Shared}
-use Rattle.symbols_exports.specs.Sharing.{together, are_shared, shared_only, shared_among}
-use Rattle.symbols_exports.specs.Taking.{with_owner}
+use Rattle.symbols_exports.specs.Sharing.{grouped_by_name, is_shared_group, shared_only, shared_among}
+use Rattle.symbols_exports.specs.inner.Taking.{with_owner}
 use Rattle.symbols_exports.proofs.Sorted.{IsSorted, first_or_later, contains_first, contains_later, contains_nothing, filtered_from, contains_filtered, sorted_filter}
 
 same_name : (p q : List ℕ) → bytes_eq p q ≡ true → p ≡ q
@@ -40,21 +40,21 @@ IsFirst {A} x xs = (rest : List A) × (xs ≡ x ∷ rest)
 
 module _ {A : Type 0} (name : A → List ℕ) where
   -- the owners in a group are all that have its name, in their order
-  pub owners_are : (xs : List A) (group : Shared A) → Contains (together name xs) group → group.owners ≡ filter (λ y. bytes_eq group.name (name y)) xs
+  pub owners_are : (xs : List A) (group : Shared A) → Contains (grouped_by_name name xs) group → group.owners ≡ filter (λ y. bytes_eq group.name (name y)) xs
   owners_are [] group has = absurd (contains_nothing group has)
-  owners_are (x ∷ xs) group has = by (first_or_later (record { name = name x; owners = x ∷ filter (λ y. bytes_eq (name x) (name y)) xs }) (filter (λ (g : Shared A). not (bytes_eq (name x) g.name)) (together name xs)) group has) (owners_are xs group)
+  owners_are (x ∷ xs) group has = by (first_or_later (record { name = name x; owners = x ∷ filter (λ y. bytes_eq (name x) (name y)) xs }) (filter (λ (g : Shared A). not (bytes_eq (name x) g.name)) (grouped_by_name name xs)) group has) (owners_are xs group)
     where
       first : Shared A
       first = record { name = name x; owners = x ∷ filter (λ y. bytes_eq (name x) (name y)) xs }
 
-      by : (first ≡ group) ⊎ Contains (filter (λ (g : Shared A). not (bytes_eq (name x) g.name)) (together name xs)) group → (Contains (together name xs) group → group.owners ≡ filter (λ y. bytes_eq group.name (name y)) xs) → group.owners ≡ filter (λ y. bytes_eq group.name (name y)) (x ∷ xs)
+      by : (first ≡ group) ⊎ Contains (filter (λ (g : Shared A). not (bytes_eq (name x) g.name)) (grouped_by_name name xs)) group → (Contains (grouped_by_name name xs) group → group.owners ≡ filter (λ y. bytes_eq group.name (name y)) xs) → group.owners ≡ filter (λ y. bytes_eq group.name (name y)) (x ∷ xs)
       by (inl same) rest = subst (λ (g : Shared A). g.owners ≡ filter (λ y. bytes_eq g.name (name y)) (x ∷ xs)) same (sym (kept_first (λ y. bytes_eq (name x) (name y)) x xs (nat_list_eq_equiv.refl (name x))))
       by (inr later) rest =
-          let from = filtered_from (λ (g : Shared A). not (bytes_eq (name x) g.name)) (together name xs) group later in
+          let from = filtered_from (λ (g : Shared A). not (bytes_eq (name x) g.name)) (grouped_by_name name xs) group later in
           rest from.0 ∙ sym (left_out (λ y. bytes_eq group.name (name y)) x xs (other_name (name x) group.name (was_false (bytes_eq (name x) group.name) from.1)))
 
   -- each name has a group
-  pub has_group : (xs : List A) (x : A) → Contains xs x → (group : Shared A) × Contains (together name xs) group × (group.name ≡ name x)
+  pub has_group : (xs : List A) (x : A) → Contains xs x → (group : Shared A) × Contains (grouped_by_name name xs) group × (group.name ≡ name x)
   has_group [] x has = absurd (contains_nothing x has)
   has_group (w ∷ xs) x has = by (first_or_later w xs x has) (has_group xs x)
     where
@@ -62,30 +62,30 @@ module _ {A : Type 0} (name : A → List ℕ) where
       first = record { name = name w; owners = w ∷ filter (λ y. bytes_eq (name w) (name y)) xs }
 
       others : List (Shared A)
-      others = filter (λ (g : Shared A). not (bytes_eq (name w) g.name)) (together name xs)
+      others = filter (λ (g : Shared A). not (bytes_eq (name w) g.name)) (grouped_by_name name xs)
 
-      by : (w ≡ x) ⊎ Contains xs x → (Contains xs x → (group : Shared A) × Contains (together name xs) group × (group.name ≡ name x)) → (group : Shared A) × Contains (together name (w ∷ xs)) group × (group.name ≡ name x)
+      by : (w ≡ x) ⊎ Contains xs x → (Contains xs x → (group : Shared A) × Contains (grouped_by_name name xs) group × (group.name ≡ name x)) → (group : Shared A) × Contains (grouped_by_name name (w ∷ xs)) group × (group.name ≡ name x)
       by (inl same) rest = (first, contains_first first others, ap name same)
       by (inr later) rest = kept (rest later) (bytes_eq (name w) (rest later).0.name) refl
         where
-          kept : (found : (group : Shared A) × Contains (together name xs) group × (group.name ≡ name x)) → (b : Bool) → bytes_eq (name w) found.0.name ≡ b → (group : Shared A) × Contains (together name (w ∷ xs)) group × (group.name ≡ name x)
+          kept : (found : (group : Shared A) × Contains (grouped_by_name name xs) group × (group.name ≡ name x)) → (b : Bool) → bytes_eq (name w) found.0.name ≡ b → (group : Shared A) × Contains (grouped_by_name name (w ∷ xs)) group × (group.name ≡ name x)
           kept found true is = (first, contains_first first others, same_name (name w) found.0.name is ∙ found.2)
-          kept found false is = (found.0, contains_later first others found.0 (contains_filtered (λ (g : Shared A). not (bytes_eq (name w) g.name)) (together name xs) found.0 found.1 (ap not is)), found.2)
+          kept found false is = (found.0, contains_later first others found.0 (contains_filtered (λ (g : Shared A). not (bytes_eq (name w) g.name)) (grouped_by_name name xs) found.0 found.1 (ap not is)), found.2)
 
   -- groups stand as the first of each do
   abbrev pub FirstsInOrder : (A → A → Type 0) → Shared A → Shared A → Type 0
   FirstsInOrder R g h = (x y : A) → IsFirst x g.owners → IsFirst y h.owners → R x y
 
-  pub groups_sorted : (R : A → A → Type 0) (xs : List A) → IsSorted R xs → IsSorted (FirstsInOrder R) (together name xs)
+  pub groups_sorted : (R : A → A → Type 0) (xs : List A) → IsSorted R xs → IsSorted (FirstsInOrder R) (grouped_by_name name xs)
   groups_sorted R [] sorted = tt
-  groups_sorted R (w ∷ xs) sorted = (behind, sorted_filter (FirstsInOrder R) (λ (g : Shared A). not (bytes_eq (name w) g.name)) (together name xs) (groups_sorted R xs sorted.1))
+  groups_sorted R (w ∷ xs) sorted = (behind, sorted_filter (FirstsInOrder R) (λ (g : Shared A). not (bytes_eq (name w) g.name)) (grouped_by_name name xs) (groups_sorted R xs sorted.1))
     where
       same_first : (x : A) (rest all : List A) → w ∷ all ≡ x ∷ rest → w ≡ x
       same_first x rest all same = cc
 
-      behind : (h : Shared A) → Contains (filter (λ (g : Shared A). not (bytes_eq (name w) g.name)) (together name xs)) h → FirstsInOrder R (record { name = name w; owners = w ∷ filter (λ y. bytes_eq (name w) (name y)) xs }) h
+      behind : (h : Shared A) → Contains (filter (λ (g : Shared A). not (bytes_eq (name w) g.name)) (grouped_by_name name xs)) h → FirstsInOrder R (record { name = name w; owners = w ∷ filter (λ y. bytes_eq (name w) (name y)) xs }) h
       behind h has = λ x y first_x first_y.
-          let in_groups = (filtered_from (λ (g : Shared A). not (bytes_eq (name w) g.name)) (together name xs) h has).0 in
+          let in_groups = (filtered_from (λ (g : Shared A). not (bytes_eq (name w) g.name)) (grouped_by_name name xs) h has).0 in
           let in_owners : Contains (filter (λ z. bytes_eq h.name (name z)) xs) y = subst (λ zs. Contains zs y) (sym first_y.1 ∙ owners_are xs h in_groups) (contains_first y first_y.0) in
           subst (λ z. R z y) (same_first x first_x.0 (filter (λ z. bytes_eq (name w) (name z)) xs) first_x.1) (sorted.0 y (filtered_from (λ z. bytes_eq h.name (name z)) xs y in_owners).0)
 
@@ -134,7 +134,7 @@ module _ {A : Type 0} (name : A → List ℕ) where
               kept_first (λ (h : Shared A). not (bytes_eq q h.name)) g (with_owner name groups x) (ap not stays)
               ∙ (ap (λ gs. g ∷ gs) same ∙ (sym (found_later (others_than q groups) other) ∙ ap (λ gs. with_owner name gs x) (sym (kept_first (λ (h : Shared A). not (bytes_eq q h.name)) g groups (ap not stays)))))
 
-  one_more : (xs : List A) (x : A) → together name (xs ++ x ∷ []) ≡ with_owner name (together name xs) x
+  one_more : (xs : List A) (x : A) → grouped_by_name name (xs ++ x ∷ []) ≡ with_owner name (grouped_by_name name xs) x
   one_more [] x = refl
   one_more (w ∷ xs) x = by (bytes_eq (name w) (name x)) refl (one_more xs x)
     where
@@ -153,20 +153,20 @@ module _ {A : Type 0} (name : A → List ℕ) where
       found_later : bytes_eq (name x) q ≡ false → (rest : List (Shared A)) → with_owner name (record { name = q; owners = w ∷ owners } ∷ rest) x ≡ record { name = q; owners = w ∷ owners } ∷ with_owner name rest x
       found_later is rest = rw is refl
 
-      by : (b : Bool) → bytes_eq q (name x) ≡ b → together name (xs ++ x ∷ []) ≡ with_owner name (together name xs) x → together name (w ∷ (xs ++ x ∷ [])) ≡ with_owner name (together name (w ∷ xs)) x
+      by : (b : Bool) → bytes_eq q (name x) ≡ b → grouped_by_name name (xs ++ x ∷ []) ≡ with_owner name (grouped_by_name name xs) x → grouped_by_name name (w ∷ (xs ++ x ∷ [])) ≡ with_owner name (grouped_by_name name (w ∷ xs)) x
       by true is rest =
           let more : filter (λ y. bytes_eq q (name y)) (xs ++ x ∷ []) ≡ owners ++ x ∷ [] = longer ∙ ap (λ ys. owners ++ ys) (kept_first (λ y. bytes_eq q (name y)) x [] is) in
-          let groups : others_than q (together name (xs ++ x ∷ [])) ≡ others_than q (together name xs) = ap (others_than q) rest ∙ left_out_too q (together name xs) x is in
-          (λ i. record { name = q; owners = w ∷ more i } ∷ groups i) ∙ sym (found_here (is_same (name x) q (sym (same_name q (name x) is))) (others_than q (together name xs)))
+          let groups : others_than q (grouped_by_name name (xs ++ x ∷ [])) ≡ others_than q (grouped_by_name name xs) = ap (others_than q) rest ∙ left_out_too q (grouped_by_name name xs) x is in
+          (λ i. record { name = q; owners = w ∷ more i } ∷ groups i) ∙ sym (found_here (is_same (name x) q (sym (same_name q (name x) is))) (others_than q (grouped_by_name name xs)))
       by false is rest =
           let more : filter (λ y. bytes_eq q (name y)) (xs ++ x ∷ []) ≡ owners = longer ∙ (ap (λ ys. owners ++ ys) (left_out (λ y. bytes_eq q (name y)) x [] is) ∙ append-nil owners) in
-          let groups : others_than q (together name (xs ++ x ∷ [])) ≡ with_owner name (others_than q (together name xs)) x = ap (others_than q) rest ∙ still_there q (together name xs) x is in
-          (λ i. record { name = q; owners = w ∷ more i } ∷ groups i) ∙ sym (found_later (other_name q (name x) is) (others_than q (together name xs)))
+          let groups : others_than q (grouped_by_name name (xs ++ x ∷ [])) ≡ with_owner name (others_than q (grouped_by_name name xs)) x = ap (others_than q) rest ∙ still_there q (grouped_by_name name xs) x is in
+          (λ i. record { name = q; owners = w ∷ more i } ∷ groups i) ∙ sym (found_later (other_name q (name x) is) (others_than q (grouped_by_name name xs)))
 
   -- one after the other they come together
-  pub all_together : (done xs : List A) → fold (with_owner name) (together name done) xs ≡ together name (done ++ xs)
-  all_together done [] = ap (together name) (sym (append-nil done))
-  all_together done (x ∷ xs) = ap (λ groups. fold (with_owner name) groups xs) (sym (one_more done x)) ∙ (all_together (done ++ x ∷ []) xs ∙ ap (together name) (append_assoc done (x ∷ []) xs))
+  pub all_together : (done xs : List A) → fold (with_owner name) (grouped_by_name name done) xs ≡ grouped_by_name name (done ++ xs)
+  all_together done [] = ap (grouped_by_name name) (sym (append-nil done))
+  all_together done (x ∷ xs) = ap (λ groups. fold (with_owner name) groups xs) (sym (one_more done x)) ∙ (all_together (done ++ x ∷ []) xs ∙ ap (grouped_by_name name) (append_assoc done (x ∷ []) xs))
 
 -- ---- told otherwise
 
@@ -182,14 +182,14 @@ module _ {A B : Type 0} (f : A → B) (name : B → List ℕ) (is_along : B → 
   abbrev pub on_owners : Shared A → Shared B
   on_owners group = record { name = group.name; owners = map f group.owners }
 
-  together_mapped : (xs : List A) → together name (map f xs) ≡ map on_owners (together (λ x. name (f x)) xs)
+  together_mapped : (xs : List A) → grouped_by_name name (map f xs) ≡ map on_owners (grouped_by_name (λ x. name (f x)) xs)
   together_mapped [] = refl
   together_mapped (x ∷ xs) =
       let owners = filter_mapped f (λ y. bytes_eq (name (f x)) (name y)) xs in
-      let rest = ap (filter (λ (g : Shared B). not (bytes_eq (name (f x)) g.name))) (together_mapped xs) ∙ filter_mapped on_owners (λ (g : Shared B). not (bytes_eq (name (f x)) g.name)) (together (λ y. name (f y)) xs) in
+      let rest = ap (filter (λ (g : Shared B). not (bytes_eq (name (f x)) g.name))) (together_mapped xs) ∙ filter_mapped on_owners (λ (g : Shared B). not (bytes_eq (name (f x)) g.name)) (grouped_by_name (λ y. name (f y)) xs) in
       λ i. record { name = name (f x); owners = f x ∷ owners i } ∷ rest i
 
-  shared_alike : (owners : List A) → are_shared is_along (map f owners) ≡ are_shared (λ x. is_along (f x)) owners
+  shared_alike : (owners : List A) → is_shared_group is_along (map f owners) ≡ is_shared_group (λ x. is_along (f x)) owners
   shared_alike [] = refl
   shared_alike (x ∷ []) = refl
   shared_alike (x ∷ y ∷ rest) = refl
@@ -197,5 +197,5 @@ module _ {A B : Type 0} (f : A → B) (name : B → List ℕ) (is_along : B → 
   pub shared_mapped : (xs : List A) → shared_among name is_along (map f xs) ≡ map on_owners (shared_among (λ x. name (f x)) (λ x. is_along (f x)) xs)
   shared_mapped xs =
       ap (shared_only is_along) (together_mapped xs)
-      ∙ (filter_mapped on_owners (λ (g : Shared B). are_shared is_along g.owners) (together (λ x. name (f x)) xs)
-      ∙ ap (λ (p : Shared A → Bool). map on_owners (filter p (together (λ x. name (f x)) xs))) (λ i g. shared_alike g.owners i))
+      ∙ (filter_mapped on_owners (λ (g : Shared B). is_shared_group is_along g.owners) (grouped_by_name (λ x. name (f x)) xs)
+      ∙ ap (λ (p : Shared A → Bool). map on_owners (filter p (grouped_by_name (λ x. name (f x)) xs))) (λ i g. shared_alike g.owners i))

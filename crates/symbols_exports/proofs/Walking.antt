@@ -11,12 +11,13 @@ use Rattle.symbols_root.specs.Roots.{RootView, with_stored, specifier_in, all_st
 use Rattle.symbols_root.specs.TypesChains.{standing_module, stands_for}
 use Rattle.symbols_exports.specs.declared.exports.turn.Turn.{Turn}
 use Rattle.symbols_exports.specs.declared.exports.wanted.Wanted.{Wanted}
-use Rattle.symbols_exports.specs.Chains.{Statements, target, IsBefore}
+use Rattle.symbols_exports.specs.Chains.{Statements, statement_target, IsBefore}
 use Rattle.symbols_exports.specs.Exports.{Entry, Statement}
 use Rattle.symbols_exports.specs.StarStatements.{star_texts, text_target, statements_of, owned_of}
-use Rattle.symbols_exports.specs.Taking.{TakenView, nothing_taken, NameView, turn_told, with_names, with_owners}
+use Rattle.symbols_exports.specs.Taking.{NameView}
+use Rattle.symbols_exports.specs.inner.Taking.{TakenView, nothing_taken, turn_told, with_names, with_owners}
 use Rattle.symbols_exports.specs.Told.{told_statement, told_chain, told_export, told_number, told_name, AreNumbered, AllNumbered}
-use Rattle.symbols_exports.specs.Wanted.{owned_for, is_done, is_default, keeps_offers}
+use Rattle.symbols_exports.specs.inner.Wanted.{owned_for, is_done, is_default, keeps_offers}
 use Rattle.symbols_exports.proofs.Places.{Meeting, start_alone}
 use Rattle.symbols_exports.proofs.Found.{AreFound, nothing_found, module_done, found_here}
 use Rattle.symbols_exports.proofs.Missed.{IsThere, LeadsNowhere, AreKept, kept_none}
@@ -94,7 +95,7 @@ all_few {wanted} {old} {start} {root} {here} walk few_here c u cu = elim (walk.f
 pub statements_counted : (graph : GraphView) (specifier : List ℕ) → length (statements_of graph specifier) ≡ length (star_texts graph specifier)
 statements_counted graph specifier = length-map (star_texts graph specifier) (text_target graph specifier)
 
-pub target_is : (graph : GraphView) (specifier text : List ℕ) (k : ℕ) → slice_get (star_texts graph specifier) k ≡ Some text → target (statements_of graph) specifier k ≡ text_target graph specifier text
+pub target_is : (graph : GraphView) (specifier text : List ℕ) (k : ℕ) → slice_get (star_texts graph specifier) k ≡ Some text → statement_target (statements_of graph) specifier k ≡ text_target graph specifier text
 target_is graph specifier text k at = get_or_from_slice_get (statements_of graph specifier) k (text_target graph specifier text) None (slice_get-map (text_target graph specifier) (star_texts graph specifier) k ∙ ap (option_map (text_target graph specifier)) at)
 
 pub told_at : (graph : GraphView) (specifier text : List ℕ) (k : ℕ) → slice_get (star_texts graph specifier) k ≡ Some text → ◌≡◌ {A = List ℕ × List ℕ} (told_statement graph (specifier, k)) (specifier, text)

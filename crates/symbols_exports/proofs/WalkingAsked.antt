@@ -20,8 +20,8 @@ use Rattle.symbols_root.specs.Roots.{RootView, with_stored, specifier_under, IsR
 use Rattle.symbols_exports.specs.declared.exports.turn.Turn.{Turn}
 use Rattle.symbols_exports.specs.declared.exports.wanted.Wanted.{Wanted}
 use Rattle.symbols_exports.specs.StarStatements.{star_texts, text_target, statements_of}
-use Rattle.symbols_exports.specs.Taking.{TakenView, nothing_taken, is_number, turn_told}
-use Rattle.symbols_exports.specs.Wanted.{is_done}
+use Rattle.symbols_exports.specs.inner.Taking.{TakenView, nothing_taken, is_number, turn_told}
+use Rattle.symbols_exports.specs.inner.Wanted.{is_done}
 use Rattle.symbols_exports.proofs.Offering.{with_module}
 use Rattle.symbols_exports.proofs.MetModules.{met_modules, among_is_met, among_stored, stored_already, still_once}
 use Rattle.symbols_exports.proofs.Numbers.{number_kept, number_among, same_under, still_within}

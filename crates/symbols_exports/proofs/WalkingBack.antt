@@ -8,9 +8,9 @@ use Rattle.symbols_exports.specs.declared.exports.turn.Turn.{Turn}
 use Rattle.symbols_exports.specs.declared.exports.wanted.Wanted.{Wanted}
 use Rattle.symbols_exports.specs.Chains.{chain_end}
 use Rattle.symbols_exports.specs.StarStatements.{statements_of}
-use Rattle.symbols_exports.specs.Taking.{TakenView, turn_told}
+use Rattle.symbols_exports.specs.inner.Taking.{TakenView, turn_told}
 use Rattle.symbols_exports.specs.Told.{told_chain, told_number, AreNumbered}
-use Rattle.symbols_exports.specs.Wanted.{is_done}
+use Rattle.symbols_exports.specs.inner.Wanted.{is_done}
 use Rattle.symbols_exports.proofs.Ends.{same_module, leads_back, place_is_there}
 use Rattle.symbols_exports.proofs.Missed.{IsThere, LeadsNowhere}
 use Rattle.symbols_exports.proofs.Telling.{told_pop}

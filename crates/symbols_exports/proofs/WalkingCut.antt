@@ -1,5 +1,6 @@
 -- Where a walk ends, for all names and for one.
-use Rattle.std.proofs.Common.{◌≡◌, ℕ, ◌+◌, ◌<◌, ◌≤◌, ◌^◌, inl, inr, false, true, List, [], length, slice_get, None, Some, sym, subst, true≢false}
+use Rattle.std.proofs.Common.{◌≡◌, ℕ, ◌+◌, ◌<◌, ◌≤◌, ◌^◌, inl, inr, false, true, List, [], length, slice_get, None, Some, Result, Ok, Err, IfErr, sym, subst, true≢false}
+use Rattle.std.specs.Result.{IsErrAnd}
 use Rattle.std.proofs.lemmas.Option.{none-some}
 use Rattle.symbols_syntax.specs.declared.ids.ModuleId.{ModuleId}
 use Rattle.symbols_table.specs.declared.info.fault.SymbolsFault.{SymbolsFault}
@@ -9,12 +10,15 @@ use Rattle.symbols_exports.specs.declared.exports.turn.Turn.{Turn}
 use Rattle.symbols_exports.specs.declared.exports.wanted.Wanted.{Wanted}
 use Rattle.symbols_exports.specs.declared.exports.wanted.Wanted.TheVariants.{AllNames, OneName}
 use Rattle.symbols_exports.specs.Answers.{IsUnknown, IsBrokenOff}
-use Rattle.symbols_exports.specs.OneName.{IsNameBrokenOff, IsWalked, IsWalkFault}
+use Rattle.symbols_exports.specs.OneName.{IsNameBrokenOff}
+use Rattle.symbols_exports.specs.inner.OneName.{IsWalked, IsWalkFault}
 use Rattle.symbols_exports.specs.Shared.{Shared}
-use Rattle.symbols_exports.specs.Sharing.{shared_only, comes_along}
+use Rattle.symbols_exports.specs.Sharing.{shared_only}
+use Rattle.symbols_exports.specs.inner.Sharing.{comes_along}
 use Rattle.symbols_exports.specs.StarStatements.{star_texts, text_target, statements_of}
-use Rattle.symbols_exports.specs.Taking.{TakenView, NameView}
-use Rattle.symbols_exports.specs.Wanted.{is_done}
+use Rattle.symbols_exports.specs.Taking.{NameView}
+use Rattle.symbols_exports.specs.inner.Taking.{TakenView}
+use Rattle.symbols_exports.specs.inner.Wanted.{is_done}
 use Rattle.symbols_exports.proofs.Walking.{IsWalking, walking_first}
 use Rattle.symbols_exports.proofs.WalkingEnd.{walking_end, answer_broken, broken_here, broken_refused, broken_nowhere, broken_stored, stored_with}
 use Rattle.symbols_exports.proofs.WalkingName.{name_stopped, name_ended, name_broken, name_broken_stored, name_broken_first, place}
@@ -76,6 +80,18 @@ cut_behind (OneName name) old new start names shared unresolved asked is = recor
   is_needed = λ specifier some. absurd (none-some specifier some);
   refused = tt;
 }
+
+-- a fault that can only be that memory was refused
+pub on_memory : {A : Type 0} (P : SymbolsFault → Type 0) (r : Result A SymbolsFault) → IsErrAnd r (λ fault. fault ≡ OutOfMemory) → P OutOfMemory → IfErr r P
+on_memory P (Ok x) is held = tt
+on_memory P (Err fault) is held = subst P (sym is) held
+
+-- the walk was broken off after so many were asked
+abbrev pub Broken : Wanted → RootView → ModuleId → RootView → ℕ → ℕ → SymbolsFault → Type 0
+Broken wanted old start root before now fault = (asked : ℕ) × (now ≡ before + asked) × IsWalkFault wanted old root start fault asked
+
+pub broken_off : (wanted : Wanted) (old : RootView) (start : ModuleId) (root : RootView) (before now asked : ℕ) (fault : SymbolsFault) → now ≡ before + asked → IsCut wanted old root start fault asked → Broken wanted old start root before now fault
+broken_off wanted old start root before now asked fault counted cut = (asked, counted, cut_is_fault wanted old root start fault asked cut)
 
 -- told alike it is the same
 pub walked_alike : (wanted : Wanted) (old new : RootView) (start : ModuleId) (names names' : List NameView) (shared shared' : List (Shared NameView)) (unresolved unresolved' : List (ModuleId × List ℕ)) (asked : ℕ) → names' ≡ names → shared' ≡ shared → unresolved' ≡ unresolved → IsWalked wanted old new start names shared unresolved asked → IsWalked wanted old new start names' shared' unresolved' asked

@@ -17,12 +17,14 @@ use Rattle.symbols_exports.specs.declared.exports.wanted.Wanted.TheVariants.{All
 use Rattle.symbols_exports.specs.Answers.{IsAnswer, IsBrokenOff}
 use Rattle.symbols_exports.specs.Chains.{IsReached}
 use Rattle.symbols_exports.specs.Shared.{Shared}
-use Rattle.symbols_exports.specs.Sharing.{shared_only, comes_along, told_sharing, AllShareNumbered}
+use Rattle.symbols_exports.specs.Sharing.{shared_only, told_sharing, AllShareNumbered}
+use Rattle.symbols_exports.specs.inner.Sharing.{comes_along}
 use Rattle.symbols_exports.specs.StarStatements.{star_texts, text_target, statements_of, owned_of}
-use Rattle.symbols_exports.specs.Taking.{TakenView, NameView}
+use Rattle.symbols_exports.specs.Taking.{NameView}
+use Rattle.symbols_exports.specs.inner.Taking.{TakenView}
 use Rattle.symbols_exports.specs.Told.{told_statement, told_export}
 use Rattle.symbols_exports.specs.Answers.{AreListed, IsFault}
-use Rattle.symbols_exports.specs.OneName.{IsWalkFault}
+use Rattle.symbols_exports.specs.inner.OneName.{IsWalkFault}
 use Rattle.symbols_exports.proofs.Distinct.{owns_once}
 use Rattle.symbols_exports.proofs.ExportsListed.{exports_are_listed, exports_are_one}
 use Rattle.symbols_exports.proofs.UnresolvedListed.{unresolved_are_listed, unresolved_are_one}

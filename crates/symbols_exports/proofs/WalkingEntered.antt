@@ -11,12 +11,13 @@ use Rattle.symbols_root.specs.declared.root.rules.Rules.{Rules}
 use Rattle.symbols_root.specs.Roots.{RootView, with_stored, specifier_under, specifier_in, all_stored}
 use Rattle.symbols_exports.specs.declared.exports.turn.Turn.{Turn}
 use Rattle.symbols_exports.specs.declared.exports.wanted.Wanted.{Wanted}
-use Rattle.symbols_exports.specs.Chains.{target}
+use Rattle.symbols_exports.specs.Chains.{statement_target}
 use Rattle.symbols_exports.specs.Exports.{Entry}
 use Rattle.symbols_exports.specs.StarStatements.{star_texts, text_target, statements_of, owned_of}
-use Rattle.symbols_exports.specs.Taking.{TakenView, NameView, turn_told, with_names, with_owners}
+use Rattle.symbols_exports.specs.Taking.{NameView}
+use Rattle.symbols_exports.specs.inner.Taking.{TakenView, turn_told, with_names, with_owners}
 use Rattle.symbols_exports.specs.Told.{told_statement, told_chain, told_export, told_number, told_name, AreNumbered, AllNumbered}
-use Rattle.symbols_exports.specs.Wanted.{owned_for, is_done, keeps_offers}
+use Rattle.symbols_exports.specs.inner.Wanted.{owned_for, is_done, keeps_offers}
 use Rattle.symbols_exports.proofs.Found.{AreFound}
 use Rattle.symbols_exports.proofs.MetModules.{met_modules}
 use Rattle.symbols_exports.proofs.Missed.{IsThere, LeadsNowhere, AreKept, kept_next, kept_added, kept_entered}
@@ -59,7 +60,7 @@ module _ {wanted : Wanted} {old : RootView} {start : ModuleId} {root : RootView}
   abbrev pub met_too : List Meeting
   met_too = walk.met ++ (here_place, v) ∷ []
 
-  pub leads_there : target (statements_of old.graph) (specifier_in root turn.referrer) turn.position ≡ Some v
+  pub leads_there : statement_target (statements_of old.graph) (specifier_in root turn.referrer) turn.position ≡ Some v
   leads_there = leads_to walk turn.text.now text_is ∙ leads
 
   pub at_module : IsAt (statements_of old.graph) (specifier_in old start) v 0 (forks_in root above ++ fork_in root turn ∷ []) met_too

@@ -10,7 +10,7 @@ use Rattle.symbols_root.specs.Roots.{RootView, with_stored, specifier_under, spe
 use Rattle.symbols_exports.specs.declared.exports.turn.Turn.{Turn}
 use Rattle.symbols_exports.specs.declared.exports.wanted.Wanted.{Wanted}
 use Rattle.symbols_exports.specs.StarStatements.{star_texts, text_target, statements_of}
-use Rattle.symbols_exports.specs.Taking.{TakenView}
+use Rattle.symbols_exports.specs.inner.Taking.{TakenView}
 use Rattle.symbols_exports.proofs.MetModules.{met_modules}
 use Rattle.symbols_exports.proofs.Unmet.{unmet, unmet_entered}
 use Rattle.symbols_exports.proofs.Walking.{IsWalking, fork_in, forks_in, left, left_at}

@@ -9,17 +9,19 @@ use Rattle.std.proofs.lemmas.Slice.Eq.{bytes_eq-Decides}
 use Rattle.symbols_syntax.specs.declared.ids.ModuleId.{ModuleId}
 use Rattle.symbols_table.specs.declared.info.fault.SymbolsFault.{SymbolsFault}
 use Rattle.symbols_table.specs.declared.info.fault.SymbolsFault.TheVariants.{OutOfMemory}
+use Rattle.symbols_table.specs.Events.{default_name}
 use Rattle.symbols_root.specs.Roots.{RootView, with_stored, IsRefusal, specifier_in, all_stored}
 use Rattle.symbols_root.specs.Specifiers.{is_among}
 use Rattle.symbols_exports.specs.declared.exports.turn.Turn.{Turn}
 use Rattle.symbols_exports.specs.declared.exports.wanted.Wanted.TheVariants.{OneName}
 use Rattle.symbols_exports.specs.Chains.{IsUpTo, IsLeastChain}
-use Rattle.symbols_exports.specs.Exports.{Entry, Statement, default_name, AreExports, StatementsInOrder}
+use Rattle.symbols_exports.specs.Exports.{Entry, Statement, AreExports, StatementsInOrder}
 use Rattle.symbols_exports.specs.OneName.{export_named, last_chain, IsWithin, AreReachedUpTo, IsAskedFor, AreAskedFor, IsNameAnswer, IsNameBrokenOff}
 use Rattle.symbols_exports.specs.StarStatements.{star_texts, text_target, statements_of, owned_of}
-use Rattle.symbols_exports.specs.Taking.{TakenView, NameView}
+use Rattle.symbols_exports.specs.Taking.{NameView}
+use Rattle.symbols_exports.specs.inner.Taking.{TakenView}
 use Rattle.symbols_exports.specs.Told.{told_export, told_name}
-use Rattle.symbols_exports.specs.Wanted.{is_done}
+use Rattle.symbols_exports.specs.inner.Wanted.{is_done}
 use Rattle.symbols_exports.specs.Ways.{exports_of}
 use Rattle.symbols_exports.proofs.Distinct.{owns_once}
 use Rattle.symbols_exports.proofs.ExportsListed.{exports_are_listed}

@@ -7,11 +7,11 @@ use Rattle.symbols_syntax.specs.declared.ids.ModuleId.{ModuleId}
 use Rattle.symbols_root.specs.Roots.{RootView, specifier_in}
 use Rattle.symbols_exports.specs.declared.exports.turn.Turn.{Turn}
 use Rattle.symbols_exports.specs.declared.exports.wanted.Wanted.{Wanted}
-use Rattle.symbols_exports.specs.Chains.{target}
+use Rattle.symbols_exports.specs.Chains.{statement_target}
 use Rattle.symbols_exports.specs.StarStatements.{star_texts, text_target, statements_of}
-use Rattle.symbols_exports.specs.Taking.{TakenView}
+use Rattle.symbols_exports.specs.inner.Taking.{TakenView}
 use Rattle.symbols_exports.specs.Told.{told_statement, told_number}
-use Rattle.symbols_exports.specs.Wanted.{is_done}
+use Rattle.symbols_exports.specs.inner.Wanted.{is_done}
 use Rattle.symbols_exports.proofs.Missed.{IsThere, LeadsNowhere, AreKept, kept_added, kept_next}
 use Rattle.symbols_exports.proofs.Numbers.{graph_kept, rules_kept}
 use Rattle.symbols_exports.proofs.Telling.{numbered_push}
@@ -33,7 +33,7 @@ module _ {wanted : Wanted} {old : RootView} {start : ModuleId} {root : RootView}
     pub is_one : next < length (statements_of old.graph (specifier_in root here))
     is_one = rw (statements_counted old.graph (specifier_in root here)) (slice_get_within (star_texts old.graph (specifier_in root here)) next text at_next_text)
 
-    pub leads_to : target (statements_of old.graph) (specifier_in root here) next ≡ text_target old.graph (specifier_in root here) text
+    pub leads_to : statement_target (statements_of old.graph) (specifier_in root here) next ≡ text_target old.graph (specifier_in root here) text
     leads_to = target_is old.graph (specifier_in root here) text next at_next_text
 
     asked_for : (asked + 1) + left (statements_of old.graph) (specifier_in root here) (next + 1) (forks_in root above) ≡ count_met (statements_of old.graph) walk.met

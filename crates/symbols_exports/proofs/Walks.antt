@@ -3,7 +3,7 @@ use Rattle.std.proofs.Common.{◌≡◌, ℕ, ◌+◌, ◌<◌, ◌≤◌, ◌�
 use Rattle.std.specs.Prelude.{Contains}
 use Rattle.std.proofs.lemmas.List.{length-map, map-append, length_push, get_or_past, get_or_append_left, get_or_push, take-append-le, take_at}
 use Rattle.std.proofs.lemmas.List.Elements.{Contains-push, Contains-append_left}
-use Rattle.symbols_exports.specs.Chains.{Statements, target, chain_end, IsBefore, AreReached}
+use Rattle.symbols_exports.specs.Chains.{Statements, statement_target, chain_end, IsBefore, AreReached}
 use Rattle.symbols_exports.specs.Exports.{Statement, AreUnresolved}
 use Rattle.symbols_exports.specs.OneName.{AreAskedFor}
 use Rattle.symbols_exports.proofs.Ends.{same_module}
@@ -41,14 +41,14 @@ short_or_last xs y k within = let counted = length_push xs y in grind (arith, co
 
 module _ {statements : Statements} {start here : List ℕ} {next : ℕ} {above : List Fork} {met : List Meeting} (at : IsAt statements start here next above met) where
   -- a statement that leads nowhere, or to a module that was met
-  pub at_next : ((v : List ℕ) → target statements here next ≡ Some v → (d : List ℕ) × Contains met (d, v)) → IsAt statements start here (next + 1) above met
+  pub at_next : ((v : List ℕ) → statement_target statements here next ≡ Some v → (d : List ℕ) × Contains met (d, v)) → IsAt statements start here (next + 1) above met
   at_next leads = record {
     stands = stands_next statements start (chain_of above) here next met at.stands at.here_met leads;
     here_met = at.here_met;
     turns_met = at.turns_met;
   }
 
-  module _ (v : List ℕ) (leads : target statements here next ≡ Some v) (fresh : (d : List ℕ) → Contains met (d, v) → ⊥) where
+  module _ (v : List ℕ) (leads : statement_target statements here next ≡ Some v) (fresh : (d : List ℕ) → Contains met (d, v) → ⊥) where
     abbrev pub turned : List Fork
     turned = above ++ record { referrer = here; position = next } ∷ []
 

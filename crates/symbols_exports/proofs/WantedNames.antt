@@ -9,7 +9,7 @@ use Rattle.symbols_syntax.specs.declared.ids.SymbolId.{SymbolId}
 use Rattle.symbols_table.specs.DeclViews.{exports_view}
 use Rattle.symbols_exports.specs.declared.exports.wanted.Wanted.{Wanted}
 use Rattle.symbols_exports.specs.declared.exports.wanted.Wanted.TheVariants.{OneName}
-use Rattle.symbols_exports.specs.Wanted.{wanted_of}
+use Rattle.symbols_exports.specs.inner.Wanted.{wanted_of}
 
 abbrev pub OwnEntry : Type 0
 OwnEntry = String Global × SymbolId

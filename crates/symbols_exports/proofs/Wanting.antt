@@ -3,7 +3,7 @@ use Rattle.std.proofs.Common.{◌≡◌, true, false, List, [], ◌∷◌, map, 
 use Rattle.symbols_exports.specs.declared.exports.wanted.Wanted.{Wanted}
 use Rattle.symbols_exports.specs.declared.exports.wanted.Wanted.TheVariants.{AllNames, OneName}
 use Rattle.symbols_exports.specs.Taking.{NameView}
-use Rattle.symbols_exports.specs.Wanted.{is_done, is_default}
+use Rattle.symbols_exports.specs.inner.Wanted.{is_done, is_default}
 
 -- where one name is found, nothing was before, and it isn't `default`
 pub newly_done : (wanted : Wanted) (names more : List NameView) → is_done wanted names ≡ false → is_done wanted more ≡ true → (names ≡ []) × (is_default wanted ≡ false)

@@ -7,13 +7,13 @@ abbrev pub Statements : Type 0
 Statements = List ℕ → List (Option (List ℕ))
 
 -- where the statement at the position leads; nowhere where there is none
-abbrev pub target : Statements → List ℕ → ℕ → Option (List ℕ)
-target statements specifier position = slice_index_or (statements specifier) position None
+abbrev pub statement_target : Statements → List ℕ → ℕ → Option (List ℕ)
+statement_target statements specifier position = slice_index_or (statements specifier) position None
 
 -- the module that the chain leads to from a module
 abbrev pub chain_end : Statements → List ℕ → List ℕ → Option (List ℕ)
 chain_end statements specifier [] = Some specifier
-chain_end statements specifier (position ∷ rest) = option_and_then (λ next. chain_end statements next rest) (target statements specifier position)
+chain_end statements specifier (position ∷ rest) = option_and_then (λ next. chain_end statements next rest) (statement_target statements specifier position)
 
 -- a chain from one module to another that comes by no module twice
 pub record IsSimpleChain (statements : Statements) (start : List ℕ) (chain : List ℕ) (end : List ℕ) : Type 0 where

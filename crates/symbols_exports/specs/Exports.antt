@@ -1,7 +1,8 @@
 -- What a module exports, and which of the statements that it passes on lead nowhere.
 use Rattle.std.specs.Prelude.{◌≡◌, ℕ, ◌<◌, ◌⊎◌, ◌↔◌, List, [], ◌∷◌, ◌++◌, length, take, None, Contains, AllPairs, slice_get, Some}
 use Rattle.symbols_syntax.specs.declared.ids.SymbolId.{SymbolId}
-use Rattle.symbols_exports.specs.Chains.{Statements, target, IsSimpleChain, IsBefore, IsUpTo, IsLeastChain, IsReached}
+use Rattle.symbols_table.specs.Events.{default_name}
+use Rattle.symbols_exports.specs.Chains.{Statements, statement_target, IsSimpleChain, IsBefore, IsUpTo, IsLeastChain, IsReached}
 
 -- for each module the names that it exports itself, with their symbols
 abbrev pub Owned : Type 0
@@ -14,11 +15,7 @@ pub record Entry : Type 0 where
   pub owner : List ℕ
   pub symbol : SymbolId
 
--- `default`, which no `export *` passes on
-abbrev pub default_name : List ℕ
-default_name = 100 ∷ 101 ∷ 102 ∷ 97 ∷ 117 ∷ 108 ∷ 116 ∷ []
-
--- a simple chain leads to a module that owns the name, and passes it on
+-- a simple chain leads to a module that owns the name, and passes it on: no `export *` passes `default` on
 pub record IsOffered (statements : Statements) (owned : Owned) (start : List ℕ) (entry : Entry) : Type 0 where
   pub leads : IsSimpleChain statements start entry.chain entry.owner
   pub owns : Contains (owned entry.owner) (entry.name, entry.symbol)
@@ -48,7 +45,7 @@ Statement = List ℕ × ℕ
 
 -- a statement of a module that is reached, which leads nowhere
 abbrev pub IsUnresolved : Statements → List ℕ → Statement → Type 0
-IsUnresolved statements start at = IsReached statements start at.0 × (at.1 < length (statements at.0)) × (target statements at.0 at.1 ≡ None)
+IsUnresolved statements start at = IsReached statements start at.0 × (at.1 < length (statements at.0)) × (statement_target statements at.0 at.1 ≡ None)
 
 -- by the least chain to the module, followed by the position
 abbrev pub StatementsInOrder : Statements → List ℕ → Statement → Statement → Type 0

@@ -9,6 +9,6 @@ pub mod StarStatements
 pub mod Answers
 pub mod Ways
 pub mod Sharing
-pub mod Wanted
 pub mod OneName
 pub mod PublicNames
+pub mod inner

@@ -4,13 +4,11 @@ use Rattle.std.specs.Str.{bytes_eq}
 use Rattle.symbols_syntax.specs.declared.ids.ModuleId.{ModuleId}
 use Rattle.symbols_syntax.specs.Graph.{GraphView}
 use Rattle.symbols_table.specs.declared.info.fault.SymbolsFault.{SymbolsFault}
+use Rattle.symbols_table.specs.Events.{default_name}
 use Rattle.symbols_root.specs.Roots.{RootView, IsRefusal, specifier_in, all_stored}
-use Rattle.symbols_exports.specs.declared.exports.wanted.Wanted.{Wanted}
-use Rattle.symbols_exports.specs.declared.exports.wanted.Wanted.TheVariants.{AllNames, OneName}
-use Rattle.symbols_exports.specs.Answers.{IsAnswer, IsFault, IsUnknown}
-use Rattle.symbols_exports.specs.Chains.{Statements, target, IsBefore, IsUpTo, IsLeastChain}
-use Rattle.symbols_exports.specs.Exports.{Entry, Statement, StatementsInOrder, default_name}
-use Rattle.symbols_exports.specs.Shared.{Shared}
+use Rattle.symbols_exports.specs.Answers.{IsUnknown}
+use Rattle.symbols_exports.specs.Chains.{Statements, statement_target, IsBefore, IsUpTo, IsLeastChain}
+use Rattle.symbols_exports.specs.Exports.{Entry, Statement, StatementsInOrder}
 use Rattle.symbols_exports.specs.StarStatements.{statements_of}
 use Rattle.symbols_exports.specs.Taking.{NameView}
 use Rattle.symbols_exports.specs.Told.{told_export, told_name, AllNumbered}
@@ -66,17 +64,8 @@ pub record IsNameBrokenOff (old new : RootView) (start : ModuleId) (name : List 
   pub asked_in_order : AllPairs (StatementsInOrder (statements_of old.graph) (specifier_in old start)) statements
   pub asked_once : asked ≡ length statements
   pub needed : Option (List ℕ)
-  pub is_needed : (specifier : List ℕ) → needed ≡ Some specifier → (at : Statement) × Contains statements at × (target (statements_of old.graph) at.0 at.1 ≡ Some specifier)
+  pub is_needed : (specifier : List ℕ) → needed ≡ Some specifier → (at : Statement) × Contains statements at × (statement_target (statements_of old.graph) at.0 at.1 ≡ Some specifier)
   pub refused : IsRefusal new needed fault
 
-abbrev pub IsNameFault : RootView → RootView → ModuleId → List ℕ → SymbolsFault → ℕ → Type 0
-IsNameFault old new start name fault asked = IsUnknown old new start fault asked ⊎ IsNameBrokenOff old new start name fault asked
-
--- what a walk gives by what is wanted of it
-abbrev pub IsWalked : Wanted → RootView → RootView → ModuleId → List NameView → List (Shared NameView) → List (ModuleId × List ℕ) → ℕ → Type 0
-IsWalked AllNames old new start names shared unresolved asked = IsAnswer old new start names shared unresolved asked
-IsWalked (OneName name) old new start names shared unresolved asked = IsNameAnswer old new start name.now names asked
-
-abbrev pub IsWalkFault : Wanted → RootView → RootView → ModuleId → SymbolsFault → ℕ → Type 0
-IsWalkFault AllNames old new start fault asked = IsFault old new start fault asked
-IsWalkFault (OneName name) old new start fault asked = IsNameFault old new start name.now fault asked
+abbrev pub IsOneNameFault : RootView → RootView → ModuleId → List ℕ → SymbolsFault → ℕ → Type 0
+IsOneNameFault old new start name fault asked = IsUnknown old new start fault asked ⊎ IsNameBrokenOff old new start name fault asked

@@ -1,5 +1,5 @@
 -- The names that a module gives to the world: what it exports, and what those symbols export themselves, as classes their statics and namespaces their exports. Nothing is followed.
-use Rattle.std.specs.Prelude.{◌≡◌, ℕ, ◌<◌, Bool, ◌||◌, not, List, ◌∷◌, length, map, filter, flat_map, Option, None, Some, option_map, string_bytes, codes, Contains}
+use Rattle.std.specs.Prelude.{◌≡◌, ℕ, ◌<◌, Bool, ◌||◌, not, List, ◌∷◌, length, map, filter, flat_map, Option, None, Some, option_map, string_bytes, codes}
 use Rattle.std.specs.Str.{bytes_eq}
 use Rattle.symbols_syntax.specs.declared.ids.ModuleId.{ModuleId}
 use Rattle.symbols_syntax.specs.declared.ids.SymbolId.{SymbolId}
@@ -7,12 +7,10 @@ use Rattle.symbols_syntax.specs.Graph.{GraphView}
 use Rattle.symbols_table.specs.Changes.{exports_after}
 use Rattle.symbols_root.specs.GraphModules.{changes_under}
 use Rattle.symbols_root.specs.Roots.{RootView, specifier_in, all_stored}
-use Rattle.symbols_exports.specs.declared.exports.path.ResolvedExport.{ResolvedExport}
 use Rattle.symbols_exports.specs.declared.exports.public.PublicName.{PublicName}
 use Rattle.symbols_exports.specs.Chains.{AreReached}
 use Rattle.symbols_exports.specs.Exports.{Entry}
-use Rattle.symbols_exports.specs.StarStatements.{statements_of, owned_of}
-use Rattle.symbols_exports.specs.Taking.{NameView}
+use Rattle.symbols_exports.specs.StarStatements.{statements_of}
 use Rattle.symbols_exports.specs.Ways.{exports_of}
 
 -- an exported name; with a member, a name that its symbol exports itself
@@ -42,16 +40,6 @@ items_under name members = record { name = name; member = None } ∷ members_und
 -- so for each export of the module, in order
 abbrev pub public_names_of : GraphView → List ℕ → List NameItem
 public_names_of graph start = flat_map (λ (entry : Entry). items_under entry.name (exported_by graph entry.owner entry.symbol)) (exports_of graph start)
-
--- an export of a stored module that owns its symbol under some name
-pub record IsOwned (root : RootView) (export : ResolvedExport) : Type 0 where
-  pub stored : export.«module».0 < length root.stored
-  pub name : List ℕ
-  pub owned : Contains (owned_of root.graph (specifier_in root export.«module»)) (name, export.symbol_id)
-
--- a name that a root's exports tell, with those of its symbol
-abbrev pub items_of : RootView → NameView → List NameItem
-items_of root view = items_under view.name (exported_by root.graph (specifier_in root view.export.«module») view.export.symbol_id)
 
 -- an answer: these names of the stored module of this number. The modules that are reached are stored then
 pub record IsNamesAnswer (old new : RootView) (start : ModuleId) (items : List NameItem) : Type 0 where

@@ -1,8 +1,9 @@
 -- Names that two modules or more share along `export *`, none of which is the module itself.
 use Rattle.std.specs.Prelude.{◌≡◌, ℕ, ◌↔◌, List, AllPairs, Contains}
 use Rattle.symbols_syntax.specs.declared.ids.SymbolId.{SymbolId}
+use Rattle.symbols_table.specs.Events.{default_name}
 use Rattle.symbols_exports.specs.Chains.{Statements, IsBefore, IsLeastChain}
-use Rattle.symbols_exports.specs.Exports.{Owned, Entry, default_name, IsExport, InOrder}
+use Rattle.symbols_exports.specs.Exports.{Owned, Entry, IsExport, InOrder}
 
 -- a name with its owners
 pub record Shared (A : Type 0) : Type 0 where

@@ -9,7 +9,7 @@ use Rattle.symbols_root.specs.declared.root.rules.Rules.TheVariants.{Deno, Stric
 use Rattle.symbols_exports.specs.Exports.{Owned, Entry}
 use Rattle.symbols_exports.specs.Shared.{Shared}
 use Rattle.symbols_exports.specs.StarStatements.{owned_of}
-use Rattle.symbols_exports.specs.Taking.{NameView, is_way}
+use Rattle.symbols_exports.specs.Taking.{NameView}
 use Rattle.symbols_exports.specs.Told.{ToldExport, told_export, told_name, AllNumbered}
 use Rattle.symbols_exports.specs.Ways.{Way, ways_of, first_of_each, offered_by, same_stop}
 
@@ -26,29 +26,29 @@ abbrev pub offers_of : Owned → List (List ℕ × List ℕ) → List Entry
 offers_of owned reached = flat_map (λ (m : List ℕ × List ℕ). offered_by m.0 m.1 (owned m.1)) reached
 
 -- with all of one name together, at the place of the first
-abbrev pub together : {A : Type 0} → (A → List ℕ) → List A → List (Shared A)
-together name [] = []
-together name (x ∷ xs) = record { name = name x; owners = x ∷ filter (λ y. bytes_eq (name x) (name y)) xs } ∷ filter (λ group. not (bytes_eq (name x) group.name)) (together name xs)
+abbrev pub grouped_by_name : {A : Type 0} → (A → List ℕ) → List A → List (Shared A)
+grouped_by_name name [] = []
+grouped_by_name name (x ∷ xs) = record { name = name x; owners = x ∷ filter (λ y. bytes_eq (name x) (name y)) xs } ∷ filter (λ group. not (bytes_eq (name x) group.name)) (grouped_by_name name xs)
 
 -- two or more, and the first comes along a statement
-abbrev pub are_shared : {A : Type 0} → (A → Bool) → List A → Bool
-are_shared is_along [] = false
-are_shared is_along (x ∷ []) = false
-are_shared is_along (x ∷ y ∷ rest) = is_along x
+abbrev pub is_shared_group : {A : Type 0} → (A → Bool) → List A → Bool
+is_shared_group is_along [] = false
+is_shared_group is_along (x ∷ []) = false
+is_shared_group is_along (x ∷ y ∷ rest) = is_along x
 
 abbrev pub shared_only : {A : Type 0} → (A → Bool) → List (Shared A) → List (Shared A)
-shared_only is_along groups = filter (λ group. are_shared is_along group.owners) groups
+shared_only is_along groups = filter (λ group. is_shared_group is_along group.owners) groups
 
 abbrev pub shared_among : {A : Type 0} → (A → List ℕ) → (A → Bool) → List A → List (Shared A)
-shared_among name is_along offers = shared_only is_along (together name offers)
+shared_among name is_along offers = shared_only is_along (grouped_by_name name offers)
 
-abbrev pub is_chain : List ℕ → Bool
-is_chain [] = false
-is_chain (position ∷ rest) = true
+abbrev pub has_position : List ℕ → Bool
+has_position [] = false
+has_position (position ∷ rest) = true
 
 -- the shared names of a module
 abbrev pub shared_of : GraphView → List ℕ → List (Shared Entry)
-shared_of graph start = shared_among (λ (e : Entry). e.name) (λ (e : Entry). is_chain e.chain) (offers_of (owned_of graph) (reached_of graph start))
+shared_of graph start = shared_among (λ (e : Entry). e.name) (λ (e : Entry). has_position e.chain) (offers_of (owned_of graph) (reached_of graph start))
 
 -- as answers tell them
 abbrev pub told_shared : GraphView → List ℕ → Shared Entry → Shared ToldExport
@@ -61,10 +61,6 @@ shared_told graph start = map (told_shared graph start) (shared_of graph start)
 abbrev pub shared_by : Rules → GraphView → List ℕ → List (Shared ToldExport)
 shared_by Deno graph start = []
 shared_by Strict graph start = shared_told graph start
-
--- of groups of a walk's names those that are shared
-abbrev pub comes_along : NameView → Bool
-comes_along view = is_way view.statements
 
 -- the same by the numbers of a root, which are those of stored modules
 abbrev pub told_sharing : RootView → Shared NameView → Shared ToldExport

@@ -4,7 +4,7 @@ use Rattle.symbols_syntax.specs.declared.ids.ModuleId.{ModuleId}
 use Rattle.symbols_syntax.specs.declared.ids.SymbolId.{SymbolId}
 use Rattle.symbols_syntax.specs.Graph.{GraphView}
 use Rattle.symbols_root.specs.Roots.{RootView, specifier_in}
-use Rattle.symbols_exports.specs.Chains.{target}
+use Rattle.symbols_exports.specs.Chains.{statement_target}
 use Rattle.symbols_exports.specs.Exports.{Entry, Statement}
 use Rattle.symbols_exports.specs.StarStatements.{star_texts, statements_of}
 use Rattle.symbols_exports.specs.Taking.{NameView}
@@ -19,7 +19,7 @@ told_statement graph at = (at.0, slice_index_or (star_texts graph at.0) at.1 [])
 -- the statements on a chain from a module
 abbrev pub told_chain : GraphView → List ℕ → List ℕ → List ToldStatement
 told_chain graph specifier [] = []
-told_chain graph specifier (position ∷ rest) = told_statement graph (specifier, position) ∷ told_chain graph (unwrap_or (target (statements_of graph) specifier position) []) rest
+told_chain graph specifier (position ∷ rest) = told_statement graph (specifier, position) ∷ told_chain graph (unwrap_or (statement_target (statements_of graph) specifier position) []) rest
 
 -- an export: its name, the statements that it comes by, the module at the end, and its symbol there
 pub record ToldExport : Type 0 where

@@ -4,9 +4,10 @@ use Rattle.std.specs.Option.{option_map_or}
 use Rattle.std.specs.Str.{bytes_eq}
 use Rattle.symbols_syntax.specs.declared.ids.SymbolId.{SymbolId}
 use Rattle.symbols_syntax.specs.Graph.{GraphView}
+use Rattle.symbols_table.specs.Events.{default_name}
 use Rattle.symbols_root.specs.Specifiers.{is_among}
 use Rattle.symbols_exports.specs.Chains.{Statements}
-use Rattle.symbols_exports.specs.Exports.{Owned, Entry, Statement, default_name}
+use Rattle.symbols_exports.specs.Exports.{Owned, Entry, Statement}
 use Rattle.symbols_exports.specs.StarStatements.{statements_of, owned_of}
 use Rattle.symbols_exports.specs.Told.{ToldExport, ToldStatement, told_export, told_statement}
 
@@ -16,20 +17,20 @@ pub record Way : Type 0 where
   pub end : List ℕ
   pub nowhere : Option ℕ
 
-abbrev pub behind : ℕ → Way → Way
-behind position way = record { chain = position ∷ way.chain; end = way.end; nowhere = way.nowhere }
+abbrev pub way_behind : ℕ → Way → Way
+way_behind position way = record { chain = position ∷ way.chain; end = way.end; nowhere = way.nowhere }
 
 -- along the statements of a module from a position on, each with what is further on from where it leads
-abbrev pub along : (List ℕ → List Way) → List ℕ → ℕ → List (Option (List ℕ)) → List Way
-along further here position [] = []
-along further here position (None ∷ rest) = record { chain = position ∷ []; end = here; nowhere = Some position } ∷ along further here (position + 1) rest
-along further here position (Some next ∷ rest) = map (behind position) (further next) ++ along further here (position + 1) rest
+abbrev pub ways_along : (List ℕ → List Way) → List ℕ → ℕ → List (Option (List ℕ)) → List Way
+ways_along further here position [] = []
+ways_along further here position (None ∷ rest) = record { chain = position ∷ []; end = here; nowhere = Some position } ∷ ways_along further here (position + 1) rest
+ways_along further here position (Some next ∷ rest) = map (way_behind position) (further next) ++ ways_along further here (position + 1) rest
 
 -- all ways from a module that come by none of those before again, in chain order. The number is one of modules that are enough
 abbrev pub ways_from : Statements → ℕ → List (List ℕ) → List ℕ → List Way
 ways_from statements zero before here = []
 ways_from statements (suc n) before here =
-    if is_among before here then [] else record { chain = []; end = here; nowhere = None } ∷ along (λ next. ways_from statements n (before ++ here ∷ []) next) here 0 (statements here)
+    if is_among before here then [] else record { chain = []; end = here; nowhere = None } ∷ ways_along (λ next. ways_from statements n (before ++ here ∷ []) next) here 0 (statements here)
 
 abbrev pub ways_of : GraphView → List ℕ → List Way
 ways_of graph start = ways_from (statements_of graph) (length graph.modules + 1) [] start

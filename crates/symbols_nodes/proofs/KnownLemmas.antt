@@ -12,7 +12,7 @@ use Rattle.symbols_syntax.specs.NodeRefs.{TreeNode, kind_of}
 use Rattle.symbols_nodes.specs.Annotations.{annotation_reading, annotation_of, has_annotation}
 use Rattle.symbols_nodes.specs.DottedNames.{DottedName, then_part, member_part, member_reading, member_name}
 use Rattle.symbols_nodes.specs.Readings.{node_below, read_below}
-use Rattle.symbols_nodes.specs.KnownFacts.{may_refer}
+use Rattle.symbols_nodes.specs.inner.KnownFacts.{may_refer}
 use Rattle.symbols_nodes.specs.References.{id, by_name, reference_in, reference_at}
 use Rattle.symbols_nodes.proofs.ReadingLemmas.{read_by_kind_of}
 

@@ -6,7 +6,8 @@ use Rattle.std.proofs.lemmas.Option.{slice_get_within}
 use Rattle.std.proofs.lemmas.Bool.{cases_lt}
 use Rattle.symbols_nodes.specs.declared.deps.dep.ReferenceNamespace.{ReferenceNamespace}
 use Rattle.symbols_nodes.specs.declared.deps.dep.ResolveDepsMode.{ResolveDepsMode}
-use Rattle.symbols_nodes.specs.References.{Reference, Dependency, in_namespace}
+use Rattle.symbols_nodes.specs.References.{Reference, Dependency}
+use Rattle.symbols_nodes.specs.inner.References.{in_namespace}
 use Rattle.symbols_nodes.specs.DepPaths.{Place, Step, is_open, ReferenceGraph, IsOpenPath, ends, goes_on, last_mark, IsDependency, IsPathBefore, continues, lower_step, same_step, Occurrence, AreInPathOrder, no_path, first_path, AreDependencies, own_occurrences, after_step}
 
 -- ---- what a list contains

@@ -17,7 +17,8 @@ use Rattle.symbols_nodes.specs.Dependencies.{step_by_kind, step_along, step_to_c
 use Rattle.symbols_nodes.specs.EdgeRules.{EdgeView}
 use Rattle.symbols_nodes.specs.EdgeTable.{edges, first_edges}
 use Rattle.symbols_nodes.specs.Readings.{node_below}
-use Rattle.symbols_nodes.specs.References.{Reference, Dependency, in_namespace, reference_view, dependency_view, reference_at}
+use Rattle.symbols_nodes.specs.References.{Reference, Dependency, reference_view, dependency_view, reference_at}
+use Rattle.symbols_nodes.specs.inner.References.{in_namespace}
 use Rattle.symbols_nodes.proofs.PathLists.{some_injective}
 
 -- ---- steps lead down

@@ -25,13 +25,14 @@ use Rattle.symbols_nodes.specs.declared.deps.rules.Rules.{Rules}
 use Rattle.symbols_nodes.specs.Annotations.{has_annotation}
 use Rattle.symbols_nodes.specs.DepPaths.{Place, Step, is_open, Occurrence, own_occurrences, after_step, occurrences_behind, occurrences_within, levels_of}
 use Rattle.symbols_nodes.specs.Dependencies.{reference_graph, without_path, step_by_kind, step_to_child, steps_of_edge, steps_along, steps_from, first_steps, place_of, form_of, mark_of, is_guarded, dependencies_by}
-use Rattle.symbols_nodes.specs.EdgeRules.{EdgeView, open_rules, in_form, with_mark, marking, to_child, to_each, to_optional}
+use Rattle.symbols_nodes.specs.EdgeRules.{EdgeView, open_rules, in_form, with_mark, marked_rules, to_child, to_each, to_optional}
 use Rattle.symbols_nodes.specs.EdgeTable.{edges, form_edges, first_edges}
-use Rattle.symbols_nodes.specs.KnownFacts.{may_refer}
+use Rattle.symbols_nodes.specs.inner.KnownFacts.{may_refer}
 use Rattle.symbols_nodes.specs.Readings.{node_below}
-use Rattle.symbols_nodes.specs.References.{Reference, id, Dependency, in_namespace, reference_at, visits_expressions}
-use Rattle.symbols_nodes.specs.TableParts.{plain_rules}
-use Rattle.symbols_nodes.specs.Visits.{dependencies_along, dependencies_at, dependencies_of_edge}
+use Rattle.symbols_nodes.specs.References.{Reference, id, Dependency, reference_at, visits_expressions}
+use Rattle.symbols_nodes.specs.inner.References.{in_namespace}
+use Rattle.symbols_nodes.specs.inner.TableParts.{plain_rules}
+use Rattle.symbols_nodes.specs.inner.Visits.{dependencies_along, dependencies_at, dependencies_of_edge}
 use Rattle.symbols_nodes.proofs.KnownLemmas.{refers_by_name, refers_to_nothing}
 use Rattle.symbols_nodes.proofs.PathOrders.{same_lists}
 use Rattle.symbols_nodes.proofs.StepLemmas.{leads_below, levels_below, own_listed_alone, without_path_after_step, steps_from_kind, first_steps_of_kind, take_one_more}
@@ -203,10 +204,10 @@ at_name mode namespace node form sym is =
 
 -- an annotation leads on to its type
 pub at_annotation : (mode : ResolveDepsMode) (namespace : ReferenceNamespace) (node : TreeNode) (form : Form) (ty : ℕ) → kind_of node ≡ Some (Kind.Ty (Ty.TsTypeAnn ty))
-    → dependencies_at mode namespace (place_of node form) ≡ dependencies_of_edge mode namespace node (to_child (marking In.Type) ty)
+    → dependencies_at mode namespace (place_of node form) ≡ dependencies_of_edge mode namespace node (to_child (marked_rules In.Type) ty)
 at_annotation mode namespace node form ty is =
     let nothing = refers_to_nothing node (Kind.Ty (Ty.TsTypeAnn ty)) is refl in
-    let inner = dependencies_of_edge mode namespace node (to_child (marking In.Type) ty) in
+    let inner = dependencies_of_edge mode namespace node (to_child (marked_rules In.Type) ty) in
     at_its_edges mode namespace node form false (Kind.Ty (Ty.TsTypeAnn ty)) is (rw nothing refl)
     ∙ (ap (λ (reference : Option Reference). option_to_list (option_map (in_namespace namespace) reference) ++ (inner ++ [])) nothing ∙ append-nil inner)
 

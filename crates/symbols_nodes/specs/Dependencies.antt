@@ -124,32 +124,32 @@ default_steps decl (Some (Kind.Decl (Decl.TsInterfaceDecl _ _ _ _))) = node_step
 default_steps decl _ = []
 
 -- the steps with which the paths of a declaration begin
-abbrev pub starts : NodeView → List Step
-starts (program _) = []
-starts (export_decl _ exported) = exported_steps exported
-starts (export_default_decl node) = option_map_or (λ decl. default_steps decl (kind_of decl)) (child_of node decl_of) []
-starts (export_default_expr node) = first_steps node
-starts (class_decl node) = class_steps node
-starts (fn_decl node) = function_steps node
-starts (ts_enum node) = node_steps node
-starts (ts_interface node) = node_steps node
-starts (ts_namespace _) = []
-starts (ts_type_alias node) = node_steps node
-starts (var _ declarator _) = node_steps declarator
-starts (using_var _ declarator _) = node_steps declarator
-starts (auto_accessor node) = first_steps node
-starts (class_method node) = first_steps node ++ function_steps node
-starts (class_prop node) = first_steps node
-starts (class_param_prop node) = node_steps node
-starts (constructor node) = first_steps node
-starts (expando_property node) = first_steps node
-starts (ts_index_signature node) = node_steps node
-starts (ts_call_signature_decl node) = node_steps node
-starts (ts_construct_signature_decl node) = node_steps node
-starts (ts_property_signature node) = node_steps node
-starts (ts_getter_signature node) = node_steps node
-starts (ts_setter_signature node) = node_steps node
-starts (ts_method_signature node) = node_steps node
+abbrev pub start_steps : NodeView → List Step
+start_steps (program _) = []
+start_steps (export_decl _ exported) = exported_steps exported
+start_steps (export_default_decl node) = option_map_or (λ decl. default_steps decl (kind_of decl)) (child_of node decl_of) []
+start_steps (export_default_expr node) = first_steps node
+start_steps (class_decl node) = class_steps node
+start_steps (fn_decl node) = function_steps node
+start_steps (ts_enum node) = node_steps node
+start_steps (ts_interface node) = node_steps node
+start_steps (ts_namespace _) = []
+start_steps (ts_type_alias node) = node_steps node
+start_steps (var _ declarator _) = node_steps declarator
+start_steps (using_var _ declarator _) = node_steps declarator
+start_steps (auto_accessor node) = first_steps node
+start_steps (class_method node) = first_steps node ++ function_steps node
+start_steps (class_prop node) = first_steps node
+start_steps (class_param_prop node) = node_steps node
+start_steps (constructor node) = first_steps node
+start_steps (expando_property node) = first_steps node
+start_steps (ts_index_signature node) = node_steps node
+start_steps (ts_call_signature_decl node) = node_steps node
+start_steps (ts_construct_signature_decl node) = node_steps node
+start_steps (ts_property_signature node) = node_steps node
+start_steps (ts_getter_signature node) = node_steps node
+start_steps (ts_setter_signature node) = node_steps node
+start_steps (ts_method_signature node) = node_steps node
 
 -- ---- the list of a declaration
 
@@ -168,7 +168,7 @@ dependencies_by mode first = map without_path (occurrences_within reference_grap
 
 -- of a declaration
 abbrev pub dependencies : ResolveDepsMode → NodeView → List Dependency
-dependencies mode node = dependencies_by mode (starts node)
+dependencies mode node = dependencies_by mode (start_steps node)
 
 abbrev pub exported_dependencies : ResolveDepsMode → ExportDeclView → List Dependency
 exported_dependencies mode exported = dependencies_by mode (exported_steps exported)

@@ -1,5 +1,5 @@
 -- Dotted names, of types and of expressions.
-use Rattle.std.specs.Prelude.{ℕ, List, [], ◌∷◌, ◌++◌, map, Option, None, Some, string_bytes}
+use Rattle.std.specs.Prelude.{ℕ, List, [], ◌∷◌, ◌++◌, map, Option, None, Some, string_bytes, codes}
 use Rattle.std.specs.Borrow.{Bor}
 use Rattle.std.specs.Option.{option_map, option_and_then}
 use Rattle.symbols_syntax.specs.declared.tree.arena.Id.{Id}
@@ -42,7 +42,7 @@ entity_name_view name = record { leftmost = id_view name.leftmost.now; parts = m
 -- the part that a property is: `b`, `#b` or `["b"]`
 abbrev pub part_text : TreeNode → Kind → Option (List ℕ)
 part_text prop (Kind.Expr (Expr.IdentName name)) = Some (string_bytes name)
-part_text prop (Kind.Expr (Expr.PrivateName name)) = Some (35 ∷ string_bytes name)
+part_text prop (Kind.Expr (Expr.PrivateName name)) = Some (codes "#" ++ string_bytes name)
 part_text prop (Kind.Expr (Expr.Computed expr)) = option_and_then string_text (read_below kind_of prop expr)
 part_text prop _ = None
 

@@ -20,8 +20,8 @@ with_mark mark rules = record rules { mark = mark }
 abbrev pub with_guard : Guard → Rules → Rules
 with_guard guard rules = record rules { guard = guard }
 
-abbrev pub marking : ReferenceNamespace → Rules
-marking namespace = with_mark (MarkRule.Marked namespace) open_rules
+abbrev pub marked_rules : ReferenceNamespace → Rules
+marked_rules namespace = with_mark (MarkRule.Marked namespace) open_rules
 
 -- the edges of one field, with the rules that they share
 pub record EdgeView : Type 0 where

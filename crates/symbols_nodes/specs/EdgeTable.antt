@@ -16,7 +16,7 @@ use Rattle.symbols_nodes.specs.declared.deps.rules.MarkRule.{MarkRule}
 use Rattle.symbols_nodes.specs.declared.deps.rules.Guard.{Guard}
 use Rattle.symbols_nodes.specs.declared.deps.rules.Rules.{Rules}
 use Rattle.symbols_nodes.specs.Annotations.{is_annotated}
-use Rattle.symbols_nodes.specs.EdgeRules.{EdgeView, open_rules, in_form, with_mark, with_guard, marking, to_each, to_child, to_optional, to_child_if, to_initializer}
+use Rattle.symbols_nodes.specs.EdgeRules.{EdgeView, open_rules, in_form, with_mark, with_guard, marked_rules, to_each, to_child, to_optional, to_child_if, to_initializer}
 use Rattle.symbols_nodes.specs.Readings.{read_below}
 
 abbrev pub signature_rules : Rules
@@ -28,7 +28,7 @@ key_rules = with_mark MarkRule.ValueIfComputed open_rules
 
 -- of a property or a method of an interface the key, if it stands in brackets
 abbrev pub to_computed : Bool → ℕ → EdgeView
-to_computed computed key = to_child_if computed (marking In.Value) key
+to_computed computed key = to_child_if computed (marked_rules In.Value) key
 
 abbrev pub item_edges : Item → List EdgeView
 item_edges (Item.Program _) = []
@@ -60,7 +60,7 @@ decl_edges node (Decl.VarDecl decls) = to_each open_rules decls.items ∷ []
 decl_edges node (Decl.UsingDecl decls) = to_each open_rules decls.items ∷ []
 decl_edges node (Decl.VarDeclarator name init) = to_child open_rules name ∷ to_initializer (is_annotated node name) init ∷ []
 decl_edges node (Decl.TsInterfaceDecl _ type_params extends _) = to_optional open_rules type_params ∷ to_each open_rules extends.items ∷ []
-decl_edges node (Decl.TsTypeAliasDecl _ type_params type_ann) = to_optional open_rules type_params ∷ to_child (marking In.Type) type_ann ∷ []
+decl_edges node (Decl.TsTypeAliasDecl _ type_params type_ann) = to_optional open_rules type_params ∷ to_child (marked_rules In.Type) type_ann ∷ []
 decl_edges node (Decl.TsEnumDecl _ members) = to_each open_rules members.items ∷ []
 decl_edges node (Decl.TsEnumMember init) = to_optional open_rules init ∷ []
 decl_edges node (Decl.TsModuleDecl _ _ _) = []
@@ -84,15 +84,15 @@ member_edges (Member.TsMethodSignature key computed type_params params type_ann)
 
 abbrev pub ty_edges : Ty → List EdgeView
 ty_edges (Ty.TsTypeParamDecl params) = to_each open_rules params.items ∷ []
-ty_edges (Ty.TsTypeParam constraint default) = to_optional (marking In.Type) constraint ∷ to_optional (marking In.Type) default ∷ []
-ty_edges (Ty.TsTypeParamInstantiation params) = to_each (marking In.Type) params.items ∷ []
-ty_edges (Ty.TsTypeAnn ty) = to_child (marking In.Type) ty ∷ []
-ty_edges (Ty.TsExprWithTypeArgs expr type_args) = to_optional open_rules type_args ∷ to_child (marking In.Both) expr ∷ []
-ty_edges (Ty.TsAsExpr _ ty) = to_child (marking In.Type) ty ∷ []
-ty_edges (Ty.TsTypeAssertion _ ty) = to_child (marking In.Type) ty ∷ []
-ty_edges (Ty.TsTypeQuery expr_name type_args) = to_child (marking In.Value) expr_name ∷ to_optional open_rules type_args ∷ []
+ty_edges (Ty.TsTypeParam constraint default) = to_optional (marked_rules In.Type) constraint ∷ to_optional (marked_rules In.Type) default ∷ []
+ty_edges (Ty.TsTypeParamInstantiation params) = to_each (marked_rules In.Type) params.items ∷ []
+ty_edges (Ty.TsTypeAnn ty) = to_child (marked_rules In.Type) ty ∷ []
+ty_edges (Ty.TsExprWithTypeArgs expr type_args) = to_optional open_rules type_args ∷ to_child (marked_rules In.Both) expr ∷ []
+ty_edges (Ty.TsAsExpr _ ty) = to_child (marked_rules In.Type) ty ∷ []
+ty_edges (Ty.TsTypeAssertion _ ty) = to_child (marked_rules In.Type) ty ∷ []
+ty_edges (Ty.TsTypeQuery expr_name type_args) = to_child (marked_rules In.Value) expr_name ∷ to_optional open_rules type_args ∷ []
 ty_edges (Ty.TsImportType _ _ type_args) = to_optional open_rules type_args ∷ []
-ty_edges (Ty.TsTupleElement _ ty) = to_child (marking In.Type) ty ∷ []
+ty_edges (Ty.TsTupleElement _ ty) = to_child (marked_rules In.Type) ty ∷ []
 ty_edges (Ty.TsQualifiedName _ _) = []
 
 -- `refers`: the node is a reference itself
@@ -137,13 +137,13 @@ is_assertion (Kind.Ty (Ty.TsAsExpr _ _)) = true
 is_assertion (Kind.Ty (Ty.TsTypeAssertion _ _)) = true
 is_assertion _ = false
 
-abbrev pub asserts : TreeNode → ℕ → Bool
-asserts node n = option_map_or is_assertion (read_below kind_of node n) false
+abbrev pub asserts_type : TreeNode → ℕ → Bool
+asserts_type node n = option_map_or is_assertion (read_below kind_of node n) false
 
 -- a parameter that is a property: its default value only where that asserts a type and the parameter has no annotation
 abbrev pub property_edges : TreeNode → Bool → Pat → List EdgeView
 property_edges node annotated (Pat.BindingIdent _ type_ann) = to_optional open_rules type_ann ∷ []
-property_edges node annotated (Pat.AssignPat left right) = to_child open_rules left ∷ to_child_if (not annotated && asserts node right) open_rules right ∷ []
+property_edges node annotated (Pat.AssignPat left right) = to_child open_rules left ∷ to_child_if (not annotated && asserts_type node right) open_rules right ∷ []
 property_edges node annotated _ = []
 
 abbrev pub form_edges : TreeNode → Form → Bool → Pat → List EdgeView

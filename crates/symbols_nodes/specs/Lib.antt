@@ -11,9 +11,6 @@ pub mod Annotations
 pub mod References
 pub mod EdgeRules
 pub mod EdgeTable
-pub mod TableParts
 pub mod DepPaths
 pub mod Dependencies
-pub mod DepViews
-pub mod KnownFacts
-pub mod Visits
+pub mod inner

@@ -11,25 +11,25 @@ use Rattle.symbols_nodes.specs.NodeViews.{NodeView, auto_accessor, class_method,
 use Rattle.symbols_nodes.specs.NodeTests.{is_module}
 
 -- a member of a class or an interface, or a property that is assigned to a function
-abbrev pub is_member : NodeView → Bool
-is_member (auto_accessor _) = true
-is_member (class_method _) = true
-is_member (class_prop _) = true
-is_member (class_param_prop _) = true
-is_member (constructor _) = true
-is_member (expando_property _) = true
-is_member (ts_index_signature _) = true
-is_member (ts_call_signature_decl _) = true
-is_member (ts_construct_signature_decl _) = true
-is_member (ts_property_signature _) = true
-is_member (ts_getter_signature _) = true
-is_member (ts_setter_signature _) = true
-is_member (ts_method_signature _) = true
-is_member _ = false
+abbrev pub is_member_node : NodeView → Bool
+is_member_node (auto_accessor _) = true
+is_member_node (class_method _) = true
+is_member_node (class_prop _) = true
+is_member_node (class_param_prop _) = true
+is_member_node (constructor _) = true
+is_member_node (expando_property _) = true
+is_member_node (ts_index_signature _) = true
+is_member_node (ts_call_signature_decl _) = true
+is_member_node (ts_construct_signature_decl _) = true
+is_member_node (ts_property_signature _) = true
+is_member_node (ts_getter_signature _) = true
+is_member_node (ts_setter_signature _) = true
+is_member_node (ts_method_signature _) = true
+is_member_node _ = false
 
 -- neither a module nor a member
 abbrev pub is_decl : NodeView → Bool
-is_decl node = not (is_module node || is_member node)
+is_decl node = not (is_module node || is_member_node node)
 
 -- who may reach a member of a class, where that is written
 abbrev pub accessibility_of : Kind → Option Accessibility

@@ -1,5 +1,5 @@
 -- What the node of a declaration is called.
-use Rattle.std.specs.Prelude.{ℕ, List, ◌∷◌, Option, Some, None, string_bytes, codes}
+use Rattle.std.specs.Prelude.{ℕ, List, ◌++◌, Option, Some, None, string_bytes, codes}
 use Rattle.std.specs.Option.{option_map, option_and_then}
 use Rattle.symbols_syntax.specs.declared.tree.kinds.Kind.{Kind}
 use Rattle.symbols_syntax.specs.declared.tree.kinds.Decl.TheVariants as Decl
@@ -29,7 +29,7 @@ key_text key (Kind.Expr (Expr.IdentName name)) = Some (string_bytes name)
 key_text key (Kind.Expr (Expr.Str value)) = Some (string_bytes value)
 key_text key (Kind.Expr (Expr.Num text)) = Some (string_bytes text)
 key_text key (Kind.Expr (Expr.Computed _)) = text_in expr_of key
-key_text key (Kind.Expr (Expr.PrivateName name)) = Some (35 ∷ string_bytes name)
+key_text key (Kind.Expr (Expr.PrivateName name)) = Some (codes "#" ++ string_bytes name)
 key_text key _ = None
 
 abbrev pub key_name : TreeNode → Option (List ℕ)
@@ -47,13 +47,13 @@ param_text param _ = binding_name param
 abbrev pub param_name : TreeNode → Option (List ℕ)
 param_name node = option_and_then (λ (param : TreeNode). option_and_then (param_text param) (kind_of param)) (child_of node param_of)
 
-abbrev pub default_text : TreeNode → Kind → Option (List ℕ)
-default_text decl (Kind.Decl (Decl.TsInterfaceDecl _ _ _ _)) = text_in id_of decl
-default_text decl _ = text_in ident_of decl
+abbrev pub default_decl_text : TreeNode → Kind → Option (List ℕ)
+default_decl_text decl (Kind.Decl (Decl.TsInterfaceDecl _ _ _ _)) = text_in id_of decl
+default_decl_text decl _ = text_in ident_of decl
 
 -- after `export default`: a class or a function may have no name
-abbrev pub default_name : TreeNode → Option (List ℕ)
-default_name node = option_and_then (λ (decl : TreeNode). option_and_then (default_text decl) (kind_of decl)) (child_of node decl_of)
+abbrev pub default_decl_name : TreeNode → Option (List ℕ)
+default_decl_name node = option_and_then (λ (decl : TreeNode). option_and_then (default_decl_text decl) (kind_of decl)) (child_of node decl_of)
 
 abbrev pub exported_name : ExportDeclView → Option (List ℕ)
 exported_name (exported_class node) = text_in ident_of node
@@ -67,7 +67,7 @@ exported_name (exported_ts_type_alias node) = text_in id_of node
 -- the name, but for that of the key of a class's member
 abbrev pub lent_name : NodeView → Option (List ℕ)
 lent_name (export_decl _ exported) = exported_name exported
-lent_name (export_default_decl node) = default_name node
+lent_name (export_default_decl node) = default_decl_name node
 lent_name (class_decl node) = text_in ident_of node
 lent_name (fn_decl node) = text_in ident_of node
 lent_name (ts_enum node) = text_in id_of node

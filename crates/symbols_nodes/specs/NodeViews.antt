@@ -118,5 +118,5 @@ nodes_of (ts_setter_signature node) = node ∷ []
 nodes_of (ts_method_signature node) = node ∷ []
 
 -- the tree of the first of these nodes, which each declaration has
-abbrev pub source_of : NodeView → Option Tree
-source_of node = option_map (λ (first : TreeNode). first.tree) (slice_get (nodes_of node) 0)
+abbrev pub tree_of_node : NodeView → Option Tree
+tree_of_node node = option_map (λ (first : TreeNode). first.tree) (slice_get (nodes_of node) 0)

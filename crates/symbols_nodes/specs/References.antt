@@ -30,9 +30,6 @@ pub record Dependency : Type 0 where
   pub reference : Reference
   pub namespace : ReferenceNamespace
 
-abbrev pub in_namespace : ReferenceNamespace → Reference → Dependency
-in_namespace namespace reference = record { reference = reference; namespace = namespace }
-
 -- what contracts see of a `SymbolNodeDep`
 abbrev pub reference_view : SymbolNodeDep → Reference
 reference_view (Dep.Id name) = id (id_view name.now)

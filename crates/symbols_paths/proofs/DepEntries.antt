@@ -19,14 +19,16 @@ use Rattle.symbols_exports.specs.StarStatements.{text_target}
 use Rattle.symbols_paths.specs.declared.paths.node.DefinitionPathNode.{DefinitionPathNode}
 use Rattle.symbols_paths.specs.declared.paths.resolve.ResolvedSymbolDepEntry.{ResolvedSymbolDepEntry}
 use Rattle.symbols_paths.specs.declared.paths.resolve.ResolvedSymbolDepEntry.TheVariants as entry
-use Rattle.symbols_paths.specs.Trees.{NamedSymbol, Parts, Missing, no_module, unresolved, Forest, leaf, none, one}
+use Rattle.symbols_paths.specs.Trees.{NamedSymbol, Parts, Missing, no_module, unresolved, Forest, leaf, no_trees, one_tree}
 use Rattle.symbols_paths.specs.Leads.{symbol_of_id}
-use Rattle.symbols_paths.specs.PartWays.{PartWay, to, itself, lacks, text_part}
+use Rattle.symbols_paths.specs.PartLeads.{PartLead, to, itself, lacks, text_part}
 use Rattle.symbols_paths.specs.Computed.{paths_under}
 use Rattle.symbols_paths.specs.Needed.{IsNeeded, begun, IsRefused}
-use Rattle.symbols_paths.specs.Views.{named, tree_told, forest_told, joined, modules_of, modules_in, first_part, later_parts}
+use Rattle.symbols_paths.specs.Views.{tree_told, forest_told, all_modules, modules_of, modules_in}
+use Rattle.symbols_paths.specs.inner.Views.{symbol_told, first_part, later_parts}
 use Rattle.symbols_paths.specs.Answers.{ArePathsFor}
-use Rattle.symbols_paths.specs.DepAnswers.{EntryView, a_path, a_module, entry_told, modules_of_entry, modules_of_entries, entries_in, Asked, asked_by_id, asked_by_way, missing_id, missing_way, module_entry, other_entries, entries_of, ArePathsOf, IsDepAnswer, IsDepRefused, on_the_way, of_import}
+use Rattle.symbols_paths.specs.DepAnswers.{EntryView, a_path, a_module, entry_told, modules_of_entry, modules_of_entries, entries_in, Asked, asked_by_id, asked_by_part, missing_id, missing_part, module_entry, other_entries, entries_of, IsDepAnswer, IsDepRefused, on_the_way, of_import}
+use Rattle.symbols_paths.specs.inner.DepAnswers.{ArePathsOf}
 use Rattle.symbols_paths.proofs.LeafNeeds.{needed_from, text_part_needed}
 use Rattle.symbols_paths.proofs.Needing.{refused_from}
 use Rattle.symbols_paths.proofs.Trailing.{joined_on}
@@ -54,7 +56,7 @@ entries_next entries more path rest paths so put = record {
 }
   where
     modules_on : (xs ys : List ResolvedSymbolDepEntry) → modules_of_entries (xs ++ ys) ≡ modules_of_entries xs ++ modules_of_entries ys
-    modules_on xs ys = ap (λ ms. joined ms) (map-append modules_of_entry xs ys) ∙ joined_on (map modules_of_entry xs) (map modules_of_entry ys)
+    modules_on xs ys = ap (λ ms. all_modules ms) (map-append modules_of_entry xs ys) ∙ joined_on (map modules_of_entry xs) (map modules_of_entry ys)
 
 pub entries_last : (entries : List ResolvedSymbolDepEntry) (rest paths : List DefinitionPathNode) → rest ≡ [] → AreEntriesSo entries rest paths → (root : RootView) → map (entry_told root) entries ≡ entries_in (forest_told root paths)
 entries_last entries rest paths over so root = sym (append-nil (map (entry_told root) entries)) ∙ (ap (λ xs. map (entry_told root) entries ++ entries_in (forest_told root xs)) (sym over) ∙ so.told root)
@@ -70,11 +72,11 @@ id_found rules graph specifier name parts t paths is found listed = subst (λ (o
 pub id_missing : (rules : Rules) (graph : GraphView) (specifier : List ℕ) (name : IdView) (parts : Parts) (paths : Forest) → symbol_of_id graph specifier name ≡ None → paths ≡ missing_id specifier name parts → ArePathsOf rules graph (asked_by_id graph specifier name parts) (missing_id specifier name parts) paths
 id_missing rules graph specifier name parts paths is same = subst (λ (o : Option SymbolId). ArePathsOf rules graph (option_map (λ (u : SymbolId). (record { specifier = specifier; number = u }, parts)) o) (missing_id specifier name parts) paths) (sym is) same
 
-pub way_found : (rules : Rules) (graph : GraphView) (rest : Parts) (w : PartWay) (t : NamedSymbol) (paths : Forest) → to t ≡ w → ArePathsFor rules graph t rest paths → paths ≡ paths_under rules graph t rest → ArePathsOf rules graph (asked_by_way rest w) (missing_way w) paths
-way_found rules graph rest w t paths is found listed = subst (λ v. ArePathsOf rules graph (asked_by_way rest v) (missing_way v) paths) is (found, listed)
+pub way_found : (rules : Rules) (graph : GraphView) (rest : Parts) (w : PartLead) (t : NamedSymbol) (paths : Forest) → to t ≡ w → ArePathsFor rules graph t rest paths → paths ≡ paths_under rules graph t rest → ArePathsOf rules graph (asked_by_part rest w) (missing_part w) paths
+way_found rules graph rest w t paths is found listed = subst (λ v. ArePathsOf rules graph (asked_by_part rest v) (missing_part v) paths) is (found, listed)
 
-pub way_missing : (rules : Rules) (graph : GraphView) (rest : Parts) (w : PartWay) (m : Missing) (paths : Forest) → lacks m ≡ w → paths ≡ one (leaf (unresolved m)) → ArePathsOf rules graph (asked_by_way rest w) (missing_way w) paths
-way_missing rules graph rest w m paths is same = subst (λ v. ArePathsOf rules graph (asked_by_way rest v) (missing_way v) paths) is same
+pub way_missing : (rules : Rules) (graph : GraphView) (rest : Parts) (w : PartLead) (m : Missing) (paths : Forest) → lacks m ≡ w → paths ≡ one_tree (leaf (unresolved m)) → ArePathsOf rules graph (asked_by_part rest w) (missing_part w) paths
+way_missing rules graph rest w m paths is same = subst (λ v. ArePathsOf rules graph (asked_by_part rest v) (missing_part v) paths) is same
 
 -- the entries are those of what was found
 pub entries_answer : (rules : Rules) (graph : GraphView) (asked : Option Asked) (otherwise paths : Forest) (entries others : List EntryView) → ArePathsOf rules graph asked otherwise paths → entries ≡ entries_in paths → entries_in otherwise ≡ others → MatchOption asked (entries ≡ others) (λ it. (f : Forest) × ArePathsFor rules graph it.0 it.1 f × (entries ≡ entries_in f))
@@ -88,21 +90,21 @@ entries_listed rules graph (Some it) otherwise paths entries others found told o
 -- ---- parts of a module
 
 -- what the first part leads to is a symbol, and its paths were found under the others, once its module was stored
-pub import_found : (old mid : RootView) (rest : Parts) (w : PartWay) (target : UniqueSymbolId) (texts : Parts) (paths : Forest) → HasGrown old mid → to (named mid target) ≡ w → texts ≡ rest → ArePathsFor mid.rules mid.graph (named mid target) texts paths → paths ≡ paths_under mid.rules mid.graph (named mid target) texts → ArePathsOf old.rules old.graph (asked_by_way rest w) (missing_way w) paths
+pub import_found : (old mid : RootView) (rest : Parts) (w : PartLead) (target : UniqueSymbolId) (texts : Parts) (paths : Forest) → HasGrown old mid → to (symbol_told mid target) ≡ w → texts ≡ rest → ArePathsFor mid.rules mid.graph (symbol_told mid target) texts paths → paths ≡ paths_under mid.rules mid.graph (symbol_told mid target) texts → ArePathsOf old.rules old.graph (asked_by_part rest w) (missing_part w) paths
 import_found old mid rest w target texts paths grown is same found listed =
-    let t = named mid target in
+    let t = symbol_told mid target in
     let found_here : ArePathsFor old.rules old.graph t rest paths = subst (λ r. ArePathsFor r old.graph t rest paths) grown.rules (subst (λ g. ArePathsFor mid.rules g t rest paths) grown.graph (subst (λ ps. ArePathsFor mid.rules mid.graph t ps paths) same found)) in
     let listed_here : paths ≡ paths_under old.rules old.graph t rest = subst (λ r. paths ≡ paths_under r old.graph t rest) grown.rules (subst (λ g. paths ≡ paths_under mid.rules g t rest) grown.graph (subst (λ ps. paths ≡ paths_under mid.rules mid.graph t ps) same listed)) in
     way_found old.rules old.graph rest w t paths is found_here listed_here
 
-pub way_itself : (rules : Rules) (graph : GraphView) (rest : Parts) (w : PartWay) (paths : Forest) → itself ≡ w → paths ≡ none → ArePathsOf rules graph (asked_by_way rest w) (missing_way w) paths
-way_itself rules graph rest w paths is same = subst (λ v. ArePathsOf rules graph (asked_by_way rest v) (missing_way v) paths) is same
+pub way_itself : (rules : Rules) (graph : GraphView) (rest : Parts) (w : PartLead) (paths : Forest) → itself ≡ w → paths ≡ no_trees → ArePathsOf rules graph (asked_by_part rest w) (missing_part w) paths
+way_itself rules graph rest w paths is same = subst (λ v. ArePathsOf rules graph (asked_by_part rest v) (missing_part v) paths) is same
 
 -- what was refused on from there is needed on from the module that the text stands for
-pub import_refused : (old mid new : RootView) (m text p : List ℕ) (ps : Parts) (target : UniqueSymbolId) (fault : SymbolsFault) → HasGrown old mid → HasGrown mid new → to (named mid target) ≡ text_part old.graph m text p ps (text_target old.graph m text) → IsRefused new (specifier_in mid target.module_id) fault
+pub import_refused : (old mid new : RootView) (m text p : List ℕ) (ps : Parts) (target : UniqueSymbolId) (fault : SymbolsFault) → HasGrown old mid → HasGrown mid new → to (symbol_told mid target) ≡ text_part old.graph m text p ps (text_target old.graph m text) → IsRefused new (specifier_in mid target.module_id) fault
     → (start : List ℕ) → ((k : List ℕ) → text_target old.graph m text ≡ Some k → IsNeeded old.graph start k) → IsRefused new start fault
 import_refused old mid new m text p ps target fault grown further leads refused start needed =
-    let at = text_part_needed old.graph m text p ps (named mid target) (sym leads) in
+    let at = text_part_needed old.graph m text p ps (symbol_told mid target) (sym leads) in
     refused_from new (subst (λ g. IsNeeded g start (specifier_in mid target.module_id)) (sym (further.graph ∙ grown.graph)) (needed_from (needed at.0 at.1) at.2)) refused
 
 pub dep_refused : (old new : RootView) (m text : List ℕ) (parts : Parts) (fault : SymbolsFault) → HasGrown old new → ((start : List ℕ) → ((k : List ℕ) → text_target old.graph m text ≡ Some k → IsNeeded old.graph start k) → IsRefused new start fault) → IsDepRefused new m (import_type text parts) fault
@@ -122,13 +124,13 @@ some_left (suc n) e = omega arith
 
 -- ---- the entries of an import type
 
-pub import_answer : (rules : Rules) (graph : GraphView) (m text : List ℕ) (parts : Parts) (paths : Forest) (entries : List EntryView) → 0 < length parts → ArePathsOf rules graph (asked_by_way (later_parts parts) (text_part graph m text (first_part parts) (later_parts parts) (text_target graph m text))) (missing_way (text_part graph m text (first_part parts) (later_parts parts) (text_target graph m text))) paths → entries ≡ entries_in paths
+pub import_answer : (rules : Rules) (graph : GraphView) (m text : List ℕ) (parts : Parts) (paths : Forest) (entries : List EntryView) → 0 < length parts → ArePathsOf rules graph (asked_by_part (later_parts parts) (text_part graph m text (first_part parts) (later_parts parts) (text_target graph m text))) (missing_part (text_part graph m text (first_part parts) (later_parts parts) (text_target graph m text))) paths → entries ≡ entries_in paths
     → IsDepAnswer rules graph m (import_type text parts) entries × (entries ≡ entries_of rules graph m (import_type text parts))
 import_answer rules graph m text parts paths entries some found told =
     let w = text_part graph m text (first_part parts) (later_parts parts) (text_target graph m text) in
-    let asked = asked_by_way (later_parts parts) w in
+    let asked = asked_by_part (later_parts parts) w in
     subst (λ ps. IsDepAnswer rules graph m (import_type text ps) entries × (entries ≡ entries_of rules graph m (import_type text ps))) (sym (some_parts parts some))
-    (entries_answer rules graph asked (missing_way w) paths entries (entries_in (missing_way w)) found told refl, entries_listed rules graph asked (missing_way w) paths entries (entries_in (missing_way w)) found told refl)
+    (entries_answer rules graph asked (missing_part w) paths entries (entries_in (missing_part w)) found told refl, entries_listed rules graph asked (missing_part w) paths entries (entries_in (missing_part w)) found told refl)
 
 pub module_answer : (rules : Rules) (graph : GraphView) (m text : List ℕ) (parts : Parts) (entries : List EntryView) → length parts ≡ 0 → entries ≡ other_entries graph m (import_type text [])
     → IsDepAnswer rules graph m (import_type text parts) entries × (entries ≡ entries_of rules graph m (import_type text parts))

@@ -15,9 +15,9 @@ use Rattle.symbols_paths.specs.declared.paths.node.DefinitionPathNodeResolved.Th
 use Rattle.symbols_paths.specs.declared.paths.trail.Stretch.{Stretch}
 use Rattle.symbols_paths.specs.declared.paths.trail.Trail.{Trail}
 use Rattle.symbols_paths.specs.declared.paths.trail.Trail.TheVariants as trail
-use Rattle.symbols_paths.specs.Trees.{LinkHead, Tree, Forest, leaf, one, join, link_to, Leaf, definition, unresolved, leaves_of, leaves_in, definitions_in}
+use Rattle.symbols_paths.specs.Trees.{LinkHead, PathTree, Forest, leaf, one_tree, joined_forests, link_to, Leaf, definition, unresolved, leaves_of, leaves_in, definitions_in}
 use Rattle.symbols_paths.specs.Views.{node_step, resolved_step, link_step, tree_told, forest_told, leaf_told, definition_told, module_of_definition, module_of_end, AreStored}
-use Rattle.symbols_paths.specs.Trails.{heads_in, linked, trail_told, trails_told, modules_of_trail, modules_of_trails}
+use Rattle.symbols_paths.specs.inner.Trails.{heads_in, below_links, trail_told, trails_told, modules_of_trail, modules_of_trails}
 use Rattle.symbols_paths.proofs.Leaves.{leaves_in-join, leaves_in-link_to}
 use Rattle.symbols_paths.proofs.Told.{stored_both}
 use Rattle.symbols_paths.proofs.Trailing.{told_to, told_fork, stored_apart, none_stored}
@@ -26,10 +26,10 @@ use Rattle.symbols_paths.proofs.Trailing.{told_to, told_fork, stored_apart, none
 pub leaves_of_link : (root : RootView) (l : DefinitionPathLink) → leaves_of (tree_told root (node.Resolved (resolved.Link l))) ≡ leaves_in (forest_told root (out-DefinitionPathLink l).next.items)
 leaves_of_link root l = ap (λ t. leaves_of t) (
     ap (tree_told root) (sym (rolls-Resolved (resolved.Link l)))
-    ∙ (fold-roll-DefinitionPathNode Tree Tree Tree (node_step root) (resolved_step root) (link_step root) (open_node.Resolved (resolved.Link l))
-    ∙ (ap (fold-DefinitionPathNodeResolved Tree Tree Tree (node_step root) (resolved_step root) (link_step root)) (sym (rolls-Link l))
-    ∙ (fold-roll-DefinitionPathNodeResolved Tree Tree Tree (node_step root) (resolved_step root) (link_step root) (open_node.Link l)
-    ∙ fold_out-DefinitionPathLink Tree Tree Tree (node_step root) (resolved_step root) (link_step root) l))))
+    ∙ (fold-roll-DefinitionPathNode PathTree PathTree PathTree (node_step root) (resolved_step root) (link_step root) (open_node.Resolved (resolved.Link l))
+    ∙ (ap (fold-DefinitionPathNodeResolved PathTree PathTree PathTree (node_step root) (resolved_step root) (link_step root)) (sym (rolls-Link l))
+    ∙ (fold-roll-DefinitionPathNodeResolved PathTree PathTree PathTree (node_step root) (resolved_step root) (link_step root) (open_node.Link l)
+    ∙ fold_out-DefinitionPathLink PathTree PathTree PathTree (node_step root) (resolved_step root) (link_step root) l))))
 
 -- the ends so far, and those of the paths that are left
 abbrev pub AreEndsSo : List DefinitionOrUnresolved → List DefinitionPathNode → List DefinitionOrUnresolved → List DefinitionPathNode → Type 0
@@ -44,17 +44,17 @@ ends_last left begun rest paths over so root = sym (append-nil (map (leaf_told r
 
 -- ---- the ends of trails
 
-leaves_linked : (heads : List LinkHead) (f : Forest) → leaves_in (linked heads f) ≡ leaves_in f
+leaves_linked : (heads : List LinkHead) (f : Forest) → leaves_in (below_links heads f) ≡ leaves_in f
 leaves_linked [] f = refl
 leaves_linked (head ∷ heads) f = leaves_linked heads (link_to head f) ∙ leaves_in-link_to head f
 
 pub leaves_to : (root : RootView) (xs : Vec Stretch Global) (end : DefinitionOrUnresolved) → leaves_in (trail_told root (trail.To xs end)) ≡ leaf_told root end ∷ []
-leaves_to root xs end = ap leaves_in (told_to root xs end) ∙ leaves_linked (heads_in root xs.items) (one (leaf (leaf_told root end)))
+leaves_to root xs end = ap leaves_in (told_to root xs end) ∙ leaves_linked (heads_in root xs.items) (one_tree (leaf (leaf_told root end)))
 
 pub leaves_fork : (root : RootView) (xs : Vec Stretch Global) (others : Vec Trail Global) (last : Box Trail Global) → leaves_in (trail_told root (trail.Fork xs others last)) ≡ leaves_in (trails_told root others.items) ++ leaves_in (trail_told root last.value)
 leaves_fork root xs others last =
     ap leaves_in (told_fork root xs others last)
-    ∙ (leaves_linked (heads_in root xs.items) (join (trails_told root others.items) (trail_told root last.value)) ∙ leaves_in-join (trails_told root others.items) (trail_told root last.value))
+    ∙ (leaves_linked (heads_in root xs.items) (joined_forests (trails_told root others.items) (trail_told root last.value)) ∙ leaves_in-join (trails_told root others.items) (trail_told root last.value))
 
 -- the ends so far, and those of the trails that are left
 pub record AreTrailEndsSo (left : List DefinitionOrUnresolved) (rest : List Trail) (begun : List DefinitionOrUnresolved) (trails : List Trail) : Type 0 where

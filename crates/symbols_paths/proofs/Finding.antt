@@ -12,17 +12,18 @@ use Rattle.symbols_root.specs.declared.root.rules.Rules.{Rules}
 use Rattle.symbols_root.specs.Roots.{RootView}
 use Rattle.symbols_root.specs.Growing.{HasGrown}
 use Rattle.symbols_root.specs.laws.Growing.{grown_not, grown_on, same_specifier, still_stored}
-use Rattle.symbols_paths.specs.declared.paths.leads.Lead.{Lead as ReadLead}
+use Rattle.symbols_paths.specs.declared.paths.leads.Lead.{Lead}
 use Rattle.symbols_paths.specs.declared.paths.resolving.AliasDecl.{AliasDecl}
 use Rattle.symbols_paths.specs.declared.paths.trail.Trail.{Trail}
-use Rattle.symbols_paths.specs.Trees.{NamedSymbol, none, join}
+use Rattle.symbols_paths.specs.Trees.{NamedSymbol, no_trees, joined_forests}
 use Rattle.symbols_paths.specs.Leads.{leads_of, lead_of, declarations_of}
-use Rattle.symbols_paths.specs.PartWays.{links_in}
+use Rattle.symbols_paths.specs.PartLeads.{routes_in}
 use Rattle.symbols_paths.specs.Choice.{is_met, was_met}
-use Rattle.symbols_paths.specs.Computed.{enough}
-use Rattle.symbols_paths.specs.Views.{named, AreStored}
-use Rattle.symbols_paths.specs.Trails.{trails_told, trails_of_option, modules_of_trail, modules_of_trails}
-use Rattle.symbols_paths.specs.Searching.{AreNumbered, met_told, running_told, HasSearched, IsFound, IsFollowed, IsRead, lead_told}
+use Rattle.symbols_paths.specs.Computed.{search_limit}
+use Rattle.symbols_paths.specs.Views.{AreStored}
+use Rattle.symbols_paths.specs.inner.Views.{symbol_told}
+use Rattle.symbols_paths.specs.inner.Trails.{trails_told, trails_of_option, modules_of_trail, modules_of_trails}
+use Rattle.symbols_paths.specs.inner.Searching.{AreSymbolsNumbered, met_told, running_told, HasSearched, IsFound, IsFollowed, IsDeclarationRead, lead_told}
 use Rattle.symbols_paths.proofs.Growing.{still_numbered, all_still_stored}
 use Rattle.symbols_paths.proofs.Told.{stored_both}
 use Rattle.symbols_paths.proofs.Trailing.{told_with_trail, modules_with_trail}
@@ -59,8 +60,8 @@ new_few before s place absent at fits = omega (arith, new_place before s absent,
 
 -- ---- a symbol that was met
 
-module _ (root : RootView) (once : IsDistinct bytes_eq root.stored) (running : List AliasDecl) (met : List UniqueSymbolId) (symbol : UniqueSymbolId) (numbered : AreNumbered root met) (within : symbol.module_id.0 < length root.stored) where
-  later_met : (later : RootView) → HasGrown root later → list_any (is_symbol symbol) met ≡ is_met (met_told later met) (named later symbol)
+module _ (root : RootView) (once : IsDistinct bytes_eq root.stored) (running : List AliasDecl) (met : List UniqueSymbolId) (symbol : UniqueSymbolId) (numbered : AreSymbolsNumbered root met) (within : symbol.module_id.0 < length root.stored) where
+  later_met : (later : RootView) → HasGrown root later → list_any (is_symbol symbol) met ≡ is_met (met_told later met) (symbol_told later symbol)
   later_met later grown = met_by_name later (grown.once once) met symbol (still_numbered grown met numbered) (still_stored grown symbol.module_id.0 within)
 
   pub found_old : list_any (is_symbol symbol) met ≡ true → IsFound root running met symbol [] met
@@ -76,13 +77,13 @@ pub record IsFinding (old : RootView) (running : List AliasDecl) (begun : List U
   pub grown : HasGrown old root
   pub same : now ≡ running
   pub fresh : list_any (is_symbol symbol) begun ≡ false
-  pub numbered : AreNumbered root met
+  pub numbered : AreSymbolsNumbered root met
   pub longer : length begun + 1 ≤ length met
   pub few : length met ≤ 2 ^ 64
   pub stored : AreStored root (modules_of_trails paths)
-  pub told : (later : RootView) → HasGrown root later → IsExpanding (links_in later) enough (running_told later running) (met_told later begun) (named later symbol) index (met_told later met) (trails_told later paths)
+  pub told : (later : RootView) → HasGrown root later → IsExpanding (routes_in later) search_limit (running_told later running) (met_told later begun) (symbol_told later symbol) index (met_told later met) (trails_told later paths)
 
-pub finding_first : (root : RootView) (running : List AliasDecl) (begun : List UniqueSymbolId) (symbol : UniqueSymbolId) → AreNumbered root begun → symbol.module_id.0 < length root.stored → list_any (is_symbol symbol) begun ≡ false → length begun < 2 ^ 64 → IsFinding root running begun symbol root running 0 (begun ++ symbol ∷ []) []
+pub finding_first : (root : RootView) (running : List AliasDecl) (begun : List UniqueSymbolId) (symbol : UniqueSymbolId) → AreSymbolsNumbered root begun → symbol.module_id.0 < length root.stored → list_any (is_symbol symbol) begun ≡ false → length begun < 2 ^ 64 → IsFinding root running begun symbol root running 0 (begun ++ symbol ∷ []) []
 finding_first root running begun symbol numbered within fresh few = record {
   grown = grown_not root;
   same = refl;
@@ -91,11 +92,11 @@ finding_first root running begun symbol numbered within fresh few = record {
   longer = omega (arith, length-append begun (symbol ∷ []));
   few = omega (arith, few, length-append begun (symbol ∷ []));
   stored = λ k d h. absurd (omega (arith, h));
-  told = λ later grown. subst (λ m. IsExpanding (links_in later) enough (running_told later running) (met_told later begun) (named later symbol) 0 m none) (sym (told_with later begun symbol)) (expanding_first (links_in later) enough (running_told later running) (met_told later begun) (named later symbol));
+  told = λ later grown. subst (λ m. IsExpanding (routes_in later) search_limit (running_told later running) (met_told later begun) (symbol_told later symbol) 0 m no_trees) (sym (told_with later begun symbol)) (expanding_first (routes_in later) search_limit (running_told later running) (met_told later begun) (symbol_told later symbol));
 }
 
 -- the declaration at the index leads as it was read
-stands_told : (rules : Rules) (graph : _) (s : NamedSymbol) (index : ℕ) (lead : ReadLead) → IsRead rules graph s index lead → slice_get (leads_of rules graph s) index ≡ Some (lead_told rules graph s lead)
+stands_told : (rules : Rules) (graph : _) (s : NamedSymbol) (index : ℕ) (lead : Lead) → IsDeclarationRead rules graph s index lead → slice_get (leads_of rules graph s) index ≡ Some (lead_told rules graph s lead)
 stands_told rules graph s index lead read = by (declarations_of graph s) index read.stands ∙ ap Some (sym read.leads_so)
   where
     by : (decls : List Declaration) (i : ℕ) → slice_get decls i ≡ Some read.decl → slice_get (map (λ (decl : Declaration). lead_of rules graph s decl.range decl.kind) decls) i ≡ Some (lead_of rules graph s read.decl.range read.decl.kind)
@@ -104,16 +105,16 @@ stands_told rules graph s index lead read = by (declarations_of graph s) index r
     by (decl ∷ decls) (suc i) e = by decls i e
 
 -- what was read of a root reads so of each later one
-read_later : {root later : RootView} → HasGrown root later → (symbol : UniqueSymbolId) → symbol.module_id.0 < length root.stored → (index : ℕ) (lead : ReadLead) → IsRead root.rules root.graph (named root symbol) index lead → IsRead later.rules later.graph (named later symbol) index lead
+read_later : {root later : RootView} → HasGrown root later → (symbol : UniqueSymbolId) → symbol.module_id.0 < length root.stored → (index : ℕ) (lead : Lead) → IsDeclarationRead root.rules root.graph (symbol_told root symbol) index lead → IsDeclarationRead later.rules later.graph (symbol_told later symbol) index lead
 read_later {root = root} {later = later} grown symbol within index lead read =
-    let name : named later symbol ≡ named root symbol = (λ i. record { specifier = same_specifier grown symbol.module_id within i; number = symbol.symbol_id }) in
-    subst (λ r. IsRead r later.graph (named later symbol) index lead) (sym grown.rules) (subst (λ g. IsRead root.rules g (named later symbol) index lead) (sym grown.graph) (subst (λ n. IsRead root.rules root.graph n index lead) (sym name) read))
+    let name : symbol_told later symbol ≡ symbol_told root symbol = (λ i. record { specifier = same_specifier grown symbol.module_id within i; number = symbol.symbol_id }) in
+    subst (λ r. IsDeclarationRead r later.graph (symbol_told later symbol) index lead) (sym grown.rules) (subst (λ g. IsDeclarationRead root.rules g (symbol_told later symbol) index lead) (sym grown.graph) (subst (λ n. IsDeclarationRead root.rules root.graph n index lead) (sym name) read))
 
-same_declarations : {root later : RootView} → HasGrown root later → (symbol : UniqueSymbolId) → symbol.module_id.0 < length root.stored → declarations_of later.graph (named later symbol) ≡ declarations_of root.graph (named root symbol)
+same_declarations : {root later : RootView} → HasGrown root later → (symbol : UniqueSymbolId) → symbol.module_id.0 < length root.stored → declarations_of later.graph (symbol_told later symbol) ≡ declarations_of root.graph (symbol_told root symbol)
 same_declarations grown symbol within = λ i. declarations_of (grown.graph i) (record { specifier = same_specifier grown symbol.module_id within i; number = symbol.symbol_id })
 
-past_later : {root later : RootView} → HasGrown root later → (symbol : UniqueSymbolId) → symbol.module_id.0 < length root.stored → (index : ℕ) → slice_get (declarations_of root.graph (named root symbol)) index ≡ None → slice_get (leads_of later.rules later.graph (named later symbol)) index ≡ None
-past_later {root = root} {later = later} grown symbol within index past = by later.rules later.graph (named later symbol) (declarations_of later.graph (named later symbol)) index (ap (λ decls. slice_get decls index) (same_declarations grown symbol within) ∙ past)
+past_later : {root later : RootView} → HasGrown root later → (symbol : UniqueSymbolId) → symbol.module_id.0 < length root.stored → (index : ℕ) → slice_get (declarations_of root.graph (symbol_told root symbol)) index ≡ None → slice_get (leads_of later.rules later.graph (symbol_told later symbol)) index ≡ None
+past_later {root = root} {later = later} grown symbol within index past = by later.rules later.graph (symbol_told later symbol) (declarations_of later.graph (symbol_told later symbol)) index (ap (λ decls. slice_get decls index) (same_declarations grown symbol within) ∙ past)
   where
     by : (rules : Rules) (graph : _) (s : NamedSymbol) (decls : List Declaration) (i : ℕ) → slice_get decls i ≡ None → slice_get (map (λ (decl : Declaration). lead_of rules graph s decl.range decl.kind) decls) i ≡ None
     by rules graph s [] i e = refl
@@ -121,7 +122,7 @@ past_later {root = root} {later = later} grown symbol within index past = by lat
     by rules graph s (decl ∷ decls) (suc i) e = by rules graph s decls i e
 
 -- the place of what was read
-pub index_within : {rules : _} {graph : _} {s : NamedSymbol} {index : ℕ} {lead : ReadLead} → IsRead rules graph s index lead → index < length (declarations_of graph s)
+pub index_within : {rules : _} {graph : _} {s : NamedSymbol} {index : ℕ} {lead : Lead} → IsDeclarationRead rules graph s index lead → index < length (declarations_of graph s)
 index_within {graph = graph} {s = s} {index = index} read = by (declarations_of graph s) index read.stands
   where
     by : (decls : List Declaration) (i : ℕ) → slice_get decls i ≡ Some read.decl → i < length decls
@@ -130,19 +131,19 @@ index_within {graph = graph} {s = s} {index = index} read = by (declarations_of 
     by (decl ∷ decls) (suc i) e = omega (arith, by decls i e)
 
 -- the declaration that was read stands there
-pub stands_among : {rules : _} {graph : _} {s : NamedSymbol} {index : ℕ} {lead : ReadLead} (read : IsRead rules graph s index lead) → Contains (declarations_of graph s) read.decl
+pub stands_among : {rules : _} {graph : _} {s : NamedSymbol} {index : ℕ} {lead : Lead} (read : IsDeclarationRead rules graph s index lead) → Contains (declarations_of graph s) read.decl
 stands_among {graph = graph} {s = s} {index = index} read = (index, index_within read, get_or_from_slice_get (declarations_of graph s) index read.decl read.decl read.stands)
 
 module _ {old : RootView} {running : List AliasDecl} {begun : List UniqueSymbolId} {symbol : UniqueSymbolId} {root : RootView} {now : List AliasDecl} {index : ℕ} {met : List UniqueSymbolId} {paths : List Trail} (is : IsFinding old running begun symbol root now index met paths) (known : symbol.module_id.0 < length old.stored) where
   pub now_within : symbol.module_id.0 < length root.stored
   now_within = still_stored is.grown symbol.module_id.0 known
 
-  told_next : {after : RootView} (mid : List UniqueSymbolId) (lead : ReadLead) → IsRead root.rules root.graph (named root symbol) index lead → HasGrown root after → (path : Option Trail) → IsFollowed after now met symbol index lead path mid → (later : RootView) → HasGrown after later → IsExpanding (links_in later) enough (running_told later running) (met_told later begun) (named later symbol) (index + 1) (met_told later mid) (join (trails_told later paths) (trails_of_option later path))
+  told_next : {after : RootView} (mid : List UniqueSymbolId) (lead : Lead) → IsDeclarationRead root.rules root.graph (symbol_told root symbol) index lead → HasGrown root after → (path : Option Trail) → IsFollowed after now met symbol index lead path mid → (later : RootView) → HasGrown after later → IsExpanding (routes_in later) search_limit (running_told later running) (met_told later begun) (symbol_told later symbol) (index + 1) (met_told later mid) (joined_forests (trails_told later paths) (trails_of_option later path))
   told_next {after = after} mid lead read kept path followed later grown =
       let whole = grown_on kept grown in
-      expanding_next (links_in later) enough (running_told later running) (lead_told later.rules later.graph (named later symbol) lead) (is.told later whole) (stands_told later.rules later.graph (named later symbol) index lead (read_later whole symbol now_within index lead read)) (subst (λ r. IsFollowed after r met symbol index lead path mid) is.same followed later grown)
+      expanding_next (routes_in later) search_limit (running_told later running) (lead_told later.rules later.graph (symbol_told later symbol) lead) (is.told later whole) (stands_told later.rules later.graph (symbol_told later symbol) index lead (read_later whole symbol now_within index lead read)) (subst (λ r. IsFollowed after r met symbol index lead path mid) is.same followed later grown)
 
-  pub finding_on : {after : RootView} {mid : List UniqueSymbolId} (lead : ReadLead) → IsRead root.rules root.graph (named root symbol) index lead → HasGrown root after → IsFollowed after now met symbol index lead None mid → (onward : List AliasDecl) → onward ≡ now → HasSearched after met mid [] → IsFinding old running begun symbol after onward (index + 1) mid paths
+  pub finding_on : {after : RootView} {mid : List UniqueSymbolId} (lead : Lead) → IsDeclarationRead root.rules root.graph (symbol_told root symbol) index lead → HasGrown root after → IsFollowed after now met symbol index lead None mid → (onward : List AliasDecl) → onward ≡ now → HasSearched after met mid [] → IsFinding old running begun symbol after onward (index + 1) mid paths
   finding_on {after = after} {mid = mid} lead read kept followed onward on searched = record {
     grown = grown_on is.grown kept;
     same = on ∙ is.same;
@@ -151,10 +152,10 @@ module _ {old : RootView} {running : List AliasDecl} {begun : List UniqueSymbolI
     longer = omega (arith, is.longer, searched.longer);
     few = searched.few is.few;
     stored = all_still_stored kept (modules_of_trails paths) is.stored;
-    told = λ later grown. subst (λ f. IsExpanding (links_in later) enough (running_told later running) (met_told later begun) (named later symbol) (index + 1) (met_told later mid) f) (join_none (trails_told later paths)) (told_next mid lead read kept None followed later grown);
+    told = λ later grown. subst (λ f. IsExpanding (routes_in later) search_limit (running_told later running) (met_told later begun) (symbol_told later symbol) (index + 1) (met_told later mid) f) (join_none (trails_told later paths)) (told_next mid lead read kept None followed later grown);
   }
 
-  pub finding_more : {after : RootView} {mid : List UniqueSymbolId} (lead : ReadLead) → IsRead root.rules root.graph (named root symbol) index lead → HasGrown root after → (path : Trail) → IsFollowed after now met symbol index lead (Some path) mid → (onward : List AliasDecl) → onward ≡ now → HasSearched after met mid (modules_of_trails (path ∷ [])) → IsFinding old running begun symbol after onward (index + 1) mid (paths ++ path ∷ [])
+  pub finding_more : {after : RootView} {mid : List UniqueSymbolId} (lead : Lead) → IsDeclarationRead root.rules root.graph (symbol_told root symbol) index lead → HasGrown root after → (path : Trail) → IsFollowed after now met symbol index lead (Some path) mid → (onward : List AliasDecl) → onward ≡ now → HasSearched after met mid (modules_of_trails (path ∷ [])) → IsFinding old running begun symbol after onward (index + 1) mid (paths ++ path ∷ [])
   finding_more {after = after} {mid = mid} lead read kept path followed onward on searched = record {
     grown = grown_on is.grown kept;
     same = on ∙ is.same;
@@ -163,21 +164,21 @@ module _ {old : RootView} {running : List AliasDecl} {begun : List UniqueSymbolI
     longer = omega (arith, is.longer, searched.longer);
     few = searched.few is.few;
     stored = subst (AreStored after) (sym (modules_with_trail paths path)) (stored_both after (modules_of_trails paths) (modules_of_trail path) (all_still_stored kept (modules_of_trails paths) is.stored) (subst (AreStored after) (append-nil (modules_of_trail path)) searched.stored));
-    told = λ later grown. subst (λ f. IsExpanding (links_in later) enough (running_told later running) (met_told later begun) (named later symbol) (index + 1) (met_told later mid) f) (sym (told_with_trail later paths path)) (told_next mid lead read kept (Some path) followed later grown);
+    told = λ later grown. subst (λ f. IsExpanding (routes_in later) search_limit (running_told later running) (met_told later begun) (symbol_told later symbol) (index + 1) (met_told later mid) f) (sym (told_with_trail later paths path)) (told_next mid lead read kept (Some path) followed later grown);
   }
 
-  pub finding_next : {after : RootView} {mid : List UniqueSymbolId} (lead : ReadLead) → IsRead root.rules root.graph (named root symbol) index lead → HasGrown root after → (path : Option Trail) → IsFollowed after now met symbol index lead path mid → (onward : List AliasDecl) → onward ≡ now → HasSearched after met mid (modules_of_trails (option_to_list path)) → IsFinding old running begun symbol after onward (index + 1) mid (paths ++ option_to_list path)
+  pub finding_next : {after : RootView} {mid : List UniqueSymbolId} (lead : Lead) → IsDeclarationRead root.rules root.graph (symbol_told root symbol) index lead → HasGrown root after → (path : Option Trail) → IsFollowed after now met symbol index lead path mid → (onward : List AliasDecl) → onward ≡ now → HasSearched after met mid (modules_of_trails (option_to_list path)) → IsFinding old running begun symbol after onward (index + 1) mid (paths ++ option_to_list path)
   finding_next {after = after} {mid = mid} lead read kept None followed onward on searched = subst (λ ps. IsFinding old running begun symbol after onward (index + 1) mid ps) (sym (append-nil paths)) (finding_on lead read kept followed onward on searched)
   finding_next lead read kept (Some path) followed onward on searched = finding_more lead read kept path followed onward on searched
 
   -- the declarations are those of before
-  pub index_before : (lead : ReadLead) → IsRead root.rules root.graph (named root symbol) index lead → index < length (declarations_of old.graph (named old symbol))
+  pub index_before : (lead : Lead) → IsDeclarationRead root.rules root.graph (symbol_told root symbol) index lead → index < length (declarations_of old.graph (symbol_told old symbol))
   index_before lead read = omega (arith, index_within read, ap length (same_declarations is.grown symbol known))
 
-  pub finding_last : IsDistinct bytes_eq old.stored → AreNumbered old begun → slice_get (declarations_of root.graph (named root symbol)) index ≡ None → IsFound root running begun symbol paths met
+  pub finding_last : IsDistinct bytes_eq old.stored → AreSymbolsNumbered old begun → slice_get (declarations_of root.graph (symbol_told root symbol)) index ≡ None → IsFound root running begun symbol paths met
   finding_last once numbered past = λ later grown.
       let fresh = sym (later_met root (is.grown.once once) running begun symbol (still_numbered is.grown begun numbered) now_within later grown) ∙ is.fresh in
-      expanding_last (links_in later) enough (running_told later running) (is.told later grown) fresh (past_later grown symbol now_within index past)
+      expanding_last (routes_in later) search_limit (running_told later running) (is.told later grown) fresh (past_later grown symbol now_within index past)
 
   pub finding_searched : HasSearched root begun met (modules_of_trails paths)
   finding_searched = record { numbered = is.numbered; longer = omega (arith, is.longer); few = λ h. is.few; stored = is.stored }

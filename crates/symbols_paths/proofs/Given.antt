@@ -1,38 +1,38 @@
 -- What a search that is done gives.
 use Rattle.std.proofs.Common.{◌≡◌, ℕ, zero, suc, Bool, true, false, List, [], ◌∷◌, refl, sym, ◌∙◌, ap, arith, true≢false}
 use Rattle.std.specs.Prelude.{Contains}
-use Rattle.symbols_paths.specs.Trees.{NamedSymbol, Parts, Defined, LinkHead, Forest, Leaf, definition, join, link_to, leaves_in}
-use Rattle.symbols_paths.specs.Leads.{Lead, alias, StandsAt}
-use Rattle.symbols_paths.specs.PartWays.{to, Links}
+use Rattle.symbols_paths.specs.Trees.{NamedSymbol, Parts, Defined, LinkHead, Forest, Leaf, definition, joined_forests, link_to, leaves_in}
+use Rattle.symbols_paths.specs.Leads.{DeclLead, alias, LeadsAt}
+use Rattle.symbols_paths.specs.PartLeads.{to, Routes}
 use Rattle.symbols_paths.specs.Reach.{LeadsFirst, GivesLeaf}
-use Rattle.symbols_paths.specs.Searches.{IsFirstLeaf, IsFirstWalk, IsReached}
+use Rattle.symbols_paths.specs.Searches.{IsFirstLeaf, IsFirstWalk, IsSymbolReached}
 use Rattle.symbols_paths.specs.Searches as near
 use Rattle.symbols_paths.specs.Choice.{is_met}
 use Rattle.symbols_paths.proofs.Leaves.{leaves_in-link_to}
 use Rattle.symbols_paths.proofs.Covers.{in_left, in_right}
 use Rattle.symbols_paths.proofs.Reached.{first_leads, TellsFirst, given_told, first_tells}
 
-module _ (links : Links) where
+module _ (routes : Routes) where
   -- the declaration is done: where it leads at first is met, and what it tells at first stands there
-  pub record HasTold (s : NamedSymbol) (i : ℕ) (lead : Lead) (f : Forest) (after : List NamedSymbol) : Type 0 where
+  pub record HasTold (s : NamedSymbol) (i : ℕ) (lead : DeclLead) (f : Forest) (after : List NamedSymbol) : Type 0 where
     pub leads_first : (t : NamedSymbol) → LeadsFirst lead t → is_met after t ≡ true
-    pub tells_first : (x : Leaf) → TellsFirst links s i lead x → Contains (leaves_in f) x
+    pub tells_first : (x : Leaf) → TellsFirst routes s i lead x → Contains (leaves_in f) x
 
   -- what was met meanwhile is done
   pub record AreTelling (met : List NamedSymbol) (f : Forest) (after : List NamedSymbol) : Type 0 where
     pub kept : (u : NamedSymbol) → is_met met u ≡ true → is_met after u ≡ true
-    pub done : (u : NamedSymbol) → is_met met u ≡ false → is_met after u ≡ true → (i : ℕ) (lead : Lead) → StandsAt links.leads u i lead → HasTold u i lead f after
+    pub done : (u : NamedSymbol) → is_met met u ≡ false → is_met after u ≡ true → (i : ℕ) (lead : DeclLead) → LeadsAt routes.leads u i lead → HasTold u i lead f after
 
-  pub widen_told : {s : NamedSymbol} {i : ℕ} {lead : Lead} {f g : Forest} {mid after : List NamedSymbol} → HasTold s i lead f mid → ((x : Leaf) → Contains (leaves_in f) x → Contains (leaves_in g) x) → ((u : NamedSymbol) → is_met mid u ≡ true → is_met after u ≡ true) → HasTold s i lead g after
+  pub widen_told : {s : NamedSymbol} {i : ℕ} {lead : DeclLead} {f g : Forest} {mid after : List NamedSymbol} → HasTold s i lead f mid → ((x : Leaf) → Contains (leaves_in f) x → Contains (leaves_in g) x) → ((u : NamedSymbol) → is_met mid u ≡ true → is_met after u ≡ true) → HasTold s i lead g after
   widen_told is wider kept = record { leads_first = λ t h. kept t (is.leads_first t h); tells_first = λ x h. wider x (is.tells_first x h) }
 
   pub telling_still : (met : List NamedSymbol) (f : Forest) → AreTelling met f met
   telling_still met f = record { kept = λ u h. h; done = λ u m n. absurd (true≢false (sym n ∙ m)) }
 
-  pub telling_both : {a b c : List NamedSymbol} (f g : Forest) → AreTelling a f b → AreTelling b g c → AreTelling a (join f g) c
+  pub telling_both : {a b c : List NamedSymbol} (f g : Forest) → AreTelling a f b → AreTelling b g c → AreTelling a (joined_forests f g) c
   telling_both {a = a} {b = b} {c = c} f g x y = record { kept = λ u h. y.kept u (x.kept u h); done = λ u m n. go u m n (is_met b u) refl }
     where
-      go : (u : NamedSymbol) → is_met a u ≡ false → is_met c u ≡ true → (v : Bool) → is_met b u ≡ v → (i : ℕ) (lead : Lead) → StandsAt links.leads u i lead → HasTold u i lead (join f g) c
+      go : (u : NamedSymbol) → is_met a u ≡ false → is_met c u ≡ true → (v : Bool) → is_met b u ≡ v → (i : ℕ) (lead : DeclLead) → LeadsAt routes.leads u i lead → HasTold u i lead (joined_forests f g) c
       go u m n true e i lead st = widen_told (x.done u m e i lead st) (in_left f g) y.kept
       go u m n false e i lead st = widen_told (y.done u e n i lead st) (in_right f g) (λ v h. h)
 
@@ -41,14 +41,14 @@ module _ (links : Links) where
 
   -- the symbol is done under the parts that remain
   pub record IsDoneUnder (u : NamedSymbol) (r : Parts) (f : Forest) (after : List NamedSymbol) : Type 0 where
-    pub leads_first : (i : ℕ) (lead : Lead) (t : NamedSymbol) → StandsAt links.leads u i lead → LeadsFirst lead t → is_met after t ≡ true
-    pub at_last : r ≡ [] → (i : ℕ) (lead : Lead) (x : Leaf) → StandsAt links.leads u i lead → TellsFirst links u i lead x → Contains (leaves_in f) x
-    pub changes : (p : List ℕ) (q : Parts) → r ≡ p ∷ q → (i : ℕ) (lead : Lead) (x y : Leaf) → StandsAt links.leads u i lead → TellsFirst links u i lead x → GivesLeaf links p q x y → Contains (leaves_in f) y
-    pub goes : (p : List ℕ) (q : Parts) → r ≡ p ∷ q → (i : ℕ) (lead : Lead) (x : Defined) (t : NamedSymbol) → StandsAt links.leads u i lead → TellsFirst links u i lead (definition x) → links.part x p q ≡ to t → is_met after t ≡ true
+    pub leads_first : (i : ℕ) (lead : DeclLead) (t : NamedSymbol) → LeadsAt routes.leads u i lead → LeadsFirst lead t → is_met after t ≡ true
+    pub at_last : r ≡ [] → (i : ℕ) (lead : DeclLead) (x : Leaf) → LeadsAt routes.leads u i lead → TellsFirst routes u i lead x → Contains (leaves_in f) x
+    pub changes : (p : List ℕ) (q : Parts) → r ≡ p ∷ q → (i : ℕ) (lead : DeclLead) (x y : Leaf) → LeadsAt routes.leads u i lead → TellsFirst routes u i lead x → GivesLeaf routes p q x y → Contains (leaves_in f) y
+    pub goes : (p : List ℕ) (q : Parts) → r ≡ p ∷ q → (i : ℕ) (lead : DeclLead) (x : Defined) (t : NamedSymbol) → LeadsAt routes.leads u i lead → TellsFirst routes u i lead (definition x) → routes.part x p q ≡ to t → is_met after t ≡ true
 
   -- where the definitions that are changed lead is met
   pub record AreFollowed (p : List ℕ) (q : Parts) (xs : List Leaf) (after : List NamedSymbol) : Type 0 where
-    pub met_now : (x : Defined) (t : NamedSymbol) → Contains xs (definition x) → links.part x p q ≡ to t → is_met after t ≡ true
+    pub met_now : (x : Defined) (t : NamedSymbol) → Contains xs (definition x) → routes.part x p q ≡ to t → is_met after t ≡ true
 
   same_definition : (x y : Defined) → Contains (definition x ∷ []) (definition y) → x ≡ y
   same_definition x y (zero, lt, e) = let a : x ≡ y = cc in a
@@ -57,14 +57,14 @@ module _ (links : Links) where
   pub to_same : (u v : NamedSymbol) → to u ≡ to v → u ≡ v
   to_same u v e = cc
 
-  pub at_leaf : (x y : Defined) (p : List ℕ) (q : Parts) → Contains (definition x ∷ []) (definition y) → links.part y p q ≡ links.part x p q
-  at_leaf x y p q h = ap (λ z. links.part z p q) (sym (same_definition x y h))
+  pub at_leaf : (x y : Defined) (p : List ℕ) (q : Parts) → Contains (definition x ∷ []) (definition y) → routes.part y p q ≡ routes.part x p q
+  at_leaf x y p q h = ap (λ z. routes.part z p q) (sym (same_definition x y h))
 
   -- one search
   module _ (start : NamedSymbol) (parts : Parts) where
     pub record IsDoneSomehow (u : NamedSymbol) (f : Forest) (after : List NamedSymbol) : Type 0 where
       pub parts_left : Parts
-      pub reached : IsReached links start parts u parts_left
+      pub reached : IsSymbolReached routes start parts u parts_left
       pub done : IsDoneUnder u parts_left f after
 
     pub record CoversUnder (met : List NamedSymbol) (f : Forest) (after : List NamedSymbol) : Type 0 where
@@ -86,10 +86,10 @@ module _ (links : Links) where
     pub under_still : (met : List NamedSymbol) (f : Forest) → CoversUnder met f met
     under_still met f = record { kept = λ u h. h; done = λ u m n. absurd (true≢false (sym n ∙ m)) }
 
-    pub under_both : {a b c : List NamedSymbol} (f g : Forest) → CoversUnder a f b → CoversUnder b g c → CoversUnder a (join f g) c
+    pub under_both : {a b c : List NamedSymbol} (f g : Forest) → CoversUnder a f b → CoversUnder b g c → CoversUnder a (joined_forests f g) c
     under_both {a = a} {b = b} {c = c} f g x y = record { kept = λ u h. y.kept u (x.kept u h); done = λ u m n. go u m n (is_met b u) refl }
       where
-        go : (u : NamedSymbol) → is_met a u ≡ false → is_met c u ≡ true → (v : Bool) → is_met b u ≡ v → IsDoneSomehow u (join f g) c
+        go : (u : NamedSymbol) → is_met a u ≡ false → is_met c u ≡ true → (v : Bool) → is_met b u ≡ v → IsDoneSomehow u (joined_forests f g) c
         go u m n true e = widen (x.done u m e) (in_left f g) y.kept
         go u m n false e = widen (y.done u e n) (in_right f g) (λ v h. h)
 
@@ -97,7 +97,7 @@ module _ (links : Links) where
     under_linked head f x = record { kept = x.kept; done = λ u m n. widen (x.done u m n) (λ y h. rw (leaves_in-link_to head f) h) (λ v h. h) }
 
     -- from no met symbols
-    module _ {after : List NamedSymbol} {f : Forest} (once : (u : NamedSymbol) (q o : Parts) → IsReached links start parts u q → IsReached links start parts u o → q ≡ o) (covers : CoversUnder [] f after) where
+    module _ {after : List NamedSymbol} {f : Forest} (once : (u : NamedSymbol) (q o : Parts) → IsSymbolReached routes start parts u q → IsSymbolReached routes start parts u o → q ≡ o) (covers : CoversUnder [] f after) where
       here_done : (s : NamedSymbol) → is_met after s ≡ true → IsDoneSomehow s f after
       here_done s m = covers.done s refl m
 
@@ -105,18 +105,18 @@ module _ (links : Links) where
       record ToldBy (r : Parts) (x : Leaf) : Type 0 where
         s : NamedSymbol
         i : ℕ
-        lead : Lead
-        reached : IsReached links start parts s r
+        lead : DeclLead
+        reached : IsSymbolReached routes start parts s r
         is_now : is_met after s ≡ true
-        stands : StandsAt links.leads s i lead
-        tells : TellsFirst links s i lead x
+        stands : LeadsAt routes.leads s i lead
+        tells : TellsFirst routes s i lead x
 
-      told : {s : NamedSymbol} {r : Parts} {x : Leaf} → IsReached links start parts s r → is_met after s ≡ true → IsFirstLeaf links s x → ToldBy r x
-      told w m (near.given {s = s} {x = x} i lead st g) = record { s = s; i = i; lead = lead; reached = w; is_now = m; stands = st; tells = given_told links s i lead x g }
+      told : {s : NamedSymbol} {r : Parts} {x : Leaf} → IsSymbolReached routes start parts s r → is_met after s ≡ true → IsFirstLeaf routes s x → ToldBy r x
+      told w m (near.given {s = s} {x = x} i lead st g) = record { s = s; i = i; lead = lead; reached = w; is_now = m; stands = st; tells = given_told routes s i lead x g }
       told w m (near.led {s = s} i lead t st l h) = told (near.led s i lead w st (first_leads lead t l)) ((here_done s m).done.leads_first i lead t st l) h
       told w m (near.by_alias {s = s} i t ps st h) = record { s = s; i = i; lead = alias t ps; reached = w; is_now = m; stands = st; tells = h }
 
-      pub walk_given : {s : NamedSymbol} {r : Parts} {y : Leaf} → IsReached links start parts s r → is_met after s ≡ true → IsFirstWalk links s r y → Contains (leaves_in f) y
+      pub walk_given : {s : NamedSymbol} {r : Parts} {y : Leaf} → IsSymbolReached routes start parts s r → is_met after s ≡ true → IsFirstWalk routes s r y → Contains (leaves_in f) y
       walk_given {y = y} w m (near.no_parts h) =
           let k = told w m h in
           let q = here_done k.s k.is_now in
@@ -129,6 +129,6 @@ module _ (links : Links) where
           let k = told w m h in
           let q = here_done k.s k.is_now in
           walk_given
-          (near.goes k.s k.i k.lead x p k.reached k.stands (first_tells links k.s k.i k.lead (definition x) k.tells) e)
+          (near.goes k.s k.i k.lead x p k.reached k.stands (first_tells routes k.s k.i k.lead (definition x) k.tells) e)
           (q.done.goes p r (once k.s q.parts_left (p ∷ r) q.reached k.reached) k.i k.lead x t k.stands k.tells e)
           n

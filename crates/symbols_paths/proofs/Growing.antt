@@ -12,15 +12,15 @@ use Rattle.symbols_syntax.specs.declared.ids.UniqueSymbolId.{UniqueSymbolId}
 use Rattle.symbols_root.specs.Roots.{RootView, specifier_in}
 use Rattle.symbols_root.specs.Growing.{HasGrown}
 use Rattle.symbols_root.specs.laws.Growing.{still_stored}
-use Rattle.symbols_paths.specs.PartWays.{links_of, links_in}
+use Rattle.symbols_paths.specs.PartLeads.{routes_of, routes_in}
 use Rattle.symbols_paths.specs.Views.{AreStored}
-use Rattle.symbols_paths.specs.Searching.{AreNumbered}
+use Rattle.symbols_paths.specs.inner.Searching.{AreSymbolsNumbered}
 
 -- it searches by the same
-pub same_links : {root more : RootView} → HasGrown root more → links_in more ≡ links_in root
-same_links grown = λ i. links_of (grown.rules i) (grown.graph i)
+pub same_links : {root more : RootView} → HasGrown root more → routes_in more ≡ routes_in root
+same_links grown = λ i. routes_of (grown.rules i) (grown.graph i)
 
-pub still_numbered : {root more : RootView} → HasGrown root more → (met : List UniqueSymbolId) → AreNumbered root met → AreNumbered more met
+pub still_numbered : {root more : RootView} → HasGrown root more → (met : List UniqueSymbolId) → AreSymbolsNumbered root met → AreSymbolsNumbered more met
 still_numbered grown met numbered = λ k d within. still_stored grown (get_or met k d).module_id.0 (numbered k d within)
 
 pub all_still_stored : {root more : RootView} → HasGrown root more → (ids : List ModuleId) → AreStored root ids → AreStored more ids

@@ -13,11 +13,12 @@ use Rattle.symbols_exports.specs.Exports.{Entry}
 use Rattle.symbols_exports.specs.OneName.{export_named}
 use Rattle.symbols_exports.specs.StarStatements.{text_target, statements_of}
 use Rattle.symbols_paths.specs.Trees.{NamedSymbol, NamedDecl, Parts, Defined, Missing, no_part, Leaf, definition, unresolved}
-use Rattle.symbols_paths.specs.Leads.{Ways, Lead, defines, leads, alias, StandsAt, symbol_of_id, own_export, export_along, exports_along, passes_on, holding, target_ways, alias_lead, import_ways, ways_into, declarations_of, lead_of, leads_of}
-use Rattle.symbols_paths.specs.PartWays.{to, itself, lacks, export_of_symbol, own_part, module_part, text_part, defined_part, part_of, is_class_at, prototype_name, Links, links_of}
+use Rattle.symbols_paths.specs.Leads.{Forward, DeclLead, defines, leads, alias, LeadsAt, symbol_of_id, own_export, export_along, exports_along, passes_name, passed_exports, target_forward, alias_lead, import_forward, forward_into, declarations_of, lead_of, leads_of}
+use Rattle.symbols_paths.specs.PartLeads.{to, itself, lacks, export_of_symbol, own_part, module_part, text_part, defined_part, part_of, is_class_at, prototype_name, Routes, routes_of}
 use Rattle.symbols_paths.specs.Derived.{defined_at}
 use Rattle.symbols_paths.specs.Reach.{IsLeaf, given, led, by_alias, IsWalk, no_parts, stays, goes, is_itself, lacking}
-use Rattle.symbols_paths.specs.Needed.{IsNeeded, begun, imported, passed_on, IsStarDeclared}
+use Rattle.symbols_paths.specs.Needed.{IsNeeded, begun, imported, passed_on}
+use Rattle.symbols_paths.specs.inner.Needed.{IsStarDeclared}
 use Rattle.symbols_paths.proofs.Owners.{owner_needed}
 
 pub needed_from : {graph : GraphView} {a b c : List ℕ} → IsNeeded graph a b → IsNeeded graph b c → IsNeeded graph a c
@@ -27,15 +28,15 @@ needed_from x (passed_on specifier position is leads_on) = passed_on specifier p
 
 -- ---- a declaration that stands there
 
-record IsDeclAt (rules : Rules) (graph : GraphView) (s : NamedSymbol) (lead : Lead) : Type 0 where
+record IsDeclAt (rules : Rules) (graph : GraphView) (s : NamedSymbol) (lead : DeclLead) : Type 0 where
   decl : Declaration
   stands : Contains (declarations_of graph s) decl
   leads_so : lead_of rules graph s decl.range decl.kind ≡ lead
 
-decl_there : (rules : Rules) (graph : GraphView) (s : NamedSymbol) (i : ℕ) (lead : Lead) → StandsAt (leads_of rules graph) s i lead → IsDeclAt rules graph s lead
+decl_there : (rules : Rules) (graph : GraphView) (s : NamedSymbol) (i : ℕ) (lead : DeclLead) → LeadsAt (leads_of rules graph) s i lead → IsDeclAt rules graph s lead
 decl_there rules graph s i lead st = by (declarations_of graph s) i (λ d h. h) st
   where
-    same : (a b : Lead) → Some a ≡ Some b → a ≡ b
+    same : (a b : DeclLead) → Some a ≡ Some b → a ≡ b
     same a b e = cc
 
     by : (decls : List Declaration) (k : ℕ) → ((d : Declaration) → Contains decls d → Contains (declarations_of graph s) d) → slice_get (map (λ (decl : Declaration). lead_of rules graph s decl.range decl.kind) decls) k ≡ Some lead → IsDeclAt rules graph s lead
@@ -57,8 +58,8 @@ same_dep x y e = cc
 no_dep : (dep : DepView) → None ≡ Some dep → ⊥
 no_dep dep e = cc
 
-no_definition : (ways : Ways) (range : SourceRange) (star : Option DepView) → leads ways ≡ defines range star → ⊥
-no_definition ways range star e = cc
+no_definition : (forward : Forward) (range : SourceRange) (star : Option DepView) → leads forward ≡ defines range star → ⊥
+no_definition forward range star e = cc
 
 no_alias_definition : (t : NamedSymbol) (ps : Parts) (range : SourceRange) (star : Option DepView) → alias t ps ≡ defines range star → ⊥
 no_alias_definition t ps range star e = cc
@@ -68,29 +69,29 @@ star_kind rules graph s r range star (defines_node x) e = λ dep is. absurd (no_
 star_kind rules graph s r range star (file_ref all_names text) e = λ dep is.
     let same : record { name = all_names; specifier = text } ≡ dep = same_dep (record { name = all_names; specifier = text }) dep (same_star r range (Some (record { name = all_names; specifier = text })) star e ∙ is) in
     ap (λ (d : DepView). file_ref d.name d.specifier) same
-star_kind rules graph s r range star (file_ref (one_name name) text) e = absurd (no_definition (import_ways rules graph s name text (text_target graph s.specifier text)) range star e)
-star_kind rules graph s r range star (target id) e = absurd (no_definition (target_ways s (symbol_of_id graph s.specifier id)) range star e)
+star_kind rules graph s r range star (file_ref (one_name name) text) e = absurd (no_definition (import_forward rules graph s name text (text_target graph s.specifier text)) range star e)
+star_kind rules graph s r range star (target id) e = absurd (no_definition (target_forward s (symbol_of_id graph s.specifier id)) range star e)
 star_kind rules graph s r range star (qualified_target id parts) e = absurd (by (symbol_of_id graph s.specifier id) e)
   where
     by : (t : Option SymbolId) → alias_lead s id parts t ≡ defines range star → ⊥
     by None q = no_definition _ range star q
     by (Some t) q = no_alias_definition _ parts range star q
 
-star_declared : (rules : Rules) (graph : GraphView) (s : NamedSymbol) (i : ℕ) (range : SourceRange) (star : Option DepView) → StandsAt (leads_of rules graph) s i (defines range star) → IsStarDeclared graph (defined_at s i range star)
+star_declared : (rules : Rules) (graph : GraphView) (s : NamedSymbol) (i : ℕ) (range : SourceRange) (star : Option DepView) → LeadsAt (leads_of rules graph) s i (defines range star) → IsStarDeclared graph (defined_at s i range star)
 star_declared rules graph s i range star st dep is =
     let there = decl_there rules graph s i (defines range star) st in
     (there.decl, there.stands, star_kind rules graph s there.decl.range range star there.decl.kind there.leads_so dep is)
 
 -- ---- where declarations lead
 
-abbrev NeedsAll : GraphView → NamedSymbol → Lead → Type 0
-NeedsAll graph s lead = (ways : Ways) → lead ≡ leads ways → (t : NamedSymbol) → Contains ways.candidates t → IsNeeded graph s.specifier t.specifier
+abbrev NeedsAll : GraphView → NamedSymbol → DeclLead → Type 0
+NeedsAll graph s lead = (forward : Forward) → lead ≡ leads forward → (t : NamedSymbol) → Contains forward.candidates t → IsNeeded graph s.specifier t.specifier
 
-same_ways : (a b : Ways) → leads a ≡ leads b → a ≡ b
+same_ways : (a b : Forward) → leads a ≡ leads b → a ≡ b
 same_ways a b e = cc
 
-led_needs : (graph : GraphView) (s : NamedSymbol) (ways : Ways) → ((t : NamedSymbol) → Contains ways.candidates t → IsNeeded graph s.specifier t.specifier) → NeedsAll graph s (leads ways)
-led_needs graph s ways h other e t has = h t (subst (λ (w : Ways). Contains w.candidates t) (sym (same_ways ways other e)) has)
+led_needs : (graph : GraphView) (s : NamedSymbol) (forward : Forward) → ((t : NamedSymbol) → Contains forward.candidates t → IsNeeded graph s.specifier t.specifier) → NeedsAll graph s (leads forward)
+led_needs graph s forward h other e t has = h t (subst (λ (w : Forward). Contains w.candidates t) (sym (same_ways forward other e)) has)
 
 none_there : (t : NamedSymbol) → Contains [] t → ⊥
 none_there t h = omega (arith, h.1)
@@ -117,50 +118,50 @@ along_needed graph m name c has = by (statements_of graph m) (λ k v e. passed_o
     by (Some v ∷ statements) needs h = one v (needs 0 v refl) (export_named graph v name) refl (filter_map (export_along graph name) statements) h (λ q. by statements (λ k w e. needs (suc k) w e) q)
 
 -- what the rules let pass along `export *` is one of these exports
-held_along : (rules : Rules) (graph : GraphView) (m name : List ℕ) (c : NamedSymbol) → Contains (holding rules graph m name) c → Contains (exports_along graph m name) c
-held_along rules graph m name c = by (passes_on rules name)
+held_along : (rules : Rules) (graph : GraphView) (m name : List ℕ) (c : NamedSymbol) → Contains (passed_exports rules graph m name) c → Contains (exports_along graph m name) c
+held_along rules graph m name c = by (passes_name rules name)
   where
     by : (b : Bool) → Contains (if b then exports_along graph m name else []) c → Contains (exports_along graph m name) c
     by true has = has
     by false has = absurd (none_there c has)
 
 module _ (rules : Rules) (graph : GraphView) (s : NamedSymbol) (decl : Declaration) (stands : Contains (declarations_of graph s) decl) where
-  into_needs : (name text v : List ℕ) → IsNeeded graph s.specifier v → (owned : Option SymbolId) → NeedsAll graph s (leads (ways_into rules graph s name v owned))
-  into_needs name text v is (Some u) = led_needs graph s (ways_into rules graph s name v (Some u)) (λ t has. subst (λ (x : NamedSymbol). IsNeeded graph s.specifier x.specifier) (only_one (record { specifier = v; number = u }) t has) is)
-  into_needs name text v is None = led_needs graph s (ways_into rules graph s name v None) (λ t has. needed_from is (along_needed graph v name t (held_along rules graph v name t has)))
+  into_needs : (name text v : List ℕ) → IsNeeded graph s.specifier v → (owned : Option SymbolId) → NeedsAll graph s (leads (forward_into rules graph s name v owned))
+  into_needs name text v is (Some u) = led_needs graph s (forward_into rules graph s name v (Some u)) (λ t has. subst (λ (x : NamedSymbol). IsNeeded graph s.specifier x.specifier) (only_one (record { specifier = v; number = u }) t has) is)
+  into_needs name text v is None = led_needs graph s (forward_into rules graph s name v None) (λ t has. needed_from is (along_needed graph v name t (held_along rules graph v name t has)))
 
-  import_needs : (name text : List ℕ) → decl.kind ≡ file_ref (one_name name) text → (found : Option (List ℕ)) → text_target graph s.specifier text ≡ found → NeedsAll graph s (leads (import_ways rules graph s name text found))
-  import_needs name text kind None e = led_needs graph s (import_ways rules graph s name text None) (λ t has. absurd (none_there t has))
+  import_needs : (name text : List ℕ) → decl.kind ≡ file_ref (one_name name) text → (found : Option (List ℕ)) → text_target graph s.specifier text ≡ found → NeedsAll graph s (leads (import_forward rules graph s name text found))
+  import_needs name text kind None e = led_needs graph s (import_forward rules graph s name text None) (λ t has. absurd (none_there t has))
   import_needs name text kind (Some v) e = into_needs name text v (imported s decl (one_name name) text begun stands kind e) (own_export graph v name)
 
-  target_needs : (t : Option SymbolId) → NeedsAll graph s (leads (target_ways s t))
-  target_needs None = led_needs graph s (target_ways s None) (λ t has. absurd (none_there t has))
-  target_needs (Some u) = led_needs graph s (target_ways s (Some u)) (λ t has. subst (λ (x : NamedSymbol). IsNeeded graph s.specifier x.specifier) (only_one (record { specifier = s.specifier; number = u }) t has) begun)
+  target_needs : (t : Option SymbolId) → NeedsAll graph s (leads (target_forward s t))
+  target_needs None = led_needs graph s (target_forward s None) (λ t has. absurd (none_there t has))
+  target_needs (Some u) = led_needs graph s (target_forward s (Some u)) (λ t has. subst (λ (x : NamedSymbol). IsNeeded graph s.specifier x.specifier) (only_one (record { specifier = s.specifier; number = u }) t has) begun)
 
   alias_needs : (id : IdView) (ps : Parts) (t : Option SymbolId) → NeedsAll graph s (alias_lead s id ps t)
   alias_needs id ps None = led_needs graph s _ (λ t has. absurd (none_there t has))
-  alias_needs id ps (Some u) = λ ways e. absurd (alias_ways_apart (record { specifier = s.specifier; number = u }) ps ways e)
+  alias_needs id ps (Some u) = λ forward e. absurd (alias_ways_apart (record { specifier = s.specifier; number = u }) ps forward e)
     where
-      alias_ways_apart : (t : NamedSymbol) (qs : Parts) (w : Ways) → alias t qs ≡ leads w → ⊥
+      alias_ways_apart : (t : NamedSymbol) (qs : Parts) (w : Forward) → alias t qs ≡ leads w → ⊥
       alias_ways_apart t qs w q = cc
 
   lead_needs : (r : SourceRange) (kind : DeclKind) → decl.kind ≡ kind → NeedsAll graph s (lead_of rules graph s r kind)
-  lead_needs r (defines_node x) e = λ ways q. absurd (no_definition ways r None (sym q))
-  lead_needs r (file_ref all_names text) e = λ ways q. absurd (no_definition ways r (Some (record { name = all_names; specifier = text })) (sym q))
+  lead_needs r (defines_node x) e = λ forward q. absurd (no_definition forward r None (sym q))
+  lead_needs r (file_ref all_names text) e = λ forward q. absurd (no_definition forward r (Some (record { name = all_names; specifier = text })) (sym q))
   lead_needs r (file_ref (one_name name) text) e = import_needs name text e (text_target graph s.specifier text) refl
   lead_needs r (target id) e = target_needs (symbol_of_id graph s.specifier id)
   lead_needs r (qualified_target id parts) e = alias_needs id parts (symbol_of_id graph s.specifier id)
 
-leads_needed : (rules : Rules) (graph : GraphView) (s : NamedSymbol) (i : ℕ) (ways : Ways) (t : NamedSymbol) → StandsAt (leads_of rules graph) s i (leads ways) → Contains ways.candidates t → IsNeeded graph s.specifier t.specifier
-leads_needed rules graph s i ways t st has =
-    let there = decl_there rules graph s i (leads ways) st in
-    lead_needs rules graph s there.decl there.stands there.decl.range there.decl.kind refl ways there.leads_so t has
+leads_needed : (rules : Rules) (graph : GraphView) (s : NamedSymbol) (i : ℕ) (forward : Forward) (t : NamedSymbol) → LeadsAt (leads_of rules graph) s i (leads forward) → Contains forward.candidates t → IsNeeded graph s.specifier t.specifier
+leads_needed rules graph s i forward t st has =
+    let there = decl_there rules graph s i (leads forward) st in
+    lead_needs rules graph s there.decl there.stands there.decl.range there.decl.kind refl forward there.leads_so t has
 
 -- an alias is of its own module
-alias_same : (rules : Rules) (graph : GraphView) (s : NamedSymbol) (i : ℕ) (t : NamedSymbol) (ps : Parts) → StandsAt (leads_of rules graph) s i (alias t ps) → t.specifier ≡ s.specifier
+alias_same : (rules : Rules) (graph : GraphView) (s : NamedSymbol) (i : ℕ) (t : NamedSymbol) (ps : Parts) → LeadsAt (leads_of rules graph) s i (alias t ps) → t.specifier ≡ s.specifier
 alias_same rules graph s i t ps st = let there = decl_there rules graph s i (alias t ps) st in by there.decl.range there.decl.kind there.leads_so
   where
-    led : (w : Ways) → leads w ≡ alias t ps → ⊥
+    led : (w : Forward) → leads w ≡ alias t ps → ⊥
     led w e = cc
 
     defined : (r : SourceRange) (star : Option DepView) → defines r star ≡ alias t ps → ⊥
@@ -235,28 +236,28 @@ not_missing m y e = cc
 same_definition : (x y : Defined) → definition x ≡ definition y → x ≡ y
 same_definition x y e = cc
 
-module _ (rules : Rules) (graph : GraphView) (links : Links) (same : links ≡ links_of rules graph) where
-  stands_in : (s : NamedSymbol) (i : ℕ) (lead : Lead) → StandsAt links.leads s i lead → StandsAt (leads_of rules graph) s i lead
-  stands_in s i lead st = subst (λ (l : Links). StandsAt l.leads s i lead) same st
+module _ (rules : Rules) (graph : GraphView) (routes : Routes) (same : routes ≡ routes_of rules graph) where
+  stands_in : (s : NamedSymbol) (i : ℕ) (lead : DeclLead) → LeadsAt routes.leads s i lead → LeadsAt (leads_of rules graph) s i lead
+  stands_in s i lead st = subst (λ (l : Routes). LeadsAt l.leads s i lead) same st
 
   mutual
-    leaf_of_graph : {s : NamedSymbol} {x : Leaf} → IsLeaf links s x → (y : Defined) → x ≡ definition y → IsLeafGiven graph s.specifier y
+    leaf_of_graph : {s : NamedSymbol} {x : Leaf} → IsLeaf routes s x → (y : Defined) → x ≡ definition y → IsLeafGiven graph s.specifier y
     leaf_of_graph (given {s = s} i (defines range star) st is) y e = subst (IsLeafGiven graph s.specifier) (same_definition (defined_at s i range star) y (sym is ∙ e)) (record { needed = begun; declared = star_declared rules graph s i range star (stands_in s i (defines range star) st) })
-    leaf_of_graph (given i (leads ways) st is) y e = absurd (not_missing is.0 y (sym is.2 ∙ e))
+    leaf_of_graph (given i (leads forward) st is) y e = absurd (not_missing is.0 y (sym is.2 ∙ e))
     leaf_of_graph (given i (alias t ps) st is) y e = absurd is
     leaf_of_graph (led i (defines range star) t st to_t h) y e = absurd to_t
-    leaf_of_graph (led {s = s} i (leads ways) t st to_t h) y e = onward (leads_needed rules graph s i ways t (stands_in s i (leads ways) st) to_t) (leaf_of_graph h y e)
+    leaf_of_graph (led {s = s} i (leads forward) t st to_t h) y e = onward (leads_needed rules graph s i forward t (stands_in s i (leads forward) st) to_t) (leaf_of_graph h y e)
     leaf_of_graph (led i (alias u ps) t st to_t h) y e = absurd to_t
     leaf_of_graph (by_alias {s = s} i t ps st h) y e = subst (λ v. IsLeafGiven graph v y) (alias_same rules graph s i t ps (stands_in s i (alias t ps) st)) (walk_of_graph h y e)
 
-    walk_of_graph : {s : NamedSymbol} {ps : Parts} {x : Leaf} → IsWalk links s ps x → (y : Defined) → x ≡ definition y → IsLeafGiven graph s.specifier y
+    walk_of_graph : {s : NamedSymbol} {ps : Parts} {x : Leaf} → IsWalk routes s ps x → (y : Defined) → x ≡ definition y → IsLeafGiven graph s.specifier y
     walk_of_graph (no_parts h) y e = leaf_of_graph h y e
     walk_of_graph (stays m h) y e = absurd (not_missing m y e)
     walk_of_graph (goes {p = p} {ps = ps} z t h part walk) y e =
         let at = leaf_of_graph h z refl in
-        onward (needed_from at.needed (part_needed graph z p ps t at.declared (subst (λ (l : Links). l.part z p ps ≡ to t) same part))) (walk_of_graph walk y e)
+        onward (needed_from at.needed (part_needed graph z p ps t at.declared (subst (λ (l : Routes). l.part z p ps ≡ to t) same part))) (walk_of_graph walk y e)
     walk_of_graph (is_itself z h part) y e = leaf_of_graph h y e
     walk_of_graph (lacking z m h part) y e = absurd (not_missing m y e)
 
-pub leaf_given : (rules : Rules) (graph : GraphView) (s : NamedSymbol) (y : Defined) → IsLeaf (links_of rules graph) s (definition y) → IsLeafGiven graph s.specifier y
-leaf_given rules graph s y h = leaf_of_graph rules graph (links_of rules graph) refl h y refl
+pub leaf_given : (rules : Rules) (graph : GraphView) (s : NamedSymbol) (y : Defined) → IsLeaf (routes_of rules graph) s (definition y) → IsLeafGiven graph s.specifier y
+leaf_given rules graph s y h = leaf_of_graph rules graph (routes_of rules graph) refl h y refl

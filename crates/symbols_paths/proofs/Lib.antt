@@ -21,6 +21,7 @@ mod SharedParts
 mod Unrolling
 mod Targets
 mod SearchSteps
+mod Ready
 mod Computing
 mod Finding
 mod Walking

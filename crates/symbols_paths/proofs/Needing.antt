@@ -11,7 +11,7 @@ use Rattle.symbols_exports.specs.StarStatements.{star_texts, text_target}
 use Rattle.symbols_paths.specs.Trees.{NamedSymbol}
 use Rattle.symbols_paths.specs.Leads.{export_along}
 use Rattle.symbols_paths.specs.Needed.{IsNeeded, begun, imported, IsRefused}
-use Rattle.symbols_paths.specs.Searching.{IsImported}
+use Rattle.symbols_paths.specs.inner.Searching.{IsImported}
 use Rattle.symbols_paths.proofs.LeafNeeds.{needed_from}
 use Rattle.symbols_paths.proofs.Owners.{owner_needed}
 use Rattle.symbols_paths.proofs.Targets.{needed_there, named_entry}

@@ -11,7 +11,7 @@ use Rattle.symbols_root.specs.Specifiers.{is_among}
 use Rattle.symbols_exports.specs.Exports.{Entry}
 use Rattle.symbols_exports.specs.OneName.{export_named}
 use Rattle.symbols_exports.specs.StarStatements.{statements_of, owned_of}
-use Rattle.symbols_exports.specs.Ways.{Way, behind, along, ways_from, ways_of, first_of_each, is_passed_by, offered_by, offered_at, same_name, exports_of}
+use Rattle.symbols_exports.specs.Ways.{Way, way_behind, ways_along, ways_from, ways_of, first_of_each, is_passed_by, offered_by, offered_at, same_name, exports_of}
 use Rattle.symbols_paths.specs.Needed.{IsNeeded, passed_on}
 
 -- ---- what holds of all
@@ -49,15 +49,15 @@ module _ (graph : GraphView) (start : List ℕ) where
   abbrev AreNeededOwners : List Entry → Type 0
   AreNeededOwners entries = AllByRecursion (λ (entry : Entry). IsNeeded graph start entry.owner) entries
 
-  all_behind : (position : ℕ) (ways : List Way) → AreNeededEnds ways → AreNeededEnds (map (behind position) ways)
+  all_behind : (position : ℕ) (ways : List Way) → AreNeededEnds ways → AreNeededEnds (map (way_behind position) ways)
   all_behind position [] all = tt
   all_behind position (way ∷ ways) all = (all.0, all_behind position ways all.1)
 
-  along_needed : (further : List ℕ → List Way) (here : List ℕ) (position : ℕ) (rest : List (Option (List ℕ))) → IsNeeded graph start here → ((v : List ℕ) → IsNeeded graph start v → AreNeededEnds (further v)) → ((k : ℕ) (v : List ℕ) → slice_index_or rest k None ≡ Some v → IsNeeded graph start v) → AreNeededEnds (along further here position rest)
+  along_needed : (further : List ℕ → List Way) (here : List ℕ) (position : ℕ) (rest : List (Option (List ℕ))) → IsNeeded graph start here → ((v : List ℕ) → IsNeeded graph start v → AreNeededEnds (further v)) → ((k : ℕ) (v : List ℕ) → slice_index_or rest k None ≡ Some v → IsNeeded graph start v) → AreNeededEnds (ways_along further here position rest)
   along_needed further here position [] is on leads = tt
   along_needed further here position (None ∷ rest) is on leads = (is, along_needed further here (position + 1) rest is on (λ k v e. leads (suc k) v e))
   along_needed further here position (Some next ∷ rest) is on leads =
-      all_append (λ (way : Way). IsNeeded graph start way.end) (map (behind position) (further next)) (along further here (position + 1) rest) (all_behind position (further next) (on next (leads 0 next refl))) (along_needed further here (position + 1) rest is on (λ k v e. leads (suc k) v e))
+      all_append (λ (way : Way). IsNeeded graph start way.end) (map (way_behind position) (further next)) (ways_along further here (position + 1) rest) (all_behind position (further next) (on next (leads 0 next refl))) (along_needed further here (position + 1) rest is on (λ k v e. leads (suc k) v e))
 
   ways_needed : (n : ℕ) (before : List (List ℕ)) (here : List ℕ) → IsNeeded graph start here → AreNeededEnds (ways_from (statements_of graph) n before here)
   ways_needed zero before here is = tt
@@ -66,7 +66,7 @@ module _ (graph : GraphView) (start : List ℕ) where
       further : List ℕ → List Way
       further next = ways_from (statements_of graph) n (before ++ here ∷ []) next
 
-      by : (b : Bool) → AreNeededEnds (along further here 0 (statements_of graph here)) → AreNeededEnds (if b then [] else record { chain = []; end = here; nowhere = None } ∷ along further here 0 (statements_of graph here))
+      by : (b : Bool) → AreNeededEnds (ways_along further here 0 (statements_of graph here)) → AreNeededEnds (if b then [] else record { chain = []; end = here; nowhere = None } ∷ ways_along further here 0 (statements_of graph here))
       by true rest = tt
       by false rest = (is, rest)
 

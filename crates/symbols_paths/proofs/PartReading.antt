@@ -14,8 +14,9 @@ use Rattle.symbols_root.specs.Growing.{HasGrown}
 use Rattle.symbols_root.specs.laws.Growing.{grown_on}
 use Rattle.symbols_exports.specs.OneName.{export_named}
 use Rattle.symbols_paths.specs.Trees.{NamedDecl, Parts, no_part}
-use Rattle.symbols_paths.specs.PartWays.{lacks, itself, prototype_name, is_class_at, own_part, module_part, text_part}
-use Rattle.symbols_paths.specs.Views.{texts_of, first_part}
+use Rattle.symbols_paths.specs.PartLeads.{lacks, itself, prototype_name, is_class_at, own_part, module_part, text_part}
+use Rattle.symbols_paths.specs.Views.{texts_of}
+use Rattle.symbols_paths.specs.inner.Views.{first_part}
 use Rattle.symbols_paths.specs.Needed.{IsNeeded, IsRefused}
 use Rattle.symbols_paths.proofs.Needing.{refused_from}
 

@@ -14,9 +14,9 @@ use Rattle.symbols_table.specs.declared.decl.symbol_decl.SymbolDecl.{SymbolDecl}
 use Rattle.symbols_table.specs.declared.info.es_module.EsModuleInfo.{EsModuleInfo}
 use Rattle.symbols_table.specs.declared.info.json_module.JsonModuleInfo.{JsonModuleInfo}
 use Rattle.symbols_table.specs.Analysis.{source_changes, json_changes}
-use Rattle.symbols_table.specs.Changes.{Change, makes, declares, exports, has_child, exported, parents_after, decls_after, decl_by}
+use Rattle.symbols_table.specs.Changes.{Change, makes, declares, exports, has_child, exported_symbol, parents_after, decls_after, decl_by}
 use Rattle.symbols_table.specs.DeclViews.{Declaration, decl_view, with_decl, is_definition}
-use Rattle.symbols_table.specs.Events.{Row, found_or, new_row, next_symbol, default_row, default_text, changes_of, rows_after, symbol_at}
+use Rattle.symbols_table.specs.Events.{Row, found_or, new_row, next_symbol, default_row, default_name, changes_of, rows_after, symbol_at}
 use Rattle.symbols_table.specs.JsonEvents.{json_decl}
 use Rattle.symbols_table.specs.Modules.{Table, json_table}
 use Rattle.symbols_table.specs.Symbols.{decls_in, exports_in}
@@ -26,13 +26,13 @@ use Rattle.symbols_root.specs.GraphModules.{changes_under}
 use Rattle.symbols_root.specs.laws.StoredTables.{stored_symbol}
 use Rattle.symbols_exports.specs.StarStatements.{owned_of}
 use Rattle.symbols_paths.specs.Leads.{declarations_of}
-use Rattle.symbols_paths.specs.Views.{named}
+use Rattle.symbols_paths.specs.inner.Views.{symbol_told}
 
 -- the declarations of a symbol of it
-pub stored_decls : (root : RootView) (s : UniqueSymbolId) (table : Table) (symbol : Symbol) → IsStoredTable root s.module_id table → slice_get table.symbols s.symbol_id.0 ≡ Some symbol → decls_in symbol ≡ declarations_of root.graph (named root s)
+pub stored_decls : (root : RootView) (s : UniqueSymbolId) (table : Table) (symbol : Symbol) → IsStoredTable root s.module_id table → slice_get table.symbols s.symbol_id.0 ≡ Some symbol → decls_in symbol ≡ declarations_of root.graph (symbol_told root s)
 stored_decls root s table symbol stored at = ap (λ found. option_map_or (λ (x : SymbolView). x.decls) found []) (sym (ap (option_map symbol_view) at) ∙ stored_symbol root s.module_id table stored s.symbol_id)
 
-pub no_decls : (root : RootView) (s : UniqueSymbolId) (table : Table) → IsStoredTable root s.module_id table → slice_get table.symbols s.symbol_id.0 ≡ None → declarations_of root.graph (named root s) ≡ []
+pub no_decls : (root : RootView) (s : UniqueSymbolId) (table : Table) → IsStoredTable root s.module_id table → slice_get table.symbols s.symbol_id.0 ≡ None → declarations_of root.graph (symbol_told root s) ≡ []
 no_decls root s table stored at = sym (ap (λ found. option_map_or (λ (x : SymbolView). x.decls) found []) (sym (ap (option_map symbol_view) at) ∙ stored_symbol root s.module_id table stored s.symbol_id))
 
 -- what a symbol of it exports
@@ -78,10 +78,10 @@ found_few None decl row h = h
 found_few (Some s) decl row h = omega arith
 
 default_few : (before : List Change) (holder : SymbolId) (decl : Declaration) → length (default_row before holder decl).changes ≤ 4
-default_few before holder decl = found_few (exported before holder default_text) decl (new_row before (Some holder) decl more) (by (is_definition decl.kind))
+default_few before holder decl = found_few (exported_symbol before holder default_name) decl (new_row before (Some holder) decl more) (by (is_definition decl.kind))
   where
     more : SymbolId → List Change
-    more s = exports holder default_text s ∷ (if is_definition decl.kind then has_child holder s ∷ [] else [])
+    more s = exports holder default_name s ∷ (if is_definition decl.kind then has_child holder s ∷ [] else [])
 
     by : (b : Bool) → suc (suc (suc (length (if b then has_child holder (next_symbol before) ∷ [] else [])))) ≤ 4
     by true = omega arith

@@ -9,8 +9,8 @@ use Rattle.symbols_root.specs.Growing.{HasGrown}
 use Rattle.symbols_root.specs.laws.Growing.{still_stored}
 use Rattle.symbols_paths.specs.declared.paths.resolving.AliasDecl.{AliasDecl}
 use Rattle.symbols_paths.specs.Choice.{is_met, is_running}
-use Rattle.symbols_paths.specs.Views.{named}
-use Rattle.symbols_paths.specs.Searching.{AreNumbered, AreAliasesNumbered, met_told, running_told, alias_told}
+use Rattle.symbols_paths.specs.inner.Views.{symbol_told}
+use Rattle.symbols_paths.specs.inner.Searching.{AreSymbolsNumbered, AreAliasesNumbered, met_told, running_told, alias_told}
 use Rattle.symbols_paths.proofs.Growing.{same_number}
 
 -- whether these are one symbol, as the set of met symbols tells it
@@ -18,17 +18,17 @@ abbrev pub is_symbol : UniqueSymbolId → UniqueSymbolId → Bool
 is_symbol x y = nat_eq x.module_id.0 y.module_id.0 && nat_eq x.symbol_id.0 y.symbol_id.0
 
 -- what was met, by numbers and by names
-pub met_by_name : (root : RootView) → IsDistinct bytes_eq root.stored → (met : List UniqueSymbolId) (s : UniqueSymbolId) → AreNumbered root met → s.module_id.0 < length root.stored → list_any (is_symbol s) met ≡ is_met (met_told root met) (named root s)
+pub met_by_name : (root : RootView) → IsDistinct bytes_eq root.stored → (met : List UniqueSymbolId) (s : UniqueSymbolId) → AreSymbolsNumbered root met → s.module_id.0 < length root.stored → list_any (is_symbol s) met ≡ is_met (met_told root met) (symbol_told root s)
 met_by_name root once [] s numbered within = refl
 met_by_name root once (m ∷ met) s numbered within =
     let first = same_number root once s.module_id m.module_id within (numbered 0 m (omega arith)) in
     let rest = met_by_name root once met s (λ k d h. numbered (suc k) d (omega (arith, h))) within in
     λ i. (first i && nat_eq s.symbol_id.0 m.symbol_id.0) || rest i
 
-pub told_with : (root : RootView) (met : List UniqueSymbolId) (s : UniqueSymbolId) → met_told root (met ++ s ∷ []) ≡ met_told root met ++ named root s ∷ []
-told_with root met s = map-append (named root) met (s ∷ [])
+pub told_with : (root : RootView) (met : List UniqueSymbolId) (s : UniqueSymbolId) → met_told root (met ++ s ∷ []) ≡ met_told root met ++ symbol_told root s ∷ []
+told_with root met s = map-append (symbol_told root) met (s ∷ [])
 
-pub numbered_with : (root : RootView) (met : List UniqueSymbolId) (s : UniqueSymbolId) → AreNumbered root met → s.module_id.0 < length root.stored → AreNumbered root (met ++ s ∷ [])
+pub numbered_with : (root : RootView) (met : List UniqueSymbolId) (s : UniqueSymbolId) → AreSymbolsNumbered root met → s.module_id.0 < length root.stored → AreSymbolsNumbered root (met ++ s ∷ [])
 numbered_with root [] s numbered within zero d h = within
 numbered_with root [] s numbered within (suc k) d h = absurd (omega (arith, h))
 numbered_with root (m ∷ met) s numbered within zero d h = numbered 0 d (omega arith)

@@ -6,8 +6,9 @@ use Rattle.std.specs.Rc.{rc_slice_items}
 use Rattle.std.proofs.lemmas.List.{length-map, take_rest}
 use Rattle.symbols_paths.specs.declared.paths.shared_parts.SharedParts.{SharedParts}
 use Rattle.symbols_paths.specs.Trees.{Parts}
-use Rattle.symbols_paths.specs.Views.{texts_of, later_parts}
-use Rattle.symbols_paths.specs.Trails.{parts_told}
+use Rattle.symbols_paths.specs.Views.{texts_of}
+use Rattle.symbols_paths.specs.inner.Views.{later_parts}
+use Rattle.symbols_paths.specs.inner.Trails.{parts_told}
 
 no_more : {A : Type 0} (n : ℕ) (xs : List A) → length (drop n xs) ≤ length xs
 no_more zero xs = omega arith

@@ -15,7 +15,7 @@ use Rattle.symbols_paths.specs.declared.paths.node.DefinitionPathNode.TheVariant
 use Rattle.symbols_paths.specs.declared.paths.node.DefinitionPathNodeResolved.TheVariants as resolved
 use Rattle.symbols_paths.specs.declared.paths.node.DefinitionPathLink.{DefinitionPathLink, DefinitionPathLink-F}
 use Rattle.symbols_paths.specs.declared.paths.node.DefinitionPathNodeResolved.{DefinitionPathNodeResolved}
-use Rattle.symbols_paths.specs.Trees.{Tree, LinkHead, link, one, link_to}
+use Rattle.symbols_paths.specs.Trees.{PathTree, LinkHead, link, one_tree, link_to}
 use Rattle.symbols_paths.specs.Views.{named_in, decl_told, texts_of, node_step, resolved_step, link_step, tree_told, forest_told, node_modules, resolved_modules, link_modules, modules_of, modules_in, AreStored}
 
 -- a step as a path
@@ -29,10 +29,10 @@ pub tree_of_step : (root : RootView) (id : ModuleId) (s : SymbolId) (decl : Decl
 tree_of_step root id s decl parts next texts are =
     let l : DefinitionPathLink-F DefinitionPathNode DefinitionPathNodeResolved DefinitionPathLink = record { «module» = id; symbol = s; symbol_decl = decl; parts = parts; next = next } in
     ap (tree_told root) (sym (rolls-Resolved (resolved.Link (roll-DefinitionPathLink l))))
-    ∙ (fold-roll-DefinitionPathNode Tree Tree Tree (node_step root) (resolved_step root) (link_step root) (open_node.Resolved (resolved.Link (roll-DefinitionPathLink l)))
-    ∙ (ap (fold-DefinitionPathNodeResolved Tree Tree Tree (node_step root) (resolved_step root) (link_step root)) (sym (rolls-Link (roll-DefinitionPathLink l)))
-    ∙ (fold-roll-DefinitionPathNodeResolved Tree Tree Tree (node_step root) (resolved_step root) (link_step root) (open_node.Link (roll-DefinitionPathLink l))
-    ∙ (fold-roll-DefinitionPathLink Tree Tree Tree (node_step root) (resolved_step root) (link_step root) l
+    ∙ (fold-roll-DefinitionPathNode PathTree PathTree PathTree (node_step root) (resolved_step root) (link_step root) (open_node.Resolved (resolved.Link (roll-DefinitionPathLink l)))
+    ∙ (ap (fold-DefinitionPathNodeResolved PathTree PathTree PathTree (node_step root) (resolved_step root) (link_step root)) (sym (rolls-Link (roll-DefinitionPathLink l)))
+    ∙ (fold-roll-DefinitionPathNodeResolved PathTree PathTree PathTree (node_step root) (resolved_step root) (link_step root) (open_node.Link (roll-DefinitionPathLink l))
+    ∙ (fold-roll-DefinitionPathLink PathTree PathTree PathTree (node_step root) (resolved_step root) (link_step root) l
     ∙ ap (λ ts. link (head_told root id s decl ts) (forest_told root next.items)) are))))
 
 abbrev Ids : Type 0
@@ -47,7 +47,7 @@ modules_of_step id s decl parts next =
     ∙ (fold-roll-DefinitionPathNodeResolved Ids Ids Ids node_modules resolved_modules link_modules (open_node.Link (roll-DefinitionPathLink l))
     ∙ fold-roll-DefinitionPathLink Ids Ids Ids node_modules resolved_modules link_modules l)))
 
-pub link_of_some : (head : LinkHead) (root : RootView) (paths : List DefinitionPathNode) → (length paths ≡ 0 → ⊥) → link_to head (forest_told root paths) ≡ one (link head (forest_told root paths))
+pub link_of_some : (head : LinkHead) (root : RootView) (paths : List DefinitionPathNode) → (length paths ≡ 0 → ⊥) → link_to head (forest_told root paths) ≡ one_tree (link head (forest_told root paths))
 link_of_some head root [] some = absurd (some refl)
 link_of_some head root (path ∷ paths) some = refl
 

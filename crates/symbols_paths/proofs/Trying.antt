@@ -10,14 +10,15 @@ use Rattle.symbols_root.specs.laws.Growing.{grown_not, grown_on, same_specifier,
 use Rattle.symbols_exports.specs.StarStatements.{star_texts, text_target, statements_of}
 use Rattle.symbols_paths.specs.declared.paths.resolving.AliasDecl.{AliasDecl}
 use Rattle.symbols_paths.specs.declared.paths.trail.Trail.{Trail}
-use Rattle.symbols_paths.specs.Trees.{Missing, no_part, none}
+use Rattle.symbols_paths.specs.Trees.{Missing, no_part, no_trees}
 use Rattle.symbols_paths.specs.Leads.{export_along}
-use Rattle.symbols_paths.specs.PartWays.{links_in}
+use Rattle.symbols_paths.specs.PartLeads.{routes_in}
 use Rattle.symbols_paths.specs.Choice.{Tries, missing_in}
-use Rattle.symbols_paths.specs.Computed.{enough}
-use Rattle.symbols_paths.specs.Views.{named, AreStored}
-use Rattle.symbols_paths.specs.Trails.{trails_told, modules_of_trails}
-use Rattle.symbols_paths.specs.Searching.{AreNumbered, met_told, running_told, FindsOne, HasSearched, IsTried, IsOffered, ways_along}
+use Rattle.symbols_paths.specs.Computed.{search_limit}
+use Rattle.symbols_paths.specs.Views.{AreStored}
+use Rattle.symbols_paths.specs.inner.Views.{symbol_told}
+use Rattle.symbols_paths.specs.inner.Trails.{trails_told, modules_of_trails}
+use Rattle.symbols_paths.specs.inner.Searching.{AreSymbolsNumbered, met_told, running_told, FindsOne, HasSearched, IsTried, IsCandidateFound, forward_along}
 use Rattle.symbols_paths.proofs.Loops.{IsTrying, trying_first, trying_next, trying_here, trying_last}
 
 -- the unresolved entry where no export gives a path
@@ -28,19 +29,19 @@ no_export root id name = Some (record { specifier = specifier_in root id; reason
 pub record IsAsking (old : RootView) (running : List AliasDecl) (begun : List UniqueSymbolId) (id : ModuleId) (name : List ℕ) (root : RootView) (now : List AliasDecl) (position : ℕ) (met : List UniqueSymbolId) : Type 0 where
   pub grown : HasGrown old root
   pub same : now ≡ running
-  pub numbered : AreNumbered root met
+  pub numbered : AreSymbolsNumbered root met
   pub longer : length begun ≤ length met
   pub few : length begun ≤ 2 ^ 64 → length met ≤ 2 ^ 64
-  pub told : (later : RootView) → HasGrown root later → IsTrying (links_in later) enough (running_told later running) (met_told later begun) (export_along later.graph name) (statements_of later.graph (specifier_in later id)) (no_export later id name) position (met_told later met)
+  pub told : (later : RootView) → HasGrown root later → IsTrying (routes_in later) search_limit (running_told later running) (met_told later begun) (export_along later.graph name) (statements_of later.graph (specifier_in later id)) (no_export later id name) position (met_told later met)
 
-pub asking_first : (root : RootView) (running : List AliasDecl) (begun : List UniqueSymbolId) (id : ModuleId) (name : List ℕ) → AreNumbered root begun → IsAsking root running begun id name root running 0 begun
+pub asking_first : (root : RootView) (running : List AliasDecl) (begun : List UniqueSymbolId) (id : ModuleId) (name : List ℕ) → AreSymbolsNumbered root begun → IsAsking root running begun id name root running 0 begun
 asking_first root running begun id name numbered = record {
   grown = grown_not root;
   same = refl;
   numbered = numbered;
   longer = omega arith;
   few = λ h. h;
-  told = λ later grown. trying_first (links_in later) enough (running_told later running) (met_told later begun) (export_along later.graph name) (statements_of later.graph (specifier_in later id)) (no_export later id name);
+  told = λ later grown. trying_first (routes_in later) search_limit (running_told later running) (met_told later begun) (export_along later.graph name) (statements_of later.graph (specifier_in later id)) (no_export later id name);
 }
 
 -- where the statement of a text leads
@@ -76,7 +77,7 @@ module _ {old : RootView} {running : List AliasDecl} {begun : List UniqueSymbolI
   statement_later text at later grown = leads_at (text_target later.graph (specifier_in later id)) (star_texts later.graph (specifier_in later id)) position text (ap (λ texts. slice_get texts position) (texts_later grown id asking_within) ∙ at)
 
   -- its candidate, as each later root names it
-  candidate_later : {mid : RootView} (text : List ℕ) (candidate : Option UniqueSymbolId) → HasGrown root mid → option_map (named mid) candidate ≡ export_along root.graph name (text_target root.graph (specifier_in root id) text) → IfSome candidate (λ s. s.module_id.0 < length mid.stored) → (later : RootView) → HasGrown mid later → option_map (named later) candidate ≡ export_along later.graph name (text_target later.graph (specifier_in later id) text)
+  candidate_later : {mid : RootView} (text : List ℕ) (candidate : Option UniqueSymbolId) → HasGrown root mid → option_map (symbol_told mid) candidate ≡ export_along root.graph name (text_target root.graph (specifier_in root id) text) → IfSome candidate (λ s. s.module_id.0 < length mid.stored) → (later : RootView) → HasGrown mid later → option_map (symbol_told later) candidate ≡ export_along later.graph name (text_target later.graph (specifier_in later id) text)
   candidate_later {mid = mid} text candidate more gives stored later grown =
       let whole = grown_on more grown in
       by candidate gives stored ∙ sym (λ i. export_along (whole.graph i) name (text_target (whole.graph i) (specifier_later whole i) text))
@@ -84,12 +85,12 @@ module _ {old : RootView} {running : List AliasDecl} {begun : List UniqueSymbolI
       specifier_later : {more : RootView} → HasGrown root more → specifier_in more id ≡ specifier_in root id
       specifier_later grows = same_specifier grows id asking_within
 
-      by : (c : Option UniqueSymbolId) → option_map (named mid) c ≡ export_along root.graph name (text_target root.graph (specifier_in root id) text) → IfSome c (λ s. s.module_id.0 < length mid.stored) → option_map (named later) c ≡ export_along root.graph name (text_target root.graph (specifier_in root id) text)
+      by : (c : Option UniqueSymbolId) → option_map (symbol_told mid) c ≡ export_along root.graph name (text_target root.graph (specifier_in root id) text) → IfSome c (λ s. s.module_id.0 < length mid.stored) → option_map (symbol_told later) c ≡ export_along root.graph name (text_target root.graph (specifier_in root id) text)
       by None e h = e
       by (Some s) e h = ap Some (λ i. record { specifier = same_specifier grown s.module_id h i; number = s.symbol_id }) ∙ e
 
   -- there is no path along the statement
-  pub asking_next : {mid after : RootView} {met_after : List UniqueSymbolId} (text : List ℕ) (candidate : Option UniqueSymbolId) (paths : List Trail) → slice_get (star_texts root.graph (specifier_in root id)) position ≡ Some text → HasGrown root mid → option_map (named mid) candidate ≡ export_along root.graph name (text_target root.graph (specifier_in root id) text) → IfSome candidate (λ s. s.module_id.0 < length mid.stored) → HasGrown mid after → IsOffered after now met candidate paths met_after → (onward : List AliasDecl) → onward ≡ now → HasSearched after met met_after (modules_of_trails paths) → ((later : RootView) → trails_told later paths ≡ none) → IsAsking old running begun id name after onward (position + 1) met_after
+  pub asking_next : {mid after : RootView} {met_after : List UniqueSymbolId} (text : List ℕ) (candidate : Option UniqueSymbolId) (paths : List Trail) → slice_get (star_texts root.graph (specifier_in root id)) position ≡ Some text → HasGrown root mid → option_map (symbol_told mid) candidate ≡ export_along root.graph name (text_target root.graph (specifier_in root id) text) → IfSome candidate (λ s. s.module_id.0 < length mid.stored) → HasGrown mid after → IsCandidateFound after now met candidate paths met_after → (onward : List AliasDecl) → onward ≡ now → HasSearched after met met_after (modules_of_trails paths) → ((later : RootView) → trails_told later paths ≡ no_trees) → IsAsking old running begun id name after onward (position + 1) met_after
   asking_next {mid = mid} {after = after} {met_after = met_after} text candidate paths at more gives stored kept offered onward on searched empty = record {
     grown = grown_on is.grown (grown_on more kept);
     same = on ∙ is.same;
@@ -99,27 +100,27 @@ module _ {old : RootView} {running : List AliasDecl} {begun : List UniqueSymbolI
     told = told;
   }
     where
-      told : (later : RootView) → HasGrown after later → IsTrying (links_in later) enough (running_told later running) (met_told later begun) (export_along later.graph name) (statements_of later.graph (specifier_in later id)) (no_export later id name) (position + 1) (met_told later met_after)
+      told : (later : RootView) → HasGrown after later → IsTrying (routes_in later) search_limit (running_told later running) (met_told later begun) (export_along later.graph name) (statements_of later.graph (specifier_in later id)) (no_export later id name) (position + 1) (met_told later met_after)
       told later grown =
           let whole = grown_on more (grown_on kept grown) in
           let leads_to = text_target later.graph (specifier_in later id) text in
-          let one = subst (λ f. FindsOne (links_in later) enough (running_told later running) (met_told later met) (option_map (named later) candidate) f (met_told later met_after)) (empty later) (subst (λ r. IsOffered after r met candidate paths met_after) is.same offered later grown) in
-          trying_next (links_in later) enough (running_told later running) (is.told later whole) leads_to (statement_later text at later whole) (subst (λ c. FindsOne (links_in later) enough (running_told later running) (met_told later met) c none (met_told later met_after)) (candidate_later text candidate more gives stored later (grown_on kept grown)) one)
+          let one = subst (λ f. FindsOne (routes_in later) search_limit (running_told later running) (met_told later met) (option_map (symbol_told later) candidate) f (met_told later met_after)) (empty later) (subst (λ r. IsCandidateFound after r met candidate paths met_after) is.same offered later grown) in
+          trying_next (routes_in later) search_limit (running_told later running) (is.told later whole) leads_to (statement_later text at later whole) (subst (λ c. FindsOne (routes_in later) search_limit (running_told later running) (met_told later met) c no_trees (met_told later met_after)) (candidate_later text candidate more gives stored later (grown_on kept grown)) one)
 
   -- there are some
-  pub asking_here : {mid after : RootView} (met_after : List UniqueSymbolId) (text : List ℕ) (candidate : Option UniqueSymbolId) (paths : List Trail) → slice_get (star_texts root.graph (specifier_in root id)) position ≡ Some text → HasGrown root mid → option_map (named mid) candidate ≡ export_along root.graph name (text_target root.graph (specifier_in root id) text) → IfSome candidate (λ s. s.module_id.0 < length mid.stored) → HasGrown mid after → IsOffered after now met candidate paths met_after → ((later : RootView) → trails_told later paths ≡ none → ⊥) → IsTried after running begun (ways_along id name) paths met_after
+  pub asking_here : {mid after : RootView} (met_after : List UniqueSymbolId) (text : List ℕ) (candidate : Option UniqueSymbolId) (paths : List Trail) → slice_get (star_texts root.graph (specifier_in root id)) position ≡ Some text → HasGrown root mid → option_map (symbol_told mid) candidate ≡ export_along root.graph name (text_target root.graph (specifier_in root id) text) → IfSome candidate (λ s. s.module_id.0 < length mid.stored) → HasGrown mid after → IsCandidateFound after now met candidate paths met_after → ((later : RootView) → trails_told later paths ≡ no_trees → ⊥) → IsTried after running begun (forward_along id name) paths met_after
   asking_here {after = after} met_after text candidate paths at more gives stored kept offered some = λ later grown.
       let whole = grown_on more (grown_on kept grown) in
-      trying_here (links_in later) enough (running_told later running) (is.told later whole) (trails_told later paths) (text_target later.graph (specifier_in later id) text) (statement_later text at later whole) (some later) (subst (λ c. FindsOne (links_in later) enough (running_told later running) (met_told later met) c (trails_told later paths) (met_told later met_after)) (candidate_later text candidate more gives stored later (grown_on kept grown)) (subst (λ r. IsOffered after r met candidate paths met_after) is.same offered later grown))
+      trying_here (routes_in later) search_limit (running_told later running) (is.told later whole) (trails_told later paths) (text_target later.graph (specifier_in later id) text) (statement_later text at later whole) (some later) (subst (λ c. FindsOne (routes_in later) search_limit (running_told later running) (met_told later met) c (trails_told later paths) (met_told later met_after)) (candidate_later text candidate more gives stored later (grown_on kept grown)) (subst (λ r. IsCandidateFound after r met candidate paths met_after) is.same offered later grown))
 
   pub here_searched : {after : RootView} {mid : List UniqueSymbolId} (paths : List Trail) → HasSearched after met mid (modules_of_trails paths) → HasSearched after begun mid (modules_of_trails paths)
   here_searched paths searched = record { numbered = searched.numbered; longer = omega (arith, is.longer, searched.longer); few = λ h. searched.few (is.few h); stored = searched.stored }
 
   -- there is no statement more
-  pub asking_last : (paths : List Trail) → slice_get (star_texts root.graph (specifier_in root id)) position ≡ None → ((later : RootView) → trails_told later paths ≡ missing_in (no_export later id name)) → IsTried root running begun (ways_along id name) paths met
+  pub asking_last : (paths : List Trail) → slice_get (star_texts root.graph (specifier_in root id)) position ≡ None → ((later : RootView) → trails_told later paths ≡ missing_in (no_export later id name)) → IsTried root running begun (forward_along id name) paths met
   asking_last paths past told = λ later grown.
       let over : slice_get (statements_of later.graph (specifier_in later id)) position ≡ None = leads_past (text_target later.graph (specifier_in later id)) (star_texts later.graph (specifier_in later id)) position (ap (λ texts. slice_get texts position) (texts_later grown id asking_within) ∙ past) in
-      subst (λ f. Tries (links_in later) enough (running_told later running) (met_told later begun) (ways_along id name later).candidates (ways_along id name later).otherwise f (met_told later met)) (sym (told later)) (trying_last (links_in later) enough (running_told later running) (is.told later grown) over)
+      subst (λ f. Tries (routes_in later) search_limit (running_told later running) (met_told later begun) (forward_along id name later).candidates (forward_along id name later).otherwise f (met_told later met)) (sym (told later)) (trying_last (routes_in later) search_limit (running_told later running) (is.told later grown) over)
 
   pub last_searched : (paths : List Trail) → AreStored root (modules_of_trails paths) → HasSearched root begun met (modules_of_trails paths)
   last_searched paths stored = record { numbered = is.numbered; longer = is.longer; few = is.few; stored = stored }

@@ -1,15 +1,13 @@
 pub mod Trees
 pub mod Leads
-pub mod PartWays
+pub mod PartLeads
 pub mod Derived
 pub mod Reach
 pub mod Choice
 pub mod Searches
 pub mod Computed
-pub mod Rebuilt
 pub mod Views
-pub mod Trails
 pub mod Needed
-pub mod Searching
 pub mod Answers
 pub mod DepAnswers
+pub mod inner

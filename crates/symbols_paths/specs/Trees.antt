@@ -48,35 +48,35 @@ pub record LinkHead : Type 0 where
   pub parts : Parts
 
 mutual
-  pub data Tree : Type 0 where
-    leaf : Leaf → Tree
-    link : LinkHead → Forest → Tree
+  pub data PathTree : Type 0 where
+    leaf : Leaf → PathTree
+    link : LinkHead → Forest → PathTree
 
   pub data Forest : Type 0 where
-    none : Forest
-    more : Tree → Forest → Forest
+    no_trees : Forest
+    more_trees : PathTree → Forest → Forest
 
-abbrev pub one : Tree → Forest
-one t = more t none
+abbrev pub one_tree : PathTree → Forest
+one_tree t = more_trees t no_trees
 
-abbrev pub join : Forest → Forest → Forest
-join none g = g
-join (more t f) g = more t (join f g)
+abbrev pub joined_forests : Forest → Forest → Forest
+joined_forests no_trees g = g
+joined_forests (more_trees t f) g = more_trees t (joined_forests f g)
 
 -- a link is left out where nothing is next
 abbrev pub link_to : LinkHead → Forest → Forest
-link_to head none = none
-link_to head (more t f) = one (link head (more t f))
+link_to head no_trees = no_trees
+link_to head (more_trees t f) = one_tree (link head (more_trees t f))
 
 -- the leaves from left to right
 abbrev mutual
-  pub leaves_of : Tree → List Leaf
+  pub leaves_of : PathTree → List Leaf
   leaves_of (leaf x) = x ∷ []
   leaves_of (link head next) = leaves_in next
 
   pub leaves_in : Forest → List Leaf
-  leaves_in none = []
-  leaves_in (more t f) = leaves_of t ++ leaves_in f
+  leaves_in no_trees = []
+  leaves_in (more_trees t f) = leaves_of t ++ leaves_in f
 
 -- the definitions and star imports among leaves
 abbrev pub definitions_in : List Leaf → List Defined

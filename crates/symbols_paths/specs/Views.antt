@@ -1,10 +1,8 @@
 -- Paths of the library as trees, where a root tells the modules by their specifiers.
-use Rattle.std.specs.Prelude.{ℕ, ◌<◌, List, [], ◌∷◌, ◌++◌, length, map, All, Option, Some, None, String, string_bytes}
+use Rattle.std.specs.Prelude.{◌<◌, List, [], ◌∷◌, ◌++◌, length, map, All, Option, Some, None, String, string_bytes}
 use Rattle.std.specs.Global.{Global}
-use Rattle.std.specs.Borrow.{Bor}
 use Rattle.symbols_syntax.specs.declared.ids.ModuleId.{ModuleId}
 use Rattle.symbols_syntax.specs.declared.ids.SymbolId.{SymbolId}
-use Rattle.symbols_syntax.specs.declared.ids.UniqueSymbolId.{UniqueSymbolId}
 use Rattle.symbols_syntax.specs.Ids.{id_view}
 use Rattle.symbols_table.specs.DeclViews.{DepView, dep_view}
 use Rattle.symbols_root.specs.Roots.{RootView, specifier_in}
@@ -25,14 +23,11 @@ use Rattle.symbols_paths.specs.declared.paths.node.DefinitionPathNodeResolved.{D
 use Rattle.symbols_paths.specs.declared.paths.unresolved.DefinitionUnresolved.{DefinitionUnresolved}
 use Rattle.symbols_paths.specs.declared.paths.unresolved.DefinitionUnresolvedKind.{DefinitionUnresolvedKind}
 use Rattle.symbols_paths.specs.declared.paths.unresolved.DefinitionUnresolvedKind.TheVariants as why
-use Rattle.symbols_paths.specs.Trees.{NamedSymbol, NamedDecl, Parts, Defined, Reason, no_symbol, no_module, no_part, Missing, Leaf, definition, unresolved, Tree, Forest, leaf, link, none, more, one}
+use Rattle.symbols_paths.specs.Trees.{NamedSymbol, NamedDecl, Parts, Defined, Reason, no_symbol, no_module, no_part, Missing, Leaf, definition, unresolved, PathTree, Forest, leaf, link, no_trees, more_trees}
 
 -- a symbol of a module of a root
 abbrev pub named_in : RootView → ModuleId → SymbolId → NamedSymbol
 named_in root module_id s = record { specifier = specifier_in root module_id; number = s }
-
-abbrev pub named : RootView → UniqueSymbolId → NamedSymbol
-named root s = named_in root s.module_id s.symbol_id
 
 -- a declaration of a module of a root
 abbrev pub decl_told : RootView → ModuleId → DeclRef → NamedDecl
@@ -55,52 +50,35 @@ reason_told (why.Part name) = no_part (string_bytes name)
 abbrev pub texts_of : List (String Global) → Parts
 texts_of texts = map (λ text. string_bytes text) texts
 
--- texts that are lent
-abbrev pub texts_in : List (Bor (List ℕ)) → Parts
-texts_in texts = map (λ (text : Bor (List ℕ)). text.now) texts
+abbrev pub missing_told : RootView → DefinitionUnresolved → Missing
+missing_told root x = record { specifier = specifier_in root x.«module»; reason = reason_told x.kind; parts = texts_of x.parts.items }
 
--- the first of some parts, and those behind it
-abbrev pub first_part : Parts → List ℕ
-first_part [] = []
-first_part (p ∷ ps) = p
-
-abbrev pub later_parts : Parts → Parts
-later_parts [] = []
-later_parts (p ∷ ps) = ps
-
-abbrev pub unresolved_told : RootView → DefinitionUnresolved → Missing
-unresolved_told root x = record { specifier = specifier_in root x.«module»; reason = reason_told x.kind; parts = texts_of x.parts.items }
-
-abbrev pub forest_in : List Tree → Forest
-forest_in [] = none
-forest_in (t ∷ ts) = more t (forest_in ts)
+abbrev pub forest_in : List PathTree → Forest
+forest_in [] = no_trees
+forest_in (t ∷ ts) = more_trees t (forest_in ts)
 
 -- a path, with the trees of what it goes on to in their places
-abbrev pub node_step : RootView → open_node.DefinitionPathNode-F Tree Tree Tree → Tree
+abbrev pub node_step : RootView → open_node.DefinitionPathNode-F PathTree PathTree PathTree → PathTree
 node_step root (open_node.Resolved t) = t
-node_step root (open_node.Unresolved x) = leaf (unresolved (unresolved_told root x))
+node_step root (open_node.Unresolved x) = leaf (unresolved (missing_told root x))
 
-abbrev pub resolved_step : RootView → open_node.DefinitionPathNodeResolved-F Tree Tree Tree → Tree
+abbrev pub resolved_step : RootView → open_node.DefinitionPathNodeResolved-F PathTree PathTree PathTree → PathTree
 resolved_step root (open_node.Link t) = t
 resolved_step root (open_node.Definition x) = leaf (definition (definition_told root x))
 
-abbrev pub link_step : RootView → DefinitionPathLink-F Tree Tree Tree → Tree
+abbrev pub link_step : RootView → DefinitionPathLink-F PathTree PathTree PathTree → PathTree
 link_step root x = link (record { symbol = named_in root x.«module» x.symbol; decl = decl_told root x.«module» x.symbol_decl; parts = texts_of x.parts.items }) (forest_in x.next.items)
 
-abbrev pub tree_told : RootView → DefinitionPathNode → Tree
-tree_told root = fold-DefinitionPathNode Tree Tree Tree (node_step root) (resolved_step root) (link_step root)
+abbrev pub tree_told : RootView → DefinitionPathNode → PathTree
+tree_told root = fold-DefinitionPathNode PathTree PathTree PathTree (node_step root) (resolved_step root) (link_step root)
 
 abbrev pub forest_told : RootView → List DefinitionPathNode → Forest
 forest_told root paths = forest_in (map (tree_told root) paths)
 
-abbrev pub forest_of_option : RootView → Option DefinitionPathNode → Forest
-forest_of_option root None = none
-forest_of_option root (Some path) = one (tree_told root path)
-
 -- the modules that a path names
-abbrev pub joined : List (List ModuleId) → List ModuleId
-joined [] = []
-joined (xs ∷ rest) = xs ++ joined rest
+abbrev pub all_modules : List (List ModuleId) → List ModuleId
+all_modules [] = []
+all_modules (xs ∷ rest) = xs ++ all_modules rest
 
 abbrev pub node_modules : open_node.DefinitionPathNode-F (List ModuleId) (List ModuleId) (List ModuleId) → List ModuleId
 node_modules (open_node.Resolved xs) = xs
@@ -111,13 +89,13 @@ resolved_modules (open_node.Link xs) = xs
 resolved_modules (open_node.Definition x) = x.«module» ∷ []
 
 abbrev pub link_modules : DefinitionPathLink-F (List ModuleId) (List ModuleId) (List ModuleId) → List ModuleId
-link_modules x = x.«module» ∷ joined x.next.items
+link_modules x = x.«module» ∷ all_modules x.next.items
 
 abbrev pub modules_of : DefinitionPathNode → List ModuleId
 modules_of = fold-DefinitionPathNode (List ModuleId) (List ModuleId) (List ModuleId) node_modules resolved_modules link_modules
 
 abbrev pub modules_in : List DefinitionPathNode → List ModuleId
-modules_in paths = joined (map modules_of paths)
+modules_in paths = all_modules (map modules_of paths)
 
 abbrev pub module_of_definition : Definition → ModuleId
 module_of_definition x = x.«module»
@@ -158,7 +136,7 @@ symbol_of_node x = by (out-DefinitionPathNode x)
 -- a definition, or an unresolved entry, as a leaf
 abbrev pub leaf_told : RootView → DefinitionOrUnresolved → Leaf
 leaf_told root (end.Definition x) = definition (definition_told root x)
-leaf_told root (end.Unresolved x) = unresolved (unresolved_told root x)
+leaf_told root (end.Unresolved x) = unresolved (missing_told root x)
 
 abbrev pub module_of_end : DefinitionOrUnresolved → ModuleId
 module_of_end (end.Definition x) = x.«module»

@@ -16,7 +16,7 @@ use Rattle.symbols_table.specs.declared.info.fault.SymbolsFault.TheVariants as f
 use Rattle.symbols_table.specs.Changes.{mapped_after}
 use Rattle.symbols_table.specs.DeclViews.{decl_dependencies}
 use Rattle.symbols_table.specs.Modules.{Table, symbol_in}
-use Rattle.symbols_table.specs.QualifiedNames.{qualified_name, IsNameFault}
+use Rattle.symbols_table.specs.QualifiedNames.{qualified_name, IsQualifiedNameFault}
 use Rattle.symbols_table.specs.Symbols.{decls_in}
 use Rattle.symbols_table.specs.SymbolViews.{SymbolView, symbol_view}
 use Rattle.symbols_root.specs.declared.root.rules.Rules.{Rules}
@@ -35,7 +35,7 @@ use Rattle.symbols_exports.specs.Told.{ToldExport, ToldStatement, told_name, tol
 use Rattle.symbols_exports.specs.Shared.{Shared}
 use Rattle.symbols_exports.specs.Sharing.{shared_of, told_sharing, shared_told, shared_by}
 use Rattle.symbols_exports.specs.Ways.{exports_of, unresolved_of}
-use Rattle.symbols_paths.specs.Answers.{symbol_in as symbol_stored, ArePaths, IsPathsFault}
+use Rattle.symbols_paths.specs.Answers.{symbol_in_root as symbol_stored, ArePaths, IsPathsFault}
 use Rattle.symbols_paths.specs.DepAnswers.{EntryView, IsDepAnswer, entries_of, IsDepRefused, on_the_way, of_import, IsDepFault}
 use Rattle.symbols_paths.specs.Needed.{IsNeeded}
 use Rattle.symbols_paths.specs.Trees.{Forest}
@@ -45,8 +45,9 @@ use Rattle.symbols_answers.specs.Answers.{AnswerView, tells_module, tells_export
 use Rattle.symbols_answers.specs.QueryAnswers.{by_strict, paths_from, dependencies_told, told_of, module_answer}
 use Rattle.symbols_answers.specs.Meanings.{TellsPaths, IsModuleAnswer}
 use Rattle.symbols_answers.specs.Stored.{modules_told, IsOnExports, HasStored}
-use Rattle.symbols_queries.specs.Given.{IsGiven}
-use Rattle.symbols_queries.specs.QueryFaults.{IsNeededFor, IsAskedFor, IsNoSymbol, IsBrokenOff, IsQuestionFault}
+use Rattle.symbols_queries.specs.inner.Given.{IsGiven}
+use Rattle.symbols_queries.specs.QueryFaults.{IsNeededFor, IsNeededByQuestion}
+use Rattle.symbols_queries.specs.inner.QueryFaults.{IsNoSymbol, IsQuestionRefused, IsQuestionFault}
 use Rattle.symbols_queries.proofs.Storing.{number_stored, still_there, reached_stored, reached_there, exports_there}
 
 -- ---- a symbol of a stored module
@@ -76,11 +77,11 @@ memory_refused (Ok x) old new specifier question has h = tt
 memory_refused (Err e) old new specifier question has h = subst (IsQuestionFault old new specifier question) (sym h) (out_of_memory old new specifier question has)
 
 -- where a question needs no module besides the one that it is asked of, none is refused
-pub no_refusal : (root : RootView) (specifier : List ℕ) (question : QuestionView) (f : SymbolsFault) → ((v : List ℕ) → IsAskedFor root.graph specifier question v → ⊥) → IsQuestionFault root root specifier question f → (f ≡ fault.OutOfMemory) ⊎ (f ≡ fault.UnknownSymbol)
+pub no_refusal : (root : RootView) (specifier : List ℕ) (question : QuestionView) (f : SymbolsFault) → ((v : List ℕ) → IsNeededByQuestion root.graph specifier question v → ⊥) → IsQuestionFault root root specifier question f → (f ≡ fault.OutOfMemory) ⊎ (f ≡ fault.UnknownSymbol)
 no_refusal root specifier question f none_needed (inl is) = inr is.fault_is
 no_refusal root specifier question f none_needed (inr is) = by is.needed f is.is_needed is.refused
   where
-    by : (needed : Option (List ℕ)) (f : SymbolsFault) → ((v : List ℕ) → needed ≡ Some v → IsAskedFor root.graph specifier question v) → IsRefusal root needed f → (f ≡ fault.OutOfMemory) ⊎ (f ≡ fault.UnknownSymbol)
+    by : (needed : Option (List ℕ)) (f : SymbolsFault) → ((v : List ℕ) → needed ≡ Some v → IsNeededByQuestion root.graph specifier question v) → IsRefusal root needed f → (f ≡ fault.OutOfMemory) ⊎ (f ≡ fault.UnknownSymbol)
     by (Some v) f asks w = absurd (none_needed v (asks v refl))
     by None fault.OutOfMemory asks w = inl refl
     by None fault.TooManyModules asks w = absurd (none-some w.0 w.1.0)
@@ -125,10 +126,10 @@ name_given root module_id table known stored s name some same =
       stored = stored_for root root module_id (asks_name s) (tells_name name) (grown_not root) known (λ is. is) (All-nil (Contains root.stored));
     }
 
-pub unnamed_symbol : (root : RootView) (module_id : ModuleId) (table : Table) → IsStoredTable root module_id table → (s : SymbolId) (f : SymbolsFault) → IsNameFault (symbol_in table s) f → IsQuestionFault root root (specifier_in root module_id) (asks_name s) f
+pub unnamed_symbol : (root : RootView) (module_id : ModuleId) (table : Table) → IsStoredTable root module_id table → (s : SymbolId) (f : SymbolsFault) → IsQualifiedNameFault (symbol_in table s) f → IsQuestionFault root root (specifier_in root module_id) (asks_name s) f
 unnamed_symbol root module_id table stored s f is = by (symbol_in table s) f (sym (stored_symbol root module_id table stored s)) is
   where
-    by : (found : Option SymbolView) (f : SymbolsFault) → symbol_under root.graph (specifier_in root module_id) s ≡ found → IsNameFault found f → IsQuestionFault root root (specifier_in root module_id) (asks_name s) f
+    by : (found : Option SymbolView) (f : SymbolsFault) → symbol_under root.graph (specifier_in root module_id) s ≡ found → IsQualifiedNameFault found f → IsQuestionFault root root (specifier_in root module_id) (asks_name s) f
     by None fault.OutOfMemory e w = absurd w
     by None fault.TooManyModules e w = absurd w
     by None (fault.TooManySymbols text) e w = absurd w
@@ -230,7 +231,7 @@ names_refused old new module_id f steps known (inr is) = inr (record { has_answe
 -- ---- where a symbol is defined
 
 -- a question on a symbol, which is answered by its paths if there is such a symbol, and needs what the search does
-module _ (question : QuestionView) (s : SymbolId) (told : Forest → AnswerView) (by_told : (rules : Rules) (graph : GraphView) (specifier : List ℕ) → module_answer rules graph specifier question ≡ told_of (symbol_under graph specifier s) (told (paths_from rules graph specifier s))) (by_means : (rules : Rules) (graph : GraphView) (specifier : List ℕ) (given : AnswerView) → TellsPaths rules graph specifier s told given → IsModuleAnswer rules graph specifier question given) (asks : (graph : GraphView) (specifier v : List ℕ) → IsNeeded graph specifier v → IsAskedFor graph specifier question v) (other : IsOther question) where
+module _ (question : QuestionView) (s : SymbolId) (told : Forest → AnswerView) (by_told : (rules : Rules) (graph : GraphView) (specifier : List ℕ) → module_answer rules graph specifier question ≡ told_of (symbol_under graph specifier s) (told (paths_from rules graph specifier s))) (by_means : (rules : Rules) (graph : GraphView) (specifier : List ℕ) (given : AnswerView) → TellsPaths rules graph specifier s told given → IsModuleAnswer rules graph specifier question given) (asks : (graph : GraphView) (specifier v : List ℕ) → IsNeeded graph specifier v → IsNeededByQuestion graph specifier question v) (other : IsOther question) where
   found_told : (old : RootView) (module_id : ModuleId) → symbol_stored old module_id s ≢ None → module_answer old.rules old.graph (specifier_in old module_id) question ≡ Some (told (paths_from old.rules old.graph (specifier_in old module_id) s))
   found_told old module_id has = by_told old.rules old.graph (specifier_in old module_id) ∙ told_there (symbol_under old.graph (specifier_in old module_id) s) (told (paths_from old.rules old.graph (specifier_in old module_id) s)) has
 
@@ -278,7 +279,7 @@ needed_here graph specifier (id name) v is = is
 needed_here graph specifier (qualified_id name parts) v is = is
 needed_here graph specifier (import_type text parts) v is = inl is
 
-refused_here : (old new : RootView) (specifier : List ℕ) (reference : Reference) (f : SymbolsFault) → new.graph ≡ old.graph → IsDepRefused new specifier reference f → IsBrokenOff old new specifier (asks_entries reference) f
+refused_here : (old new : RootView) (specifier : List ℕ) (reference : Reference) (f : SymbolsFault) → new.graph ≡ old.graph → IsDepRefused new specifier reference f → IsQuestionRefused old new specifier (asks_entries reference) f
 refused_here old new specifier reference f same (on_the_way is) = record {
   has_answer = entries_answered old.rules old.graph specifier reference;
   needed = is.needed;

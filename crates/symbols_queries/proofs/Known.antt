@@ -16,7 +16,7 @@ use Rattle.symbols_paths.specs.declared.paths.node.DefinitionPathNodeResolved.{D
 use Rattle.symbols_paths.specs.declared.paths.node.DefinitionPathNodeResolved.TheVariants as resolved
 use Rattle.symbols_paths.specs.declared.paths.definition.Definition.{Definition}
 use Rattle.symbols_paths.specs.declared.paths.unresolved.DefinitionUnresolved.{DefinitionUnresolved}
-use Rattle.symbols_paths.specs.Views.{modules_of, modules_in, joined, AreStored}
+use Rattle.symbols_paths.specs.Views.{modules_of, modules_in, all_modules, AreStored}
 use Rattle.symbols_queries.proofs.Naming.{first_statement}
 
 -- the parts of a list of which all holds
@@ -67,11 +67,11 @@ module _ (root : RootView) where
 
   -- ---- lists of what names several modules
 
-  pub joined_first : {X : Type 0} (f : X → List ModuleId) (left : List X) (x : X) (rest : List X) → left ≡ x ∷ rest → AreStored root (joined (map f left)) → AreStored root (f x)
-  joined_first f left x rest is known = all_front IsKnown (f x) (joined (map f rest)) (subst (λ xs. AreStored root (joined (map f xs))) is known)
+  pub joined_first : {X : Type 0} (f : X → List ModuleId) (left : List X) (x : X) (rest : List X) → left ≡ x ∷ rest → AreStored root (all_modules (map f left)) → AreStored root (f x)
+  joined_first f left x rest is known = all_front IsKnown (f x) (all_modules (map f rest)) (subst (λ xs. AreStored root (all_modules (map f xs))) is known)
 
-  pub joined_rest : {X : Type 0} (f : X → List ModuleId) (left : List X) (x : X) (rest : List X) → left ≡ x ∷ rest → AreStored root (joined (map f left)) → AreStored root (joined (map f rest))
-  joined_rest f left x rest is known = all_back IsKnown (f x) (joined (map f rest)) (subst (λ xs. AreStored root (joined (map f xs))) is known)
+  pub joined_rest : {X : Type 0} (f : X → List ModuleId) (left : List X) (x : X) (rest : List X) → left ≡ x ∷ rest → AreStored root (all_modules (map f left)) → AreStored root (all_modules (map f rest))
+  joined_rest f left x rest is known = all_back IsKnown (f x) (all_modules (map f rest)) (subst (λ xs. AreStored root (all_modules (map f xs))) is known)
 
   -- ---- paths
 

@@ -17,8 +17,8 @@ use Rattle.symbols_paths.specs.declared.paths.resolve.ResolvedSymbolDepEntry.{Re
 use Rattle.symbols_paths.specs.declared.paths.resolve.ResolvedSymbolDepEntry.TheVariants as entry
 use Rattle.symbols_paths.specs.declared.paths.unresolved.DefinitionUnresolved.{DefinitionUnresolved}
 use Rattle.symbols_paths.specs.DepAnswers.{entry_told, modules_of_entry, modules_of_entries}
-use Rattle.symbols_paths.specs.Trees.{Defined, Missing, Tree, leaf, definition, unresolved}
-use Rattle.symbols_paths.specs.Views.{definition_told, unresolved_told, forest_in, node_step, resolved_step, link_step, tree_told, forest_told, joined, node_modules, resolved_modules, link_modules, modules_of, modules_in, module_of_definition, leaf_told, module_of_end, AreStored}
+use Rattle.symbols_paths.specs.Trees.{Defined, Missing, PathTree, leaf, definition, unresolved}
+use Rattle.symbols_paths.specs.Views.{definition_told, missing_told, forest_in, node_step, resolved_step, link_step, tree_told, forest_told, all_modules, node_modules, resolved_modules, link_modules, modules_of, modules_in, module_of_definition, leaf_told, module_of_end, AreStored}
 use Rattle.symbols_answers.specs.Stored.{module_of_defined, module_of_leaf, modules_of_tree, modules_of_forest, modules_of_standing}
 use Rattle.symbols_queries.proofs.Known.{all_front, all_back}
 use Rattle.symbols_queries.proofs.Storing.{number_stored}
@@ -31,17 +31,17 @@ module _ (root : RootView) where
   IsKnown id = id.0 < length root.stored
 
   -- where these numbers are known, all that the tree names is stored
-  abbrev Follows : Ids → Tree → Type 0
+  abbrev Follows : Ids → PathTree → Type 0
   Follows ids t = AreStored root ids → All (Contains root.stored) (modules_of_tree t)
 
   abbrev OfNode : DefinitionPathNode → Type 0
   OfNode path = Follows (modules_of path) (tree_told root path)
 
   abbrev OfResolved : DefinitionPathNodeResolved → Type 0
-  OfResolved path = Follows (fold-DefinitionPathNodeResolved Ids Ids Ids node_modules resolved_modules link_modules path) (fold-DefinitionPathNodeResolved Tree Tree Tree (node_step root) (resolved_step root) (link_step root) path)
+  OfResolved path = Follows (fold-DefinitionPathNodeResolved Ids Ids Ids node_modules resolved_modules link_modules path) (fold-DefinitionPathNodeResolved PathTree PathTree PathTree (node_step root) (resolved_step root) (link_step root) path)
 
   abbrev OfLink : DefinitionPathLink → Type 0
-  OfLink path = Follows (fold-DefinitionPathLink Ids Ids Ids node_modules resolved_modules link_modules path) (fold-DefinitionPathLink Tree Tree Tree (node_step root) (resolved_step root) (link_step root) path)
+  OfLink path = Follows (fold-DefinitionPathLink Ids Ids Ids node_modules resolved_modules link_modules path) (fold-DefinitionPathLink PathTree PathTree PathTree (node_step root) (resolved_step root) (link_step root) path)
 
   -- parts of which it holds
   abbrev Node : Type 0
@@ -53,8 +53,8 @@ module _ (root : RootView) where
   abbrev Link : Type 0
   Link = (path : DefinitionPathLink) × OfLink path
 
-  follows_same : (ids more : Ids) (t u : Tree) → ids ≡ more → t ≡ u → Follows more u → Follows ids t
-  follows_same ids more t u same told follows known = subst (λ (v : Tree). All (Contains root.stored) (modules_of_tree v)) (sym told) (follows (subst (AreStored root) same known))
+  follows_same : (ids more : Ids) (t u : PathTree) → ids ≡ more → t ≡ u → Follows more u → Follows ids t
+  follows_same ids more t u same told follows known = subst (λ (v : PathTree). All (Contains root.stored) (modules_of_tree v)) (sym told) (follows (subst (AreStored root) same known))
 
   alone : (id : ModuleId) → AreStored root (id ∷ []) → All (Contains root.stored) (specifier_in root id ∷ [])
   alone id known = All-cons (Contains root.stored) (specifier_in root id) [] (number_stored root id (All-head IsKnown id [] known)) (All-nil (Contains root.stored))
@@ -62,31 +62,31 @@ module _ (root : RootView) where
   by_node : (y : open_node.DefinitionPathNode-F Node Resolved Link) → OfNode (roll-DefinitionPathNode (map-DefinitionPathNode Node Resolved Link DefinitionPathNode DefinitionPathNodeResolved DefinitionPathLink (λ e. e.0) (λ e. e.0) (λ e. e.0) y))
   by_node (open_node.Resolved e) =
       let here : open_node.DefinitionPathNode-F DefinitionPathNode DefinitionPathNodeResolved DefinitionPathLink = open_node.Resolved e.0 in
-      follows_same _ _ _ _ (fold-roll-DefinitionPathNode Ids Ids Ids node_modules resolved_modules link_modules here) (fold-roll-DefinitionPathNode Tree Tree Tree (node_step root) (resolved_step root) (link_step root) here) e.1
+      follows_same _ _ _ _ (fold-roll-DefinitionPathNode Ids Ids Ids node_modules resolved_modules link_modules here) (fold-roll-DefinitionPathNode PathTree PathTree PathTree (node_step root) (resolved_step root) (link_step root) here) e.1
   by_node (open_node.Unresolved x) =
       let here : open_node.DefinitionPathNode-F DefinitionPathNode DefinitionPathNodeResolved DefinitionPathLink = open_node.Unresolved x in
-      follows_same _ (x.«module» ∷ []) _ (leaf (unresolved (unresolved_told root x))) (fold-roll-DefinitionPathNode Ids Ids Ids node_modules resolved_modules link_modules here) (fold-roll-DefinitionPathNode Tree Tree Tree (node_step root) (resolved_step root) (link_step root) here) (λ known. alone x.«module» known)
+      follows_same _ (x.«module» ∷ []) _ (leaf (unresolved (missing_told root x))) (fold-roll-DefinitionPathNode Ids Ids Ids node_modules resolved_modules link_modules here) (fold-roll-DefinitionPathNode PathTree PathTree PathTree (node_step root) (resolved_step root) (link_step root) here) (λ known. alone x.«module» known)
 
   by_resolved : (y : open_node.DefinitionPathNodeResolved-F Node Resolved Link) → OfResolved (roll-DefinitionPathNodeResolved (map-DefinitionPathNodeResolved Node Resolved Link DefinitionPathNode DefinitionPathNodeResolved DefinitionPathLink (λ e. e.0) (λ e. e.0) (λ e. e.0) y))
   by_resolved (open_node.Link e) =
       let here : open_node.DefinitionPathNodeResolved-F DefinitionPathNode DefinitionPathNodeResolved DefinitionPathLink = open_node.Link e.0 in
-      follows_same _ _ _ _ (fold-roll-DefinitionPathNodeResolved Ids Ids Ids node_modules resolved_modules link_modules here) (fold-roll-DefinitionPathNodeResolved Tree Tree Tree (node_step root) (resolved_step root) (link_step root) here) e.1
+      follows_same _ _ _ _ (fold-roll-DefinitionPathNodeResolved Ids Ids Ids node_modules resolved_modules link_modules here) (fold-roll-DefinitionPathNodeResolved PathTree PathTree PathTree (node_step root) (resolved_step root) (link_step root) here) e.1
   by_resolved (open_node.Definition x) =
       let here : open_node.DefinitionPathNodeResolved-F DefinitionPathNode DefinitionPathNodeResolved DefinitionPathLink = open_node.Definition x in
-      follows_same _ (x.«module» ∷ []) _ (leaf (definition (definition_told root x))) (fold-roll-DefinitionPathNodeResolved Ids Ids Ids node_modules resolved_modules link_modules here) (fold-roll-DefinitionPathNodeResolved Tree Tree Tree (node_step root) (resolved_step root) (link_step root) here) (λ known. alone x.«module» known)
+      follows_same _ (x.«module» ∷ []) _ (leaf (definition (definition_told root x))) (fold-roll-DefinitionPathNodeResolved Ids Ids Ids node_modules resolved_modules link_modules here) (fold-roll-DefinitionPathNodeResolved PathTree PathTree PathTree (node_step root) (resolved_step root) (link_step root) here) (λ known. alone x.«module» known)
 
-  next_there : (items : List Node) → AreStored root (joined (map modules_of (map (λ (e : Node). e.0) items))) → All (Contains root.stored) (modules_of_forest (forest_in (map (tree_told root) (map (λ (e : Node). e.0) items))))
+  next_there : (items : List Node) → AreStored root (all_modules (map modules_of (map (λ (e : Node). e.0) items))) → All (Contains root.stored) (modules_of_forest (forest_in (map (tree_told root) (map (λ (e : Node). e.0) items))))
   next_there [] known = All-nil (Contains root.stored)
   next_there (e ∷ items) known =
-      let rest : Ids = joined (map modules_of (map (λ (x : Node). x.0) items)) in
+      let rest : Ids = all_modules (map modules_of (map (λ (x : Node). x.0) items)) in
       All-append (Contains root.stored) (modules_of_tree (tree_told root e.0)) (modules_of_forest (forest_in (map (tree_told root) (map (λ (x : Node). x.0) items)))) (e.1 (all_front IsKnown (modules_of e.0) rest known)) (next_there items (all_back IsKnown (modules_of e.0) rest known))
 
   by_link : (y : DefinitionPathLink-F Node Resolved Link) → OfLink (roll-DefinitionPathLink (map-DefinitionPathLink Node Resolved Link DefinitionPathNode DefinitionPathNodeResolved DefinitionPathLink (λ e. e.0) (λ e. e.0) (λ e. e.0) y))
   by_link y =
       let here : DefinitionPathLink-F DefinitionPathNode DefinitionPathNodeResolved DefinitionPathLink = map-DefinitionPathLink Node Resolved Link DefinitionPathNode DefinitionPathNodeResolved DefinitionPathLink (λ e. e.0) (λ e. e.0) (λ e. e.0) y in
-      let rest : Ids = joined (map modules_of (map (λ (x : Node). x.0) y.next.items)) in
+      let rest : Ids = all_modules (map modules_of (map (λ (x : Node). x.0) y.next.items)) in
       let below : List (List ℕ) = modules_of_forest (forest_in (map (tree_told root) (map (λ (x : Node). x.0) y.next.items))) in
-      follows_same _ _ _ _ (fold-roll-DefinitionPathLink Ids Ids Ids node_modules resolved_modules link_modules here) (fold-roll-DefinitionPathLink Tree Tree Tree (node_step root) (resolved_step root) (link_step root) here)
+      follows_same _ _ _ _ (fold-roll-DefinitionPathLink Ids Ids Ids node_modules resolved_modules link_modules here) (fold-roll-DefinitionPathLink PathTree PathTree PathTree (node_step root) (resolved_step root) (link_step root) here)
       (λ (known : AreStored root (y.«module» ∷ rest)).
       let there = number_stored root y.«module» (All-head IsKnown y.«module» rest known) in
       All-cons (Contains root.stored) (specifier_in root y.«module») (specifier_in root y.«module» ∷ below) there (All-cons (Contains root.stored) (specifier_in root y.«module») below there (next_there y.next.items (All-tail IsKnown y.«module» rest known))))

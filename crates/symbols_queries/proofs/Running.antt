@@ -27,8 +27,9 @@ use Rattle.symbols_queries.specs.declared.queries.answers.Answer.{Answer}
 use Rattle.symbols_queries.specs.declared.queries.query.Query.{Query}
 use Rattle.symbols_queries.specs.Queries.{query_view}
 use Rattle.symbols_queries.specs.AnswerViews.{answer_view}
-use Rattle.symbols_queries.specs.Given.{IsGiven, IsGivenTo}
-use Rattle.symbols_queries.specs.QueryFaults.{IsAskedFor, IsQuestionFault, IsQueryFault, IsAnswered, IsRunFault}
+use Rattle.symbols_queries.specs.inner.Given.{IsGiven, IsGivenTo}
+use Rattle.symbols_queries.specs.QueryFaults.{IsNeededByQuestion, IsQueryFault, IsAnswered, IsRunFault}
+use Rattle.symbols_queries.specs.inner.QueryFaults.{IsQuestionFault}
 use Rattle.symbols_queries.proofs.Storing.{all_still_there, still_there}
 
 -- ---- a query, by the module that its specifier stands for
@@ -85,7 +86,7 @@ query_refused old mid new module_id query f asked grown (inr is) = inr (inr (rec
   has_answer = λ none_told. is.has_answer (sym (answer_is old mid query (specifier_in mid module_id) asked.grown asked.stands) ∙ none_told);
   stored = subst (λ (root : RootView). HasGrown root new) asked.stored grown;
   needed = is.needed;
-  is_needed = λ v e. (specifier_in mid module_id, asked.stands, subst (λ (g : GraphView). IsAskedFor g (specifier_in mid module_id) query.question v) asked.grown.graph (is.is_needed v e));
+  is_needed = λ v e. (specifier_in mid module_id, asked.stands, subst (λ (g : GraphView). IsNeededByQuestion g (specifier_in mid module_id) query.question v) asked.grown.graph (is.is_needed v e));
   refused = is.refused;
 }))
 

@@ -21,7 +21,7 @@ use Rattle.symbols_exports.specs.Taking.{NameView}
 use Rattle.symbols_exports.specs.Told.{told_name, told_number, AreNumbered, IsNumbered, AllNumbered}
 use Rattle.symbols_answers.specs.Answers.{AnswerView, tells_exports}
 use Rattle.symbols_answers.specs.QueryAnswers.{by_strict}
-use Rattle.symbols_answers.specs.Stored.{referrer, modules_of_export, modules_of_shared, modules_of_sharing, modules_told}
+use Rattle.symbols_answers.specs.Stored.{referrer_of, modules_of_export, modules_of_shared, modules_of_sharing, modules_told}
 
 -- the module of a number is stored
 pub number_stored : (root : RootView) (id : ModuleId) → id.0 < length root.stored → Contains root.stored (specifier_in root id)
@@ -71,17 +71,17 @@ pub reached_there : (old new : RootView) (module_id : ModuleId) (names : List Na
 reached_there old new module_id names shared unresolved steps same is end leads = reached_stored old new module_id is.reached same is.are_reached is.stored end leads
 
 -- those that statements and exports name
-statements_there : (root : RootView) (statements : List (ModuleId × List ℕ)) → AreNumbered root statements → All (Contains root.stored) (map referrer (map (told_number root) statements))
+statements_there : (root : RootView) (statements : List (ModuleId × List ℕ)) → AreNumbered root statements → All (Contains root.stored) (map referrer_of (map (told_number root) statements))
 statements_there root [] numbered = All-nil (Contains root.stored)
 statements_there root (statement ∷ rest) numbered =
     let known = λ (x : ModuleId × List ℕ). x.0.0 < length root.stored in
-    All-cons (Contains root.stored) (specifier_in root statement.0) (map referrer (map (told_number root) rest)) (number_stored root statement.0 (All-head known statement rest numbered)) (statements_there root rest (All-tail known statement rest numbered))
+    All-cons (Contains root.stored) (specifier_in root statement.0) (map referrer_of (map (told_number root) rest)) (number_stored root statement.0 (All-head known statement rest numbered)) (statements_there root rest (All-tail known statement rest numbered))
 
 names_there : (root : RootView) (names : List NameView) → AllNumbered root names → All (Contains root.stored) (flat_map modules_of_export (map (told_name root) names))
 names_there root [] numbered = All-nil (Contains root.stored)
 names_there root (name ∷ rest) numbered =
     let is = All-head (IsNumbered root) name rest numbered in
-    let first = All-cons (Contains root.stored) (specifier_in root name.export.«module») (map referrer (map (told_number root) name.statements)) (number_stored root name.export.«module» is.export_in) (statements_there root name.statements is.statements_in) in
+    let first = All-cons (Contains root.stored) (specifier_in root name.export.«module») (map referrer_of (map (told_number root) name.statements)) (number_stored root name.export.«module» is.export_in) (statements_there root name.statements is.statements_in) in
     All-append (Contains root.stored) (modules_of_export (told_name root name)) (flat_map modules_of_export (map (told_name root) rest)) first (names_there root rest (All-tail (IsNumbered root) name rest numbered))
 
 shared_there : (root : RootView) (shared : List (Shared NameView)) → AllShareNumbered root shared → All (Contains root.stored) (flat_map modules_of_shared (map (told_sharing root) shared))
@@ -97,5 +97,5 @@ pub exports_there : (root : RootView) (rules : Rules) (names : List NameView) (s
     → All (Contains root.stored) (modules_told (tells_exports (map (told_name root) names) (by_strict rules (map (told_sharing root) shared)) (map (told_number root) unresolved)))
 exports_there root rules names shared unresolved names_in shared_in unresolved_in =
     let sharing : List (List ℕ) = modules_of_sharing (by_strict rules (map (told_sharing root) shared)) in
-    let statements : List (List ℕ) = map referrer (map (told_number root) unresolved) in
+    let statements : List (List ℕ) = map referrer_of (map (told_number root) unresolved) in
     All-append (Contains root.stored) (flat_map modules_of_export (map (told_name root) names)) (sharing ++ statements) (names_there root names names_in) (All-append (Contains root.stored) sharing statements (sharing_there root rules shared shared_in) (statements_there root unresolved unresolved_in))

@@ -5,20 +5,20 @@ use Rattle.symbols_paths.specs.declared.paths.node.DefinitionPathLink.{Definitio
 use Rattle.symbols_paths.specs.declared.paths.node.DefinitionPathNode.{DefinitionPathNode, the_lemmas}
 use Rattle.symbols_paths.specs.declared.paths.node.DefinitionPathNode.TheVariants as node
 use Rattle.symbols_paths.specs.declared.paths.node.DefinitionPathNodeResolved.TheVariants as resolved
-use Rattle.symbols_paths.specs.Trees.{Tree, Forest, leaf, link, none, more}
+use Rattle.symbols_paths.specs.Trees.{PathTree, Forest, leaf, link, no_trees, more_trees}
 use Rattle.symbols_paths.specs.Views.{named_in, decl_told, texts_of, forest_in, tree_told, forest_told}
 use Rattle.symbols_queries.specs.declared.queries.paths.NamedPath.{NamedPath}
 use Rattle.symbols_queries.specs.AnswerViews.{tree_view}
 use Rattle.symbols_queries.proofs.Naming.{AreNamed}
 
 abbrev mutual
-  pub weight : Tree → ℕ
+  pub weight : PathTree → ℕ
   weight (leaf x) = 0
   weight (link head next) = weights next + 4
 
   pub weights : Forest → ℕ
-  weights none = 0
-  weights (more t f) = weight t + weights f
+  weights no_trees = 0
+  weights (more_trees t f) = weight t + weights f
 
 abbrev pub weight_of : RootView → DefinitionPathNode → ℕ
 weight_of root path = weight (tree_told root path)
@@ -34,7 +34,7 @@ pub link_heavier : (root : RootView) (path : DefinitionPathNode) (x : Definition
 link_heavier root path x is = ap weight (ap (tree_told root) is ∙ link_told root x)
 
 -- and no path more than all of a list
-in_forest : (ts : List Tree) (t : Tree) (us : List Tree) → weight t ≤ weights (forest_in (ts ++ t ∷ us))
+in_forest : (ts : List PathTree) (t : PathTree) (us : List PathTree) → weight t ≤ weights (forest_in (ts ++ t ∷ us))
 in_forest [] t us =
     let is : weight t ≤ weight t + weights (forest_in us) = omega arith in
     is
@@ -46,4 +46,4 @@ in_forest (x ∷ ts) t us =
 pub path_lighter : (root : RootView) (named : List NamedPath) (left : List DefinitionPathNode) (path : DefinitionPathNode) (rest all : List DefinitionPathNode) → left ≡ path ∷ rest → AreNamed tree_view (tree_told root) named left all → weight_of root path ≤ weights_of root all
 path_lighter root named left path rest all is so =
     let told : AreNamed tree_view (tree_told root) named (path ∷ rest) all = subst (λ (xs : List DefinitionPathNode). AreNamed tree_view (tree_told root) named xs all) is so in
-    subst (λ (ts : List Tree). weight_of root path ≤ weights (forest_in ts)) told (in_forest (map tree_view named) (tree_told root path) (map (tree_told root) rest))
+    subst (λ (ts : List PathTree). weight_of root path ≤ weights (forest_in ts)) told (in_forest (map tree_view named) (tree_told root path) (map (tree_told root) rest))

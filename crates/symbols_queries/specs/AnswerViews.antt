@@ -9,7 +9,7 @@ use Rattle.symbols_exports.specs.PublicNames.{name_item}
 use Rattle.symbols_exports.specs.Shared.{Shared}
 use Rattle.symbols_exports.specs.Told.{ToldExport, ToldStatement}
 use Rattle.symbols_paths.specs.declared.paths.definition.DeclRef.{DeclRef}
-use Rattle.symbols_paths.specs.Trees.{NamedDecl, Defined, Missing, Leaf, definition, unresolved, Tree, Forest, leaf, link}
+use Rattle.symbols_paths.specs.Trees.{NamedDecl, Defined, Missing, Leaf, definition, unresolved, PathTree, Forest, leaf, link}
 use Rattle.symbols_paths.specs.Views.{star_of, reason_told, texts_of, forest_in}
 use Rattle.symbols_paths.specs.DepAnswers.{EntryView, a_path, a_module}
 use Rattle.symbols_answers.specs.Answers.{AnswerView, tells_nothing, tells_module, tells_exports, tells_names, tells_symbol, tells_name, tells_deps, tells_paths, tells_definitions, tells_leaves, tells_entries}
@@ -21,9 +21,9 @@ use Rattle.symbols_queries.specs.declared.queries.shared.NamedShared.{NamedShare
 use Rattle.symbols_queries.specs.declared.queries.paths.NamedDefinition.{NamedDefinition}
 use Rattle.symbols_queries.specs.declared.queries.paths.NamedEnd.{NamedEnd}
 use Rattle.symbols_queries.specs.declared.queries.paths.NamedEntry.{NamedEntry}
-use Rattle.symbols_queries.specs.declared.queries.paths.NamedLink.{NamedLink, NamedLink-F}
+use Rattle.symbols_queries.specs.declared.queries.paths.NamedLink.{NamedLink-F}
 use Rattle.symbols_queries.specs.declared.queries.paths.NamedPath.{NamedPath}
-use Rattle.symbols_queries.specs.declared.queries.paths.NamedPath.TheFolds.{fold-NamedPath, fold-NamedLink}
+use Rattle.symbols_queries.specs.declared.queries.paths.NamedPath.TheFolds.{fold-NamedPath}
 use Rattle.symbols_queries.specs.declared.queries.paths.NamedPath.TheOpen as open_path
 use Rattle.symbols_queries.specs.declared.queries.paths.NamedUnresolved.{NamedUnresolved}
 
@@ -39,11 +39,11 @@ export_view named = record { name = string_bytes named.name; statements = map st
 abbrev pub owner_view : List ℕ → NamedOwner → ToldExport
 owner_view name owner = record { name = name; statements = map statement_view owner.chain.items; owner = owner.«module».now; symbol = owner.symbol }
 
-abbrev pub shared_view : NamedShared → Shared ToldExport
-shared_view shared = record { name = string_bytes shared.name; owners = map (owner_view (string_bytes shared.name)) shared.owners.items }
+abbrev pub named_shared_view : NamedShared → Shared ToldExport
+named_shared_view shared = record { name = string_bytes shared.name; owners = map (owner_view (string_bytes shared.name)) shared.owners.items }
 
 abbrev pub sharing_view : Vec NamedShared Global → List (Shared ToldExport)
-sharing_view shared = map shared_view shared.items
+sharing_view shared = map named_shared_view shared.items
 
 -- ---- dependencies
 
@@ -62,19 +62,16 @@ abbrev pub missing_view : NamedUnresolved → Missing
 missing_view x = record { specifier = x.«module».now; reason = reason_told x.kind; parts = texts_of x.parts.items }
 
 -- a path, with the trees of what it goes on to in their places
-abbrev pub path_step : open_path.NamedPath-F Tree Tree → Tree
+abbrev pub path_step : open_path.NamedPath-F PathTree PathTree → PathTree
 path_step (open_path.Link t) = t
 path_step (open_path.Definition x) = leaf (definition (defined_view x))
 path_step (open_path.Unresolved x) = leaf (unresolved (missing_view x))
 
-abbrev pub link_step : NamedLink-F Tree Tree → Tree
-link_step x = link (record { symbol = record { specifier = x.«module».now; number = x.symbol }; decl = decl_named x.«module».now x.decl; parts = texts_of x.parts.items }) (forest_in x.next.items)
+abbrev pub named_link_step : NamedLink-F PathTree PathTree → PathTree
+named_link_step x = link (record { symbol = record { specifier = x.«module».now; number = x.symbol }; decl = decl_named x.«module».now x.decl; parts = texts_of x.parts.items }) (forest_in x.next.items)
 
-abbrev pub tree_view : NamedPath → Tree
-tree_view = fold-NamedPath Tree Tree path_step link_step
-
-abbrev pub link_view : NamedLink → Tree
-link_view = fold-NamedLink Tree Tree path_step link_step
+abbrev pub tree_view : NamedPath → PathTree
+tree_view = fold-NamedPath PathTree PathTree path_step named_link_step
 
 abbrev pub forest_view : List NamedPath → Forest
 forest_view paths = forest_in (map tree_view paths)

@@ -1,4 +1,4 @@
 pub mod Queries
 pub mod AnswerViews
 pub mod QueryFaults
-pub mod Given
+pub mod inner

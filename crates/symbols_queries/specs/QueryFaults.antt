@@ -12,7 +12,7 @@ use Rattle.symbols_root.specs.Growing.{HasGrown}
 use Rattle.symbols_paths.specs.Needed.{IsNeeded}
 use Rattle.symbols_answers.specs.Questions.{QuestionView, asks_module, asks_exports, asks_names, asks_symbol, asks_name, asks_deps, asks_paths, asks_definitions, asks_leaves, asks_entries, QueryView}
 use Rattle.symbols_answers.specs.Answers.{AnswerView}
-use Rattle.symbols_answers.specs.QueryAnswers.{module_answer, query_answer}
+use Rattle.symbols_answers.specs.QueryAnswers.{query_answer}
 use Rattle.symbols_answers.specs.Stored.{HasStoredFor}
 
 -- the modules that a reference in a module may need: those needed on from the module, and from that which an import type stands for
@@ -22,40 +22,24 @@ IsNeededFor graph specifier (qualified_id name parts) v = IsNeeded graph specifi
 IsNeededFor graph specifier (import_type text parts) v = IsNeeded graph specifier v ⊎ ((k : List ℕ) × (text_target graph specifier text ≡ Some k) × IsNeeded graph k v)
 
 -- the modules that a question on a module may need besides it: for its exports and its public names those that are reached from it, and for where something is defined those of the search
-abbrev pub IsAskedFor : GraphView → List ℕ → QuestionView → List ℕ → Type 0
-IsAskedFor graph specifier asks_module v = ⊥
-IsAskedFor graph specifier asks_exports v = IsReached (statements_of graph) specifier v
-IsAskedFor graph specifier asks_names v = IsReached (statements_of graph) specifier v
-IsAskedFor graph specifier (asks_symbol name) v = ⊥
-IsAskedFor graph specifier (asks_name s) v = ⊥
-IsAskedFor graph specifier (asks_deps s mode) v = ⊥
-IsAskedFor graph specifier (asks_paths s) v = IsNeeded graph specifier v
-IsAskedFor graph specifier (asks_definitions s) v = IsNeeded graph specifier v
-IsAskedFor graph specifier (asks_leaves s) v = IsNeeded graph specifier v
-IsAskedFor graph specifier (asks_entries reference) v = IsNeededFor graph specifier reference v
-
--- for inner functions, of a question on a stored module: it has no such symbol, and nothing changes
-pub record IsNoSymbol (old new : RootView) (specifier : List ℕ) (question : QuestionView) (fault : SymbolsFault) : Type 0 where
-  pub none_told : module_answer old.rules old.graph specifier question ≡ None
-  pub fault_is : fault ≡ UnknownSymbol
-  pub unchanged : new ≡ old
-
--- or there is an answer, and what was refused is a module that it may need besides, or memory
-pub record IsBrokenOff (old new : RootView) (specifier : List ℕ) (question : QuestionView) (fault : SymbolsFault) : Type 0 where
-  pub has_answer : module_answer old.rules old.graph specifier question ≢ None
-  pub needed : Option (List ℕ)
-  pub is_needed : (v : List ℕ) → needed ≡ Some v → IsAskedFor old.graph specifier question v
-  pub refused : IsRefusal new needed fault
-
-abbrev pub IsQuestionFault : RootView → RootView → List ℕ → QuestionView → SymbolsFault → Type 0
-IsQuestionFault old new specifier question fault = IsNoSymbol old new specifier question fault ⊎ IsBrokenOff old new specifier question fault
+abbrev pub IsNeededByQuestion : GraphView → List ℕ → QuestionView → List ℕ → Type 0
+IsNeededByQuestion graph specifier asks_module v = ⊥
+IsNeededByQuestion graph specifier asks_exports v = IsReached (statements_of graph) specifier v
+IsNeededByQuestion graph specifier asks_names v = IsReached (statements_of graph) specifier v
+IsNeededByQuestion graph specifier (asks_symbol name) v = ⊥
+IsNeededByQuestion graph specifier (asks_name s) v = ⊥
+IsNeededByQuestion graph specifier (asks_deps s mode) v = ⊥
+IsNeededByQuestion graph specifier (asks_paths s) v = IsNeeded graph specifier v
+IsNeededByQuestion graph specifier (asks_definitions s) v = IsNeeded graph specifier v
+IsNeededByQuestion graph specifier (asks_leaves s) v = IsNeeded graph specifier v
+IsNeededByQuestion graph specifier (asks_entries reference) v = IsNeededFor graph specifier reference v
 
 -- the modules that a query may need besides that which its specifier stands for
 abbrev pub IsNeededBesides : GraphView → QueryView → List ℕ → Type 0
-IsNeededBesides graph query v = (specifier : List ℕ) × (stands_for graph query.specifier ≡ Some specifier) × IsAskedFor graph specifier query.question v
+IsNeededBesides graph query v = (specifier : List ℕ) × (stands_for graph query.specifier ≡ Some specifier) × IsNeededByQuestion graph specifier query.question v
 
 -- the module that the specifier stands for has no such symbol: it alone is stored, if it wasn't
-pub record IsUnknownSymbol (old new : RootView) (query : QueryView) (fault : SymbolsFault) : Type 0 where
+pub record IsSymbolAbsent (old new : RootView) (query : QueryView) (fault : SymbolsFault) : Type 0 where
   pub no_answer : query_answer old.rules old.graph query ≡ None
   pub fault_is : fault ≡ UnknownSymbol
   pub stored : new ≡ with_stored old (stands_for old.graph query.specifier)
@@ -75,7 +59,7 @@ pub record IsAnswerRefused (old new : RootView) (query : QueryView) (fault : Sym
 
 -- why a query has no answer: one of these
 abbrev pub IsQueryFault : RootView → RootView → QueryView → SymbolsFault → Type 0
-IsQueryFault old new query fault = IsUnknownSymbol old new query fault ⊎ IsModuleRefused old new query fault ⊎ IsAnswerRefused old new query fault
+IsQueryFault old new query fault = IsSymbolAbsent old new query fault ⊎ IsModuleRefused old new query fault ⊎ IsAnswerRefused old new query fault
 
 -- a query was answered: it has an answer, and what that needs is stored
 abbrev pub IsAnswered : RootView → QueryView → Type 0

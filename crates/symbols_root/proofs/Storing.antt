@@ -1,6 +1,6 @@
 -- Modules that are stored, by their specifiers.
 use Rattle.std.proofs.Common.{◌≡◌, ℕ, zero, suc, ◌⊎◌, inl, inr, Bool, true, false, ◌||◌, cond, List, [], ◌∷◌, ◌++◌, length, map, slice_get, position, get_or, option_map, Option, None, Some, is_some, refl, sym, ap, subst, ◌∙◌, true≢false}
-use Rattle.std.specs.Prelude.{if◌then◌else◌, string_bytes}
+use Rattle.std.specs.Prelude.{if◌then◌else◌, string_bytes, IfSome}
 use Rattle.std.specs.Borrow.{Bor}
 use Rattle.std.specs.Map.{lookup, keys_of}
 use Rattle.std.specs.Str.{bytes_eq}
@@ -17,8 +17,9 @@ use Rattle.symbols_table.specs.declared.info.fault.SymbolsFault.TheVariants as f
 use Rattle.symbols_table.specs.Analysis.{IsAnalysis, IsAnalyzed, IsAnalysisFault}
 use Rattle.symbols_table.specs.Modules.{table_of}
 use Rattle.symbols_root.specs.Specifiers.{module_under, is_among}
-use Rattle.symbols_root.specs.Roots.{RootView, with_stored, HasRoom, IsMissing, IsRefusal, IsTableUnder}
-use Rattle.symbols_root.specs.StoredModules.{StoredModule, stored_specifiers, AreWhole}
+use Rattle.symbols_root.specs.Roots.{RootView, with_stored, HasRoom, IsNotStored, IsRefusal, IsTableUnder}
+use Rattle.symbols_root.specs.StoredModules.{StoredModule, stored_specifiers}
+use Rattle.symbols_root.specs.inner.StoredModules.{AreWhole, StandsUnder}
 use Rattle.symbols_root.proofs.Among.{same_bytes}
 
 -- ---- the map by specifiers
@@ -77,6 +78,16 @@ pub get_last : {A : Type 0} (xs : List A) (y : A) → slice_get (xs ++ y ∷ [])
 get_last [] y = refl
 get_last (x ∷ xs) y = get_last xs y
 
+get_before : {A : Type 0} (xs ys : List A) (i : ℕ) (x : A) → slice_get xs i ≡ Some x → slice_get (xs ++ ys) i ≡ Some x
+get_before [] ys i x at = absurd (none-some x at)
+get_before (z ∷ xs) ys zero x at = at
+get_before (z ∷ xs) ys (suc i) x at = get_before xs ys i x at
+
+-- the module that was asked for last stays in its place
+pub last_kept : (graph : GraphView) (stored : List (List ℕ)) (s : List ℕ) (last : Option (Bor (List ℕ) × ModuleId)) → IfSome last (λ l. StandsUnder graph stored l.1 l.0.now) → IfSome last (λ l. StandsUnder graph (stored ++ s ∷ []) l.1 l.0.now)
+last_kept graph stored s None is = tt
+last_kept graph stored s (Some l) is = record { at = get_before stored (s ∷ []) l.1.0 l.0.now is.at; stands = is.stands; under = is.under }
+
 -- one more module that is whole
 pub whole_push : (graph : GraphView) (limit : ℕ) (entries : List StoredModule) (e : StoredModule) → AreWhole graph limit entries → IsTableUnder graph limit (record { 0 = length entries }) e.0.now (table_of e.1) → AreWhole graph limit (entries ++ e ∷ [])
 whole_push graph limit entries e all one i entry at = elim (get_push entries e entry i at) [
@@ -93,7 +104,7 @@ pub with_new : (root : RootView) (q : List ℕ) → is_among root.stored q ≡ f
 with_new root q is = sym (ap (λ b. record root { stored = if b then root.stored else root.stored ++ q ∷ [] }) is)
 
 -- a stored module isn't missing
-pub none_missing : {B : Type 0} (root : RootView) (q s : List ℕ) → is_among root.stored q ≡ true → IsMissing root (Some q) s → B
+pub none_missing : {B : Type 0} (root : RootView) (q s : List ℕ) → is_among root.stored q ≡ true → IsNotStored root (Some q) s → B
 none_missing root q s is missing = absurd (true≢false (sym is ∙ (ap (is_among root.stored) (same_Some q s missing.0) ∙ missing.1)))
 
 -- why an analysis isn't there is why the module isn't stored

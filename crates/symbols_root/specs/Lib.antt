@@ -4,4 +4,6 @@ pub mod Roots
 pub mod StoredModules
 pub mod GraphModules
 pub mod Growing
+pub mod Calls
 pub mod laws
+pub mod inner

@@ -22,8 +22,8 @@ abbrev pub empty_root : GraphView → Rules → Limits → RootView
 empty_root graph rules limits = record { graph = graph; rules = rules; limits = limits; stored = [] }
 
 -- the widest limits: numbers are below 2 ^ 32
-abbrev pub widest : Limits
-widest = record { modules = 2 ^ 32 - 1; symbols = 2 ^ 32 - 1 }
+abbrev pub widest_limits : Limits
+widest_limits = record { modules = 2 ^ 32 - 1; symbols = 2 ^ 32 - 1 }
 
 -- the root with the module of this specifier, if one is needed: stored last, unless it is stored already
 abbrev pub with_stored : RootView → Option (List ℕ) → RootView
@@ -55,8 +55,8 @@ abbrev pub IsStoredTable : RootView → ModuleId → Table → Type 0
 IsStoredTable root module_id table = (specifier : List ℕ) × (specifier_under root module_id ≡ Some specifier) × IsTableUnder root.graph root.limits.symbols module_id specifier table
 
 -- the module of this specifier is needed and isn't stored
-abbrev pub IsMissing : RootView → Option (List ℕ) → List ℕ → Type 0
-IsMissing root needed specifier = (needed ≡ Some specifier) × (is_among root.stored specifier ≡ false)
+abbrev pub IsNotStored : RootView → Option (List ℕ) → List ℕ → Type 0
+IsNotStored root needed specifier = (needed ≡ Some specifier) × (is_among root.stored specifier ≡ false)
 
 -- one more module may be stored
 abbrev pub HasRoom : RootView → Type 0
@@ -65,8 +65,8 @@ HasRoom root = length root.stored < root.limits.modules
 -- why the module that is needed isn't stored: no room for it, or room and too many symbols in it. Unknown numbers are no reason
 abbrev pub IsRefusal : RootView → Option (List ℕ) → SymbolsFault → Type 0
 IsRefusal root needed fault.OutOfMemory = Unit {0}
-IsRefusal root needed fault.TooManyModules = (specifier : List ℕ) × IsMissing root needed specifier × (root.limits.modules ≤ length root.stored)
-IsRefusal root needed (fault.TooManySymbols specifier) = IsMissing root needed (string_bytes specifier) × HasRoom root × ((m : ModuleView) × (module_under root.graph (string_bytes specifier) ≡ Some m) × IsTooMany m root.limits.symbols)
+IsRefusal root needed fault.TooManyModules = (specifier : List ℕ) × IsNotStored root needed specifier × (root.limits.modules ≤ length root.stored)
+IsRefusal root needed (fault.TooManySymbols specifier) = IsNotStored root needed (string_bytes specifier) × HasRoom root × ((m : ModuleView) × (module_under root.graph (string_bytes specifier) ≡ Some m) × IsTooMany m root.limits.symbols)
 IsRefusal root needed fault.UnknownModule = ⊥
 IsRefusal root needed fault.UnknownSymbol = ⊥
 

@@ -4,7 +4,7 @@ use Rattle.std.specs.List.{IsDistinct}
 use Rattle.std.specs.Option.{option_map, option_and_then}
 use Rattle.std.specs.Str.{bytes_eq}
 use Rattle.symbols_syntax.specs.Graph.{GraphView, ModuleView, module_of, types_of}
-use Rattle.symbols_tree.specs.GraphFaults.{specifiers}
+use Rattle.symbols_tree.specs.GraphFaults.{module_specifiers}
 use Rattle.symbols_table.specs.Modules.{source_of}
 use Rattle.symbols_root.specs.Specifiers.{is_among}
 
@@ -17,14 +17,14 @@ abbrev pub types_module : GraphView → ModuleView → Option ModuleView
 types_module graph m = option_and_then (module_of graph) (types_of m.content)
 
 -- the first of the modules is the one that was looked up, and each other is the types module of the one before
-abbrev pub AreLinkedFrom : GraphView → Option ModuleView → List ModuleView → Type 0
-AreLinkedFrom graph found [] = Unit {0}
-AreLinkedFrom graph found (m ∷ rest) = (found ≡ Some m) × AreLinkedFrom graph (types_module graph m) rest
+abbrev pub AreTypesModulesFrom : GraphView → Option ModuleView → List ModuleView → Type 0
+AreTypesModulesFrom graph found [] = Unit {0}
+AreTypesModulesFrom graph found (m ∷ rest) = (found ≡ Some m) × AreTypesModulesFrom graph (types_module graph m) rest
 
 -- different modules, the first that of the specifier after one redirect, each other the types module of the one before
 pub record FollowsTypes (graph : GraphView) (specifier : List ℕ) (modules : List ModuleView) : Type 0 where
-  pub linked : AreLinkedFrom graph (module_of graph specifier) modules
-  pub once : IsDistinct bytes_eq (specifiers modules)
+  pub in_turn : AreTypesModulesFrom graph (module_of graph specifier) modules
+  pub once : IsDistinct bytes_eq (module_specifiers modules)
 
 -- the types chain of a specifier: the longest such list
 pub record IsTypesChain (graph : GraphView) (specifier : List ℕ) (chain : List ModuleView) : Type 0 where

@@ -4,4 +4,5 @@
 //! name, '(own rule)' where this library sets it.
 #![tactic(auto)]
 
+pub mod laws;
 pub mod root;

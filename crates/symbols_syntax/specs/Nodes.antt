@@ -30,5 +30,5 @@ pub record IsParent (nodes : List Node) (m n : ℕ) : Type 0 where
 
 -- at least count nodes stand above n, each a parent of the next
 pub data HasAncestors (nodes : List Node) : ℕ → ℕ → Type 0 where
-  none : {n : ℕ} → HasAncestors nodes n 0
+  none_above : {n : ℕ} → HasAncestors nodes n 0
   above : {m n count : ℕ} → IsParent nodes m n → HasAncestors nodes m count → HasAncestors nodes n (suc count)

@@ -57,18 +57,18 @@ Stands text nodes (BadShape n) = has_bad_shape nodes n ≡ true
 Stands text nodes (TooDeep n) = IsTooDeep nodes n
 
 -- the place of a fault in the order: those of the tree, then node by node
-abbrev pub rank : TreeFault → ℕ
-rank NoProgram = 0
-rank TooManyNodes = 1
-rank (BadChild n) = 5 * n + 2
-rank (SharedChild n) = 5 * n + 3
-rank (BadRange n) = 5 * n + 4
-rank (BadShape n) = 5 * n + 5
-rank (TooDeep n) = 5 * n + 6
+abbrev pub fault_rank : TreeFault → ℕ
+fault_rank NoProgram = 0
+fault_rank TooManyNodes = 1
+fault_rank (BadChild n) = 5 * n + 2
+fault_rank (SharedChild n) = 5 * n + 3
+fault_rank (BadRange n) = 5 * n + 4
+fault_rank (BadShape n) = 5 * n + 5
+fault_rank (TooDeep n) = 5 * n + 6
 
 -- no fault stands before this place in the order
 abbrev pub NoneBelow : List ℕ → List Node → ℕ → Type 0
-NoneBelow text nodes place = (fault : TreeFault) → rank fault < place → Stands text nodes fault → ⊥
+NoneBelow text nodes place = (fault : TreeFault) → fault_rank fault < place → Stands text nodes fault → ⊥
 
 -- no fault stands
 abbrev pub IsFaultless : List ℕ → List Node → Type 0
@@ -77,4 +77,4 @@ IsFaultless text nodes = (fault : TreeFault) → Stands text nodes fault → ⊥
 -- the first fault of a tree over its text: none where none stands
 abbrev pub IsFirstTreeFault : List ℕ → List Node → Option TreeFault → Type 0
 IsFirstTreeFault text nodes None = IsFaultless text nodes
-IsFirstTreeFault text nodes (Some fault) = Stands text nodes fault × NoneBelow text nodes (rank fault)
+IsFirstTreeFault text nodes (Some fault) = Stands text nodes fault × NoneBelow text nodes (fault_rank fault)

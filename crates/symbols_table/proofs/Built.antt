@@ -10,7 +10,7 @@ use Rattle.symbols_syntax.specs.declared.ids.ModuleId.{ModuleId}
 use Rattle.symbols_syntax.specs.declared.ids.SymbolId.{SymbolId}
 use Rattle.symbols_table.specs.declared.decl.symbol.Symbol.{Symbol}
 use Rattle.symbols_syntax.specs.Ids.{IdView}
-use Rattle.symbols_table.specs.SymbolViews.{symbol_view, symbol_made, symbol_after, numbered}
+use Rattle.symbols_table.specs.SymbolViews.{symbol_view, symbol_made, symbol_after, symbol_numbered}
 use Rattle.symbols_syntax.specs.declared.tree.arena.Tree.{Tree}
 use Rattle.symbols_syntax.specs.NodeRefs.{list_of}
 use Rattle.symbols_syntax.specs.ChildFields.{body_of}
@@ -18,14 +18,15 @@ use Rattle.symbols_nodes.specs.NodeViews.{program}
 use Rattle.symbols_table.specs.declared.builder.table.Builder.{Builder}
 use Rattle.symbols_table.specs.declared.builder.table.BuildFault.{BuildFault}
 use Rattle.symbols_table.specs.declared.builder.table.BuildFault.TheVariants.{TooManySymbols}
-use Rattle.symbols_table.specs.DeclViews.{Declaration, defined}
+use Rattle.symbols_table.specs.DeclViews.{Declaration, definition_at}
 use Rattle.symbols_table.specs.Changes.{Change, makes, declares, parents_after, exports_after, mapped_after, stars_after}
 use Rattle.symbols_table.specs.Events.{Event, Row, begins, default, row_of, default_row, changes_of, symbol_at, rows_after, changes_by}
 use Rattle.symbols_table.specs.JsonEvents.{json_decl}
 use Rattle.symbols_table.specs.Walks.{range_in}
 use Rattle.symbols_table.specs.TreeEvents.{items_at, module_scope, root_of, root_decl}
-use Rattle.symbols_table.specs.Symbols.{parent_in, IsSymbolOf}
-use Rattle.symbols_table.specs.Tables.{IsTableOf}
+use Rattle.symbols_table.specs.Symbols.{parent_in}
+use Rattle.symbols_table.specs.inner.Symbols.{IsSymbolOf}
+use Rattle.symbols_table.specs.inner.Tables.{IsTableOf}
 use Rattle.symbols_table.specs.Analysis.{tree_changes, json_changes, symbol_count}
 use Rattle.symbols_table.proofs.Rows.{changes_of-push, rows_after-step, rows_after-nil}
 use Rattle.symbols_table.proofs.Walks.{first_row, first_step, begun_read, begun_fault}
@@ -61,8 +62,8 @@ pub begun_with : (b : Builder) (decl known : Declaration) → decl ≡ known →
 begun_with b decl known same is = subst (λ (d : Declaration). IsTableOf b (changes_of (first_row d ∷ []))) same (rw (← first_changes decl) is)
 
 -- what is declared of the module
-pub root_decl_is : (tree : Tree) (decl : Declaration) (range : SourceRange) → range_in (root_of tree) ≡ range → decl ≡ defined (program (root_of tree)) range → decl ≡ root_decl tree
-root_decl_is tree decl range same is = is ∙ ap (λ (r : SourceRange). defined (program (root_of tree)) r) (sym same)
+pub root_decl_is : (tree : Tree) (decl : Declaration) (range : SourceRange) → range_in (root_of tree) ≡ range → decl ≡ definition_at (program (root_of tree)) range → decl ≡ root_decl tree
+root_decl_is tree decl range same is = is ∙ ap (λ (r : SourceRange). definition_at (program (root_of tree)) r) (sym same)
 
 -- the events of a body, after that of the module
 abbrev pub body_changes : Tree → List ℕ → List Change
@@ -83,7 +84,7 @@ symbol_shown module_id changes s symbol is =
     ap Some view ∙ sym (ap (option_map (symbol_made changes s)) is.parent)
 
 -- the symbol of each number is that of the changes
-pub shown : (b : Builder) (changes : List Change) → IsTableOf b changes → (s : SymbolId) → numbered b.symbols.items s ≡ symbol_after changes s
+pub shown : (b : Builder) (changes : List Change) → IsTableOf b changes → (s : SymbolId) → symbol_numbered b.symbols.items s ≡ symbol_after changes s
 shown b changes is s = elim (slice_get_cases b.symbols.items s.0).1 [
   | inl (symbol, below, at, read) ↦ ap (option_map symbol_view) at ∙ symbol_shown b.setting.module_id changes s symbol (subst (IsSymbolOf b.setting.module_id changes s) read (is.symbols s symbol below))
   | inr (past, none) ↦

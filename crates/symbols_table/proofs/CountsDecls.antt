@@ -8,8 +8,8 @@ use Rattle.symbols_table.specs.DeclViews.{Declaration, with_decl, last_decl, is_
 use Rattle.symbols_table.specs.Changes.{Change, parents_after, makes, declares, exports, has_child, has_member, maps, passes_on, only_if, decl_by, decls_after}
 use Rattle.symbols_table.specs.declared.decl.symbol.Symbol.{Symbol}
 use Rattle.symbols_table.specs.Symbols.{decls_in}
-use Rattle.symbols_table.specs.Tables.{Fits}
-use Rattle.symbols_table.specs.Laws.{declarations_of}
+use Rattle.symbols_table.specs.inner.Tables.{Fits}
+use Rattle.symbols_table.specs.Laws.{count_of_declarations}
 use Rattle.symbols_table.proofs.Sums.{declaration_count, sum_below}
 use Rattle.symbols_table.proofs.Inside.{All-head, All-tail}
 use Rattle.symbols_table.proofs.CountsWeights.{same, sum_none, sum_same, sum-plus, sum-first, sum_as}
@@ -65,7 +65,7 @@ sum_by_places g f (x ∷ xs) each =
 
 -- symbols that hold the declarations of the changes
 pub module_declarations : (symbols : List Symbol) (changes : List Change) → length symbols ≡ length (parents_after changes) → ((s : SymbolId) (symbol : Symbol) → slice_get symbols s.0 ≡ Some symbol → decls_in symbol ≡ decls_after changes s)
-    → All (Fits (length (parents_after changes))) changes → declarations_of symbols ≡ declaration_count changes
+    → All (Fits (length (parents_after changes))) changes → count_of_declarations symbols ≡ declaration_count changes
 module_declarations symbols changes count held all =
     let decls : ℕ → ℕ = λ n. length (decls_after changes (symbol_at_number n)) in
     let places = sum_by_places (λ (symbol : Symbol). length (decls_in symbol)) decls symbols (λ n symbol at. ap length (held (symbol_at_number n) symbol at)) in

@@ -5,8 +5,8 @@ use Rattle.std.proofs.lemmas.List.{length-append}
 use Rattle.std.proofs.lemmas.List.Elements.{filter_map-append}
 use Rattle.symbols_syntax.specs.declared.ids.SymbolId.{SymbolId}
 use Rattle.symbols_table.specs.DeclViews.{Declaration, is_definition, decl_name}
-use Rattle.symbols_table.specs.Changes.{Change, exports, has_child, maps, parent_by, parents_after, mapped_after, exported, has_function}
-use Rattle.symbols_table.specs.Events.{Event, begins, declare, alias, fresh, default, binds, member, expando, export, child, star, Row, nothing, new_row, found_or, known_or, member_changes, member_found, member_row, declare_row, alias_row, default_row, default_text, expando_row, with_symbol, row_of, changes_of, symbol_at, rows_after, changes_by, only, of_symbol}
+use Rattle.symbols_table.specs.Changes.{Change, exports, has_child, maps, parent_by, parents_after, mapped_after, exported_symbol, has_function}
+use Rattle.symbols_table.specs.Events.{Event, begins, declare, declare_alias, fresh, default, binds, member, expando, export, child, star, Row, empty_row, new_row, found_or, known_or, member_changes, member_found, member_row, declare_row, alias_row, default_row, default_name, expando_row, with_symbol, row_of, changes_of, symbol_at, rows_after, changes_by, row_of_changes, row_of_symbol}
 use Rattle.symbols_table.proofs.Sums.{declared_in, declaration_count}
 use Rattle.symbols_table.proofs.Rows.{changes_of-push}
 
@@ -31,7 +31,7 @@ pub record IsFew (changes : List Change) (n : ℕ) : Type 0 where
   pub symbols : length (filter_map parent_by changes) ≤ n
   pub declarations : declaration_count changes ≤ n
 
-few_no_symbol : (n : ℕ) → IsFew nothing.changes n
+few_no_symbol : (n : ℕ) → IsFew empty_row.changes n
 few_no_symbol n = record { symbols = omega arith; declarations = omega arith }
 
 few_new : (before : List Change) (parent : Option SymbolId) (decl : Declaration) (more : SymbolId → List Change) → ((s : SymbolId) → IsFew (more s) 0) → IsFew (new_row before parent decl more).changes 1
@@ -51,14 +51,14 @@ few_with : (n : ℕ) (found : Option SymbolId) (row : SymbolId → Row) → ((s 
 few_with n None row few = few_no_symbol n
 few_with n (Some s) row few = few s
 
-few_export : (holder s : SymbolId) (is_child : Bool) → IsFew (exports holder default_text s ∷ (if is_child then has_child holder s ∷ [] else [])) 0
+few_export : (holder s : SymbolId) (is_child : Bool) → IsFew (exports holder default_name s ∷ (if is_child then has_child holder s ∷ [] else [])) 0
 few_export holder s true = record { symbols = omega arith; declarations = omega arith }
 few_export holder s false = record { symbols = omega arith; declarations = omega arith }
 
 few_default : (before : List Change) (holder : SymbolId) (decl : Declaration) → IsFew (default_row before holder decl).changes 1
 few_default before holder decl =
-    let more : SymbolId → List Change = λ s. exports holder default_text s ∷ (if is_definition decl.kind then has_child holder s ∷ [] else []) in
-    few_found (exported before holder default_text) decl (new_row before (Some holder) decl more) (few_new before (Some holder) decl more (λ s. few_export holder s (is_definition decl.kind)))
+    let more : SymbolId → List Change = λ s. exports holder default_name s ∷ (if is_definition decl.kind then has_child holder s ∷ [] else []) in
+    few_found (exported_symbol before holder default_name) decl (new_row before (Some holder) decl more) (few_new before (Some holder) decl more (λ s. few_export holder s (is_definition decl.kind)))
 
 few_of_member : (holder : SymbolId) (is_static : Bool) (name : Option (List ℕ)) (s : SymbolId) → IsFew (member_changes holder is_static name s) 0
 few_of_member holder true None s = record { symbols = omega arith; declarations = omega arith }
@@ -70,7 +70,7 @@ few_member before holder decl is_static =
     let name = decl_name decl in
     few_found (member_found before holder is_static name) decl (new_row before (Some holder) decl (member_changes holder is_static name)) (few_new before (Some holder) decl (member_changes holder is_static name) (few_of_member holder is_static name))
 
-few_function : (is_function : Bool) (row : Row) → IsFew row.changes 1 → IsFew (if is_function then row else nothing).changes 1
+few_function : (is_function : Bool) (row : Row) → IsFew row.changes 1 → IsFew (if is_function then row else empty_row).changes 1
 few_function true row few = few
 few_function false row few = few_no_symbol 1
 
@@ -83,17 +83,17 @@ few_row : (before : List Change) (at : ℕ → Option SymbolId) (event : Event) 
 few_row before at (begins decl) = few_new before None decl (λ _. []) (λ s. record { symbols = omega arith; declarations = omega arith })
 few_row before at (declare holder id decl) =
     few_with 1 (at holder) (λ h. declare_row before h id decl) (λ h. few_found (mapped_after before id) decl (new_row before (Some h) decl (λ s. maps id s ∷ [])) (few_new before (Some h) decl (λ s. maps id s ∷ []) (λ s. record { symbols = omega arith; declarations = omega arith })))
-few_row before at (alias holder id decl) =
+few_row before at (declare_alias holder id decl) =
     few_with 1 (at holder) (λ h. alias_row before h id decl) (λ h. few_known (mapped_after before id) (new_row before (Some h) decl (λ s. maps id s ∷ [])) (few_new before (Some h) decl (λ s. maps id s ∷ []) (λ s. record { symbols = omega arith; declarations = omega arith })))
 few_row before at (fresh holder decl) = few_with 1 (at holder) (λ h. new_row before (Some h) decl (λ _. [])) (λ h. few_new before (Some h) decl (λ _. []) (λ s. record { symbols = omega arith; declarations = omega arith }))
 few_row before at (default holder decl) = few_with 1 (at holder) (λ h. default_row before h decl) (λ h. few_default before h decl)
-few_row before at (binds id of) = few_with 0 (at of) (λ s. of_symbol s (maps id s ∷ [])) (λ s. record { symbols = omega arith; declarations = omega arith })
+few_row before at (binds id of) = few_with 0 (at of) (λ s. row_of_symbol s (maps id s ∷ [])) (λ s. record { symbols = omega arith; declarations = omega arith })
 few_row before at (member holder decl is_static) = few_with 1 (at holder) (λ h. member_row before h decl is_static) (λ h. few_member before h decl is_static)
 few_row before at (expando id decl) = few_expando before (mapped_after before id) decl
 few_row before at (export holder name of) =
-    few_with 0 (at holder) (λ h. with_symbol (at of) (λ s. only (exports h name s ∷ []))) (λ h. few_with 0 (at of) (λ s. only (exports h name s ∷ [])) (λ s. record { symbols = omega arith; declarations = omega arith }))
+    few_with 0 (at holder) (λ h. with_symbol (at of) (λ s. row_of_changes (exports h name s ∷ []))) (λ h. few_with 0 (at of) (λ s. row_of_changes (exports h name s ∷ [])) (λ s. record { symbols = omega arith; declarations = omega arith }))
 few_row before at (child holder of) =
-    few_with 0 (at holder) (λ h. with_symbol (at of) (λ s. only (has_child h s ∷ []))) (λ h. few_with 0 (at of) (λ s. only (has_child h s ∷ [])) (λ s. record { symbols = omega arith; declarations = omega arith }))
+    few_with 0 (at holder) (λ h. with_symbol (at of) (λ s. row_of_changes (has_child h s ∷ []))) (λ h. few_with 0 (at of) (λ s. row_of_changes (has_child h s ∷ [])) (λ s. record { symbols = omega arith; declarations = omega arith }))
 few_row before at (star node) = record { symbols = omega arith; declarations = omega arith }
 
 few-append : (before more : List Change) (n k : ℕ) → IsFew before n → IsFew more k → IsFew (before ++ more) (n + k)

@@ -8,9 +8,9 @@ use Rattle.std.proofs.lemmas.List.Elements.{All-nil, All-cons, All-append, All-w
 use Rattle.symbols_syntax.specs.declared.ids.SymbolId.{SymbolId}
 use Rattle.symbols_syntax.specs.Ids.{IdView}
 use Rattle.symbols_table.specs.DeclViews.{Declaration, is_definition, decl_name}
-use Rattle.symbols_table.specs.Changes.{Change, makes, declares, exports, has_child, has_member, maps, passes_on, parent_by, parents_after, mapped_after, exported, child_named, has_function}
-use Rattle.symbols_table.specs.Events.{Event, begins, declare, alias, fresh, default, binds, member, expando, export, child, star, Row, nothing, only, of_symbol, next_symbol, new_row, found_or, known_or, member_changes, member_found, member_row, declare_row, alias_row, default_row, default_text, expando_row, with_symbol, row_of, changes_of, symbol_at, rows_after, changes_by}
-use Rattle.symbols_table.specs.Tables.{Fits}
+use Rattle.symbols_table.specs.Changes.{Change, makes, declares, exports, has_child, has_member, maps, passes_on, parent_by, parents_after, mapped_after, exported_symbol, child_named, has_function}
+use Rattle.symbols_table.specs.Events.{Event, begins, declare, declare_alias, fresh, default, binds, member, expando, export, child, star, Row, empty_row, row_of_changes, row_of_symbol, next_symbol, new_row, found_or, known_or, member_changes, member_found, member_row, declare_row, alias_row, default_row, default_name, expando_row, with_symbol, row_of, changes_of, symbol_at, rows_after, changes_by}
+use Rattle.symbols_table.specs.inner.Tables.{Fits}
 use Rattle.symbols_table.proofs.Inside.{Below, mapped_inside, exported_inside}
 use Rattle.symbols_table.proofs.LocalNames.{child_inside, member_inside}
 use Rattle.symbols_table.proofs.Rows.{changes_of-push, length-parents_after-append}
@@ -39,7 +39,7 @@ all_one k change h = All-cons (Fits k) change [] h (All-nil (Fits k))
 abbrev pub RowFits : ℕ → Row → Type 0
 RowFits n row = (k : ℕ) → n + length (filter_map parent_by row.changes) ≤ k → All (Fits k) row.changes × IfSome row.symbol (Below k)
 
-row_nothing : (n : ℕ) → RowFits n nothing
+row_nothing : (n : ℕ) → RowFits n empty_row
 row_nothing n = λ k le. (All-nil (Fits k), tt)
 
 row_found : (n : ℕ) (found : Option SymbolId) (decl : Declaration) (row : Row) → IfSome found (Below n) → RowFits n row → RowFits n (found_or found decl row)
@@ -58,9 +58,9 @@ option_or_below : (n : ℕ) (first second : Option SymbolId) → IfSome first (B
 option_or_below n None second h k = k
 option_or_below n (Some s) second h k = h
 
-default_fits : (k : ℕ) (holder s : SymbolId) (is_child : Bool) → holder.0 < k → s.0 < k → All (Fits k) (exports holder default_text s ∷ (if is_child then has_child holder s ∷ [] else []))
-default_fits k holder s true h l = All-cons (Fits k) (exports holder default_text s) (has_child holder s ∷ []) (h, l) (all_one k (has_child holder s) (h, l))
-default_fits k holder s false h l = all_one k (exports holder default_text s) (h, l)
+default_fits : (k : ℕ) (holder s : SymbolId) (is_child : Bool) → holder.0 < k → s.0 < k → All (Fits k) (exports holder default_name s ∷ (if is_child then has_child holder s ∷ [] else []))
+default_fits k holder s true h l = All-cons (Fits k) (exports holder default_name s) (has_child holder s ∷ []) (h, l) (all_one k (has_child holder s) (h, l))
+default_fits k holder s false h l = all_one k (exports holder default_name s) (h, l)
 
 member_fits : (k : ℕ) (holder : SymbolId) (is_static : Bool) (name : Option (List ℕ)) (s : SymbolId) → holder.0 < k → s.0 < k → All (Fits k) (member_changes holder is_static name s)
 member_fits k holder true None s h l = all_one k (has_child holder s) (h, l)
@@ -77,13 +77,13 @@ module _ (before : List Change) (n : ℕ) (is : n ≡ length (parents_after befo
 
   row_default : (holder : SymbolId) (decl : Declaration) → holder.0 < n → RowFits n (default_row before holder decl)
   row_default holder decl h =
-      let more : SymbolId → List Change = λ s. exports holder default_text s ∷ (if is_definition decl.kind then has_child holder s ∷ [] else []) in
-      row_found n (exported before holder default_text) decl (new_row before (Some holder) decl more) (exported_inside n before holder default_text sound)
+      let more : SymbolId → List Change = λ s. exports holder default_name s ∷ (if is_definition decl.kind then has_child holder s ∷ [] else []) in
+      row_found n (exported_symbol before holder default_name) decl (new_row before (Some holder) decl more) (exported_inside n before holder default_name sound)
       (row_new (Some holder) decl more (λ k s room inside. default_fits k holder s (is_definition decl.kind) (omega arith) inside))
 
   found_below : (holder : SymbolId) (is_static : Bool) (name : Option (List ℕ)) → IfSome (member_found before holder is_static name) (Below n)
   found_below holder is_static None = tt
-  found_below holder true (Some name) = option_or_below n (exported before holder name) (child_named before holder name) (exported_inside n before holder name sound) (child_inside n before holder name sound)
+  found_below holder true (Some name) = option_or_below n (exported_symbol before holder name) (child_named before holder name) (exported_inside n before holder name sound) (child_inside n before holder name sound)
   found_below holder false (Some name) = member_inside n before holder name sound
 
   row_member : (holder : SymbolId) (decl : Declaration) (is_static : Bool) → holder.0 < n → RowFits n (member_row before holder decl is_static)
@@ -97,7 +97,7 @@ module _ (before : List Change) (n : ℕ) (is : n ≡ length (parents_after befo
   row_expando None decl h = row_nothing n
   row_expando (Some s) decl h = by (has_function before s)
     where
-      by : (is_function : Bool) → RowFits n (if is_function then member_row before s decl true else nothing)
+      by : (is_function : Bool) → RowFits n (if is_function then member_row before s decl true else empty_row)
       by true = row_member s decl true h
       by false = row_nothing n
 
@@ -108,20 +108,20 @@ module _ (before : List Change) (n : ℕ) (is : n ≡ length (parents_after befo
   row_fits at inside (begins decl) = row_new None decl (λ _. []) (λ k s room below. All-nil (Fits k))
   row_fits at inside (declare holder id decl) =
       row_with n (at holder) (λ h. declare_row before h id decl) (inside holder) (λ h l. row_found n (mapped_after before id) decl (new_row before (Some h) decl (λ s. maps id s ∷ [])) (mapped_inside n before id sound) (row_mapped h id decl))
-  row_fits at inside (alias holder id decl) =
+  row_fits at inside (declare_alias holder id decl) =
       row_with n (at holder) (λ h. alias_row before h id decl) (inside holder) (λ h l. row_known n (mapped_after before id) (new_row before (Some h) decl (λ s. maps id s ∷ [])) (mapped_inside n before id sound) (row_mapped h id decl))
   row_fits at inside (fresh holder decl) =
       row_with n (at holder) (λ h. new_row before (Some h) decl (λ _. [])) (inside holder) (λ h l. row_new (Some h) decl (λ _. []) (λ k s room below. All-nil (Fits k)))
   row_fits at inside (default holder decl) = row_with n (at holder) (λ h. default_row before h decl) (inside holder) (λ h l. row_default h decl l)
-  row_fits at inside (binds id of) = row_with n (at of) (λ s. of_symbol s (maps id s ∷ [])) (inside of) (λ s l k le. (all_one k (maps id s) (omega arith), omega arith))
+  row_fits at inside (binds id of) = row_with n (at of) (λ s. row_of_symbol s (maps id s ∷ [])) (inside of) (λ s l k le. (all_one k (maps id s) (omega arith), omega arith))
   row_fits at inside (member holder decl is_static) = row_with n (at holder) (λ h. member_row before h decl is_static) (inside holder) (λ h l. row_member h decl is_static l)
   row_fits at inside (expando id decl) = row_expando (mapped_after before id) decl (mapped_inside n before id sound)
   row_fits at inside (export holder name of) =
-      row_with n (at holder) (λ h. with_symbol (at of) (λ s. only (exports h name s ∷ []))) (inside holder) (λ h l.
-      row_with n (at of) (λ s. only (exports h name s ∷ [])) (inside of) (λ s m k le. (all_one k (exports h name s) (omega arith, omega arith), tt)))
+      row_with n (at holder) (λ h. with_symbol (at of) (λ s. row_of_changes (exports h name s ∷ []))) (inside holder) (λ h l.
+      row_with n (at of) (λ s. row_of_changes (exports h name s ∷ [])) (inside of) (λ s m k le. (all_one k (exports h name s) (omega arith, omega arith), tt)))
   row_fits at inside (child holder of) =
-      row_with n (at holder) (λ h. with_symbol (at of) (λ s. only (has_child h s ∷ []))) (inside holder) (λ h l.
-      row_with n (at of) (λ s. only (has_child h s ∷ [])) (inside of) (λ s m k le. (all_one k (has_child h s) (omega arith, omega arith), tt)))
+      row_with n (at holder) (λ h. with_symbol (at of) (λ s. row_of_changes (has_child h s ∷ []))) (inside holder) (λ h l.
+      row_with n (at of) (λ s. row_of_changes (has_child h s ∷ [])) (inside of) (λ s m k le. (all_one k (has_child h s) (omega arith, omega arith), tt)))
   row_fits at inside (star node) = λ k le. (all_one k (passes_on node) tt, tt)
 
 -- ---- all rows

@@ -10,7 +10,7 @@ use Rattle.symbols_table.specs.Changes.{parents_after}
 use Rattle.symbols_table.specs.DeclViews.{Declaration}
 use Rattle.symbols_table.specs.Events.{Event, Row, member, member_row, declare, declare_row, row_of, changes_of, symbol_at, rows_after}
 use Rattle.symbols_table.specs.Walks.{Walk}
-use Rattle.symbols_table.specs.Tables.{IsTableOf, ReadsAll, ReadsWalk}
+use Rattle.symbols_table.specs.inner.Tables.{IsTableOf, ReadsAll, ReadsWalk}
 use Rattle.symbols_table.proofs.Rows.{rows_after-step, rows_after-nil, rows_after-append, symbol_at-push, symbol_at_kept, symbol_at_after, parents_after_grow}
 use Rattle.symbols_table.proofs.Walks.{one_read, reads_from}
 

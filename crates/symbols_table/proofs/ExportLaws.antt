@@ -8,12 +8,12 @@ use Rattle.std.proofs.lemmas.Bool.{false≢true}
 use Rattle.std.proofs.lemmas.Slice.Eq.{bytes_eq-Decides}
 use Rattle.indexmap.specs.IndexMap.{insert_entry, insert_all}
 use Rattle.symbols_syntax.specs.declared.ids.SymbolId.{SymbolId}
-use Rattle.symbols_table.specs.Changes.{Change, only_if, settings_after, with_name, names_set, value_under, AreExportsBy, exports_after}
+use Rattle.symbols_table.specs.Changes.{Change, only_if, settings_after, with_first_name, names_set, value_under, AreExportsBy, exports_after}
 use Rattle.symbols_table.proofs.Views.{eq-sym, lookup-insert}
 
 -- ---- places
 
-names_set-insert : (es : List (List ℕ × SymbolId)) (k : List ℕ) (x : SymbolId) → names_set (insert_entry bytes_eq es k x) ≡ with_name (names_set es) k
+names_set-insert : (es : List (List ℕ × SymbolId)) (k : List ℕ) (x : SymbolId) → names_set (insert_entry bytes_eq es k x) ≡ with_first_name (names_set es) k
 names_set-insert [] k x = refl
 names_set-insert (e ∷ es) k x = by (bytes_eq k e.0) (names_set-insert es k x)
   where
@@ -21,14 +21,14 @@ names_set-insert (e ∷ es) k x = by (bytes_eq k e.0) (names_set-insert es k x)
     pushed true = refl
     pushed false = refl
 
-    by : (same : Bool) → names_set (insert_entry bytes_eq es k x) ≡ with_name (names_set es) k
+    by : (same : Bool) → names_set (insert_entry bytes_eq es k x) ≡ with_first_name (names_set es) k
         → names_set (cond same ((e.0, x) ∷ es) (e ∷ insert_entry bytes_eq es k x)) ≡ cond (same || list_any (bytes_eq k) (names_set es)) (e.0 ∷ names_set es) ((e.0 ∷ names_set es) ++ k ∷ [])
     by true rest = refl
     by false rest = ap (λ (names : List (List ℕ)). e.0 ∷ names) rest ∙ pushed (list_any (bytes_eq k) (names_set es))
 
-places_after : (es settings : List (List ℕ × SymbolId)) → names_set (insert_all bytes_eq es settings) ≡ fold with_name (names_set es) (names_set settings)
+places_after : (es settings : List (List ℕ × SymbolId)) → names_set (insert_all bytes_eq es settings) ≡ fold with_first_name (names_set es) (names_set settings)
 places_after es [] = refl
-places_after es (x ∷ xs) = places_after (insert_entry bytes_eq es x.0 x.1) xs ∙ ap (λ (names : List (List ℕ)). fold with_name names (names_set xs)) (names_set-insert es x.0 x.1)
+places_after es (x ∷ xs) = places_after (insert_entry bytes_eq es x.0 x.1) xs ∙ ap (λ (names : List (List ℕ)). fold with_first_name names (names_set xs)) (names_set-insert es x.0 x.1)
 
 -- ---- values
 
@@ -57,16 +57,16 @@ distinct_push (x ∷ xs) y apart new = by (distinct_push xs y apart.1) (bytes_eq
     by rest true same none = absurd (false≢true (sym none))
     by rest false other none = (all_push (λ z. bytes_eq x z ≡ false) xs y apart.0 (eq-sym bytes_eq bytes_eq-Decides x y ∙ other), rest none)
 
-distinct_with : (names : List (List ℕ)) (name : List ℕ) → IsDistinct bytes_eq names → IsDistinct bytes_eq (with_name names name)
+distinct_with : (names : List (List ℕ)) (name : List ℕ) → IsDistinct bytes_eq names → IsDistinct bytes_eq (with_first_name names name)
 distinct_with names name apart = by (list_any (bytes_eq name) names) refl
   where
     by : (b : Bool) → list_any (bytes_eq name) names ≡ b → IsDistinct bytes_eq (cond b names (names ++ name ∷ []))
     by true there = apart
     by false absent = distinct_push names name apart absent
 
-distinct_after : (names more : List (List ℕ)) → IsDistinct bytes_eq names → IsDistinct bytes_eq (fold with_name names more)
+distinct_after : (names more : List (List ℕ)) → IsDistinct bytes_eq names → IsDistinct bytes_eq (fold with_first_name names more)
 distinct_after names [] apart = apart
-distinct_after names (x ∷ xs) apart = distinct_after (with_name names x) xs (distinct_with names x apart)
+distinct_after names (x ∷ xs) apart = distinct_after (with_first_name names x) xs (distinct_with names x apart)
 
 no_names : IsDistinct bytes_eq []
 unfolding IsDistinct

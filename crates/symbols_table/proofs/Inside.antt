@@ -8,8 +8,8 @@ use Rattle.std.proofs.lemmas.Map.Entries.{All-lookup}
 use Rattle.indexmap.specs.IndexMap.{insert_entry, insert_all}
 use Rattle.symbols_syntax.specs.declared.ids.SymbolId.{SymbolId}
 use Rattle.symbols_syntax.specs.Ids.{IdView, same_id}
-use Rattle.symbols_table.specs.Changes.{Change, makes, declares, exports, has_child, has_member, maps, passes_on, only_if, is_same, with_first, child_by, member_by, setting_by, mapping_by, exports_after, exported, children_after, members_after, mapped_after}
-use Rattle.symbols_table.specs.Tables.{Fits}
+use Rattle.symbols_table.specs.Changes.{Change, makes, declares, exports, has_child, has_member, maps, passes_on, only_if, same_symbol_id, with_first, child_by, member_by, setting_by, mapping_by, exports_after, exported_symbol, children_after, members_after, mapped_after}
+use Rattle.symbols_table.specs.inner.Tables.{Fits}
 
 pub All-head : {X : Type 0} (P : X → Type 0) (x : X) (xs : List X) → All P (x ∷ xs) → P x
 All-head P x xs all = all 0 x (omega arith)
@@ -68,7 +68,7 @@ filtered_inside count h each (change ∷ changes) all =
 firsts_inside : (count : ℕ) (done xs : List SymbolId) → All (Below count) done → All (Below count) xs → All (Below count) (fold with_first done xs)
 firsts_inside count done [] before all = before
 firsts_inside count done (x ∷ xs) before all =
-    firsts_inside count (with_first done x) xs (by (list_any (is_same x) done)) (All-tail (Below count) x xs all)
+    firsts_inside count (with_first done x) xs (by (list_any (same_symbol_id x) done)) (All-tail (Below count) x xs all)
   where
     by : (there : Bool) → All (Below count) (cond there done (done ++ x ∷ []))
     by true = before
@@ -78,7 +78,7 @@ child_fits : (count : ℕ) (s : SymbolId) (change : Change) → Fits count chang
 child_fits count s (makes _) h = tt
 child_fits count s (declares _ _) h = tt
 child_fits count s (exports _ _ _) h = tt
-child_fits count s (has_child t x) h = by (is_same t s)
+child_fits count s (has_child t x) h = by (same_symbol_id t s)
   where
     by : (test : Bool) → IfSome (only_if test x) (Below count)
     by true = h.1
@@ -92,7 +92,7 @@ member_fits count s (makes _) h = tt
 member_fits count s (declares _ _) h = tt
 member_fits count s (exports _ _ _) h = tt
 member_fits count s (has_child _ _) h = tt
-member_fits count s (has_member t x) h = by (is_same t s)
+member_fits count s (has_member t x) h = by (same_symbol_id t s)
   where
     by : (test : Bool) → IfSome (only_if test x) (Below count)
     by true = h.1
@@ -115,7 +115,7 @@ ExportsBelow count entry = entry.1.0 < count
 setting_fits : (count : ℕ) (s : SymbolId) (change : Change) → Fits count change → IfSome (setting_by s change) (ExportsBelow count)
 setting_fits count s (makes _) h = tt
 setting_fits count s (declares _ _) h = tt
-setting_fits count s (exports t name x) h = by (is_same t s)
+setting_fits count s (exports t name x) h = by (same_symbol_id t s)
   where
     by : (test : Bool) → IfSome (only_if test (name, x)) (ExportsBelow count)
     by true = h.1
@@ -152,5 +152,5 @@ pub exports_inside : (count : ℕ) (changes : List Change) (s : SymbolId) → Al
 unfolding exports_after
 exports_inside count changes s all = entries_inside count [] (filter_map (setting_by s) changes) (λ k d lt. absurd (omega (arith, lt))) (settings_inside count s changes all)
 
-pub exported_inside : (count : ℕ) (changes : List Change) (s : SymbolId) (name : List ℕ) → All (Fits count) changes → IfSome (exported changes s name) (Below count)
+pub exported_inside : (count : ℕ) (changes : List Change) (s : SymbolId) (name : List ℕ) → All (Fits count) changes → IfSome (exported_symbol changes s name) (Below count)
 exported_inside count changes s name all = All-lookup (Below count) (λ key. bytes_eq name key) (exports_after changes s) (exports_inside count changes s all)

@@ -2,8 +2,8 @@
 use Rattle.std.proofs.Common.{refl, arith}
 use Rattle.std.specs.Prelude.{Ok}
 use Rattle.symbols_table.specs.declared.builder.table.Builder.{Builder}
-use Rattle.symbols_table.specs.Tables.{IsFilled}
-use Rattle.symbols_table.specs.Keeping.{KeepsTable}
+use Rattle.symbols_table.specs.inner.Tables.{IsFilled}
+use Rattle.symbols_table.specs.inner.Keeping.{KeepsTable}
 
 -- a call that changes nothing
 pub keeps_same : {A : Type 0} (x : A) (b : Builder) → IsFilled b → KeepsTable (Ok x) b b

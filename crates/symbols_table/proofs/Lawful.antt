@@ -9,10 +9,11 @@ use Rattle.symbols_syntax.specs.WellFormed.{IsWellFormed}
 use Rattle.symbols_table.specs.declared.decl.symbol.Symbol.{Symbol}
 use Rattle.symbols_table.specs.declared.builder.table.Builder.{Builder}
 use Rattle.symbols_table.specs.Changes.{Change, decls_after, mapped_after}
-use Rattle.symbols_table.specs.Symbols.{parent_in, decls_in, IsSymbolOf}
+use Rattle.symbols_table.specs.Symbols.{parent_in, decls_in}
+use Rattle.symbols_table.specs.inner.Symbols.{IsSymbolOf}
 use Rattle.symbols_table.specs.ModuleViews.{ids_view, star_view}
 use Rattle.symbols_table.specs.Laws.{IsLawfulSymbol, AreLawful, AreFewIn, AreNamesOf, AreDeclaredIn, IsStarOf}
-use Rattle.symbols_table.specs.Tables.{IsTableOf}
+use Rattle.symbols_table.specs.inner.Tables.{IsTableOf}
 use Rattle.symbols_table.specs.TreeEvents.{tree_events}
 use Rattle.symbols_table.specs.Analysis.{tree_changes}
 use Rattle.symbols_table.proofs.Inside.{children_inside, members_inside, exports_inside, mapped_inside}

@@ -10,9 +10,9 @@ use Rattle.symbols_syntax.specs.declared.ids.SymbolId.{SymbolId}
 use Rattle.symbols_table.specs.declared.decl.symbol.Symbol.{Symbol}
 use Rattle.symbols_table.specs.declared.builder.names.LocalName.{LocalName}
 use Rattle.symbols_table.specs.declared.builder.table.Builder.{Builder}
-use Rattle.symbols_table.specs.Changes.{Change, is_same, only_if, local_name, is_named, child_named, member_named, children_after, members_after}
-use Rattle.symbols_table.specs.Tables.{Fits, IsTableOf, name_in}
-use Rattle.symbols_table.specs.LocalNames.{is_entry_of}
+use Rattle.symbols_table.specs.Changes.{Change, same_symbol_id, only_if, local_name, is_named, child_named, member_named, children_after, members_after}
+use Rattle.symbols_table.specs.inner.Tables.{Fits, IsTableOf, name_in}
+use Rattle.symbols_table.specs.inner.LocalNames.{is_entry_of}
 use Rattle.symbols_table.proofs.Inside.{Below, All-head, All-tail, children_inside, members_inside}
 use Rattle.symbols_table.proofs.Named.{if_named}
 
@@ -32,10 +32,10 @@ and_none false x = refl
 
 -- a symbol without a name has no entry
 pub no_entry : (holder x : SymbolId) (q : LocalName) (o : Option SymbolId) → o ≡ option_or o (only_if (is_entry_of holder None q) x)
-no_entry holder x q o = rw (← and_none (is_same holder q.holder) x) (none_else o)
+no_entry holder x q o = rw (← and_none (same_symbol_id holder q.holder) x) (none_else o)
 
 -- the entry of a symbol is that of its local name
-pub own_entry : (changes : List Change) (holder x : SymbolId) (own : Option (List ℕ)) (q : LocalName) → own ≡ local_name changes x → only_if (is_entry_of holder own q) x ≡ if_named changes (cow_str_bytes q.name) (is_same holder q.holder) x
+pub own_entry : (changes : List Change) (holder x : SymbolId) (own : Option (List ℕ)) (q : LocalName) → own ≡ local_name changes x → only_if (is_entry_of holder own q) x ≡ if_named changes (cow_str_bytes q.name) (same_symbol_id holder q.holder) x
 own_entry changes holder x own q e = rw e refl
 
 -- what is found by name is a symbol of the table

@@ -18,14 +18,14 @@ use Rattle.symbols_nodes.specs.NodeViews.{expando_property, export_default_decl}
 use Rattle.symbols_table.specs.declared.builder.table.Builder.{Builder}
 use Rattle.symbols_table.specs.declared.builder.table.BuildFault.{BuildFault}
 use Rattle.symbols_table.specs.declared.builder.table.BuildFault.TheVariants.{OutOfMemory, TooManySymbols}
-use Rattle.symbols_table.specs.DeclViews.{Declaration, DepName, DeclKind, declaration_at, defined, file_ref}
+use Rattle.symbols_table.specs.DeclViews.{Declaration, DepName, DeclKind, declaration_at, definition_at, file_ref}
 use Rattle.symbols_table.specs.Changes.{makes, declares, maps, parents_after}
-use Rattle.symbols_table.specs.Events.{Event, Row, declare, alias, default, expando, binds, of_symbol, new_row, row_of, changes_of, symbol_at, rows_after}
-use Rattle.symbols_table.specs.Walks.{Walk, on, each, range_in, sym_in}
+use Rattle.symbols_table.specs.Events.{Event, Row, declare, declare_alias, default, expando, binds, row_of_symbol, new_row, row_of, changes_of, symbol_at, rows_after}
+use Rattle.symbols_table.specs.Walks.{Walk, walk_if_there, walk_of_each, range_in, sym_in}
 use Rattle.symbols_table.specs.MemberEvents.{member_at, member_nodes}
 use Rattle.symbols_table.specs.DeclarationEvents.{own_name, export_if}
-use Rattle.symbols_table.specs.ModuleEvents.{import_name, imported, import_events, import_at, binds_if, default_decl_events, expando_events, alias_kind, alias_events, import_equals_events, module_events}
-use Rattle.symbols_table.specs.Tables.{IsTableOf, ReadsOnly, ReadsAll}
+use Rattle.symbols_table.specs.ModuleEvents.{import_name, importing_events, import_events, import_at, binds_if, default_decl_events, expando_events, alias_kind, alias_events, import_equals_events, module_events}
+use Rattle.symbols_table.specs.inner.Tables.{IsTableOf, ReadsOnly, ReadsAll}
 use Rattle.symbols_table.proofs.Rows.{new_reads, symbol_at-push, rows_after-step, rows_after-nil, rows_after-append, length-rows_after}
 use Rattle.symbols_table.proofs.Walks.{none_read, one_read, err_all}
 
@@ -60,21 +60,21 @@ err_as r limit new rows events event row more fault e reads h full = rw e (err_a
 
 -- ---- what is there or isn't
 
-pub on_nothing : {A : Type 0} (found : Option A) (walk : A → Walk) (h start : ℕ) → found ≡ None → on found walk h start ≡ []
+pub on_nothing : {A : Type 0} (found : Option A) (walk : A → Walk) (h start : ℕ) → found ≡ None → walk_if_there found walk h start ≡ []
 on_nothing found walk h start e = rw e refl
 
-pub on_thing : {A : Type 0} (found : Option A) (x : A) (walk : A → Walk) (h start : ℕ) → found ≡ Some x → on found walk h start ≡ walk x h start
+pub on_thing : {A : Type 0} (found : Option A) (x : A) (walk : A → Walk) (h start : ℕ) → found ≡ Some x → walk_if_there found walk h start ≡ walk x h start
 on_thing found x walk h start e = rw e refl
 
-pub on_same : {A : Type 0} (found : Option A) (walk other : A → Walk) (h start : ℕ) → ((x : A) → walk x h start ≡ other x h start) → on found walk h start ≡ on found other h start
+pub on_same : {A : Type 0} (found : Option A) (walk other : A → Walk) (h start : ℕ) → ((x : A) → walk x h start ≡ other x h start) → walk_if_there found walk h start ≡ walk_if_there found other h start
 on_same None walk other h start same = refl
 on_same (Some x) walk other h start same = same x
 
-pub on_each_nothing : {A : Type 0} (found : Option A) (walk : A → Walk) (h start : ℕ) → ((x : A) → walk x h start ≡ []) → on found walk h start ≡ []
+pub on_each_nothing : {A : Type 0} (found : Option A) (walk : A → Walk) (h start : ℕ) → ((x : A) → walk x h start ≡ []) → walk_if_there found walk h start ≡ []
 on_each_nothing None walk h start same = refl
 on_each_nothing (Some x) walk h start same = same x
 
-pub on_both : {A C : Type 0} (found : Option A) (part : A → Option C) (walk : C → Walk) (h start : ℕ) → on found (λ (x : A). on (part x) walk) h start ≡ on (option_and_then part found) walk h start
+pub on_both : {A C : Type 0} (found : Option A) (part : A → Option C) (walk : C → Walk) (h start : ℕ) → walk_if_there found (λ (x : A). walk_if_there (part x) walk) h start ≡ walk_if_there (option_and_then part found) walk h start
 on_both None part walk h start = refl
 on_both (Some x) part walk h start = refl
 
@@ -84,22 +84,22 @@ stands node range e = rw e refl
 
 -- ---- imports
 
-pub import_unnamed : (src : List ℕ) (node : TreeNode) (h start : ℕ) → sym_in local_of node ≡ None → on (kind_of node) (import_events src node) h start ≡ []
-import_unnamed src node h start e = on_each_nothing (kind_of node) (import_events src node) h start (λ kind. on_nothing (sym_in local_of node) (λ (id : Id). on (import_name id kind) (imported src node id)) h start e)
+pub import_unnamed : (src : List ℕ) (node : TreeNode) (h start : ℕ) → sym_in local_of node ≡ None → walk_if_there (kind_of node) (import_events src node) h start ≡ []
+import_unnamed src node h start e = on_each_nothing (kind_of node) (import_events src node) h start (λ kind. on_nothing (sym_in local_of node) (λ (id : Id). walk_if_there (import_name id kind) (importing_events src node id)) h start e)
 
-pub import_named : (src : List ℕ) (node : TreeNode) (id : Id) (h start : ℕ) → sym_in local_of node ≡ Some id → on (kind_of node) (import_events src node) h start ≡ on (option_and_then (import_name id) (kind_of node)) (imported src node id) h start
+pub import_named : (src : List ℕ) (node : TreeNode) (id : Id) (h start : ℕ) → sym_in local_of node ≡ Some id → walk_if_there (kind_of node) (import_events src node) h start ≡ walk_if_there (option_and_then (import_name id) (kind_of node)) (importing_events src node id) h start
 import_named src node id h start e =
-    on_same (kind_of node) (import_events src node) (λ (kind : Kind). on (import_name id kind) (imported src node id)) h start (λ kind. on_thing (sym_in local_of node) id (λ (x : Id). on (import_name x kind) (imported src node x)) h start e)
-    ∙ on_both (kind_of node) (import_name id) (imported src node id) h start
+    on_same (kind_of node) (import_events src node) (λ (kind : Kind). walk_if_there (import_name id kind) (importing_events src node id)) h start (λ kind. on_thing (sym_in local_of node) id (λ (x : Id). walk_if_there (import_name x kind) (importing_events src node x)) h start e)
+    ∙ on_both (kind_of node) (import_name id) (importing_events src node id) h start
 
-pub import_found : (src : List ℕ) (tree : Tree) (n : ℕ) (node : TreeNode) (h start : ℕ) → node_in tree (Some n) ≡ Some node → import_at src tree n h start ≡ on (kind_of node) (import_events src node) h start
-import_found src tree n node h start e = on_thing (node_in tree (Some n)) node (λ (x : TreeNode). on (kind_of x) (import_events src x)) h start e
+pub import_found : (src : List ℕ) (tree : Tree) (n : ℕ) (node : TreeNode) (h start : ℕ) → node_in tree (Some n) ≡ Some node → import_at src tree n h start ≡ walk_if_there (kind_of node) (import_events src node) h start
+import_found src tree n node h start e = on_thing (node_in tree (Some n)) node (λ (x : TreeNode). walk_if_there (kind_of x) (import_events src x)) h start e
 
 pub import_one : (src : List ℕ) (tree : Tree) (n : ℕ) (node : TreeNode) (id : Id) (name : DepName) (kind : DeclKind) (range : SourceRange) (decl : Declaration) (h start : ℕ) → node_in tree (Some n) ≡ Some node → sym_in local_of node ≡ Some id
     → option_and_then (import_name id) (kind_of node) ≡ Some name → range_of node ≡ Some range → kind ≡ file_ref name src → decl ≡ declaration_at kind range → import_at src tree n h start ≡ declare h (id_view id) decl ∷ []
 import_one src tree n node id name kind range decl h start is_node is_named takes place is_kind is_decl =
     let e : decl ≡ declaration_at (file_ref name src) (range_in node) = is_decl ∙ rw (is_kind, stands node range place) refl in
-    import_found src tree n node h start is_node ∙ import_named src node id h start is_named ∙ on_thing (option_and_then (import_name id) (kind_of node)) name (imported src node id) h start takes
+    import_found src tree n node h start is_node ∙ import_named src node id h start is_named ∙ on_thing (option_and_then (import_name id) (kind_of node)) name (importing_events src node id) h start takes
     ∙ ap (λ (d : Declaration). declare h (id_view id) d ∷ []) (sym e)
 
 -- what was read of the kind
@@ -131,10 +131,10 @@ pub expando_sym : (node inner object : TreeNode) → inner ≡ node → Some obj
 expando_sym node inner object same is = object_sym (expando_in node) object (subst (λ (n : TreeNode). Some object ≡ option_map (λ (e : Expando). e.object) (expando_in n)) same is)
 
 pub expando_one : (node inner : TreeNode) (id : Id) (range : SourceRange) (decl : Declaration) (h start : ℕ) → option_and_then (λ (e : Expando). option_and_then sym_of (kind_of e.object)) (expando_in node) ≡ Some id
-    → inner ≡ node → range_of node ≡ Some range → decl ≡ defined (expando_property inner) range → expando_events node h start ≡ expando (id_view id) decl ∷ []
+    → inner ≡ node → range_of node ≡ Some range → decl ≡ definition_at (expando_property inner) range → expando_events node h start ≡ expando (id_view id) decl ∷ []
 expando_one node inner id range decl h start is_named same place is_decl =
-    let e : decl ≡ defined (expando_property node) (range_in node) = is_decl ∙ rw (same, stands node range place) refl in
-    on_thing (option_and_then (λ (x : Expando). option_and_then sym_of (kind_of x.object)) (expando_in node)) id (λ (i : Id) (holder from : ℕ). expando (id_view i) (defined (expando_property node) (range_in node)) ∷ []) h start is_named
+    let e : decl ≡ definition_at (expando_property node) (range_in node) = is_decl ∙ rw (same, stands node range place) refl in
+    on_thing (option_and_then (λ (x : Expando). option_and_then sym_of (kind_of x.object)) (expando_in node)) id (λ (i : Id) (holder from : ℕ). expando (id_view i) (definition_at (expando_property node) (range_in node)) ∷ []) h start is_named
     ∙ ap (λ (d : Declaration). expando (id_view id) d ∷ []) (sym e)
 
 -- ---- default exports
@@ -155,33 +155,33 @@ on_ok (Err e) f p = tt
 pub bound : (b : Builder) (rows : List Row) (found : Option Id) (id : Id) (s : ℕ) (symbol : SymbolId) → found ≡ Some id → symbol_at rows s ≡ Some symbol → IsTableOf b (changes_of rows ++ maps (id_view id) symbol ∷ [])
     → IsTableOf b (changes_of (rows_after rows (binds_if found s)))
 bound b rows found id s symbol is_named at is =
-    let row = of_symbol symbol (maps (id_view id) symbol ∷ []) in
+    let row = row_of_symbol symbol (maps (id_view id) symbol ∷ []) in
     let reads : row_of (changes_of rows) (symbol_at rows) (binds (id_view id) s) ≡ row = rw at refl in
     rw is_named (event_read b rows (binds (id_view id) s) row reads is)
 
-pub default_decl_as : (node decl : TreeNode) (range : SourceRange) (d : Declaration) (h start : ℕ) → range_of node ≡ Some range → d ≡ defined (export_default_decl node) range
-    → default_decl_events node decl h start ≡ default h d ∷ (binds_if (own_name decl) start ++ each (member_at decl.tree) (member_nodes decl) start (start + 1 + length (binds_if (own_name decl) start)))
+pub default_decl_as : (node decl : TreeNode) (range : SourceRange) (d : Declaration) (h start : ℕ) → range_of node ≡ Some range → d ≡ definition_at (export_default_decl node) range
+    → default_decl_events node decl h start ≡ default h d ∷ (binds_if (own_name decl) start ++ walk_of_each (member_at decl.tree) (member_nodes decl) start (start + 1 + length (binds_if (own_name decl) start)))
 default_decl_as node decl range d h start place is_decl =
-    let e : d ≡ defined (export_default_decl node) (range_in node) = is_decl ∙ rw (stands node range place) refl in
+    let e : d ≡ definition_at (export_default_decl node) (range_in node) = is_decl ∙ rw (stands node range place) refl in
     let names = binds_if (own_name decl) start in
-    ap (λ (x : Declaration). default h x ∷ (names ++ each (member_at decl.tree) (member_nodes decl) start (start + 1 + length names))) (sym e)
+    ap (λ (x : Declaration). default h x ∷ (names ++ walk_of_each (member_at decl.tree) (member_nodes decl) start (start + 1 + length names))) (sym e)
 
-pub default_decl_rows : (rows : List Row) (node decl : TreeNode) (range : SourceRange) (d : Declaration) (row : Row) (h : ℕ) → range_of node ≡ Some range → d ≡ defined (export_default_decl node) range → row_of (changes_of rows) (symbol_at rows) (default h d) ≡ row
+pub default_decl_rows : (rows : List Row) (node decl : TreeNode) (range : SourceRange) (d : Declaration) (row : Row) (h : ℕ) → range_of node ≡ Some range → d ≡ definition_at (export_default_decl node) range → row_of (changes_of rows) (symbol_at rows) (default h d) ≡ row
     → rows_after rows (default_decl_events node decl h (length rows))
-    ≡ rows_after (rows_after (rows ++ row ∷ []) (binds_if (own_name decl) (length rows))) (each (member_at decl.tree) (member_nodes decl) (length rows) (length (rows_after (rows ++ row ∷ []) (binds_if (own_name decl) (length rows)))))
+    ≡ rows_after (rows_after (rows ++ row ∷ []) (binds_if (own_name decl) (length rows))) (walk_of_each (member_at decl.tree) (member_nodes decl) (length rows) (length (rows_after (rows ++ row ∷ []) (binds_if (own_name decl) (length rows)))))
 default_decl_rows rows node decl range d row h place is_decl reads =
     ap (λ (events : List Event). rows_after rows events) (default_decl_as node decl range d h (length rows) place is_decl)
-    ∙ rows_of_three rows (default h d) row (binds_if (own_name decl) (length rows)) (each (member_at decl.tree) (member_nodes decl)) (length rows) reads
+    ∙ rows_of_three rows (default h d) row (binds_if (own_name decl) (length rows)) (walk_of_each (member_at decl.tree) (member_nodes decl)) (length rows) reads
 
 -- ---- `import a = ..`
 
 pub alias_one : (node : TreeNode) (test : Bool) (entity : Option ℕ) (external : Option (String Global)) (id : Id) (kind : DeclKind) (range : SourceRange) (decl : Declaration) (h start : ℕ) → sym_in id_of node ≡ Some id → alias_kind node entity external ≡ Some kind
-    → range_of node ≡ Some range → decl ≡ declaration_at kind range → import_equals_events node test entity external h start ≡ alias h (id_view id) decl ∷ export_if test h (string_bytes id.name) start
+    → range_of node ≡ Some range → decl ≡ declaration_at kind range → import_equals_events node test entity external h start ≡ declare_alias h (id_view id) decl ∷ export_if test h (string_bytes id.name) start
 alias_one node test entity external id kind range decl h start is_named is_kind place is_decl =
     let e : decl ≡ declaration_at kind (range_in node) = is_decl ∙ rw (stands node range place) refl in
-    on_thing (sym_in id_of node) id (λ (x : Id). on (alias_kind node entity external) (alias_events node test x)) h start is_named
+    on_thing (sym_in id_of node) id (λ (x : Id). walk_if_there (alias_kind node entity external) (alias_events node test x)) h start is_named
     ∙ on_thing (alias_kind node entity external) kind (alias_events node test id) h start is_kind
-    ∙ ap (λ (d : Declaration). alias h (id_view id) d ∷ export_if test h (string_bytes id.name) start) (sym e)
+    ∙ ap (λ (d : Declaration). declare_alias h (id_view id) d ∷ export_if test h (string_bytes id.name) start) (sym e)
 
 -- a call that wants only memory
 pub only_memory : {A : Type 0} (r : Result A BuildFault) (limit : ℕ) (new : Builder) (rows : List Row) (events : List Event) (event : Event) (row : Row) → events ≡ event ∷ [] → row_of (changes_of rows) (symbol_at rows) event ≡ row

@@ -11,9 +11,9 @@ use Rattle.symbols_syntax.specs.declared.ids.SymbolId.{SymbolId}
 use Rattle.symbols_table.specs.declared.decl.symbol.Symbol.{Symbol}
 use Rattle.symbols_table.specs.declared.info.qualified_name.Named.{Named}
 use Rattle.symbols_table.specs.Laws.{IsParentOf, AreLawful}
-use Rattle.symbols_table.specs.NamePaths.{text_told, IsNamed, IsNamedPart}
-use Rattle.symbols_table.specs.SymbolViews.{SymbolView, symbol_view, symbol_name, numbered}
-use Rattle.symbols_table.specs.QualifiedNames.{SymbolAt, name_over, path_name, path_within, path_to, if_any, qualified_name}
+use Rattle.symbols_table.specs.inner.NamePaths.{text_told, IsNamed, IsNamedPart}
+use Rattle.symbols_table.specs.SymbolViews.{SymbolView, symbol_view, symbol_name, symbol_numbered}
+use Rattle.symbols_table.specs.QualifiedNames.{SymbolAt, name_over, path_name, path_within, path_to, unless_empty, qualified_name}
 
 -- a path ends below the module
 pub path_ends : (symbols : SymbolAt) (n : ℕ) (s : SymbolId) (symbol : SymbolView) → symbols s ≡ Some symbol → symbol.parent ≡ None → path_within symbols (suc n) s ≡ []
@@ -53,7 +53,7 @@ one_taken text first pieces rest piece whole is first_is so =
 -- what was read of the path to a symbol, and what is left of it: the path to this number, of so many symbols at most
 abbrev pub IsReadTo : List Symbol → SymbolId → SymbolId → Option Named → Type 0
 IsReadTo symbols asked number inner =
-    (n : ℕ) × (lower : List SymbolView) × (number.0 < length symbols) × (number.0 < n) × (path_to (numbered symbols) asked ≡ path_within (numbered symbols) n number ++ lower) × IsNamed inner lower
+    (n : ℕ) × (lower : List SymbolView) × (number.0 < length symbols) × (number.0 < n) × (path_to (symbol_numbered symbols) asked ≡ path_within (symbol_numbered symbols) n number ++ lower) × IsNamed inner lower
 
 -- the symbol that stands at a number
 stands : (symbols : List Symbol) (number : SymbolId) (symbol : Symbol) → number.0 < length symbols → symbol ≡ get_or symbols number.0 symbol → slice_get symbols number.0 ≡ Some symbol
@@ -70,10 +70,10 @@ falls symbols module_id number parent d lawful below has =
 
 -- the rest of the path is one symbol shorter
 shorter : (symbols : List Symbol) (asked number parent : SymbolId) (symbol : Symbol) (n : ℕ) (lower : List SymbolView) → slice_get symbols number.0 ≡ Some symbol → symbol.parent_id ≡ Some parent
-    → path_to (numbered symbols) asked ≡ path_within (numbered symbols) (suc n) number ++ lower → path_to (numbered symbols) asked ≡ path_within (numbered symbols) n parent ++ symbol_view symbol ∷ lower
+    → path_to (symbol_numbered symbols) asked ≡ path_within (symbol_numbered symbols) (suc n) number ++ lower → path_to (symbol_numbered symbols) asked ≡ path_within (symbol_numbered symbols) n parent ++ symbol_view symbol ∷ lower
 shorter symbols asked number parent symbol n lower at has path =
-    let up = path_goes_on (numbered symbols) n number parent (symbol_view symbol) (ap (option_map symbol_view) at) has in
-    path ∙ ap (λ (p : List SymbolView). p ++ lower) up ∙ append_assoc (path_within (numbered symbols) n parent) (symbol_view symbol ∷ []) lower
+    let up = path_goes_on (symbol_numbered symbols) n number parent (symbol_view symbol) (ap (option_map symbol_view) at) has in
+    path ∙ ap (λ (p : List SymbolView). p ++ lower) up ∙ append_assoc (path_within (symbol_numbered symbols) n parent) (symbol_view symbol ∷ []) lower
 
 -- one symbol more was read
 pub one_more : (symbols : List Symbol) (module_id : ModuleId) (asked number parent : SymbolId) (symbol d : Symbol) (inner named : Option Named) (name : List ℕ) → AreLawful module_id symbols → symbol ≡ get_or symbols number.0 symbol
@@ -94,36 +94,64 @@ one_more symbols module_id asked number parent symbol d inner named name lawful 
 
 -- a symbol on the path has no name
 pub unnamed : (symbols : List Symbol) (asked number parent : SymbolId) (symbol d : Symbol) (inner : Option Named) → symbol ≡ get_or symbols number.0 symbol → (get_or symbols number.0 d).parent_id ≡ Some parent → symbol_name (symbol_view symbol) ≡ None
-    → IsReadTo symbols asked number inner → None ≡ qualified_name (numbered symbols) asked
+    → IsReadTo symbols asked number inner → None ≡ qualified_name (symbol_numbered symbols) asked
 unnamed symbols asked number parent symbol d inner read has none (zero, lower, below, few, path, told) = absurd (omega (arith, few))
 unnamed symbols asked number parent symbol d inner read has none (suc n, lower, below, few, path, told) =
     let at = stands symbols number symbol below read in
     let whole = shorter symbols asked number parent symbol n lower at (has_parent symbols number parent symbol d at has) path in
-    sym (ap (option_and_then if_any) (ap path_name whole ∙ no_name_above (path_within (numbered symbols) n parent) (symbol_view symbol) lower (no_name_first (symbol_view symbol) lower none)))
+    sym (ap (option_and_then unless_empty) (ap path_name whole ∙ no_name_above (path_within (symbol_numbered symbols) n parent) (symbol_view symbol) lower (no_name_first (symbol_view symbol) lower none)))
 
 -- the whole path was read
-all_read : (symbols : List Symbol) (asked number : SymbolId) (d : Symbol) (inner : Option Named) → (get_or symbols number.0 d).parent_id ≡ None → (is : IsReadTo symbols asked number inner) → path_to (numbered symbols) asked ≡ is.1
+all_read : (symbols : List Symbol) (asked number : SymbolId) (d : Symbol) (inner : Option Named) → (get_or symbols number.0 d).parent_id ≡ None → (is : IsReadTo symbols asked number inner) → path_to (symbol_numbered symbols) asked ≡ is.1
 all_read symbols asked number d inner none (zero, lower, below, few, path, told) = absurd (omega (arith, few))
 all_read symbols asked number d inner none (suc n, lower, below, few, path, told) =
     let at = ap (option_map symbol_view) (slice_get-get_or symbols number.0 d below) in
-    path ∙ ap (λ (p : List SymbolView). p ++ lower) (path_ends (numbered symbols) n number (symbol_view (get_or symbols number.0 d)) at none)
+    path ∙ ap (λ (p : List SymbolView). p ++ lower) (path_ends (symbol_numbered symbols) n number (symbol_view (get_or symbols number.0 d)) at none)
 
-any_text : (text : List ℕ) → 0 < length text → if_any text ≡ Some text
+any_text : (text : List ℕ) → 0 < length text → unless_empty text ≡ Some text
 any_text [] some = absurd (omega (arith, some))
 any_text (b ∷ text) some = refl
 
 pub whole_name : (symbols : List Symbol) (asked number : SymbolId) (d : Symbol) (inner : Option Named) (named : Named) → (get_or symbols number.0 d).parent_id ≡ None → IsReadTo symbols asked number inner → inner ≡ Some named
-    → Some (text_told named.pieces.items) ≡ qualified_name (numbered symbols) asked
+    → Some (text_told named.pieces.items) ≡ qualified_name (symbol_numbered symbols) asked
 whole_name symbols asked number d inner named none is has =
     let part : IsNamedPart named is.1 = subst (λ (o : Option Named). IsNamed o is.1) has is.5 in
-    sym (ap (option_and_then if_any) (ap path_name (all_read symbols asked number d inner none is) ∙ part.name) ∙ any_text (text_told named.pieces.items) part.some)
+    sym (ap (option_and_then unless_empty) (ap path_name (all_read symbols asked number d inner none is) ∙ part.name) ∙ any_text (text_told named.pieces.items) part.some)
 
-pub no_path : (symbols : List Symbol) (asked number : SymbolId) (d : Symbol) (inner : Option Named) → (get_or symbols number.0 d).parent_id ≡ None → IsReadTo symbols asked number inner → inner ≡ None → None ≡ qualified_name (numbered symbols) asked
+pub no_path : (symbols : List Symbol) (asked number : SymbolId) (d : Symbol) (inner : Option Named) → (get_or symbols number.0 d).parent_id ≡ None → IsReadTo symbols asked number inner → inner ≡ None → None ≡ qualified_name (symbol_numbered symbols) asked
 no_path symbols asked number d inner none is has = by (subst (λ (o : Option Named). IsNamed o is.1) has is.5)
   where
-    whole : qualified_name (numbered symbols) asked ≡ option_and_then if_any (path_name is.1)
-    whole = ap (λ path. option_and_then if_any (path_name path)) (all_read symbols asked number d inner none is)
+    whole : qualified_name (symbol_numbered symbols) asked ≡ option_and_then unless_empty (path_name is.1)
+    whole = ap (λ path. option_and_then unless_empty (path_name path)) (all_read symbols asked number d inner none is)
 
-    by : IsNamed None is.1 → None ≡ qualified_name (numbered symbols) asked
-    by (inl empty) = sym (whole ∙ ap (λ path. option_and_then if_any (path_name path)) empty)
-    by (inr empty) = sym (whole ∙ ap (option_and_then if_any) empty)
+    by : IsNamed None is.1 → None ≡ qualified_name (symbol_numbered symbols) asked
+    by (inl empty) = sym (whole ∙ ap (λ path. option_and_then unless_empty (path_name path)) empty)
+    by (inr empty) = sym (whole ∙ ap (option_and_then unless_empty) empty)
+
+-- ---- symbols right below the module
+
+-- the module's path is empty
+pub module_name : (symbols : List Symbol) (s : SymbolId) (symbol : Symbol) → s.0 < length symbols → symbol ≡ get_or symbols s.0 symbol → symbol.parent_id ≡ None → None ≡ qualified_name (symbol_numbered symbols) s
+module_name symbols s symbol below read none =
+    let at = ap (option_map symbol_view) (stands symbols s symbol below read) in
+    sym (ap (λ (p : List SymbolView). option_and_then unless_empty (path_name p)) (path_ends (symbol_numbered symbols) s.0 s (symbol_view symbol) at none))
+
+none_at_zero : (n : ℕ) (parent : Option SymbolId) → n ≡ 0 → IsParentOf n parent → parent ≡ None
+none_at_zero n None least is = refl
+none_at_zero n (Some parent) least is = absurd (omega (arith, least, is))
+
+no_path_above : (symbols : SymbolAt) (n : ℕ) (s : SymbolId) (symbol : SymbolView) → 0 < n → symbols s ≡ Some symbol → symbol.parent ≡ None → path_within symbols n s ≡ []
+no_path_above symbols zero s symbol some at none = absurd (omega (arith, some))
+no_path_above symbols (suc n) s symbol some at none = path_ends symbols n s symbol at none
+
+-- a symbol whose parent is symbol 0 stands alone on its path
+pub lone_name : (symbols : List Symbol) (module_id : ModuleId) (s parent : SymbolId) (symbol : Symbol) → AreLawful module_id symbols → s.0 < length symbols → symbol ≡ get_or symbols s.0 symbol → symbol.parent_id ≡ Some parent → parent.0 ≡ 0
+    → option_and_then unless_empty (symbol_name (symbol_view symbol)) ≡ qualified_name (symbol_numbered symbols) s
+lone_name symbols module_id s parent symbol lawful below read has least =
+    let at = ap (option_map symbol_view) (stands symbols s symbol below read) in
+    let less = falls symbols module_id s parent symbol lawful below (ap (λ (x : Symbol). x.parent_id) (sym read) ∙ has) in
+    let first : Symbol = get_or symbols parent.0 symbol in
+    let first_at : slice_get symbols parent.0 ≡ Some first = slice_get-get_or symbols parent.0 symbol (omega (arith, least, below)) in
+    let none = none_at_zero parent.0 first.parent_id least (lawful parent first first_at).parent in
+    sym (ap (λ (p : List SymbolView). option_and_then unless_empty (path_name p)) (path_goes_on (symbol_numbered symbols) s.0 s parent (symbol_view symbol) at has
+    ∙ ap (λ (p : List SymbolView). p ++ symbol_view symbol ∷ []) (no_path_above (symbol_numbered symbols) s.0 parent (symbol_view first) (omega (arith, less)) (ap (option_map symbol_view) first_at) none)))

@@ -9,8 +9,8 @@ use Rattle.std.proofs.lemmas.Bool.Decides.{nat_tests}
 use Rattle.std.proofs.lemmas.List.Folds.{find-append}
 use Rattle.symbols_syntax.specs.declared.ids.SymbolId.{SymbolId}
 use Rattle.symbols_table.specs.DeclViews.{Declaration, decl_name, is_overload_after, last_decl}
-use Rattle.symbols_table.specs.Changes.{Change, makes, declares, has_child, has_member, is_same, only_if, decl_by, child_by, member_by, with_first, decls_after, children_after, members_after, local_name, is_named, child_named, member_named}
-use Rattle.symbols_table.specs.Tables.{Fits}
+use Rattle.symbols_table.specs.Changes.{Change, makes, declares, has_child, has_member, same_symbol_id, only_if, decl_by, child_by, member_by, with_first, decls_after, children_after, members_after, local_name, is_named, child_named, member_named}
+use Rattle.symbols_table.specs.inner.Tables.{Fits}
 use Rattle.symbols_table.proofs.OneMore.{only_same, only_other, decls_after-out, decls_after-in, children_after-out, children_after-in, members_after-out, members_after-in}
 use Rattle.symbols_table.proofs.Inside.{children_inside, members_inside}
 
@@ -23,7 +23,7 @@ find_same p q (x ∷ xs) agree =
     rw (here, rest) refl
 
 -- a test that holds of what is in the list finds something
-found_in : (p : SymbolId → Bool) (xs : List SymbolId) (x : SymbolId) → p x ≡ true → list_any (is_same x) xs ≡ true → option_or (find p xs) (Some x) ≡ find p xs
+found_in : (p : SymbolId → Bool) (xs : List SymbolId) (x : SymbolId) → p x ≡ true → list_any (same_symbol_id x) xs ≡ true → option_or (find p xs) (Some x) ≡ find p xs
 found_in p [] x holds is = absurd (no is)
   where
     no : false ≡ true → ⊥
@@ -33,7 +33,7 @@ found_in p (y ∷ ys) x holds is = by (λ e. found_in p ys x holds e) (p y) refl
     no : true ≡ false → ⊥
     no g = cc
 
-    by : (list_any (is_same x) ys ≡ true → option_or (find p ys) (Some x) ≡ find p ys) → (b : Bool) → p y ≡ b → (same : Bool) → (x.0 == y.0) ≡ same → option_or (find p (y ∷ ys)) (Some x) ≡ find p (y ∷ ys)
+    by : (list_any (same_symbol_id x) ys ≡ true → option_or (find p ys) (Some x) ≡ find p ys) → (b : Bool) → p y ≡ b → (same : Bool) → (x.0 == y.0) ≡ same → option_or (find p (y ∷ ys)) (Some x) ≡ find p (y ∷ ys)
     by rest true e same f = rw e refl
     by rest false e true f =
         let equal : x.0 ≡ y.0 = grind (arith, nat_tests) in
@@ -44,9 +44,9 @@ found_in p (y ∷ ys) x holds is = by (λ e. found_in p ys x holds e) (p y) refl
 
 -- the first of a list to which x is added
 pub find_with_first : (p : SymbolId → Bool) (xs : List SymbolId) (x : SymbolId) → find p (with_first xs x) ≡ option_or (find p xs) (only_if (p x) x)
-find_with_first p xs x = by (list_any (is_same x) xs) refl (p x) refl
+find_with_first p xs x = by (list_any (same_symbol_id x) xs) refl (p x) refl
   where
-    by : (there : Bool) → list_any (is_same x) xs ≡ there → (holds : Bool) → p x ≡ holds → find p (with_first xs x) ≡ option_or (find p xs) (only_if (p x) x)
+    by : (there : Bool) → list_any (same_symbol_id x) xs ≡ there → (holds : Bool) → p x ≡ holds → find p (with_first xs x) ≡ option_or (find p xs) (only_if (p x) x)
     by true e true f = rw (e, f) (sym (found_in p xs x f e))
     by true e false f = rw (e, f) (none_else (find p xs))
       where
@@ -108,13 +108,13 @@ none_else None = refl
 none_else (Some y) = refl
 
 -- a child more is found by its name where no other was found before
-pub child_added : (changes : List Change) (t x h : SymbolId) (name : List ℕ) → child_named (changes ++ has_child t x ∷ []) h name ≡ option_or (child_named changes h name) (if_named changes name (is_same t h) x)
+pub child_added : (changes : List Change) (t x h : SymbolId) (name : List ℕ) → child_named (changes ++ has_child t x ∷ []) h name ≡ option_or (child_named changes h name) (if_named changes name (same_symbol_id t h) x)
 child_added changes t x h name = by (cases_eq h.0 t.0)
   where
     names : (xs : List SymbolId) → find (is_named (changes ++ has_child t x ∷ []) name) xs ≡ find (is_named changes name) xs
     names xs = kept_named changes (changes ++ has_child t x ∷ []) name xs (λ k d lt. name_out changes (has_child t x) (get_or xs k d) refl)
 
-    by : (h.0 ≡ t.0) ⊎ (h.0 ≢ t.0) → child_named (changes ++ has_child t x ∷ []) h name ≡ option_or (child_named changes h name) (if_named changes name (is_same t h) x)
+    by : (h.0 ≡ t.0) ⊎ (h.0 ≢ t.0) → child_named (changes ++ has_child t x ∷ []) h name ≡ option_or (child_named changes h name) (if_named changes name (same_symbol_id t h) x)
     by (inl same) =
         let test : (t.0 == h.0) ≡ true = grind (arith, nat_tests) in
         let P : ℕ → Type 0 = λ n. children_after (changes ++ has_child t x ∷ []) (record { 0 = n }) ≡ with_first (children_after changes (record { 0 = n })) x in
@@ -125,13 +125,13 @@ child_added changes t x h name = by (cases_eq h.0 t.0)
         rw (test, children_after-out changes (has_child t x) h (only_other t h x other)) (names (children_after changes h) ∙ none_else (find (is_named changes name) (children_after changes h)))
 
 -- and so is a member more
-pub member_added : (changes : List Change) (t x h : SymbolId) (name : List ℕ) → member_named (changes ++ has_member t x ∷ []) h name ≡ option_or (member_named changes h name) (if_named changes name (is_same t h) x)
+pub member_added : (changes : List Change) (t x h : SymbolId) (name : List ℕ) → member_named (changes ++ has_member t x ∷ []) h name ≡ option_or (member_named changes h name) (if_named changes name (same_symbol_id t h) x)
 member_added changes t x h name = by (cases_eq h.0 t.0)
   where
     names : (xs : List SymbolId) → find (is_named (changes ++ has_member t x ∷ []) name) xs ≡ find (is_named changes name) xs
     names xs = kept_named changes (changes ++ has_member t x ∷ []) name xs (λ k d lt. name_out changes (has_member t x) (get_or xs k d) refl)
 
-    by : (h.0 ≡ t.0) ⊎ (h.0 ≢ t.0) → member_named (changes ++ has_member t x ∷ []) h name ≡ option_or (member_named changes h name) (if_named changes name (is_same t h) x)
+    by : (h.0 ≡ t.0) ⊎ (h.0 ≢ t.0) → member_named (changes ++ has_member t x ∷ []) h name ≡ option_or (member_named changes h name) (if_named changes name (same_symbol_id t h) x)
     by (inl same) =
         let test : (t.0 == h.0) ≡ true = grind (arith, nat_tests) in
         let P : ℕ → Type 0 = λ n. members_after (changes ++ has_member t x ∷ []) (record { 0 = n }) ≡ with_first (members_after changes (record { 0 = n })) x in

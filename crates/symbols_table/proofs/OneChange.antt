@@ -19,12 +19,12 @@ use Rattle.symbols_table.specs.declared.decl.symbol.Symbol.{Symbol}
 use Rattle.symbols_table.specs.declared.builder.names.LocalName.{LocalName}
 use Rattle.symbols_table.specs.declared.builder.table.Builder.{Builder}
 use Rattle.symbols_table.specs.DeclViews.{Declaration, decl_view, exports_view, with_decl, is_overload_after, last_decl}
-use Rattle.symbols_table.specs.Changes.{Change, Star, makes, declares, exports, has_child, has_member, maps, passes_on, is_same, star_by, stars_after, child_named, member_named, parent_by, decl_by, setting_by, child_by, member_by, mapping_by, parents_after, decls_after, exports_after, children_after, members_after, mapped_after, with_first}
+use Rattle.symbols_table.specs.Changes.{Change, Star, makes, declares, exports, has_child, has_member, maps, passes_on, same_symbol_id, star_by, stars_after, child_named, member_named, parent_by, decl_by, setting_by, child_by, member_by, mapping_by, parents_after, decls_after, exports_after, children_after, members_after, mapped_after, with_first}
 use Rattle.symbols_table.specs.declared.info.re_exports.StarStatement.{StarStatement}
 use Rattle.symbols_table.specs.ModuleViews.{ids_view, star_view}
-use Rattle.symbols_table.specs.Symbols.{IsSymbolOf}
+use Rattle.symbols_table.specs.inner.Symbols.{IsSymbolOf}
 use Rattle.symbols_table.specs.Laws.{IsParentOf}
-use Rattle.symbols_table.specs.Tables.{Fits, IsBare, IsTableOf, is_same_name, symbol_named}
+use Rattle.symbols_table.specs.inner.Tables.{Fits, IsBare, IsTableOf, is_same_name, symbol_named}
 use Rattle.symbols_table.proofs.Named.{IsQuiet, quiet, quiet_decl, child_quiet, member_quiet, kept_named, name_out, if_named, child_added, member_added, child_made, member_made}
 use Rattle.symbols_table.proofs.OneMore.{only_same, only_other, parents_after-out, parents_after-in, decls_after-out, decls_after-in, exports_after-out, exports_after-in, children_after-out, children_after-in, members_after-out, members_after-in, stars_after-out, stars_after-in, mapped_after-out, mapped_after-maps}
 
@@ -163,10 +163,10 @@ module _ {b after : Builder} {t : SymbolId} {old new : Symbol} (w : Writes b aft
 
   pub only_child : (x : SymbolId) → x.0 < length b.symbols.items → new.child_ids.keys ≡ with_first old.child_ids.keys x
       → new.decls ≡ old.decls → new.exports ≡ old.exports → new.members ≡ old.members → after.member_names ≡ b.member_names
-      → ((q : LocalName) → symbol_named after.child_names q ≡ option_or (symbol_named b.child_names q) (if_named changes (cow_str_bytes q.name) (is_same t q.holder) x))
+      → ((q : LocalName) → symbol_named after.child_names q ≡ option_or (symbol_named b.child_names q) (if_named changes (cow_str_bytes q.name) (same_symbol_id t q.holder) x))
       → IsTableOf after (changes ++ has_child t x ∷ [])
   only_child x lt e d c m on named = written (has_child t x) refl (λ id. refl) (λ s other. record { decl = refl; setting = refl; child = only_other t s x other; member = refl }) (w.below, lt) refl
-      (λ q. named q ∙ (ap (λ (o : Option SymbolId). option_or o (if_named changes (cow_str_bytes q.name) (is_same t q.holder) x)) (is.child_names q) ∙ sym (child_added changes t x q.holder (cow_str_bytes q.name))))
+      (λ q. named q ∙ (ap (λ (o : Option SymbolId). option_or o (if_named changes (cow_str_bytes q.name) (same_symbol_id t q.holder) x)) (is.child_names q) ∙ sym (child_added changes t x q.holder (cow_str_bytes q.name))))
       (λ q. rw on (is.member_names q ∙ sym (member_still q.holder (cow_str_bytes q.name)))) by
     where
       member_still : (h : SymbolId) (name : List ℕ) → member_named (changes ++ has_child t x ∷ []) h name ≡ member_named changes h name
@@ -185,11 +185,11 @@ module _ {b after : Builder} {t : SymbolId} {old new : Symbol} (w : Writes b aft
 
   pub only_member : (x : SymbolId) → x.0 < length b.symbols.items → new.members.keys ≡ with_first old.members.keys x
       → new.decls ≡ old.decls → new.exports ≡ old.exports → new.child_ids ≡ old.child_ids → after.child_names ≡ b.child_names
-      → ((q : LocalName) → symbol_named after.member_names q ≡ option_or (symbol_named b.member_names q) (if_named changes (cow_str_bytes q.name) (is_same t q.holder) x))
+      → ((q : LocalName) → symbol_named after.member_names q ≡ option_or (symbol_named b.member_names q) (if_named changes (cow_str_bytes q.name) (same_symbol_id t q.holder) x))
       → IsTableOf after (changes ++ has_member t x ∷ [])
   only_member x lt e d c m on named = written (has_member t x) refl (λ id. refl) (λ s other. record { decl = refl; setting = refl; child = refl; member = only_other t s x other }) (w.below, lt) refl
       (λ q. rw on (is.child_names q ∙ sym (child_still q.holder (cow_str_bytes q.name))))
-      (λ q. named q ∙ (ap (λ (o : Option SymbolId). option_or o (if_named changes (cow_str_bytes q.name) (is_same t q.holder) x)) (is.member_names q) ∙ sym (member_added changes t x q.holder (cow_str_bytes q.name)))) by
+      (λ q. named q ∙ (ap (λ (o : Option SymbolId). option_or o (if_named changes (cow_str_bytes q.name) (same_symbol_id t q.holder) x)) (is.member_names q) ∙ sym (member_added changes t x q.holder (cow_str_bytes q.name)))) by
     where
       child_still : (h : SymbolId) (name : List ℕ) → child_named (changes ++ has_member t x ∷ []) h name ≡ child_named changes h name
       child_still h name = rw (children_after-out changes (has_member t x) h refl) (kept_named changes (changes ++ has_member t x ∷ []) name (children_after changes h) (λ k d lt. name_out changes (has_member t x) (get_or (children_after changes h) k d) refl))

@@ -11,7 +11,7 @@ use Rattle.indexmap.specs.IndexMap.{insert_entry}
 use Rattle.symbols_syntax.specs.declared.ids.SymbolId.{SymbolId}
 use Rattle.symbols_syntax.specs.Ids.{IdView}
 use Rattle.symbols_table.specs.DeclViews.{Declaration, with_decl}
-use Rattle.symbols_table.specs.Changes.{Change, Star, is_same, only_if, parent_by, decl_by, setting_by, child_by, member_by, mapping_by, star_by, with_first, parents_after, decls_after, exports_after, children_after, members_after, stars_after, mapped_after}
+use Rattle.symbols_table.specs.Changes.{Change, Star, same_symbol_id, only_if, parent_by, decl_by, setting_by, child_by, member_by, mapping_by, star_by, with_first, parents_after, decls_after, exports_after, children_after, members_after, stars_after, mapped_after}
 
 -- what the filter leaves out adds nothing
 pub filter_map-out : {X Y : Type 0} (h : X → Option Y) (xs : List X) (x : X) → h x ≡ None → filter_map h (xs ++ x ∷ []) ≡ filter_map h xs
@@ -22,10 +22,10 @@ pub filter_map-in : {X Y : Type 0} (h : X → Option Y) (xs : List X) (x : X) (y
 filter_map-in h xs x y e = filter_map-append h xs (x ∷ []) ∙ rw e refl
 
 -- a test for the same symbol takes it, and takes no other
-pub only_same : {A : Type 0} (s : SymbolId) (x : A) → only_if (is_same s s) x ≡ Some x
+pub only_same : {A : Type 0} (s : SymbolId) (x : A) → only_if (same_symbol_id s s) x ≡ Some x
 only_same s x = let e : (s.0 == s.0) ≡ true = grind (arith, nat_tests) in rw e refl
 
-pub only_other : {A : Type 0} (t s : SymbolId) (x : A) → s.0 ≢ t.0 → only_if (is_same t s) x ≡ None
+pub only_other : {A : Type 0} (t s : SymbolId) (x : A) → s.0 ≢ t.0 → only_if (same_symbol_id t s) x ≡ None
 only_other t s x other = let e : (t.0 == s.0) ≡ false = grind (arith, nat_tests) in rw e refl
 
 module _ (changes : List Change) (change : Change) where

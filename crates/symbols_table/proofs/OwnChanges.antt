@@ -6,8 +6,8 @@ use Rattle.std.proofs.lemmas.List.Elements.{All-nil, All-cons, All-append}
 use Rattle.symbols_syntax.specs.declared.tree.arena.Tree.{Tree}
 use Rattle.symbols_syntax.specs.declared.ids.SymbolId.{SymbolId}
 use Rattle.symbols_table.specs.DeclViews.{Declaration, is_definition, decl_name, with_decl, last_decl, is_overload_after}
-use Rattle.symbols_table.specs.Changes.{Change, makes, declares, exports, has_child, has_member, maps, passes_on, only_if, is_same, decl_by, star_by, decls_after, stars_after, mapped_after, exported, has_function}
-use Rattle.symbols_table.specs.Events.{Event, begins, declare, alias, fresh, default, binds, member, expando, export, child, star, Row, nothing, next_symbol, new_row, found_or, known_or, with_symbol, member_changes, member_found, member_row, declare_row, alias_row, default_row, default_text, expando_row, row_of, changes_of, symbol_at, rows_after, changes_by}
+use Rattle.symbols_table.specs.Changes.{Change, makes, declares, exports, has_child, has_member, maps, passes_on, only_if, same_symbol_id, decl_by, star_by, decls_after, stars_after, mapped_after, exported_symbol, has_function}
+use Rattle.symbols_table.specs.Events.{Event, begins, declare, declare_alias, fresh, default, binds, member, expando, export, child, star, Row, empty_row, next_symbol, new_row, found_or, known_or, with_symbol, member_changes, member_found, member_row, declare_row, alias_row, default_row, default_name, expando_row, row_of, changes_of, symbol_at, rows_after, changes_by}
 use Rattle.symbols_table.specs.Laws.{IsDeclaredIn, IsStarOf}
 use Rattle.symbols_table.proofs.Inside.{All-head, All-tail}
 use Rattle.symbols_table.proofs.Rows.{changes_of-push}
@@ -55,9 +55,9 @@ module _ (tree : Tree) where
   with_of None row rest = none_of
   with_of (Some s) row rest = rest s
 
-  export_of : (holder s : SymbolId) (is_child : Bool) → AreChangesOf (exports holder default_text s ∷ (if is_child then has_child holder s ∷ [] else []))
-  export_of holder s true = first_of (exports holder default_text s) (has_child holder s ∷ []) tt (one_of (has_child holder s) tt)
-  export_of holder s false = one_of (exports holder default_text s) tt
+  export_of : (holder s : SymbolId) (is_child : Bool) → AreChangesOf (exports holder default_name s ∷ (if is_child then has_child holder s ∷ [] else []))
+  export_of holder s true = first_of (exports holder default_name s) (has_child holder s ∷ []) tt (one_of (has_child holder s) tt)
+  export_of holder s false = one_of (exports holder default_name s) tt
 
   place_of : (holder : SymbolId) (is_static : Bool) (name : Option (List ℕ)) (s : SymbolId) → AreChangesOf (member_changes holder is_static name s)
   place_of holder true None s = one_of (has_child holder s) tt
@@ -72,14 +72,14 @@ module _ (tree : Tree) where
 
     default_of : (holder : SymbolId) (decl : Declaration) → IsDeclaredIn tree decl → AreChangesOf (default_row before holder decl).changes
     default_of holder decl is =
-        let more : SymbolId → List Change = λ s. exports holder default_text s ∷ (if is_definition decl.kind then has_child holder s ∷ [] else []) in
-        found_of (exported before holder default_text) decl (new_row before (Some holder) decl more) is (new_of before (Some holder) decl more is (λ s. export_of holder s (is_definition decl.kind)))
+        let more : SymbolId → List Change = λ s. exports holder default_name s ∷ (if is_definition decl.kind then has_child holder s ∷ [] else []) in
+        found_of (exported_symbol before holder default_name) decl (new_row before (Some holder) decl more) is (new_of before (Some holder) decl more is (λ s. export_of holder s (is_definition decl.kind)))
 
     expando_of : (found : Option SymbolId) (decl : Declaration) → IsDeclaredIn tree decl → AreChangesOf (expando_row before found decl).changes
     expando_of None decl is = none_of
     expando_of (Some s) decl is = by (has_function before s)
       where
-        by : (is_function : Bool) → AreChangesOf (if is_function then member_row before s decl true else nothing).changes
+        by : (is_function : Bool) → AreChangesOf (if is_function then member_row before s decl true else empty_row).changes
         by true = member_of s decl true is
         by false = none_of
 
@@ -87,7 +87,7 @@ module _ (tree : Tree) where
     row_is_of at (begins decl) is = new_of before None decl (λ _. []) is (λ s. none_of)
     row_is_of at (declare holder id decl) is = with_of (at holder) (λ h. declare_row before h id decl) (λ h.
         found_of (mapped_after before id) decl (new_row before (Some h) decl (λ s. maps id s ∷ [])) is (new_of before (Some h) decl (λ s. maps id s ∷ []) is (λ s. one_of (maps id s) tt)))
-    row_is_of at (alias holder id decl) is = with_of (at holder) (λ h. alias_row before h id decl) (λ h.
+    row_is_of at (declare_alias holder id decl) is = with_of (at holder) (λ h. alias_row before h id decl) (λ h.
         known_of (mapped_after before id) (new_row before (Some h) decl (λ s. maps id s ∷ [])) (new_of before (Some h) decl (λ s. maps id s ∷ []) is (λ s. one_of (maps id s) tt)))
     row_is_of at (fresh holder decl) is = with_of (at holder) (λ h. new_row before (Some h) decl (λ _. [])) (λ h. new_of before (Some h) decl (λ _. []) is (λ s. none_of))
     row_is_of at (default holder decl) is = with_of (at holder) (λ h. default_row before h decl) (λ h. default_of h decl is)
@@ -128,7 +128,7 @@ module _ (tree : Tree) where
 
       by : (change : Change) → IsChangeOf tree change → ((more : List Declaration) → All (IsDeclaredIn tree) more → All (IsDeclaredIn tree) (fold with_decl more (filter_map (decl_by s) changes)))
           → All (IsDeclaredIn tree) (fold with_decl decls (filter_map (decl_by s) (change ∷ changes)))
-      by (declares t decl) is rest = taken (is_same t s) decl is rest
+      by (declares t decl) is rest = taken (same_symbol_id t s) decl is rest
       by (makes _) is rest = rest decls before
       by (exports _ _ _) is rest = rest decls before
       by (has_child _ _) is rest = rest decls before

@@ -19,14 +19,14 @@ use Rattle.symbols_nodes.specs.DottedNames.{DottedName, entity_name}
 use Rattle.symbols_nodes.specs.Expando.{Expando, expando_in}
 use Rattle.symbols_nodes.specs.NodeViews.{NodeView, ExportDeclView, nodes_of, exported_nodes, exported_class, exported_fn, exported_var, exported_ts_enum, exported_ts_interface, exported_ts_module, exported_ts_type_alias, class_param_prop, constructor, export_default_decl, expando_property, ts_namespace}
 use Rattle.symbols_table.specs.declared.builder.scope.Scope.{Scope}
-use Rattle.symbols_table.specs.DeclViews.{Declaration, DeclKind, defined, declaration_at, node_of_kind, file_ref, all_names, target}
-use Rattle.symbols_table.specs.Events.{Event, begins, declare, alias, fresh, default, binds, member, expando, export, child, star}
+use Rattle.symbols_table.specs.DeclViews.{Declaration, DeclKind, definition_at, declaration_at, node_of_kind, file_ref, all_names, target}
+use Rattle.symbols_table.specs.Events.{Event, begins, declare, declare_alias, fresh, default, binds, member, expando, export, child, star}
 use Rattle.symbols_table.specs.Laws.{IsNodeOf, IsDeclaredIn, IsStarOf}
-use Rattle.symbols_table.specs.Walks.{Walk, none, on, each, range_in, sym_in}
-use Rattle.symbols_table.specs.Patterns.{leaves_of}
+use Rattle.symbols_table.specs.Walks.{Walk, empty_walk, walk_if_there, walk_of_each, range_in, sym_in}
+use Rattle.symbols_table.specs.Patterns.{pattern_leaves}
 use Rattle.symbols_table.specs.MemberEvents.{member_nodes, one_member, param_events, param_at, simple_member, member_events, member_at}
-use Rattle.symbols_table.specs.DeclarationEvents.{declared_as, plain, whole_range, is_exported, variable_form, export_if, added, declared, Variables, binding_events, binding_at, declarator_events, declarator_at, variables_events, named_form, own_name, named_events, declaration_events}
-use Rattle.symbols_table.specs.ModuleEvents.{import_name, imported, import_events, import_at, named_export, orig_name, orig_kind, specifier_events, export_events, export_at, binds_if, default_decl_events, default_at, default_expr, assignment_events, alias_kind, alias_events, import_equals_events, expando_events, module_events}
+use Rattle.symbols_table.specs.DeclarationEvents.{declaration_form, unexported_form, whole_range, is_exported, variable_form, export_if, adding_events, declaring_events, Variables, binding_events, binding_at, declarator_events, declarator_at, variables_events, named_form, own_name, named_events, declaration_events}
+use Rattle.symbols_table.specs.ModuleEvents.{import_name, importing_events, import_events, import_at, named_export, orig_name, orig_kind, specifier_events, export_events, export_at, binds_if, default_decl_events, default_at, default_expr, assignment_events, alias_kind, alias_events, import_equals_events, expando_events, module_events}
 use Rattle.symbols_table.specs.TreeEvents.{Namespace, plain_namespace, exported_namespace, namespace_of, declares_items, inner_scope, Block, part_events, body_events, body_within, body_at, namespace_events, exported_events, plain_item_events, item_or, item_events, item_within, block_within, module_scope, root_of, root_decl, tree_events}
 use Rattle.symbols_table.proofs.CountsParts.{node_at, kinds}
 
@@ -34,7 +34,7 @@ use Rattle.symbols_table.proofs.CountsParts.{node_at, kinds}
 abbrev pub IsEventOf : Tree → Event → Type 0
 IsEventOf tree (begins decl) = IsDeclaredIn tree decl
 IsEventOf tree (declare _ _ decl) = IsDeclaredIn tree decl
-IsEventOf tree (alias _ _ decl) = IsDeclaredIn tree decl
+IsEventOf tree (declare_alias _ _ decl) = IsDeclaredIn tree decl
 IsEventOf tree (fresh _ decl) = IsDeclaredIn tree decl
 IsEventOf tree (default _ decl) = IsDeclaredIn tree decl
 IsEventOf tree (member _ decl _) = IsDeclaredIn tree decl
@@ -67,40 +67,40 @@ module _ (tree : Tree) where
   own_append : (es fs : List Event) → AreOwn tree es → AreOwn tree fs → AreOwn tree (es ++ fs)
   own_append es fs first rest = All-append (IsEventOf tree) es fs first rest
 
-  own_none : IsOwn tree none
+  own_none : IsOwn tree empty_walk
   own_none = λ holder start. own_nil
 
-  own_on : {A : Type 0} (found : Option A) (walk : A → Walk) → ((x : A) → found ≡ Some x → IsOwn tree (walk x)) → IsOwn tree (on found walk)
+  own_on : {A : Type 0} (found : Option A) (walk : A → Walk) → ((x : A) → found ≡ Some x → IsOwn tree (walk x)) → IsOwn tree (walk_if_there found walk)
   own_on None walk own = own_none
   own_on (Some x) walk own = own x refl
 
-  own_if : {A : Type 0} (P : A → Type 0) (found : Option A) (walk : A → Walk) → IfSome found P → ((x : A) → P x → IsOwn tree (walk x)) → IsOwn tree (on found walk)
+  own_if : {A : Type 0} (P : A → Type 0) (found : Option A) (walk : A → Walk) → IfSome found P → ((x : A) → P x → IsOwn tree (walk x)) → IsOwn tree (walk_if_there found walk)
   own_if P None walk is own = own_none
   own_if P (Some x) walk is own = own x is
 
-  own_each : (walk : ℕ → Walk) (xs : List ℕ) → ((x : ℕ) → IsOwn tree (walk x)) → IsOwn tree (each walk xs)
+  own_each : (walk : ℕ → Walk) (xs : List ℕ) → ((x : ℕ) → IsOwn tree (walk x)) → IsOwn tree (walk_of_each walk xs)
   own_each walk [] own = own_none
   own_each walk (x ∷ xs) own = λ holder start.
       let after = start + length (walk x holder start) in
-      own_append (walk x holder start) (each walk xs holder after) (own x holder start) (own_each walk xs own holder after)
+      own_append (walk x holder start) (walk_of_each walk xs holder after) (own x holder start) (own_each walk xs own holder after)
 
   -- ---- nodes
 
   abbrev IsInside : ℕ → Type 0
   IsInside n = n < length tree.nodes.items
 
-  own_node : (found : Option ℕ) (walk : TreeNode → Walk) → ((n : ℕ) → IsInside n → IsOwn tree (walk (node_at tree n))) → IsOwn tree (on (node_in tree found) walk)
+  own_node : (found : Option ℕ) (walk : TreeNode → Walk) → ((n : ℕ) → IsInside n → IsOwn tree (walk (node_at tree n))) → IsOwn tree (walk_if_there (node_in tree found) walk)
   own_node None walk own = own_none
   own_node (Some n) walk own = by (ltb n (length tree.nodes.items)) refl
     where
-      by : (b : Bool) → ltb n (length tree.nodes.items) ≡ b → IsOwn tree (on (cond b (Some (node_at tree n)) None) walk)
+      by : (b : Bool) → ltb n (length tree.nodes.items) ≡ b → IsOwn tree (walk_if_there (cond b (Some (node_at tree n)) None) walk)
       by true is = own n ((Decides-ltb n (length tree.nodes.items)).0 is)
       by false is = own_none
 
   own_kind : (found : Option ℕ) (walk : TreeNode → Kind → Walk) → ((n : ℕ) (kind : Kind) → IsInside n → kinds tree n ≡ Some kind → IsOwn tree (walk (node_at tree n) kind))
-      → IsOwn tree (on (node_in tree found) (λ (node : TreeNode). on (kind_of node) (walk node)))
+      → IsOwn tree (walk_if_there (node_in tree found) (λ (node : TreeNode). walk_if_there (kind_of node) (walk node)))
   own_kind found walk own =
-      own_node found (λ (node : TreeNode). on (kind_of node) (walk node)) (λ n inside. own_on (kinds tree n) (walk (node_at tree n)) (λ kind is. own n kind inside is))
+      own_node found (λ (node : TreeNode). walk_if_there (kind_of node) (walk node)) (λ n inside. own_on (kinds tree n) (walk (node_at tree n)) (λ kind is. own n kind inside is))
 
   one_node : (n : ℕ) → IsInside n → All (IsNodeOf tree) (node_at tree n ∷ [])
   one_node n inside = All-cons (IsNodeOf tree) (node_at tree n) [] (refl, inside) (All-nil (IsNodeOf tree))
@@ -115,7 +115,7 @@ module _ (tree : Tree) where
 
   -- ---- a declaration, after the `export` if one stands before it
 
-  own_plain : (form : ExportDeclView) → All (IsNodeOf tree) (exported_nodes form) → All (IsNodeOf tree) (nodes_of (plain form))
+  own_plain : (form : ExportDeclView) → All (IsNodeOf tree) (exported_nodes form) → All (IsNodeOf tree) (nodes_of (unexported_form form))
   own_plain (exported_class _) own = own
   own_plain (exported_fn _) own = own
   own_plain (exported_var _ _ _) own = own
@@ -124,7 +124,7 @@ module _ (tree : Tree) where
   own_plain (exported_ts_module _) own = own
   own_plain (exported_ts_type_alias _) own = own
 
-  own_form : (exported : Option TreeNode) (form : ExportDeclView) → IfSome exported (IsNodeOf tree) → All (IsNodeOf tree) (exported_nodes form) → All (IsNodeOf tree) (nodes_of (declared_as exported form))
+  own_form : (exported : Option TreeNode) (form : ExportDeclView) → IfSome exported (IsNodeOf tree) → All (IsNodeOf tree) (exported_nodes form) → All (IsNodeOf tree) (nodes_of (declaration_form exported form))
   own_form None form is own = own_plain form own
   own_form (Some node) form is own = All-cons (IsNodeOf tree) node (exported_nodes form) is own
 
@@ -132,9 +132,9 @@ module _ (tree : Tree) where
   own_export true holder name of = own_one (export holder name of) tt
   own_export false holder name of = own_nil
 
-  own_declared : (test : Bool) (id : IdView) (decl : Declaration) (inner : Walk) → IsDeclaredIn tree decl → IsOwn tree inner → IsOwn tree (declared test id decl inner)
+  own_declared : (test : Bool) (id : IdView) (decl : Declaration) (inner : Walk) → IsDeclaredIn tree decl → IsOwn tree inner → IsOwn tree (declaring_events test id decl inner)
   own_declared test id decl inner is own = λ holder start.
-      let last = added test holder id.name start in
+      let last = adding_events test holder id.name start in
       let added : AreOwn tree last = own_cons (child holder start) (export_if test holder id.name start) tt (own_export test holder id.name start) in
       own_cons (declare holder id decl) (inner start (start + 1) ++ last) is (own_append (inner start (start + 1)) last (own start (start + 1)) added)
 
@@ -144,7 +144,7 @@ module _ (tree : Tree) where
   own_param n = own_kind (Some n) param_events (λ m kind inside is. by m inside kind)
     where
       by : (m : ℕ) → IsInside m → (kind : Kind) → IsOwn tree (param_events (node_at tree m) kind)
-      by m inside (Kind.Member (Member.TsParamProp _ _)) = λ holder start. own_one (member holder (defined (class_param_prop (node_at tree m)) (range_in (node_at tree m))) false) (one_node m inside)
+      by m inside (Kind.Member (Member.TsParamProp _ _)) = λ holder start. own_one (member holder (definition_at (class_param_prop (node_at tree m)) (range_in (node_at tree m))) false) (one_node m inside)
       by m inside _ = own_none
 
   simple_own : (n : ℕ) → All (IsNodeOf tree) (node_at tree n ∷ []) → (kind : Kind) → IfSome (simple_member (node_at tree n) kind) (λ (m : NodeView × Bool). All (IsNodeOf tree) (nodes_of m.0))
@@ -165,13 +165,13 @@ module _ (tree : Tree) where
     where
       by : (m : ℕ) → IsInside m → (kind : Kind) → IsOwn tree (member_events (node_at tree m) kind)
       by m inside (Kind.Member (Member.Constructor params _ _)) = λ holder start.
-          own_cons (member holder (defined (constructor (node_at tree m)) (range_in (node_at tree m))) true) (each (param_at tree) params.items holder (start + 1)) (one_node m inside)
+          own_cons (member holder (definition_at (constructor (node_at tree m)) (range_in (node_at tree m))) true) (walk_of_each (param_at tree) params.items holder (start + 1)) (one_node m inside)
           (own_each (param_at tree) params.items own_param holder (start + 1))
       by m inside kind =
           own_if (λ (found : NodeView × Bool). All (IsNodeOf tree) (nodes_of found.0)) (simple_member (node_at tree m) kind) (λ (found : NodeView × Bool). one_member found.0 (node_at tree m) found.1) (simple_own m (one_node m inside) kind)
-          (λ found own holder start. own_one (member holder (defined found.0 (range_in (node_at tree m))) found.1) own)
+          (λ found own holder start. own_one (member holder (definition_at found.0 (range_in (node_at tree m))) found.1) own)
 
-  own_members : (node : TreeNode) → IsOwn tree (each (member_at tree) (member_nodes node))
+  own_members : (node : TreeNode) → IsOwn tree (walk_of_each (member_at tree) (member_nodes node))
   own_members node = own_each (member_at tree) (member_nodes node) own_member
 
   -- ---- variables
@@ -190,11 +190,11 @@ module _ (tree : Tree) where
 
       binding : (m : ℕ) → IsInside m → (n : ℕ) → IsOwn tree (binding_at vars (node_at tree m) n)
       binding m at n = own_node (Some n) (binding_events vars (node_at tree m)) (λ c here. own_on (option_and_then sym_of (kinds tree c)) _ (λ (id : Id) found.
-          own_declared (is_exported scope exported) (id_view id) (defined (variable_form exported is_using (node_at tree k) (node_at tree m) (node_at tree c)) (range_in (node_at tree m))) none (own_variable exported is_using k m c is inside at here) own_none))
+          own_declared (is_exported scope exported) (id_view id) (definition_at (variable_form exported is_using (node_at tree k) (node_at tree m) (node_at tree c)) (range_in (node_at tree m))) empty_walk (own_variable exported is_using k m c is inside at here) own_none))
 
       declarator : (n : ℕ) → IsOwn tree (declarator_at vars n)
       declarator n = own_node (Some n) (declarator_events vars) (λ m at.
-          own_node (option_and_then name_of (kinds tree m)) (λ (pattern : TreeNode). each (binding_at vars (node_at tree m)) (leaves_of tree pattern.number)) (λ p here. own_each (binding_at vars (node_at tree m)) (leaves_of tree p) (binding m at)))
+          own_node (option_and_then name_of (kinds tree m)) (λ (pattern : TreeNode). walk_of_each (binding_at vars (node_at tree m)) (pattern_leaves tree pattern.number)) (λ p here. own_each (binding_at vars (node_at tree m)) (pattern_leaves tree p) (binding m at)))
 
   -- ---- what has a name of its own
 
@@ -212,14 +212,14 @@ module _ (tree : Tree) where
   own_declaration scope exported n is inside kind =
       own_if (λ (form : ExportDeclView). All (IsNodeOf tree) (exported_nodes form)) (named_form (node_at tree n) kind) (named_events scope exported (node_at tree n)) (named_own n (one_node n inside) kind) (λ form own.
       own_on (own_name (node_at tree n)) _ (λ (id : Id) at.
-      own_declared (is_exported scope exported) (id_view id) (defined (declared_as exported form) (whole_range exported (node_at tree n))) (each (member_at tree) (member_nodes (node_at tree n))) (own_form exported form is own) (own_members (node_at tree n))))
+      own_declared (is_exported scope exported) (id_view id) (definition_at (declaration_form exported form) (whole_range exported (node_at tree n))) (walk_of_each (member_at tree) (member_nodes (node_at tree n))) (own_form exported form is own) (own_members (node_at tree n))))
 
   -- ---- imports and exports
 
   own_import : (src : List ℕ) (n : ℕ) → IsOwn tree (import_at src tree n)
   own_import src n = own_kind (Some n) (import_events src) (λ m kind inside is.
-      own_on (sym_in local_of (node_at tree m)) (λ (id : Id). on (import_name id kind) (imported src (node_at tree m) id)) (λ id at.
-      own_on (import_name id kind) (imported src (node_at tree m) id) (λ name here holder start. own_one (declare holder (id_view id) (declaration_at (file_ref name src) (range_in (node_at tree m)))) no_nodes)))
+      own_on (sym_in local_of (node_at tree m)) (λ (id : Id). walk_if_there (import_name id kind) (importing_events src (node_at tree m) id)) (λ id at.
+      own_on (import_name id kind) (importing_events src (node_at tree m) id) (λ name here holder start. own_one (declare holder (id_view id) (declaration_at (file_ref name src) (range_in (node_at tree m)))) no_nodes)))
 
   own_named_export : (name : List ℕ) (decl : Declaration) → IsDeclaredIn tree decl → IsOwn tree (named_export name decl)
   own_named_export name decl is = λ holder start. own_cons (fresh holder decl) (export holder name start ∷ []) is (own_one (export holder name start) tt)
@@ -255,8 +255,8 @@ module _ (tree : Tree) where
   own_default_decl n inside c = λ holder start.
       let names = binds_if (own_name (node_at tree c)) start in
       let after = start + 1 + length names in
-      let members = each (member_at tree) (member_nodes (node_at tree c)) start after in
-      own_cons (default holder (defined (export_default_decl (node_at tree n)) (range_in (node_at tree n)))) (names ++ members) (one_node n inside)
+      let members = walk_of_each (member_at tree) (member_nodes (node_at tree c)) start after in
+      own_cons (default holder (definition_at (export_default_decl (node_at tree n)) (range_in (node_at tree n)))) (names ++ members) (one_node n inside)
       (own_append names members (own_binds (own_name (node_at tree c)) start) (own_members (node_at tree c) start after))
 
   own_default : (decl : Declaration) → IsDeclaredIn tree decl → IsOwn tree (default_at decl)
@@ -283,12 +283,12 @@ module _ (tree : Tree) where
   own_import_equals node is_export entity external =
       own_on (sym_in id_of node) _ (λ (id : Id) at.
       own_if (AreNodesOf tree) (alias_kind node entity external) (alias_events node is_export id) (alias_own node entity external) (λ (kind : DeclKind) own holder start.
-      own_cons (alias holder (id_view id) (declaration_at kind (range_in node))) (export_if is_export holder (string_bytes id.name) start) own (own_export is_export holder (string_bytes id.name) start)))
+      own_cons (declare_alias holder (id_view id) (declaration_at kind (range_in node))) (export_if is_export holder (string_bytes id.name) start) own (own_export is_export holder (string_bytes id.name) start)))
 
   own_expando : (n : ℕ) → IsInside n → IsOwn tree (expando_events (node_at tree n))
   own_expando n inside =
       own_on (option_and_then (λ (e : Expando). option_and_then sym_of (kind_of e.object)) (expando_in (node_at tree n))) _ (λ (id : Id) at holder start.
-      own_one (expando (id_view id) (defined (expando_property (node_at tree n)) (range_in (node_at tree n)))) (one_node n inside))
+      own_one (expando (id_view id) (definition_at (expando_property (node_at tree n)) (range_in (node_at tree n)))) (one_node n inside))
 
   own_module : (n : ℕ) → IsInside n → (kind : Kind) → kinds tree n ≡ Some kind → IsOwn tree (module_events (node_at tree n) kind)
   own_module n inside (Kind.Item (Item.Import specifiers src)) is = own_each (import_at (string_bytes src) tree) specifiers.items (own_import (string_bytes src))
@@ -302,7 +302,7 @@ module _ (tree : Tree) where
   own_module n inside (Kind.Item (Item.ExportAll src)) is = λ holder start. own_one (star (record { number = n; text = string_bytes src })) (rw is refl)
   own_module n inside _ is = own_none
 
-  own_exported_item : (scope : Scope) (n : ℕ) → IsInside n → IsOwn tree (on (child_of (node_at tree n) decl_of) (exported_events scope (node_at tree n)))
+  own_exported_item : (scope : Scope) (n : ℕ) → IsInside n → IsOwn tree (walk_if_there (child_of (node_at tree n) decl_of) (exported_events scope (node_at tree n)))
   own_exported_item scope n inside =
       own_kind (option_and_then decl_of (kinds tree n)) (declaration_events scope (Some (node_at tree n))) (λ c kind here at. own_declaration scope (Some (node_at tree n)) c (refl, inside) here kind)
 
@@ -328,18 +328,18 @@ module _ (tree : Tree) where
         by m (Kind.Decl (Decl.TsNamespaceDecl id body)) rest =
             own_on (sym_in id_of (node_at tree m)) (part_events (node_at tree whole) (node_at tree m) (inner body)) (λ (id : Id) found holder start.
             let last = inner body start (start + 3) in
-            own_cons (declare holder (id_view id) (defined (ts_namespace (node_at tree whole)) (range_in (node_at tree m)))) (export holder (id_view id).name start ∷ child holder start ∷ last) (one_node whole at)
+            own_cons (declare holder (id_view id) (definition_at (ts_namespace (node_at tree whole)) (range_in (node_at tree m)))) (export holder (id_view id).name start ∷ child holder start ∷ last) (one_node whole at)
             (own_cons (export holder (id_view id).name start) (child holder start ∷ last) tt (own_cons (child holder start) last tt (rest body start (start + 3)))))
         by m _ rest = own_none
 
     abbrev namespace_walk : Scope → Namespace → Walk
-    namespace_walk scope namespace = on (kind_of namespace.decl) (namespace_events block scope namespace)
+    namespace_walk scope namespace = walk_if_there (kind_of namespace.decl) (namespace_events block scope namespace)
 
     own_namespace : (scope : Scope) (exported : Option TreeNode) (n : ℕ) → IfSome exported (IsNodeOf tree) → IsInside n → IsOwn tree (namespace_walk scope (record { exported = exported; decl = node_at tree n }))
     own_namespace scope exported n is inside = own_on (kinds tree n) (namespace_events block scope (record { exported = exported; decl = node_at tree n })) (λ kind found.
         let ambient = scope.ambient || declares_items kind in
         own_on (sym_in id_of (node_at tree n)) _ (λ (id : Id) at.
-        own_declared (is_exported scope exported) (id_view id) (defined (declared_as exported (exported_ts_module (node_at tree n))) (whole_range exported (node_at tree n))) (on (child_of (node_at tree n) body_node_of) (body_at block (node_at tree n) ambient))
+        own_declared (is_exported scope exported) (id_view id) (definition_at (declaration_form exported (exported_ts_module (node_at tree n))) (whole_range exported (node_at tree n))) (walk_if_there (child_of (node_at tree n) body_node_of) (body_at block (node_at tree n) ambient))
         (own_form exported (exported_ts_module (node_at tree n)) is (one_node n inside))
         (own_node (option_and_then body_node_of (kinds tree n)) (body_at block (node_at tree n) ambient) (λ c here. own_body n inside ambient (length tree.nodes.items) c))))
 
@@ -380,4 +380,4 @@ module _ (tree : Tree) where
   own_tree first =
       let items = list_of (root_of tree) body_of in
       let item : ℕ → Walk = item_within tree (length tree.nodes.items) (module_scope tree) in
-      own_cons (begins (root_decl tree)) (each item items 0 1) (one_node 0 first) (own_each item items (own_items (length tree.nodes.items) (module_scope tree)) 0 1)
+      own_cons (begins (root_decl tree)) (walk_of_each item items 0 1) (one_node 0 first) (own_each item items (own_items (length tree.nodes.items) (module_scope tree)) 0 1)

@@ -14,7 +14,8 @@ use Rattle.symbols_syntax.specs.declared.tree.kinds.Pat.TheVariants as Pat
 use Rattle.symbols_syntax.specs.Nodes.{kind_at, children, child_numbers}
 use Rattle.symbols_syntax.specs.NodeRefs.{TreeNode, kind_of, node_in}
 use Rattle.symbols_syntax.specs.WellFormed.{IsWellFormed}
-use Rattle.symbols_table.specs.Patterns.{is_binding, pattern_parts, leaves_below, leaves_within}
+use Rattle.symbols_table.specs.Patterns.{pattern_parts, leaves_below, leaves_within}
+use Rattle.symbols_table.specs.inner.Patterns.{is_binding}
 
 -- ---- nodes
 

@@ -13,7 +13,7 @@ use Rattle.symbols_table.specs.declared.builder.table.BuildFault.TheVariants.{To
 use Rattle.symbols_table.specs.DeclViews.{Declaration}
 use Rattle.symbols_table.specs.Changes.{Change, makes, declares, parent_by, parents_after}
 use Rattle.symbols_table.specs.Events.{Event, Row, new_row, next_symbol, row_of, changes_of, symbol_at, rows_after}
-use Rattle.symbols_table.specs.Tables.{IsTableOf, Reads}
+use Rattle.symbols_table.specs.inner.Tables.{IsTableOf, Reads}
 
 pub length-parents_after-append : (before more : List Change) → length (parents_after (before ++ more)) ≡ length (parents_after before) + length (filter_map parent_by more)
 unfolding parents_after

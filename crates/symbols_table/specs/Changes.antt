@@ -25,8 +25,8 @@ pub data Change : Type 0 where
   maps : IdView → SymbolId → Change
   passes_on : Star → Change
 
-abbrev pub is_same : SymbolId → SymbolId → Bool
-is_same s t = s.0 == t.0
+abbrev pub same_symbol_id : SymbolId → SymbolId → Bool
+same_symbol_id s t = s.0 == t.0
 
 -- the value, under a test
 abbrev pub only_if : {A : Type 0} → Bool → A → Option A
@@ -37,19 +37,19 @@ parent_by (makes parent) = Some parent
 parent_by _ = None
 
 abbrev pub decl_by : SymbolId → Change → Option Declaration
-decl_by s (declares t decl) = only_if (is_same t s) decl
+decl_by s (declares t decl) = only_if (same_symbol_id t s) decl
 decl_by s _ = None
 
 abbrev pub setting_by : SymbolId → Change → Option (List ℕ × SymbolId)
-setting_by s (exports t name x) = only_if (is_same t s) (name, x)
+setting_by s (exports t name x) = only_if (same_symbol_id t s) (name, x)
 setting_by s _ = None
 
 abbrev pub child_by : SymbolId → Change → Option SymbolId
-child_by s (has_child t x) = only_if (is_same t s) x
+child_by s (has_child t x) = only_if (same_symbol_id t s) x
 child_by s _ = None
 
 abbrev pub member_by : SymbolId → Change → Option SymbolId
-member_by s (has_member t x) = only_if (is_same t s) x
+member_by s (has_member t x) = only_if (same_symbol_id t s) x
 member_by s _ = None
 
 abbrev pub mapping_by : IdView → Change → Option SymbolId
@@ -62,18 +62,18 @@ star_by _ = None
 
 -- a symbol has the place where it first stands
 abbrev pub with_first : List SymbolId → SymbolId → List SymbolId
-with_first xs x = if list_any (is_same x) xs then xs else xs ++ x ∷ []
+with_first xs x = if list_any (same_symbol_id x) xs then xs else xs ++ x ∷ []
 
 -- the settings of a symbol's exports, in order
 abbrev pub settings_after : List Change → SymbolId → List (List ℕ × SymbolId)
 settings_after changes s = filter_map (setting_by s) changes
 
 -- names, each once, at the place where it first stands
-abbrev pub with_name : List (List ℕ) → List ℕ → List (List ℕ)
-with_name names name = if list_any (bytes_eq name) names then names else names ++ name ∷ []
+abbrev pub with_first_name : List (List ℕ) → List ℕ → List (List ℕ)
+with_first_name names name = if list_any (bytes_eq name) names then names else names ++ name ∷ []
 
 abbrev pub each_once : List (List ℕ) → List (List ℕ)
-each_once names = fold with_name [] names
+each_once names = fold with_first_name [] names
 
 abbrev pub names_set : List (List ℕ × SymbolId) → List (List ℕ)
 names_set entries = map (λ entry. entry.0) entries
@@ -115,8 +115,8 @@ unfoldable pub stars_after : List Change → List Star
 stars_after changes = filter_map star_by changes
 
 -- the symbol that a symbol exports under a name
-abbrev pub exported : List Change → SymbolId → List ℕ → Option SymbolId
-exported changes s name = lookup (λ key. bytes_eq name key) (exports_after changes s)
+abbrev pub exported_symbol : List Change → SymbolId → List ℕ → Option SymbolId
+exported_symbol changes s name = lookup (λ key. bytes_eq name key) (exports_after changes s)
 
 -- a symbol's local name: that of its first declaration
 abbrev pub local_name : List Change → SymbolId → Option (List ℕ)

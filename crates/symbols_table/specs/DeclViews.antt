@@ -8,7 +8,7 @@ use Rattle.symbols_syntax.specs.declared.tree.arena.SourceRange.{SourceRange}
 use Rattle.symbols_syntax.specs.declared.tree.arena.Tree.{Tree}
 use Rattle.symbols_syntax.specs.declared.ids.SymbolId.{SymbolId}
 use Rattle.symbols_syntax.specs.Ids.{IdView, id_view}
-use Rattle.symbols_nodes.specs.NodeViews.{NodeView, symbol_node_view, source_of}
+use Rattle.symbols_nodes.specs.NodeViews.{NodeView, symbol_node_view, tree_of_node}
 use Rattle.symbols_nodes.specs.NodeNames.{node_name}
 use Rattle.symbols_nodes.specs.NodeTests.{is_function, has_body, is_method}
 use Rattle.symbols_nodes.specs.NodeNamespaces.{namespaces, value_and_type}
@@ -69,8 +69,8 @@ node_of_kind (definition node) = node
 node_of_kind _ = None
 
 -- the tree that this node is of
-abbrev pub source_of_kind : DeclKind → Option Tree
-source_of_kind kind = option_and_then source_of (node_of_kind kind)
+abbrev pub tree_of_kind : DeclKind → Option Tree
+tree_of_kind kind = option_and_then tree_of_node (node_of_kind kind)
 
 -- what a declaration takes of another module
 abbrev pub dep_of_kind : DeclKind → Option DepView
@@ -106,8 +106,8 @@ abbrev pub declaration_at : DeclKind → SourceRange → Declaration
 declaration_at kind range = record { kind = kind; range = range; has_overloads = false }
 
 -- a definition by its node, with no flag so far
-abbrev pub defined : NodeView → SourceRange → Declaration
-defined node range = declaration_at (definition (Some node)) range
+abbrev pub definition_at : NodeView → SourceRange → Declaration
+definition_at node range = declaration_at (definition (Some node)) range
 
 -- the last of the declarations
 abbrev pub last_decl : List Declaration → Option Declaration

@@ -37,13 +37,13 @@ abbrev pub AreLawful : ModuleId → List Symbol → Type 0
 AreLawful module_id symbols = (s : SymbolId) (symbol : Symbol) → slice_get symbols s.0 ≡ Some symbol → IsLawfulSymbol module_id (length symbols) s symbol
 
 -- how many declarations symbols have together
-abbrev pub declarations_of : List Symbol → ℕ
-declarations_of symbols = sum_by (λ (symbol : Symbol). length (decls_in symbol)) symbols
+abbrev pub count_of_declarations : List Symbol → ℕ
+count_of_declarations symbols = sum_by (λ (symbol : Symbol). length (decls_in symbol)) symbols
 
 -- there are no more symbols, and no more declarations, than nodes in the tree
 pub record AreFewIn (tree : Tree) (symbols : List Symbol) : Type 0 where
   pub few_symbols : length symbols ≤ length tree.nodes.items
-  pub few_declarations : declarations_of symbols ≤ length tree.nodes.items
+  pub few_declarations : count_of_declarations symbols ≤ length tree.nodes.items
 
 -- each name that stands for a symbol stands for one of so many
 abbrev pub AreNamesOf : ℕ → List (IdView × SymbolId) → Type 0

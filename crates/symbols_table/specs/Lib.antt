@@ -4,12 +4,9 @@ pub mod Events
 pub mod Walks
 pub mod Patterns
 pub mod MemberEvents
-pub mod MemberViews
 pub mod DeclarationEvents
-pub mod VariablesViews
 pub mod ModuleEvents
 pub mod TreeEvents
-pub mod NamespaceViews
 pub mod Symbols
 pub mod SymbolViews
 pub mod ModuleViews
@@ -19,8 +16,4 @@ pub mod ReExports
 pub mod JsonEvents
 pub mod Analysis
 pub mod QualifiedNames
-pub mod NamePaths
-pub mod LocalNames
-pub mod Tables
-pub mod Keeping
-pub mod Levels
+pub mod inner

@@ -8,9 +8,9 @@ use Rattle.symbols_syntax.specs.declared.tree.kinds.Member.TheVariants as Member
 use Rattle.symbols_syntax.specs.NodeRefs.{TreeNode, kind_of, node_in, child_of, list_of}
 use Rattle.symbols_syntax.specs.ChildFields.{body_of, class_of}
 use Rattle.symbols_nodes.specs.NodeViews.{NodeView, class_method, class_prop, auto_accessor, class_param_prop, constructor, ts_index_signature, ts_call_signature_decl, ts_construct_signature_decl, ts_property_signature, ts_getter_signature, ts_setter_signature, ts_method_signature}
-use Rattle.symbols_table.specs.DeclViews.{defined}
+use Rattle.symbols_table.specs.DeclViews.{definition_at}
 use Rattle.symbols_table.specs.Events.{member}
-use Rattle.symbols_table.specs.Walks.{Walk, none, on, with_next, each, range_in}
+use Rattle.symbols_table.specs.Walks.{Walk, empty_walk, walk_if_there, with_next, walk_of_each, range_in}
 
 abbrev pub members_of_kind : TreeNode → Kind → List ℕ
 members_of_kind node (Kind.Decl (Decl.TsInterfaceDecl _ _ _ _)) = list_of node body_of
@@ -22,19 +22,19 @@ member_nodes node = option_map_or (members_of_kind node) (kind_of node) []
 
 -- one member, where its node stands
 abbrev pub one_member : NodeView → TreeNode → Bool → Walk
-one_member form node is_static holder start = member holder (defined form (range_in node)) is_static ∷ []
+one_member form node is_static holder start = member holder (definition_at form (range_in node)) is_static ∷ []
 
 -- of a parameter of a constructor: it may be a property too
 abbrev pub param_events : TreeNode → Kind → Walk
 param_events node (Kind.Member (Member.TsParamProp _ _)) = one_member (class_param_prop node) node false
-param_events node _ = none
+param_events node _ = empty_walk
 
 abbrev pub param_at : Tree → ℕ → Walk
-param_at tree n = on (node_in tree (Some n)) (λ (node : TreeNode). on (kind_of node) (param_events node))
+param_at tree n = walk_if_there (node_in tree (Some n)) (λ (node : TreeNode). walk_if_there (kind_of node) (param_events node))
 
 -- a constructor, and then its parameters
 abbrev pub constructor_events : TreeNode → List ℕ → Walk
-constructor_events node params holder start = with_next (member holder (defined (constructor node) (range_in node)) true ∷ []) (each (param_at node.tree) params holder) start
+constructor_events node params holder start = with_next (member holder (definition_at (constructor node) (range_in node)) true ∷ []) (walk_of_each (param_at node.tree) params holder) start
 
 -- a member as it is declared, and whether it is static; all else that stands in a class counts for nothing
 abbrev pub simple_member : TreeNode → Kind → Option (NodeView × Bool)
@@ -53,7 +53,7 @@ simple_member node _ = None
 -- of a member by its kind
 abbrev pub member_events : TreeNode → Kind → Walk
 member_events node (Kind.Member (Member.Constructor params _ _)) = constructor_events node params.items
-member_events node kind = on (simple_member node kind) (λ (m : NodeView × Bool). one_member m.0 node m.1)
+member_events node kind = walk_if_there (simple_member node kind) (λ (m : NodeView × Bool). one_member m.0 node m.1)
 
 abbrev pub member_at : Tree → ℕ → Walk
-member_at tree n = on (node_in tree (Some n)) (λ (node : TreeNode). on (kind_of node) (member_events node))
+member_at tree n = walk_if_there (node_in tree (Some n)) (λ (node : TreeNode). walk_if_there (kind_of node) (member_events node))

@@ -13,9 +13,9 @@ use Rattle.symbols_syntax.specs.Ids.{id_view, sym_of}
 use Rattle.symbols_nodes.specs.DottedNames.{DottedName, entity_name}
 use Rattle.symbols_nodes.specs.Expando.{Expando, expando_in}
 use Rattle.symbols_nodes.specs.NodeViews.{export_default_decl, export_default_expr, expando_property}
-use Rattle.symbols_table.specs.DeclViews.{Declaration, DepName, DeclKind, all_names, one_name, target, qualified_target, file_ref, declaration_at, defined}
-use Rattle.symbols_table.specs.Events.{Event, declare, alias, fresh, default, binds, expando, export, star, default_text}
-use Rattle.symbols_table.specs.Walks.{Walk, none, on, with_next, each, range_in, sym_in}
+use Rattle.symbols_table.specs.DeclViews.{Declaration, DepName, DeclKind, all_names, one_name, target, qualified_target, file_ref, declaration_at, definition_at}
+use Rattle.symbols_table.specs.Events.{Event, declare, declare_alias, fresh, default, binds, expando, export, star, default_name}
+use Rattle.symbols_table.specs.Walks.{Walk, empty_walk, walk_if_there, with_next, walk_of_each, range_in, sym_in}
 use Rattle.symbols_table.specs.MemberEvents.{member_at, member_nodes}
 use Rattle.symbols_table.specs.DeclarationEvents.{own_name, export_if}
 
@@ -25,19 +25,19 @@ use Rattle.symbols_table.specs.DeclarationEvents.{own_name, export_if}
 abbrev pub import_name : Id → Kind → Option DepName
 import_name id (Kind.Item (Item.ImportNamed _ None)) = Some (one_name (string_bytes id.name))
 import_name id (Kind.Item (Item.ImportNamed _ (Some name))) = Some (one_name (string_bytes name))
-import_name id (Kind.Item (Item.ImportDefault _)) = Some (one_name default_text)
+import_name id (Kind.Item (Item.ImportDefault _)) = Some (one_name default_name)
 import_name id (Kind.Item (Item.ImportNamespace _)) = Some all_names
 import_name id _ = None
 
 -- a local name is declared as that
-abbrev pub imported : List ℕ → TreeNode → Id → DepName → Walk
-imported src node id name holder start = declare holder (id_view id) (declaration_at (file_ref name src) (range_in node)) ∷ []
+abbrev pub importing_events : List ℕ → TreeNode → Id → DepName → Walk
+importing_events src node id name holder start = declare holder (id_view id) (declaration_at (file_ref name src) (range_in node)) ∷ []
 
 abbrev pub import_events : List ℕ → TreeNode → Kind → Walk
-import_events src node kind = on (sym_in local_of node) (λ (id : Id). on (import_name id kind) (imported src node id))
+import_events src node kind = walk_if_there (sym_in local_of node) (λ (id : Id). walk_if_there (import_name id kind) (importing_events src node id))
 
 abbrev pub import_at : List ℕ → Tree → ℕ → Walk
-import_at src tree n = on (node_in tree (Some n)) (λ (node : TreeNode). on (kind_of node) (import_events src node))
+import_at src tree n = walk_if_there (node_in tree (Some n)) (λ (node : TreeNode). walk_if_there (kind_of node) (import_events src node))
 
 -- ---- export { a as b, * as c } from "src"
 
@@ -58,19 +58,19 @@ orig_kind None orig name = option_map (λ (id : Id). target (id_view id)) (sym_o
 
 abbrev pub specifier_events : Option (List ℕ) → TreeNode → Option (List ℕ) → Kind → Walk
 specifier_events src node exported orig =
-    on (orig_name orig) (λ (name : List ℕ).
-    on (orig_kind src orig name) (λ (kind : DeclKind). named_export (unwrap_or exported name) (declaration_at kind (range_in node))))
+    walk_if_there (orig_name orig) (λ (name : List ℕ).
+    walk_if_there (orig_kind src orig name) (λ (kind : DeclKind). named_export (unwrap_or exported name) (declaration_at kind (range_in node))))
 
 abbrev pub specifier_at : Option (List ℕ) → TreeNode → Option (List ℕ) → Walk
-specifier_at src node exported = on (option_and_then kind_of (child_of node orig_of)) (specifier_events src node exported)
+specifier_at src node exported = walk_if_there (option_and_then kind_of (child_of node orig_of)) (specifier_events src node exported)
 
 abbrev pub export_events : Option (List ℕ) → TreeNode → Kind → Walk
 export_events src node (Kind.Item (Item.ExportSpecifier _ exported)) = specifier_at src node (option_map string_bytes exported)
-export_events src node (Kind.Item (Item.ExportNamespace name)) = on src (λ (text : List ℕ). named_export (string_bytes name) (declaration_at (file_ref all_names text) (range_in node)))
-export_events src node _ = none
+export_events src node (Kind.Item (Item.ExportNamespace name)) = walk_if_there src (λ (text : List ℕ). named_export (string_bytes name) (declaration_at (file_ref all_names text) (range_in node)))
+export_events src node _ = empty_walk
 
 abbrev pub export_at : Option (List ℕ) → Tree → ℕ → Walk
-export_at src tree n = on (node_in tree (Some n)) (λ (node : TreeNode). on (kind_of node) (export_events src node))
+export_at src tree n = walk_if_there (node_in tree (Some n)) (λ (node : TreeNode). walk_if_there (kind_of node) (export_events src node))
 
 -- ---- export default .., export = ..
 
@@ -81,8 +81,8 @@ binds_if (Some id) of = binds (id_view id) of ∷ []
 -- a class, a function or an interface: its name stands for the default symbol, which has its members
 abbrev pub default_decl_events : TreeNode → TreeNode → Walk
 default_decl_events node decl holder start =
-    with_next (default holder (defined (export_default_decl node) (range_in node)) ∷ [])
-    (with_next (binds_if (own_name decl) start) (each (member_at decl.tree) (member_nodes decl) start)) start
+    with_next (default holder (definition_at (export_default_decl node) (range_in node)) ∷ [])
+    (with_next (binds_if (own_name decl) start) (walk_of_each (member_at decl.tree) (member_nodes decl) start)) start
 
 abbrev pub default_at : Declaration → Walk
 default_at decl holder start = default holder decl ∷ []
@@ -94,31 +94,31 @@ target_at expr id = declaration_at (target (id_view id)) (range_in expr)
 -- and any other expression after `export default` is its definition
 abbrev pub default_expr : TreeNode → TreeNode → Kind → Declaration
 default_expr node expr (Kind.Expr (Expr.Ident id)) = target_at expr id
-default_expr node expr _ = defined (export_default_expr node) (range_in node)
+default_expr node expr _ = definition_at (export_default_expr node) (range_in node)
 
 abbrev pub assignment_events : TreeNode → Kind → Walk
 assignment_events expr (Kind.Expr (Expr.Ident id)) = default_at (target_at expr id)
-assignment_events expr _ = none
+assignment_events expr _ = empty_walk
 
 -- ---- import a = b.c, import a = require("src")
 
 -- what the name is: the parts of a dotted name, or the default of another module
 abbrev pub alias_kind : TreeNode → Option ℕ → Option (String Global) → Option DeclKind
 alias_kind node (Some entity) external = option_map (λ (name : DottedName). qualified_target name.leftmost name.parts) (option_and_then entity_name (node_in node.tree (Some entity)))
-alias_kind node None external = option_map (λ (text : String Global). file_ref (one_name default_text) (string_bytes text)) external
+alias_kind node None external = option_map (λ (text : String Global). file_ref (one_name default_name) (string_bytes text)) external
 
 abbrev pub alias_events : TreeNode → Bool → Id → DeclKind → Walk
-alias_events node is_export id kind holder start = alias holder (id_view id) (declaration_at kind (range_in node)) ∷ export_if is_export holder (string_bytes id.name) start
+alias_events node is_export id kind holder start = declare_alias holder (id_view id) (declaration_at kind (range_in node)) ∷ export_if is_export holder (string_bytes id.name) start
 
 abbrev pub import_equals_events : TreeNode → Bool → Option ℕ → Option (String Global) → Walk
-import_equals_events node is_export entity external = on (sym_in id_of node) (λ (id : Id). on (alias_kind node entity external) (alias_events node is_export id))
+import_equals_events node is_export entity external = walk_if_there (sym_in id_of node) (λ (id : Id). walk_if_there (alias_kind node entity external) (alias_events node is_export id))
 
 -- ---- f.p = ..
 
 abbrev pub expando_events : TreeNode → Walk
 expando_events node =
-    on (option_and_then (λ (e : Expando). option_and_then sym_of (kind_of e.object)) (expando_in node))
-    (λ (id : Id) (holder : ℕ) (start : ℕ). expando (id_view id) (defined (expando_property node) (range_in node)) ∷ [])
+    walk_if_there (option_and_then (λ (e : Expando). option_and_then sym_of (kind_of e.object)) (expando_in node))
+    (λ (id : Id) (holder : ℕ) (start : ℕ). expando (id_view id) (definition_at (expando_property node) (range_in node)) ∷ [])
 
 -- ---- export * from "src"
 
@@ -128,12 +128,12 @@ star_at node text holder start = star (record { number = node.number; text = tex
 -- ---- each of these, by its kind
 
 abbrev pub module_events : TreeNode → Kind → Walk
-module_events node (Kind.Item (Item.Import specifiers src)) = each (import_at (string_bytes src) node.tree) specifiers.items
-module_events node (Kind.Item (Item.ExportNamed specifiers src)) = each (export_at (option_map string_bytes src) node.tree) specifiers.items
-module_events node (Kind.Item (Item.ExportDefaultDecl _)) = on (child_of node decl_of) (default_decl_events node)
-module_events node (Kind.Item (Item.ExportDefaultExpr _)) = on (child_of node expr_of) (λ (expr : TreeNode). on (kind_of expr) (λ (kind : Kind). default_at (default_expr node expr kind)))
-module_events node (Kind.Item (Item.TsExportAssignment _)) = on (child_of node expr_of) (λ (expr : TreeNode). on (kind_of expr) (assignment_events expr))
+module_events node (Kind.Item (Item.Import specifiers src)) = walk_of_each (import_at (string_bytes src) node.tree) specifiers.items
+module_events node (Kind.Item (Item.ExportNamed specifiers src)) = walk_of_each (export_at (option_map string_bytes src) node.tree) specifiers.items
+module_events node (Kind.Item (Item.ExportDefaultDecl _)) = walk_if_there (child_of node decl_of) (default_decl_events node)
+module_events node (Kind.Item (Item.ExportDefaultExpr _)) = walk_if_there (child_of node expr_of) (λ (expr : TreeNode). walk_if_there (kind_of expr) (λ (kind : Kind). default_at (default_expr node expr kind)))
+module_events node (Kind.Item (Item.TsExportAssignment _)) = walk_if_there (child_of node expr_of) (λ (expr : TreeNode). walk_if_there (kind_of expr) (assignment_events expr))
 module_events node (Kind.Item (Item.ExportAll src)) = star_at node (string_bytes src)
 module_events node (Kind.Item (Item.TsImportEqualsDecl is_export _ entity external)) = import_equals_events node is_export entity external
-module_events node (Kind.Item (Item.ExprStmt _)) = on (child_of node expr_of) expando_events
-module_events node _ = none
+module_events node (Kind.Item (Item.ExprStmt _)) = walk_if_there (child_of node expr_of) expando_events
+module_events node _ = empty_walk

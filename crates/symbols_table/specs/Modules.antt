@@ -14,7 +14,7 @@ use Rattle.symbols_table.specs.declared.info.module_info.ModuleInfo.{ModuleInfo}
 use Rattle.symbols_table.specs.declared.info.module_info.ModuleInfoRef.{ModuleInfoRef}
 use Rattle.symbols_table.specs.Changes.{Star}
 use Rattle.symbols_table.specs.ModuleViews.{ids_view, star_view}
-use Rattle.symbols_table.specs.SymbolViews.{SymbolView, numbered}
+use Rattle.symbols_table.specs.SymbolViews.{SymbolView, symbol_numbered}
 
 -- what symbols are made from: the text of a module with its tree, or a JSON text
 pub data Source : Type 0 where
@@ -74,7 +74,7 @@ lent_table (ModuleInfoRef.Esm info) = esm_table info.now
 
 -- the symbol of a number
 abbrev pub symbol_in : Table → SymbolId → Option SymbolView
-symbol_in table s = numbered table.symbols s
+symbol_in table s = symbol_numbered table.symbols s
 
 -- the symbol that a name stands for
 abbrev pub mapped_in : Table → IdView → Option SymbolId

@@ -1,5 +1,5 @@
 -- The names that a pattern binds.
-use Rattle.std.specs.Prelude.{ℕ, suc, zero, Bool, true, false, List, [], ◌∷◌, length}
+use Rattle.std.specs.Prelude.{ℕ, suc, zero, List, [], ◌∷◌, length}
 use Rattle.std.specs.Option.{option_map_or}
 use Rattle.std.specs.List.{flat_map}
 use Rattle.symbols_syntax.specs.declared.tree.arena.Tree.{Tree}
@@ -17,11 +17,6 @@ pattern_parts (Kind.Pat (Pat.AssignPatProp key _)) = key ∷ []
 pattern_parts (Kind.Pat (Pat.AssignPat left _)) = left ∷ []
 pattern_parts _ = []
 
--- a pattern that is a name
-abbrev pub is_binding : Kind → Bool
-is_binding (Kind.Pat (Pat.BindingIdent _ _)) = true
-is_binding _ = false
-
 abbrev pub leaves_below : (ℕ → List ℕ) → ℕ → Kind → List ℕ
 leaves_below inner n (Kind.Pat (Pat.BindingIdent _ _)) = n ∷ []
 leaves_below inner n kind = flat_map inner (pattern_parts kind)
@@ -32,5 +27,5 @@ leaves_within tree zero n = []
 leaves_within tree (suc levels) n = option_map_or (leaves_below (leaves_within tree levels) n) (kind_at tree.nodes.items n) []
 
 -- all of them: no way down is longer than the tree
-abbrev pub leaves_of : Tree → ℕ → List ℕ
-leaves_of tree n = leaves_within tree (length tree.nodes.items) n
+abbrev pub pattern_leaves : Tree → ℕ → List ℕ
+pattern_leaves tree n = leaves_within tree (length tree.nodes.items) n

@@ -56,5 +56,5 @@ abbrev pub symbol_after : List Change → SymbolId → Option SymbolView
 symbol_after changes s = option_map (symbol_made changes s) (slice_get (parents_after changes) s.0)
 
 -- the symbol of a number in a list of symbols
-abbrev pub numbered : List Symbol → SymbolId → Option SymbolView
-numbered symbols s = option_map symbol_view (slice_get symbols s.0)
+abbrev pub symbol_numbered : List Symbol → SymbolId → Option SymbolView
+symbol_numbered symbols s = option_map symbol_view (slice_get symbols s.0)

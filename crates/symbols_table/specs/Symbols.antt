@@ -1,5 +1,5 @@
--- For short: what a symbol shows. And for proofs alone: that it holds what was changed of it.
-use Rattle.std.specs.Prelude.{◌≡◌, ℕ, List, Option, Some, slice_get}
+-- For short: what a symbol shows.
+use Rattle.std.specs.Prelude.{ℕ, List, Option}
 use Rattle.std.specs.Option.{option_map}
 use Rattle.symbols_syntax.specs.declared.ids.ModuleId.{ModuleId}
 use Rattle.symbols_syntax.specs.declared.ids.SymbolId.{SymbolId}
@@ -7,7 +7,6 @@ use Rattle.symbols_syntax.specs.declared.ids.UniqueSymbolId.{UniqueSymbolId}
 use Rattle.symbols_table.specs.declared.decl.symbol.Symbol.{Symbol}
 use Rattle.symbols_table.specs.DeclViews.{Declaration}
 use Rattle.symbols_table.specs.SymbolViews.{symbol_view}
-use Rattle.symbols_table.specs.Changes.{Change, parents_after, decls_after, exports_after, children_after, members_after}
 
 -- its own number, and that of its module
 abbrev pub number_in : Symbol → SymbolId
@@ -37,13 +36,3 @@ children_in symbol = (symbol_view symbol).children
 
 abbrev pub members_in : Symbol → List SymbolId
 members_in symbol = (symbol_view symbol).members
-
--- the symbol is that of the number s in the module, and holds what was changed of it
-pub record IsSymbolOf (module_id : ModuleId) (changes : List Change) (s : SymbolId) (symbol : Symbol) : Type 0 where
-  pub number : number_in symbol ≡ s
-  pub of_module : module_number_in symbol ≡ module_id
-  pub parent : slice_get (parents_after changes) s.0 ≡ Some (parent_in symbol)
-  pub decls : decls_in symbol ≡ decls_after changes s
-  pub exports : exports_in symbol ≡ exports_after changes s
-  pub children : children_in symbol ≡ children_after changes s
-  pub members : members_in symbol ≡ members_after changes s

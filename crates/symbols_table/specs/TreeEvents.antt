@@ -11,10 +11,10 @@ use Rattle.symbols_syntax.specs.ChildFields.{body_of, body_node_of, decl_of, id_
 use Rattle.symbols_syntax.specs.Ids.{id_view}
 use Rattle.symbols_nodes.specs.NodeViews.{program, ts_namespace, exported_ts_module}
 use Rattle.symbols_table.specs.declared.builder.scope.Scope.{Scope}
-use Rattle.symbols_table.specs.DeclViews.{Declaration, defined}
+use Rattle.symbols_table.specs.DeclViews.{Declaration, definition_at}
 use Rattle.symbols_table.specs.Events.{Event, begins, declare, export, child}
-use Rattle.symbols_table.specs.Walks.{Walk, none, on, with_next, each, range_in, sym_in}
-use Rattle.symbols_table.specs.DeclarationEvents.{declared_as, whole_range, is_exported, declared, declaration_events}
+use Rattle.symbols_table.specs.Walks.{Walk, empty_walk, walk_if_there, with_next, walk_of_each, range_in, sym_in}
+use Rattle.symbols_table.specs.DeclarationEvents.{declaration_form, whole_range, is_exported, declaring_events, declaration_events}
 use Rattle.symbols_table.specs.ModuleEvents.{module_events}
 
 -- a namespace: the `export` before it, and the namespace itself
@@ -48,7 +48,7 @@ Block = Scope → List ℕ → Walk
 
 -- a later part of a dotted name: declared in the part before, by the whole namespace where the part stands, and its export and its child,
 abbrev pub part_first : TreeNode → TreeNode → Id → Walk
-part_first whole node id holder start = declare holder (id_view id) (defined (ts_namespace whole) (range_in node)) ∷ export holder (id_view id).name start ∷ child holder start ∷ []
+part_first whole node id holder start = declare holder (id_view id) (definition_at (ts_namespace whole) (range_in node)) ∷ export holder (id_view id).name start ∷ child holder start ∷ []
 
 -- and then what is in it
 abbrev pub part_events : TreeNode → TreeNode → Walk → Id → Walk
@@ -56,13 +56,13 @@ part_events whole node inner id holder start = with_next (part_first whole node 
 
 abbrev pub body_events : (ℕ → Walk) → Block → TreeNode → Bool → TreeNode → Kind → Walk
 body_events inner block whole ambient node (Kind.Decl (Decl.TsModuleBlock items)) = block (inner_scope ambient) items.items
-body_events inner block whole ambient node (Kind.Decl (Decl.TsNamespaceDecl _ body)) = on (sym_in id_of node) (part_events whole node (inner body))
-body_events inner block whole ambient node _ = none
+body_events inner block whole ambient node (Kind.Decl (Decl.TsNamespaceDecl _ body)) = walk_if_there (sym_in id_of node) (part_events whole node (inner body))
+body_events inner block whole ambient node _ = empty_walk
 
 -- of the body of a namespace: the later parts of its name, and its items in the last of them
 unfoldable pub body_within : Block → TreeNode → Bool → ℕ → ℕ → Walk
-body_within block whole ambient zero n = none
-body_within block whole ambient (suc levels) n = on (node_in whole.tree (Some n)) (λ (node : TreeNode). on (kind_of node) (body_events (body_within block whole ambient levels) block whole ambient node))
+body_within block whole ambient zero n = empty_walk
+body_within block whole ambient (suc levels) n = walk_if_there (node_in whole.tree (Some n)) (λ (node : TreeNode). walk_if_there (kind_of node) (body_events (body_within block whole ambient levels) block whole ambient node))
 
 abbrev pub body_at : Block → TreeNode → Bool → TreeNode → Walk
 body_at block whole ambient body = body_within block whole ambient (length whole.tree.nodes.items) body.number
@@ -70,16 +70,16 @@ body_at block whole ambient body = body_within block whole ambient (length whole
 -- a namespace that has a name is declared, with the events of its body; one that is a text is not
 abbrev pub namespace_events : Block → Scope → Namespace → Kind → Walk
 namespace_events block scope namespace kind =
-    on (sym_in id_of namespace.decl)
-    (λ (id : Id). declared (is_exported scope namespace.exported) (id_view id) (defined (declared_as namespace.exported (exported_ts_module namespace.decl)) (whole_range namespace.exported namespace.decl))
-    (on (child_of namespace.decl body_node_of) (body_at block namespace.decl (scope.ambient || declares_items kind))))
+    walk_if_there (sym_in id_of namespace.decl)
+    (λ (id : Id). declaring_events (is_exported scope namespace.exported) (id_view id) (definition_at (declaration_form namespace.exported (exported_ts_module namespace.decl)) (whole_range namespace.exported namespace.decl))
+    (walk_if_there (child_of namespace.decl body_node_of) (body_at block namespace.decl (scope.ambient || declares_items kind))))
 
 -- `export` before a declaration, and all else
 abbrev pub exported_events : Scope → TreeNode → TreeNode → Walk
-exported_events scope node decl = on (kind_of decl) (declaration_events scope (Some node) decl)
+exported_events scope node decl = walk_if_there (kind_of decl) (declaration_events scope (Some node) decl)
 
 abbrev pub plain_item_events : Scope → TreeNode → Kind → Walk
-plain_item_events scope node (Kind.Item (Item.ExportDecl _)) = on (child_of node decl_of) (exported_events scope node)
+plain_item_events scope node (Kind.Item (Item.ExportDecl _)) = walk_if_there (child_of node decl_of) (exported_events scope node)
 plain_item_events scope node (Kind.Item item) = module_events node (Kind.Item item)
 plain_item_events scope node kind = declaration_events scope None node kind
 
@@ -90,17 +90,17 @@ item_or (Some found) namespace other = namespace found
 -- of an item: a namespace, or another one
 abbrev pub item_events : Block → Scope → TreeNode → Kind → Walk
 item_events block scope node kind =
-    item_or (namespace_of node kind) (λ (namespace : Namespace). on (kind_of namespace.decl) (namespace_events block scope namespace)) (plain_item_events scope node kind)
+    item_or (namespace_of node kind) (λ (namespace : Namespace). walk_if_there (kind_of namespace.decl) (namespace_events block scope namespace)) (plain_item_events scope node kind)
 
 -- of the item n, down to so many levels
 unfoldable pub item_within : Tree → ℕ → Scope → ℕ → Walk
-item_within tree zero scope n = none
+item_within tree zero scope n = empty_walk
 item_within tree (suc levels) scope n =
-    on (node_in tree (Some n)) (λ (node : TreeNode). on (kind_of node) (item_events (λ (inner : Scope). each (item_within tree levels inner)) scope node))
+    walk_if_there (node_in tree (Some n)) (λ (node : TreeNode). walk_if_there (kind_of node) (item_events (λ (inner : Scope). walk_of_each (item_within tree levels inner)) scope node))
 
 -- the items of a list, down to so many levels
 abbrev pub block_within : Tree → ℕ → Block
-block_within tree levels scope = each (item_within tree levels scope)
+block_within tree levels scope = walk_of_each (item_within tree levels scope)
 
 -- of a list of items: no namespace is deeper than the tree
 abbrev pub items_at : Tree → Scope → List ℕ → Walk
@@ -111,7 +111,7 @@ root_of tree = record { tree = tree; number = 0 }
 
 -- the definition of the module itself: the program
 abbrev pub root_decl : Tree → Declaration
-root_decl tree = defined (program (root_of tree)) (range_in (root_of tree))
+root_decl tree = definition_at (program (root_of tree)) (range_in (root_of tree))
 
 abbrev pub module_scope : Tree → Scope
 module_scope tree = record { ambient = tree.declaration; is_module = true }

@@ -12,22 +12,22 @@ use Rattle.symbols_table.specs.Events.{Event}
 abbrev pub Walk : Type 0
 Walk = ℕ → ℕ → List Event
 
-abbrev pub none : Walk
-none holder start = []
+abbrev pub empty_walk : Walk
+empty_walk holder start = []
 
 -- the events of what is there, and none of what isn't
-abbrev pub on : {A : Type 0} → Option A → (A → Walk) → Walk
-on None walk = none
-on (Some x) walk = walk x
+abbrev pub walk_if_there : {A : Type 0} → Option A → (A → Walk) → Walk
+walk_if_there None walk = empty_walk
+walk_if_there (Some x) walk = walk x
 
 -- events, and the next ones, which start behind them
 abbrev pub with_next : List Event → (ℕ → List Event) → ℕ → List Event
 with_next events next start = events ++ next (start + length events)
 
 -- each part of a list in order
-abbrev pub each : {A : Type 0} → (A → Walk) → List A → Walk
-each walk [] holder start = []
-each walk (x ∷ xs) holder start = with_next (walk x holder start) (each walk xs holder) start
+abbrev pub walk_of_each : {A : Type 0} → (A → Walk) → List A → Walk
+walk_of_each walk [] holder start = []
+walk_of_each walk (x ∷ xs) holder start = with_next (walk x holder start) (walk_of_each walk xs holder) start
 
 -- a node is where it stands; what is no node, nowhere
 abbrev pub range_in : TreeNode → SourceRange

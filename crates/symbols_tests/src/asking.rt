@@ -1,6 +1,5 @@
 //! Every question by one call, in order, backwards and twice over, answers of more than one thing, and what a fault leaves.
 
-use crate::graphs::text;
 use crate::lending::{Checked, of_limited, of_root};
 use crate::trees::id;
 use deno_symbols::deps::{ResolveDepsMode, SymbolNodeDep};
@@ -56,7 +55,11 @@ fn reference(alloc: Global) -> Result<SymbolNodeDep<'static>, AllocError> {
 }
 
 /// The query of a form.
-fn query(alloc: Global, place: usize, specifier: String) -> Result<Query<'static>, AllocError> {
+fn query(
+    alloc: Global,
+    place: usize,
+    specifier: &'static str,
+) -> Result<Query<'static>, AllocError> {
     Ok(match place {
         1 => Query::Exports(specifier),
         2 => Query::Symbol(specifier, id(alloc, "n", 1)?),
@@ -75,7 +78,7 @@ fn query(alloc: Global, place: usize, specifier: String) -> Result<Query<'static
 fn queries(alloc: Global) -> Result<Vec<Query<'static>>, AllocError> {
     let mut queries = Vec::new(alloc);
     for (place, (_, specifier)) in FORMS.iter().enumerate() {
-        queries.push(query(alloc, place, text(alloc, *specifier)?)?)?;
+        queries.push(query(alloc, place, *specifier)?)?;
     }
     Ok(queries)
 }
@@ -270,7 +273,7 @@ fn answers_two(root: &mut RootSymbol<'_>, query: &Query) -> bool {
 
 /// The query of a form, on the module `m`.
 fn query_of_m(alloc: Global, place: usize) -> Result<Query<'static>, AllocError> {
-    query(alloc, place, text(alloc, "m")?)
+    query(alloc, place, "m")
 }
 
 /// The answer to the query of this place tells of two things.
@@ -325,7 +328,7 @@ fn stops_at_the_first_fault(rt: HostRuntime) -> Checked {
 }
 
 /// A query of a form that names a symbol, here symbol 9 of `b`, which has two.
-fn unknown(place: usize, specifier: String) -> Query<'static> {
+fn unknown(place: usize, specifier: &'static str) -> Query<'static> {
     let ninth = SymbolId::from_number(9);
     match place {
         3 => Query::Name(specifier, ninth),
@@ -339,10 +342,7 @@ fn unknown(place: usize, specifier: String) -> Query<'static> {
 /// Each form that names a symbol tells of one that isn't there, and stores the asked module alone.
 fn tells_unknown_symbols(root: &mut RootSymbol<'_>) -> Checked {
     for place in 3..8 {
-        let Ok(specifier) = text(root.alloc(), "b") else {
-            return Err("no memory");
-        };
-        let query = unknown(place, specifier);
+        let query = unknown(place, "b");
         if !matches!(root.answer(&query), Err(SymbolsFault::UnknownSymbol)) {
             return Err(form(place));
         }
@@ -355,4 +355,20 @@ fn tells_unknown_symbols(root: &mut RootSymbol<'_>) -> Checked {
 #[test]
 fn tells_unknown_symbols_by_each_form(rt: HostRuntime) -> Checked {
     of_root(rt.alloc(), GRAPH, tells_unknown_symbols)
+}
+
+/// A name that isn't there stores the asked module alone, though its statement `export *` leads on.
+fn tells_an_unknown_symbol_of_a_web(root: &mut RootSymbol<'_>) -> Checked {
+    let query = Query::Name("a", SymbolId::from_number(99));
+    if !matches!(root.answer(&query), Err(SymbolsFault::UnknownSymbol)) {
+        return Err("name");
+    }
+    holds!(root.has_analyzed("a"), "a is stored");
+    holds!(!root.has_analyzed("b"), "b isn't stored");
+    Ok(())
+}
+
+#[test]
+fn stores_the_asked_module_alone_for_an_unknown_symbol(rt: HostRuntime) -> Checked {
+    of_root(rt.alloc(), GRAPH, tells_an_unknown_symbol_of_a_web)
 }

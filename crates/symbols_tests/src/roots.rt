@@ -71,15 +71,16 @@ fn stores_what_is_asked_for(rt: HostRuntime) -> Checked {
 
 /// What is stored stays where a limit is met.
 fn refuses_a_second(root: &mut RootSymbol<'_>) -> Checked {
-    holds!(has_number(root, "a", Ok(Some(0))), "the number of a");
+    holds!(has_number(root, "b", Ok(Some(0))), "the number of b");
     holds!(
-        has_number(root, "b", Err("too many modules")),
-        "b is one module too many"
+        has_number(root, "a", Err("too many modules")),
+        "a is one module too many"
     );
     holds!(
-        has_number(root, "a", Ok(Some(0))),
-        "the number of a, asked for again"
+        has_number(root, "b", Ok(Some(0))),
+        "the number of b, asked for again"
     );
+    holds!(has_number(root, "r", Ok(Some(0))), "the number of r");
     Ok(())
 }
 

@@ -6,9 +6,9 @@ use Rattle.std.proofs.lemmas.List.{get_or_default}
 use Rattle.std.proofs.lemmas.List.Elements.{Contains-get_or}
 use Rattle.symbols_syntax.specs.declared.tree.arena.Node.{Node}
 use Rattle.symbols_syntax.specs.declared.graph.faults.TreeFault.TheVariants.{BadChild, SharedChild, TooDeep}
-use Rattle.symbols_syntax.specs.Nodes.{children, HasAncestors, none, above}
+use Rattle.symbols_syntax.specs.Nodes.{children, HasAncestors, none_above, above}
 use Rattle.symbols_syntax.specs.TreeFaults.{HasBadChild, HasSharedChild, IsTooDeep, NoneBelow}
-use Rattle.symbols_tree.specs.Depths.{HasDepths, IsMetAt, GivesDepth}
+use Rattle.symbols_tree.specs.inner.Depths.{HasDepths, IsMetAt, GivesDepth}
 
 -- an element stands at its index
 index_of_child : (ids : List ℕ) (c : ℕ) (h : Contains ids c) → get_or ids h.0 0 ≡ c
@@ -43,7 +43,7 @@ module _ (text : List ℕ) (nodes : List Node) (n : ℕ) (depths : List ℕ) (be
 
   -- a node has at least the ancestors that its depth counts
   ancestors_to_depth : (k c : ℕ) → c < length nodes → k < get_or depths c 0 → HasAncestors nodes c k
-  ancestors_to_depth zero c inside deep = none
+  ancestors_to_depth zero c inside deep = none_above
   ancestors_to_depth (suc k) c inside deep = elim (d.tells c inside) [
     | inl h ↦ absurd (omega (arith, h.0))
     | inr (m, h) ↦
@@ -56,7 +56,7 @@ module _ (text : List ℕ) (nodes : List Node) (n : ℕ) (depths : List ℕ) (be
 
   -- and it has no more
   ancestors_below_depth : {c k : ℕ} → c ≤ n → HasAncestors nodes c k → k < get_or depths c 0
-  ancestors_below_depth {c} low none = at_least_one c (omega arith)
+  ancestors_below_depth {c} low none_above = at_least_one c (omega arith)
   ancestors_below_depth {c} low (above {m} {n = c'} {count = k} parent rest) =
       let less = ancestors_below_depth {c = m} {k = k} (omega (arith, parent.lower)) rest in
       elim (d.tells c (omega arith)) [

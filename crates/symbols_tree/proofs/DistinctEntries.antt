@@ -4,29 +4,29 @@ use Rattle.std.specs.Prelude.{string_bytes}
 use Rattle.symbols_syntax.specs.declared.graph.faults.GraphFault.TheVariants as fault
 use Rattle.symbols_syntax.specs.declared.graph.raw.RawGraph.{RawGraph}
 use Rattle.symbols_syntax.specs.Graph.{ModuleView, Resolution, graph_view, module_view, redirect_view, resolution_view}
-use Rattle.symbols_tree.specs.GraphFaults.{IsFaultlessGraph, specifiers, sources, asked}
+use Rattle.symbols_tree.specs.GraphFaults.{IsFaultlessGraph, module_specifiers, redirect_sources, resolution_keys}
 use Rattle.symbols_tree.specs.Repeats.{IsRepeat}
-use Rattle.symbols_tree.specs.CheckSteps.{HasNoRepeat}
+use Rattle.symbols_tree.specs.inner.CheckSteps.{HasNoRepeat}
 use Rattle.symbols_tree.proofs.RepeatLemmas.{read_entry}
 
 module _ (raw : RawGraph) (faultless : IsFaultlessGraph (graph_view raw)) where
-  pub distinct_specifiers : HasNoRepeat (specifiers (map module_view raw.modules.items))
+  pub distinct_specifiers : HasNoRepeat (module_specifiers (map module_view raw.modules.items))
   distinct_specifiers i x repeat =
       let view = read_entry (λ m. m.specifier) (map module_view raw.modules.items) i x repeat.0 in
       let m = read_entry module_view raw.modules.items i view.0 view.1 in
       let is : string_bytes m.0.specifier ≡ x = ap (λ (v : ModuleView). v.specifier) m.2 ∙ view.2 in
-      faultless i (fault.DuplicateSpecifier m.0.specifier) (subst (IsRepeat (specifiers (map module_view raw.modules.items)) i) (sym is) repeat)
+      faultless i (fault.DuplicateSpecifier m.0.specifier) (subst (IsRepeat (module_specifiers (map module_view raw.modules.items)) i) (sym is) repeat)
 
-  pub distinct_sources : HasNoRepeat (sources (map redirect_view raw.redirects.items))
+  pub distinct_sources : HasNoRepeat (redirect_sources (map redirect_view raw.redirects.items))
   distinct_sources i x repeat =
       let view = read_entry (λ r. r.0) (map redirect_view raw.redirects.items) i x repeat.0 in
       let r = read_entry redirect_view raw.redirects.items i view.0 view.1 in
       let is : string_bytes r.0.0 ≡ x = ap (λ (v : List ℕ × List ℕ). v.0) r.2 ∙ view.2 in
-      faultless i (fault.DuplicateRedirect r.0.0) (subst (IsRepeat (sources (map redirect_view raw.redirects.items)) i) (sym is) repeat)
+      faultless i (fault.DuplicateRedirect r.0.0) (subst (IsRepeat (redirect_sources (map redirect_view raw.redirects.items)) i) (sym is) repeat)
 
-  pub distinct_asked : HasNoRepeat (asked (map resolution_view raw.resolutions.items))
+  pub distinct_asked : HasNoRepeat (resolution_keys (map resolution_view raw.resolutions.items))
   distinct_asked i x repeat =
       let view = read_entry (λ r. (r.referrer, r.text)) (map resolution_view raw.resolutions.items) i x repeat.0 in
       let r = read_entry resolution_view raw.resolutions.items i view.0 view.1 in
       let is : ◌≡◌ {A = List ℕ × List ℕ} (string_bytes r.0.referrer, string_bytes r.0.text) x = ap {B = List ℕ × List ℕ} (λ (v : Resolution). (v.referrer, v.text)) r.2 ∙ view.2 in
-      faultless i (fault.DuplicateResolution r.0.referrer r.0.text) (subst (IsRepeat (asked (map resolution_view raw.resolutions.items)) i) (sym is) repeat)
+      faultless i (fault.DuplicateResolution r.0.referrer r.0.text) (subst (IsRepeat (resolution_keys (map resolution_view raw.resolutions.items)) i) (sym is) repeat)

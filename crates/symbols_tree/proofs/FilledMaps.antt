@@ -13,7 +13,7 @@ use Rattle.std.specs.String.{string_eq}
 use Rattle.indexmap.specs.IndexMap.{insert_entry}
 use Rattle.indexmap.proofs.CallerLemmas.{insert_entry-new}
 use Rattle.symbols_tree.specs.Tables.{TextMap}
-use Rattle.symbols_tree.specs.CheckSteps.{HasNoRepeat}
+use Rattle.symbols_tree.specs.inner.CheckSteps.{HasNoRepeat}
 
 -- what stands at j of the first n stands at j of all
 pub stands_in_take : {A : Type 0} (n : ℕ) (xs : List A) (j : ℕ) (x : A) → slice_get (take n xs) j ≡ Some x → (j < n) × (slice_get xs j ≡ Some x)

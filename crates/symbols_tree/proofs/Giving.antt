@@ -5,7 +5,7 @@ use Rattle.std.specs.List.{Contains, SomeIndex}
 use Rattle.std.proofs.lemmas.List.{get_or_default, get_or-set_same, get_or-set_other, take_more, take_all}
 use Rattle.std.proofs.lemmas.List.Elements.{Contains-push, Contains-push_cases, Contains-append_left}
 use Rattle.std.proofs.lemmas.Bool.Decides.{eqb_tells}
-use Rattle.symbols_tree.specs.Depths.{IsMetAt, GivesDepth}
+use Rattle.symbols_tree.specs.inner.Depths.{IsMetAt, GivesDepth}
 
 -- the first i numbers have their depth, and none of them was met twice
 pub record HasGiven (ids old depths : List ℕ) (depth i : ℕ) : Type 0 where

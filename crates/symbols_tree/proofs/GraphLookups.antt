@@ -10,7 +10,8 @@ use Rattle.std.specs.String.{string_eq}
 use Rattle.std.proofs.lemmas.List.Folds.{find-append}
 use Rattle.std.proofs.lemmas.Slice.Eq.{bytes_eq-Decides}
 use Rattle.symbols_syntax.specs.Graph.{ModuleView, Resolution, found_resolution, module_of}
-use Rattle.symbols_tree.specs.Tables.{AreKeyed, TextMap, rows_of, rows, text_pairs}
+use Rattle.symbols_tree.specs.Tables.{TextMap, resolutions_of_referrer, kept_resolutions, text_pairs}
+use Rattle.symbols_tree.specs.inner.Tables.{AreKeyed}
 
 -- the target that the redirects have
 lookup-text_pairs : (s : List ℕ) (es : List (String Global × String Global)) → lookup (bytes_eq s) (text_pairs es) ≡ option_map string_bytes (lookup (λ k. bytes_eq s (string_bytes k)) es)
@@ -58,10 +59,10 @@ module _ (r t : List ℕ) where
   none_here k is (x ∷ es) = ap (λ b. cond (b && bytes_eq t (string_bytes x.0)) (Some (row k x)) (find asks (map (row k) es))) is ∙ none_here k is es
 
   -- other referrers have nothing
-  none_there : (k : String Global) → bytes_eq r (string_bytes k) ≡ true → (es : List (String Global × TextMap (String Global))) → AllByRecursion (λ y. string_eq k y ≡ false) (keys_of es) → find asks (rows es) ≡ None
+  none_there : (k : String Global) → bytes_eq r (string_bytes k) ≡ true → (es : List (String Global × TextMap (String Global))) → AllByRecursion (λ y. string_eq k y ≡ false) (keys_of es) → find asks (kept_resolutions es) ≡ None
   none_there k is [] others = refl
   none_there k is (e ∷ es) others =
-      find-append asks (rows_of e) (rows es) ∙ ap (λ o. option_or o (find asks (rows es))) (none_here e.0 (ap (λ s. bytes_eq s (string_bytes e.0)) ((bytes_eq-Decides r (string_bytes k)).0 is) ∙ others.0) e.1.entries) ∙ none_there k is es others.1
+      find-append asks (resolutions_of_referrer e) (kept_resolutions es) ∙ ap (λ o. option_or o (find asks (kept_resolutions es))) (none_here e.0 (ap (λ s. bytes_eq s (string_bytes e.0)) ((bytes_eq-Decides r (string_bytes k)).0 is) ∙ others.0) e.1.entries) ∙ none_there k is es others.1
 
   -- what the map of a referrer has for the text
   abbrev pub inside : Option (TextMap (String Global)) → Option (List ℕ)
@@ -69,17 +70,17 @@ module _ (r t : List ℕ) where
 
   -- the maps decide
   pub rows_found : (es : List (String Global × TextMap (String Global))) → IsDistinct string_eq (keys_of es)
-      → inside (lookup (λ s. bytes_eq r (string_bytes s)) es) ≡ found_resolution (rows es) r t
+      → inside (lookup (λ s. bytes_eq r (string_bytes s)) es) ≡ found_resolution (kept_resolutions es) r t
   unfolding IsDistinct
   rows_found [] distinct = refl
   rows_found (e ∷ es) distinct =
-      by (bytes_eq r (string_bytes e.0)) refl (rows_found es distinct.1) ∙ sym (ap (option_map (λ (z : Resolution). z.specifier)) (find-append asks (rows_of e) (rows es)))
+      by (bytes_eq r (string_bytes e.0)) refl (rows_found es distinct.1) ∙ sym (ap (option_map (λ (z : Resolution). z.specifier)) (find-append asks (resolutions_of_referrer e) (kept_resolutions es)))
     where
       or_none : {A : Type 0} (o : Option A) → option_or o None ≡ o
       or_none None = refl
       or_none (Some a) = refl
 
-      by : (b : Bool) → bytes_eq r (string_bytes e.0) ≡ b → inside (lookup (λ s. bytes_eq r (string_bytes s)) es) ≡ found_resolution (rows es) r t
-          → inside (cond b (Some e.1) (lookup (λ s. bytes_eq r (string_bytes s)) es)) ≡ option_map (λ (z : Resolution). z.specifier) (option_or (find asks (rows_of e)) (find asks (rows es)))
-      by true is rest = sym (ap (λ o. option_map (λ (z : Resolution). z.specifier) (option_or (find asks (rows_of e)) o)) (none_there e.0 is es distinct.0) ∙ ap (option_map (λ (z : Resolution). z.specifier)) (or_none (find asks (rows_of e))) ∙ found_here e.0 is e.1.entries)
-      by false is rest = rest ∙ sym (ap (λ o. option_map (λ (z : Resolution). z.specifier) (option_or o (find asks (rows es)))) (none_here e.0 is e.1.entries))
+      by : (b : Bool) → bytes_eq r (string_bytes e.0) ≡ b → inside (lookup (λ s. bytes_eq r (string_bytes s)) es) ≡ found_resolution (kept_resolutions es) r t
+          → inside (cond b (Some e.1) (lookup (λ s. bytes_eq r (string_bytes s)) es)) ≡ option_map (λ (z : Resolution). z.specifier) (option_or (find asks (resolutions_of_referrer e)) (find asks (kept_resolutions es)))
+      by true is rest = sym (ap (λ o. option_map (λ (z : Resolution). z.specifier) (option_or (find asks (resolutions_of_referrer e)) o)) (none_there e.0 is es distinct.0) ∙ ap (option_map (λ (z : Resolution). z.specifier)) (or_none (find asks (resolutions_of_referrer e))) ∙ found_here e.0 is e.1.entries)
+      by false is rest = rest ∙ sym (ap (λ o. option_map (λ (z : Resolution). z.specifier) (option_or o (find asks (kept_resolutions es)))) (none_here e.0 is e.1.entries))

@@ -5,9 +5,9 @@ use Rattle.std.specs.Global.{Global}
 use Rattle.std.proofs.lemmas.Simd.{map-map}
 use Rattle.symbols_syntax.specs.declared.graph.raw.RawModule.{RawModule}
 use Rattle.symbols_syntax.specs.Graph.{ModuleView, module_view}
-use Rattle.symbols_tree.specs.GraphFaults.{specifiers}
-use Rattle.symbols_tree.specs.Tables.{AreKeyed}
-use Rattle.symbols_tree.specs.CheckSteps.{HasNoRepeat}
+use Rattle.symbols_tree.specs.GraphFaults.{module_specifiers}
+use Rattle.symbols_tree.specs.inner.Tables.{AreKeyed}
+use Rattle.symbols_tree.specs.inner.CheckSteps.{HasNoRepeat}
 
 -- an entry of the map, by bytes
 abbrev pub entry_read : String Global × ModuleView → List ℕ × ModuleView
@@ -18,7 +18,7 @@ abbrev pub entry_of : RawModule → List ℕ × ModuleView
 entry_of m = (string_bytes m.specifier, module_view m)
 
 -- the specifiers, as the entries have them
-pub distinct_entries : (all : List RawModule) → HasNoRepeat (specifiers (map module_view all)) → HasNoRepeat (map (λ p. p.0) (map entry_of all))
+pub distinct_entries : (all : List RawModule) → HasNoRepeat (module_specifiers (map module_view all)) → HasNoRepeat (map (λ p. p.0) (map entry_of all))
 distinct_entries all distinct = subst HasNoRepeat (map-map (λ m. m.specifier) module_view all ∙ sym (map-map (λ p. p.0) entry_of all)) distinct
 
 module _ (entries : List (String Global × ModuleView)) (all : List RawModule) (filled : map entry_read entries ≡ map entry_of all) where

@@ -7,7 +7,7 @@ use Rattle.symbols_syntax.specs.declared.tree.arena.Node.{Node}
 use Rattle.symbols_syntax.specs.Nodes.{children}
 use Rattle.symbols_syntax.specs.Shapes.{has_bad_shape}
 use Rattle.symbols_syntax.specs.TreeFaults.{IsBadChild, HasBadChild, HasSharedChild, IsRangeOf, HasBadRange, IsTooDeep, NoneBelow}
-use Rattle.symbols_tree.specs.Depths.{HasDepths, IsMetAt}
+use Rattle.symbols_tree.specs.inner.Depths.{HasDepths, IsMetAt}
 use Rattle.symbols_tree.proofs.DepthLemmas.{child_is_there, met_is_shared, shared_is_met, too_deep_is_over}
 use Rattle.symbols_tree.proofs.FaultOrder.{none_before_next}
 

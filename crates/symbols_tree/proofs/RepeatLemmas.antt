@@ -8,7 +8,7 @@ use Rattle.std.proofs.lemmas.Bool.Decides.{Decides-and}
 use Rattle.std.proofs.lemmas.Slice.Eq.{bytes_eq-Decides}
 use Rattle.std.proofs.lemmas.Option.{slice_get_read, slice_get_within, slice_get-map, same_Some, none-some}
 use Rattle.symbols_tree.specs.Repeats.{IsRepeat}
-use Rattle.symbols_tree.specs.CheckSteps.{IsFirstWhere, IsRepeatBy}
+use Rattle.symbols_tree.specs.inner.CheckSteps.{IsFirstWhere, IsRepeatBy}
 
 -- P holds of no entry below n
 abbrev pub NoneBelow : {A : Type 0} → (ℕ → A → Type 0) → ℕ → Type 0

@@ -15,9 +15,9 @@ use Rattle.std.proofs.lemmas.Map.Text.{hash_map_updates_text}
 use Rattle.indexmap.specs.IndexMap.{get_by_text, UpdatesBy}
 use Rattle.symbols_syntax.specs.declared.graph.raw.RawResolution.{RawResolution}
 use Rattle.symbols_syntax.specs.Graph.{Resolution, found_resolution, resolution_view}
-use Rattle.symbols_tree.specs.GraphFaults.{asked}
+use Rattle.symbols_tree.specs.GraphFaults.{resolution_keys}
 use Rattle.symbols_tree.specs.Tables.{TextMap}
-use Rattle.symbols_tree.specs.CheckSteps.{HasNoRepeat, found_in_maps}
+use Rattle.symbols_tree.specs.inner.CheckSteps.{HasNoRepeat, found_in_maps}
 use Rattle.symbols_tree.proofs.FilledMaps.{stands_in_take}
 use Rattle.symbols_tree.proofs.RepeatLemmas.{pair_eq-Decides}
 
@@ -68,7 +68,7 @@ find_none {A} p (x ∷ xs) none = by (p x) refl (find_none p xs (λ j y at passe
     by false is rest = ap (λ b. cond b (Some x) (find p xs)) is ∙ rest
 
 -- one more resolution, whose referrer and text are new
-pub found_more : (views : List Resolution) (n : ℕ) (x : Resolution) → HasNoRepeat (asked views) → slice_get views n ≡ Some x → (r t : List ℕ)
+pub found_more : (views : List Resolution) (n : ℕ) (x : Resolution) → HasNoRepeat (resolution_keys views) → slice_get views n ≡ Some x → (r t : List ℕ)
     → found_resolution (take n views ++ x ∷ []) r t ≡ cond (bytes_eq r x.referrer && bytes_eq t x.text) (Some x.specifier) (found_resolution (take n views) r t)
 found_more views n x distinct at r t =
     ap (option_map (λ z. z.specifier)) (find-append test (take n views) (x ∷ [])) ∙ by (test x) refl
@@ -76,7 +76,7 @@ found_more views n x distinct at r t =
     test : Resolution → Bool
     test z = bytes_eq r z.referrer && bytes_eq t z.text
 
-    asked_at : (i : ℕ) (z : Resolution) → slice_get views i ≡ Some z → slice_get (asked views) i ≡ Some (z.referrer, z.text)
+    asked_at : (i : ℕ) (z : Resolution) → slice_get views i ≡ Some z → slice_get (resolution_keys views) i ≡ Some (z.referrer, z.text)
     asked_at i z here = slice_get-map (λ w. (w.referrer, w.text)) views i ∙ ap (option_map (λ (w : Resolution). (w.referrer, w.text))) here
 
     or_none : {A : Type 0} (o : Option A) → option_or o None ≡ o
@@ -95,7 +95,7 @@ found_more views n x distinct at r t =
     by false is = ap (option_map (λ z. z.specifier)) (or_none (find test (take n views)))
 
 -- one more resolution, from the next row
-pub found_next : (all : List RawResolution) (n : ℕ) (x : RawResolution) → HasNoRepeat (asked (map resolution_view all)) → n < length all → x ≡ get_or all n x → (r t : List ℕ)
+pub found_next : (all : List RawResolution) (n : ℕ) (x : RawResolution) → HasNoRepeat (resolution_keys (map resolution_view all)) → n < length all → x ≡ get_or all n x → (r t : List ℕ)
     → found_resolution (take (n + 1) (map resolution_view all)) r t ≡ cond (bytes_eq r (string_bytes x.referrer) && bytes_eq t (string_bytes x.text)) (Some (string_bytes x.specifier)) (found_resolution (take n (map resolution_view all)) r t)
 found_next all n x distinct inside is r t =
     let here = slice_get-map resolution_view all n ∙ ap (option_map resolution_view) (slice_get_read all (length all) n x refl inside is) in

@@ -11,7 +11,7 @@ use Rattle.symbols_syntax.specs.Graph.{Content, ModuleView, esm, text_of, conten
 use Rattle.symbols_tree.specs.GraphFaults.{HasTreeFault, IsBadModule}
 use Rattle.symbols_syntax.specs.TreeFaults.{IsFaultless, IsFirstTreeFault}
 use Rattle.symbols_syntax.specs.WellFormed.{IsWellFormed}
-use Rattle.symbols_tree.specs.CheckSteps.{IsFirstWhere}
+use Rattle.symbols_tree.specs.inner.CheckSteps.{IsFirstWhere}
 use Rattle.symbols_tree.proofs.RepeatLemmas.{read_entry}
 
 -- the check of a tree, said of the module's content

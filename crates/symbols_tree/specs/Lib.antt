@@ -12,5 +12,4 @@ pub use Rattle.symbols_syntax.specs.Graph
 pub mod Repeats
 pub mod GraphFaults
 pub mod Tables
-pub mod Depths
-pub mod CheckSteps
+pub mod inner

@@ -9,7 +9,8 @@ use Rattle.symq_reader.specs.declared.faults.FormatFault.{FormatFault}
 use Rattle.symq_reader.specs.declared.faults.FormatFault.TheVariants as format
 use Rattle.symq_reader.specs.GraphText.{IsOutcome, outcome_of}
 use Rattle.symq_core.specs.declared.program.stop.Stop.{Stop}
-use Rattle.symq_c.specs.GraphTexts.{IsRead, IsGraphOf, IsRefusalOf}
+use Rattle.symq_c.specs.GraphTexts.{IsRead, IsGraphOf}
+use Rattle.symq_c.specs.inner.GraphTexts.{IsRefusalOf}
 
 pub refused_format : (text : List ℕ) (fault : FormatFault) → IsOutcome (Err fault) (outcome_of text) → IsRefusalOf text (Stop.Format fault)
 refused_format text format.OutOfMemory p = tt

@@ -1,14 +1,12 @@
 -- The graph that a text gives to be asked, or why it gives none.
-use Rattle.std.specs.Prelude.{◌≡◌, ⊤, ℕ, List, Ok, Err}
+use Rattle.std.specs.Prelude.{◌≡◌, ℕ, List, Ok, Err}
 use Rattle.symbols_syntax.specs.declared.graph.raw.RawGraph.{RawGraph}
 use Rattle.symbols_syntax.specs.declared.graph.faults.GraphFault.{GraphFault}
 use Rattle.symbols_syntax.specs.declared.graph.faults.GraphFault.TheVariants as graph
 use Rattle.symbols_syntax.specs.Graph.{GraphView, graph_view, resolution_of}
 use Rattle.symbols_tree.specs.GraphFaults.{IsFaultlessGraph, IsFirstGraphFault}
 use Rattle.symq_reader.specs.declared.faults.FormatFault.{FormatFault}
-use Rattle.symq_reader.specs.declared.faults.FormatFault.TheVariants as format
 use Rattle.symq_reader.specs.GraphText.{graph_shape, outcome_of}
-use Rattle.symq_core.specs.declared.program.stop.Stop.{Stop}
 
 -- the raw graph that the text is
 abbrev pub IsRead : List ℕ → RawGraph → Type 0
@@ -30,14 +28,3 @@ IsFormatFaultOf text fault = outcome_of text ≡ Err fault
 -- the first fault of the graph that the text is
 abbrev pub IsGraphFaultOf : List ℕ → GraphFault → Type 0
 IsGraphFaultOf text fault = (raw : RawGraph) × IsRead text raw × IsFirstGraphFault (graph_view raw) fault
-
--- why the text gives no graph to be asked, memory apart
-abbrev pub IsRefusalOf : List ℕ → Stop → Type 0
-IsRefusalOf text Stop.Usage = ⊥
-IsRefusalOf text Stop.NotRead = ⊥
-IsRefusalOf text (Stop.Format format.OutOfMemory) = ⊤
-IsRefusalOf text (Stop.Format format.NotJson) = IsFormatFaultOf text format.NotJson
-IsRefusalOf text (Stop.Format format.BadForm) = IsFormatFaultOf text format.BadForm
-IsRefusalOf text (Stop.Graph graph.OutOfMemory) = ⊤
-IsRefusalOf text (Stop.Graph fault) = IsGraphFaultOf text fault
-IsRefusalOf text (Stop.Engine fault) = ⊥

@@ -1,7 +1,7 @@
 //! What a session keeps between its calls.
 
 ghost use Rattle.std.specs.Prelude.{IfOk, IfErr};
-ghost use Rattle.symq_c.specs.GraphTexts.{IsRefusalOf};
+ghost use Rattle.symq_c.specs.inner.GraphTexts.{IsRefusalOf};
 ghost use Rattle.symq_c.specs.Sessions.{IsKeptOf};
 
 use crate::serving::graph_of;

@@ -4,7 +4,8 @@ ghost use Rattle.std.specs.Prelude.{◌≡◌, IfOk, IfErr};
 ghost use Rattle.symq_core.specs.AnswerTexts.{answer_text};
 ghost use Rattle.symq_core.specs.Lines.{output_of};
 ghost use Rattle.symq_core.specs.declared.program.fault.EngineFault.TheVariants.{OutOfMemory};
-ghost use Rattle.symq_c.specs.GraphTexts.{IsRead, IsGraphOf, IsRefusalOf};
+ghost use Rattle.symq_c.specs.GraphTexts.{IsRead, IsGraphOf};
+ghost use Rattle.symq_c.specs.inner.GraphTexts.{IsRefusalOf};
 
 use std::alloc::Global;
 use symbols_root::root::Rules;

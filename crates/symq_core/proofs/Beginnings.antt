@@ -5,7 +5,7 @@ use Rattle.std.proofs.KnownBytes.{Appends-nil, Appends-trans}
 use Rattle.symq_core.specs.declared.program.device.DeviceFault.{DeviceFault}
 use Rattle.symq_core.specs.Devices.{failures_in_write}
 use Rattle.symq_core.specs.Serving.{AppendsBeginning}
-use Rattle.symq_core.specs.Sessions.{Sends}
+use Rattle.symq_core.specs.inner.Sessions.{Sends}
 
 -- a write that takes some bytes is no failure
 pub write_counts_none : (n : ℕ) → 0 < n → failures_in_write {E = DeviceFault} (Ok n) ≡ 0

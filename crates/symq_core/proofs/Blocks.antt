@@ -4,7 +4,7 @@ use Rattle.symq_core.specs.declared.program.fault.EngineFault.{EngineFault}
 use Rattle.symq_core.specs.declared.program.fault.EngineFault.TheVariants.{OutputFailed}
 use Rattle.symq_core.specs.Lines.{parts_of, all_but_last, last_part, answers_to}
 use Rattle.symq_core.specs.Serving.{AppendsBeginning}
-use Rattle.symq_core.specs.Sessions.{parts_after, Sends, IsAnswerFault}
+use Rattle.symq_core.specs.inner.Sessions.{parts_after, Sends, IsAnswerFault}
 use Rattle.symq_core.proofs.Parts.{some_joined, all_but_last-append, last_part-append, answers_to-append, parts_after_line, parts_after_unended}
 use Rattle.symq_core.proofs.Beginnings.{sends_beginning, sends_beginning_of_waiting, begins_longer}
 

@@ -1,7 +1,7 @@
 -- A list with too few or too many items for a form of query.
 use Rattle.std.proofs.Common.{◌≡◌, ◌<◌, List, [], ◌∷◌, length, None, refl, arith}
 use Rattle.json.specs.declared.value.Value.{Value}
-use Rattle.symq_reader.specs.Plain.{items_data}
+use Rattle.symq_reader.specs.JsonData.{items_data}
 use Rattle.symq_core.specs.ReferenceForms.{id_form, qualified_form, import_form, word_and_rest}
 use Rattle.symq_core.specs.Queries.{two_and_rest, module_question, exports_question, names_question, symbol_question, one_symbol, deps_question, resolve_question}
 

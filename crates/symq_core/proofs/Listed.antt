@@ -8,7 +8,7 @@ use Rattle.symq_reader.specs.Lists.{has_lists_only, items_have_lists_only}
 use Rattle.symq_reader.specs.UnderKeys.{each_item, as_u32, unless_wide}
 use Rattle.symq_core.specs.ReferenceForms.{read_id, read_parts, id_form, qualified_form, import_form, reference_forms, reference_named, reference_of}
 use Rattle.symbols_answers.specs.Questions.{QueryView}
-use Rattle.symq_core.specs.Queries.{module_question, exports_question, names_question, symbol_question, one_symbol, deps_question, resolve_question, forms, question_named, query_of}
+use Rattle.symq_core.specs.Queries.{module_question, exports_question, names_question, symbol_question, one_symbol, deps_question, resolve_question, question_forms, question_named, query_of}
 
 -- a value is a text, and then it has lists only, or none
 text_has : (d : Data) → has_lists_only d ≡ false → as_str d ≡ None
@@ -189,7 +189,7 @@ resolve_has (item reference (item d ds)) e = refl
 named_none : (word : List ℕ) (ds : Items) → items_have_lists_only ds ≡ false → question_named word ds ≡ None
 named_none word ds e =
     let one = one_has ds e in
-    found_none word forms ds (module_has ds e, (exports_has ds e, (names_has ds e, (symbol_has ds e, (rw one refl, (deps_has ds e, (rw one refl, (rw one refl, (rw one refl, (resolve_has ds e, tt))))))))))
+    found_none word question_forms ds (module_has ds e, (exports_has ds e, (names_has ds e, (symbol_has ds e, (rw one refl, (deps_has ds e, (rw one refl, (rw one refl, (rw one refl, (resolve_has ds e, tt))))))))))
 
 -- ---- a query
 

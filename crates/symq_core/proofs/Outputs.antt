@@ -6,7 +6,7 @@ use Rattle.symq_core.specs.declared.program.fault.EngineFault.{EngineFault}
 use Rattle.symq_core.specs.declared.program.fault.EngineFault.TheVariants.{OutOfMemory, InputFailed, OutputFailed, InputTooLong}
 use Rattle.symq_core.specs.Lines.{parts_of, all_but_last, last_part, line_in, ended_lines, answers_to, output_of}
 use Rattle.symq_core.specs.Serving.{AppendsBeginning, BeginsOutput, Stops}
-use Rattle.symq_core.specs.Sessions.{parts_after, IsAnswerFault}
+use Rattle.symq_core.specs.inner.Sessions.{parts_after, IsAnswerFault}
 use Rattle.symq_core.proofs.Parts.{ended_lines-append, last_part_of-append, answers_to-append}
 use Rattle.symq_core.proofs.Beginnings.{begins_after, begins_longer}
 

@@ -1,10 +1,10 @@
 -- Items of which one is no text.
-use Rattle.std.proofs.Common.{◌≡◌, ◌<◌, ◌+◌, ℕ, suc, List, ◌∷◌, ◌++◌, length, get_or, drop, Option, None, option_map, refl, sym, ap, ◌∙◌}
+use Rattle.std.proofs.Common.{◌≡◌, ◌<◌, ℕ, suc, List, ◌∷◌, ◌++◌, length, get_or, drop, Option, None, option_map, refl, sym, ap, ◌∙◌}
 use Rattle.std.proofs.Math.Seq.{drop-cons}
 use Rattle.std.specs.declared.alloc.Global.{Global}
 use Rattle.json.specs.declared.value.Value.{Value}
 use Rattle.serde_json.specs.Find.{as_str}
-use Rattle.symq_reader.specs.Plain.{data_of, items_data}
+use Rattle.symq_reader.specs.JsonData.{data_of, items_data}
 use Rattle.symq_reader.specs.UnderKeys.{each_item}
 
 pub no_text : (front : List (List ℕ)) (v : Value Global) (vs : List (Value Global)) (i : ℕ) (all : Option (List (List ℕ))) → i < length vs → v ≡ get_or vs i v → as_str (data_of v) ≡ None

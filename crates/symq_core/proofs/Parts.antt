@@ -7,7 +7,7 @@ use Rattle.std.proofs.lemmas.List.Sums.{position_or_len_is}
 use Rattle.memchr.specs.Find.{Nowhere, NoneBefore, Passes, is_byte}
 use Rattle.std.proofs.lemmas.Grind.{flat_map-append}
 use Rattle.symq_core.specs.Lines.{parts_of, all_but_last, last_part, line_in, ended_lines, answers_to}
-use Rattle.symq_core.specs.Sessions.{join_first, parts_after}
+use Rattle.symq_core.specs.inner.Sessions.{join_first, parts_after}
 
 not_true : (b : Bool) → ¬ (b ≡ true) → b ≡ false
 not_true true h = absurd (h refl)

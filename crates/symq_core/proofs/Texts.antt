@@ -6,23 +6,19 @@ use Rattle.json.specs.Written.{Written, Writes}
 use Rattle.serde_json.specs.Data.{Data, Members}
 use Rattle.serde_json.specs.Written.{compact_text}
 use Rattle.serde_json.proofs.Texts.{print-outline}
-use Rattle.symq_core.specs.Telling.{Behind, tokens_of, rest_tokens, members_left, star_tokens}
+use Rattle.symq_core.specs.inner.Telling.{TokensBehind, tokens_of, members_left, star_tokens}
 use Rattle.symbols_table.specs.DeclViews.{DepView}
 use Rattle.symq_core.specs.PathData.{with_star}
 
 -- what `Writes` says of a write that was made
-pub written : {E : Type 0} {done : Unit {0}} {old new : Written} {t : Token} → Writes {E = E} (Ok done) old new t → Behind old new (t ∷ [])
+pub written : {E : Type 0} {done : Unit {0}} {old new : Written} {t : Token} → Writes {E = E} (Ok done) old new t → TokensBehind old new (t ∷ [])
 written w = record { before = w.room.0; tokens = w.ok }
 
-pub then : {a b c : Written} {ts us : List Token} → Behind a b ts → Behind b c us → Behind a c (ts ++ us)
+pub then : {a b c : Written} {ts us : List Token} → TokensBehind a b ts → TokensBehind b c us → TokensBehind a c (ts ++ us)
 then {a} {b} {c} {ts} {us} p q = record { before = q.before ∙ p.before; tokens = q.tokens ∙ ap (λ t. t ++ us) p.tokens ∙ append_assoc a.tokens ts us }
 
--- one more value was told, of those that come behind
-pub told_next : (out next begun : Written) (v : Data) (vs : List Data) (all : List Token) → Behind out next (tokens_of v) → out.before ≡ begun.before → out.tokens ++ rest_tokens (v ∷ vs) ≡ all → (next.before ≡ begun.before) × (next.tokens ++ rest_tokens vs ≡ all)
-told_next out next begun v vs all added same so = (added.before ∙ same, ap (λ ts. ts ++ rest_tokens vs) added.tokens ∙ (append_assoc out.tokens (tokens_of v) (rest_tokens vs) ∙ so))
-
 -- what is printed once a value is told is its text, behind the bytes that a writer began with
-pub text_behind : (fresh done : Written) (bytes : List ℕ) (value : Data) → fresh.before ≡ bytes → fresh.tokens ≡ [] → Behind fresh done (tokens_of value) → done.before ++ print done.tokens ≡ bytes ++ compact_text value
+pub text_behind : (fresh done : Written) (bytes : List ℕ) (value : Data) → fresh.before ≡ bytes → fresh.tokens ≡ [] → TokensBehind fresh done (tokens_of value) → done.before ++ print done.tokens ≡ bytes ++ compact_text value
 text_behind fresh done bytes value begun none told =
     (λ i. (told.before ∙ begun) i ++ print ((told.tokens ∙ ap (λ ts. ts ++ tokens_of value) none) i)) ∙ ap (λ text. bytes ++ text) (print-outline value)
 

@@ -29,8 +29,8 @@ abbrev pub statements_data : List ToldStatement → Data
 statements_data statements = array (items_of (map statement_data statements))
 
 -- an export: the statements that lead to it, the module that owns it, its name, and its symbol there
-abbrev pub entry_data : ToldExport → Data
-entry_data entry =
+abbrev pub export_data : ToldExport → Data
+export_data entry =
     object (member (codes "chain") (statements_data entry.statements)
     (member (codes "module") (string entry.owner)
     (member (codes "name") (string entry.name)
@@ -90,7 +90,7 @@ dependencies_data dependencies = array (items_of (map dependency_data dependenci
 abbrev pub answer_data : AnswerView → Data
 answer_data tells_nothing = null
 answer_data (tells_module specifier) = object (member (codes "module") (string specifier) no_members)
-answer_data (tells_exports entries shared unresolved) = object (member (codes "exports") (array (items_of (map entry_data entries))) (with_sharing shared (member (codes "unresolved") (statements_data unresolved) no_members)))
+answer_data (tells_exports entries shared unresolved) = object (member (codes "exports") (array (items_of (map export_data entries))) (with_sharing shared (member (codes "unresolved") (statements_data unresolved) no_members)))
 answer_data (tells_names names) = object (member (codes "names") (array (items_of (map public_name_data names))) no_members)
 answer_data (tells_symbol found) = object (member (codes "symbol") (symbol_number found) no_members)
 answer_data (tells_name name) = object (member (codes "name") (name_text name) no_members)
@@ -101,11 +101,11 @@ answer_data (tells_leaves leaves) = object (member (codes "leaves") (array (item
 answer_data (tells_entries entries) = object (member (codes "entries") (array (items_of (map standing_data entries))) no_members)
 
 -- the value of an answer; a fault where the module has no such symbol
-abbrev pub found_data : Option AnswerView → Data
-found_data None = fault_data (codes "unknown symbol")
-found_data (Some answer) = answer_data answer
+abbrev pub answer_or_fault_data : Option AnswerView → Data
+answer_or_fault_data None = fault_data (codes "unknown symbol")
+answer_or_fault_data (Some answer) = answer_data answer
 
 -- the value of the answer to what a line asks; a fault where it asks nothing
 abbrev pub asked_data : Rules → GraphView → Option QueryView → Data
 asked_data rules graph None = fault_data (codes "bad query")
-asked_data rules graph (Some query) = found_data (query_answer rules graph query)
+asked_data rules graph (Some query) = answer_or_fault_data (query_answer rules graph query)

@@ -4,12 +4,9 @@ pub mod TextsData
 pub mod PathData
 pub mod AnswerData
 pub mod AnswerTexts
-pub mod Telling
-pub mod Answering
 pub mod Devices
 pub mod Lines
 pub mod Serving
-pub mod Sessions
 pub mod Stopping
 pub mod StopLines
-pub mod Words
+pub mod inner

@@ -3,7 +3,7 @@ use Rattle.std.specs.Prelude.{ℕ, List, Option, Some, None, codes}
 use Rattle.serde_json.specs.Data.{Data, number, unsigned, string, array, object, Items, no_items, item, Members, no_members, member}
 use Rattle.symbols_table.specs.DeclViews.{DepView}
 use Rattle.symbols_syntax.specs.declared.ids.SymbolId.{SymbolId}
-use Rattle.symbols_paths.specs.Trees.{NamedDecl, Defined, Reason, no_symbol, no_module, no_part, Missing, Leaf, definition, unresolved, Tree, Forest, leaf, link, none, more}
+use Rattle.symbols_paths.specs.Trees.{NamedDecl, Defined, Reason, no_symbol, no_module, no_part, Missing, Leaf, definition, unresolved, PathTree, Forest, leaf, link, no_trees, more_trees}
 use Rattle.symbols_paths.specs.DepAnswers.{EntryView, a_path, a_module}
 use Rattle.symq_core.specs.TextsData.{texts_data}
 
@@ -63,7 +63,7 @@ link_end parts s = member (codes "parts") (texts_data parts) (member (codes "sym
 
 -- a path: a leaf; or a link with its declaration, its module, what is next, its parts and its symbol
 abbrev mutual
-  pub tree_data : Tree → Data
+  pub tree_data : PathTree → Data
   tree_data (leaf x) = leaf_data x
   tree_data (link head next) =
       object (member (codes "decl") (decl_data head.decl)
@@ -72,8 +72,8 @@ abbrev mutual
       (link_end head.parts head.symbol.number))))
 
   pub forest_items : Forest → Items
-  forest_items none = no_items
-  forest_items (more t f) = item (tree_data t) (forest_items f)
+  forest_items no_trees = no_items
+  forest_items (more_trees t f) = item (tree_data t) (forest_items f)
 
 -- what a reference stands for: a path, or a module
 abbrev pub standing_data : EntryView → Data

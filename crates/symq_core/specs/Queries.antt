@@ -64,11 +64,11 @@ deps_question (item symbol (item mode no_items)) = option_and_then (λ n. option
 deps_question _ = None
 
 -- the forms by their words
-abbrev pub forms : List (List ℕ × (Items → Option QuestionView))
-forms = (codes "module", module_question) ∷ (codes "exports", exports_question) ∷ (codes "names", names_question) ∷ (codes "symbol", symbol_question) ∷ (codes "name", name_question) ∷ (codes "deps", deps_question) ∷ (codes "paths", paths_question) ∷ (codes "definitions", definitions_question) ∷ (codes "leaves", leaves_question) ∷ (codes "resolve", resolve_question) ∷ []
+abbrev pub question_forms : List (List ℕ × (Items → Option QuestionView))
+question_forms = (codes "module", module_question) ∷ (codes "exports", exports_question) ∷ (codes "names", names_question) ∷ (codes "symbol", symbol_question) ∷ (codes "name", name_question) ∷ (codes "deps", deps_question) ∷ (codes "paths", paths_question) ∷ (codes "definitions", definitions_question) ∷ (codes "leaves", leaves_question) ∷ (codes "resolve", resolve_question) ∷ []
 
 abbrev pub question_named : List ℕ → Items → Option QuestionView
-question_named word items = option_and_then (λ form. form.1 items) (find (λ form. bytes_eq word form.0) forms)
+question_named word items = option_and_then (λ form. form.1 items) (find (λ form. bytes_eq word form.0) question_forms)
 
 -- a list that begins with two texts: a word, a specifier, and the items behind them
 abbrev pub two_and_rest : Items → Option (List ℕ × List ℕ × Items)

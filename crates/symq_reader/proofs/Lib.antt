@@ -8,3 +8,10 @@ pub mod Parts
 pub mod Outcomes
 pub mod Streamed
 pub mod Texts
+pub mod Entered
+pub mod Digits
+pub mod ListTokens
+pub mod BracedWords
+pub mod ClosedStrings
+pub mod CutTexts
+pub mod Pieces

@@ -5,7 +5,7 @@ use Rattle.fast_float.specs.Text.{Parts, scan, nearest, digits_of, with_sign}
 use Rattle.serde_json.specs.Data.{negative, float}
 use Rattle.serde_json.specs.Read.{number_of, number_from, float_of, is_integer}
 use Rattle.serde_json.specs.Find.{as_u64}
-use Rattle.symq_reader.specs.Plain.{num_or}
+use Rattle.symq_reader.specs.JsonData.{num_or}
 
 either_float : (b : Bool) (x : Float) → as_u64 (num_or (cond b (Some (float x)) None)) ≡ None
 either_float true x = refl

@@ -7,7 +7,7 @@ use Rattle.serde_json.specs.Read.{read}
 use Rattle.symbols_syntax.specs.declared.graph.raw.RawGraph.{RawGraph}
 use Rattle.symq_reader.specs.declared.faults.FormatFault.{FormatFault}
 use Rattle.symq_reader.specs.declared.faults.FormatFault.TheVariants.{OutOfMemory, NotJson, BadForm}
-use Rattle.symq_reader.specs.Reading.{Gives}
+use Rattle.symq_reader.specs.inner.Reading.{Gives}
 use Rattle.symq_reader.specs.GraphText.{json_of, graph_of, graph_shape, outcome_for, or_fault, IsOutcome}
 
 -- a text that is read is the value that the bytes are

@@ -6,8 +6,8 @@ use Rattle.json.specs.Json as json
 use Rattle.serde_json.specs.Data.{Data}
 use Rattle.serde_json.specs.Find.{get, as_str}
 use Rattle.symq_reader.specs.GraphText.{NodeShape, TreeShape, ModuleKindShape, esm, json as json_module, external, ModuleShape, GraphShape, as_node, as_tree, as_module, as_redirect, as_resolution, if_object, graph_fields}
-use Rattle.symq_reader.specs.Plain.{plain}
-use Rattle.symq_reader.specs.Streams.{Around, list_at, optional_at, kind_with_tree, with_tree}
+use Rattle.symq_reader.specs.JsonData.{json_data}
+use Rattle.symq_reader.specs.inner.Streams.{Around, list_at, optional_at, kind_with_tree, with_tree}
 use Rattle.symq_reader.specs.UnderKeys.{unless_null, if_there, or_false, required_under, optional_under, list_under, flag_under}
 use Rattle.symq_reader.proofs.Gets.{get_of_plain}
 
@@ -15,11 +15,11 @@ differ : (q k : List ℕ) → bytes_eq q k ≡ false → q ≡ k → ⊥
 differ q k e h = true≢false (sym ((bytes_eq-Decides q k).1 h) ∙ e)
 
 module _ (depth : ℕ) (old new : List Token) (key : List ℕ) (there : Option json.Json) (kept : json.Members) (around : Around depth old new key there kept) where
-  pub at_key : get key (plain (json.object around.all)) ≡ option_map plain there
-  at_key = get_of_plain key (json.object around.all) ∙ ap (option_map plain) around.under
+  pub at_key : get key (json_data (json.object around.all)) ≡ option_map json_data there
+  at_key = get_of_plain key (json.object around.all) ∙ ap (option_map json_data) around.under
 
-  pub at_other : (q : List ℕ) → (q ≡ key → ⊥) → get q (plain (json.object kept)) ≡ get q (plain (json.object around.all))
-  at_other q other = get_of_plain q (json.object kept) ∙ ap (option_map plain) (around.others q other) ∙ sym (get_of_plain q (json.object around.all))
+  pub at_other : (q : List ℕ) → (q ≡ key → ⊥) → get q (json_data (json.object kept)) ≡ get q (json_data (json.object around.all))
+  at_other q other = get_of_plain q (json.object kept) ∙ ap (option_map json_data) (around.others q other) ∙ sym (get_of_plain q (json.object around.all))
 
 -- ---- a tree
 
@@ -34,16 +34,16 @@ tree_with (Some d) (Some old) t nodes e =
     let is : start ≡ t = cc in ap (λ x. Some (record { declaration = x.declaration; nodes = nodes })) is
 
 pub tree_whole : (depth : ℕ) (old new : List Token) (there : Option json.Json) (kept : json.Members) (around : Around depth old new (codes "nodes") there kept) (t : TreeShape) (nodes : List NodeShape)
-    → as_tree (plain (json.object kept)) ≡ Some t → list_at as_node (option_map plain there) ≡ Some nodes → as_tree (plain (json.object around.all)) ≡ Some (record { declaration = t.declaration; nodes = nodes })
+    → as_tree (json_data (json.object kept)) ≡ Some t → list_at as_node (option_map json_data there) ≡ Some nodes → as_tree (json_data (json.object around.all)) ≡ Some (record { declaration = t.declaration; nodes = nodes })
 tree_whole depth old new there kept around t nodes e found =
-    let all = plain (json.object around.all) in
+    let all = json_data (json.object around.all) in
     let apart = differ (codes "declaration") (codes "nodes") refl in
-    let flag : flag_under (codes "declaration") (plain (json.object kept)) ≡ flag_under (codes "declaration") all =
+    let flag : flag_under (codes "declaration") (json_data (json.object kept)) ≡ flag_under (codes "declaration") all =
     ap (λ o. or_false (option_and_then unless_null o)) (at_other depth old new (codes "nodes") there kept around (codes "declaration") apart) in
     let list : list_under as_node (codes "nodes") all ≡ Some nodes = ap (list_at as_node) (at_key depth old new (codes "nodes") there kept around) ∙ found in
     ap (λ o. tree_from (flag_under (codes "declaration") all) o) list
     ∙ ap (λ o. tree_from o (Some nodes)) (sym flag)
-    ∙ tree_with (flag_under (codes "declaration") (plain (json.object kept))) (list_under as_node (codes "nodes") (plain (json.object kept))) t nodes e
+    ∙ tree_with (flag_under (codes "declaration") (json_data (json.object kept))) (list_under as_node (codes "nodes") (json_data (json.object kept))) t nodes e
 
 -- ---- a module
 
@@ -103,10 +103,10 @@ module_same s s' k k' x x' tree tree' y y' es ek ex et ey =
     ∙ ap (λ o. module_from s' k' x' tree' o) ey
 
 pub module_whole : (depth : ℕ) (old new : List Token) (there : Option json.Json) (kept : json.Members) (around : Around depth old new (codes "tree") there kept) (m : ModuleShape) (found : Option TreeShape)
-    → as_module (plain (json.object kept)) ≡ Some m → optional_at as_tree (option_map plain there) ≡ Some found → as_module (plain (json.object around.all)) ≡ Some (with_tree found m)
+    → as_module (json_data (json.object kept)) ≡ Some m → optional_at as_tree (option_map json_data there) ≡ Some found → as_module (json_data (json.object around.all)) ≡ Some (with_tree found m)
 module_whole depth old new there kept around m found e tree =
-    let all = plain (json.object around.all) in
-    let some = plain (json.object kept) in
+    let all = json_data (json.object around.all) in
+    let some = json_data (json.object kept) in
     let same = λ (q : List ℕ) (h : q ≡ codes "tree" → ⊥). sym (at_other depth old new (codes "tree") there kept around q h) in
     let at_tree : optional_under as_tree (codes "tree") all ≡ Some found = ap (optional_at as_tree) (at_key depth old new (codes "tree") there kept around) ∙ tree in
     let text = λ (o : Option Data). option_and_then as_str (option_and_then unless_null o) in
@@ -123,7 +123,7 @@ abbrev graph_from : Option (List ModuleShape) → Option (List (List ℕ × List
 graph_from modules redirects resolutions =
     option_and_then (λ modules. option_and_then (λ redirects. option_map (λ resolutions. record { modules = modules; redirects = redirects; resolutions = resolutions }) resolutions) redirects) modules
 
-abbrev with_modules : List ModuleShape → GraphShape → GraphShape
+abbrev pub with_modules : List ModuleShape → GraphShape → GraphShape
 with_modules modules g = record { modules = modules; redirects = g.redirects; resolutions = g.resolutions }
 
 graph_with : (modules : Option (List ModuleShape)) (redirects : Option (List (List ℕ × List ℕ))) (resolutions : Option (List (List ℕ × List ℕ × List ℕ))) (found : List ModuleShape) (g : GraphShape)
@@ -137,10 +137,10 @@ graph_with (Some ms) (Some rs) (Some ss) found g e =
     ap (λ x. Some (with_modules found x)) is
 
 pub graph_whole : (depth : ℕ) (old new : List Token) (there : Option json.Json) (kept : json.Members) (around : Around depth old new (codes "modules") there kept) (g : GraphShape) (found : List ModuleShape)
-    → if_object graph_fields (plain (json.object kept)) ≡ Some g → list_at as_module (option_map plain there) ≡ Some found → if_object graph_fields (plain (json.object around.all)) ≡ Some (with_modules found g)
+    → if_object graph_fields (json_data (json.object kept)) ≡ Some g → list_at as_module (option_map json_data there) ≡ Some found → if_object graph_fields (json_data (json.object around.all)) ≡ Some (with_modules found g)
 graph_whole depth old new there kept around g found e list =
-    let all = plain (json.object around.all) in
-    let some = plain (json.object kept) in
+    let all = json_data (json.object around.all) in
+    let some = json_data (json.object kept) in
     let same = λ (q : List ℕ) (h : q ≡ codes "modules" → ⊥). sym (at_other depth old new (codes "modules") there kept around q h) in
     let modules : list_under as_module (codes "modules") all ≡ Some found = ap (list_at as_module) (at_key depth old new (codes "modules") there kept around) ∙ list in
     ap (λ o. graph_from o (list_under as_redirect (codes "redirects") all) (list_under as_resolution (codes "resolutions") all)) modules

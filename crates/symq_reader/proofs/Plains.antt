@@ -8,7 +8,8 @@ use Rattle.std.specs.Ordering.{match_ordering}
 use Rattle.std.specs.Cmp.Lexicographic.{slice_cmp}
 use Rattle.symq_reader.specs.Lists.{has_lists_only, items_have_lists_only}
 use Rattle.symq_reader.specs.Numbers.{is_whole, items_are_whole, members_are_whole}
-use Rattle.symq_reader.specs.Plain.{num_or, plain, plain_items, plain_members, fits, items_fit, members_fit}
+use Rattle.symq_reader.specs.JsonData.{num_or, json_data, json_items_data, json_members_data}
+use Rattle.symq_reader.specs.inner.JsonData.{fits, items_fit, members_fit}
 
 both : (a b : Bool) → (a && b) ≡ true → (a ≡ true) × (b ≡ true)
 both true b e = (refl, e)
@@ -21,7 +22,7 @@ some_whole None e = absurd (cc)
 some_whole (Some n) e = refl
 
 mutual
-  pub of_json-fits : (j : json.Json) → fits j ≡ true → of_json j ≡ Some (plain j)
+  pub of_json-fits : (j : json.Json) → fits j ≡ true → of_json j ≡ Some (json_data j)
   of_json-fits json.null e = refl
   of_json-fits (json.boolean b) e = refl
   of_json-fits (json.number s) e = some_whole (number_of s) e
@@ -29,17 +30,17 @@ mutual
   of_json-fits (json.array js) e = ap (option_map array) (of_items-fit js e)
   of_json-fits (json.object ms) e = ap (option_map object) (of_members-fit ms no_members e)
 
-  of_items-fit : (js : json.Items) → items_fit js ≡ true → of_items js ≡ Some (plain_items js)
+  of_items-fit : (js : json.Items) → items_fit js ≡ true → of_items js ≡ Some (json_items_data js)
   of_items-fit json.no_items e = refl
   of_items-fit (json.item j js) e =
       let h = both (fits j) (items_fit js) e in
-      ap (option_and_then (λ d. option_map (item d) (of_items js))) (of_json-fits j h.0) ∙ ap (option_map (item (plain j))) (of_items-fit js h.1)
+      ap (option_and_then (λ d. option_map (item d) (of_items js))) (of_json-fits j h.0) ∙ ap (option_map (item (json_data j))) (of_items-fit js h.1)
 
-  of_members-fit : (ms : json.Members) (found : Members) → members_fit ms ≡ true → of_members ms found ≡ Some (plain_members ms found)
+  of_members-fit : (ms : json.Members) (found : Members) → members_fit ms ≡ true → of_members ms found ≡ Some (json_members_data ms found)
   of_members-fit json.no_members found e = refl
   of_members-fit (json.member k j ms) found e =
       let h = both (fits j) (members_fit ms) e in
-      ap (option_and_then (λ d. of_members ms (put k d found))) (of_json-fits j h.0) ∙ of_members-fit ms (put k (plain j) found) h.1
+      ap (option_and_then (λ d. of_members ms (put k d found))) (of_json-fits j h.0) ∙ of_members-fit ms (put k (json_data j) found) h.1
 
 both_of : (a b : Bool) → a ≡ true → b ≡ true → (a && b) ≡ true
 both_of a b e f = rw e f
@@ -56,7 +57,7 @@ put-whole k d (member l e ms) h old =
     put_at-whole (slice_cmp nat_cmp k l) k l d e ms h old (put-whole k d ms h (both (is_whole e) (members_are_whole ms) old).1)
 
 mutual
-  pub is_whole-fits : (j : json.Json) → fits j ≡ true → is_whole (plain j) ≡ true
+  pub is_whole-fits : (j : json.Json) → fits j ≡ true → is_whole (json_data j) ≡ true
   is_whole-fits json.null e = refl
   is_whole-fits (json.boolean b) e = refl
   is_whole-fits (json.number s) e = e
@@ -64,17 +65,17 @@ mutual
   is_whole-fits (json.array js) e = items_whole-fits js e
   is_whole-fits (json.object ms) e = members_whole-fits ms no_members e refl
 
-  items_whole-fits : (js : json.Items) → items_fit js ≡ true → items_are_whole (plain_items js) ≡ true
+  items_whole-fits : (js : json.Items) → items_fit js ≡ true → items_are_whole (json_items_data js) ≡ true
   items_whole-fits json.no_items e = refl
   items_whole-fits (json.item j js) e =
       let h = both (fits j) (items_fit js) e in
-      both_of (is_whole (plain j)) (items_are_whole (plain_items js)) (is_whole-fits j h.0) (items_whole-fits js h.1)
+      both_of (is_whole (json_data j)) (items_are_whole (json_items_data js)) (is_whole-fits j h.0) (items_whole-fits js h.1)
 
-  members_whole-fits : (ms : json.Members) (found : Members) → members_fit ms ≡ true → members_are_whole found ≡ true → members_are_whole (plain_members ms found) ≡ true
+  members_whole-fits : (ms : json.Members) (found : Members) → members_fit ms ≡ true → members_are_whole found ≡ true → members_are_whole (json_members_data ms found) ≡ true
   members_whole-fits json.no_members found e old = old
   members_whole-fits (json.member k j ms) found e old =
       let h = both (fits j) (members_fit ms) e in
-      members_whole-fits ms (put k (plain j) found) h.1 (put-whole k (plain j) found (is_whole-fits j h.0) old)
+      members_whole-fits ms (put k (json_data j) found) h.1 (put-whole k (json_data j) found (is_whole-fits j h.0) old)
 
 -- ---- a value that has data has these data
 
@@ -97,33 +98,33 @@ under_item (Some d) None p ps es first rest e = absurd (cc)
 under_item (Some d) (Some ds) p ps es first rest e =
     let is : item d ds ≡ es = cc in ap (λ x. item x ps) (first d refl) ∙ ap (item d) (rest ds refl) ∙ is
 
-under_member : (o : Option Data) (ms : json.Members) (k : List ℕ) (p : Data) (found ns : Members) → ((d : Data) → o ≡ Some d → p ≡ d) → ((new : Members) → of_members ms new ≡ Some ns → plain_members ms new ≡ ns)
-    → option_and_then (λ d. of_members ms (put k d found)) o ≡ Some ns → plain_members ms (put k p found) ≡ ns
+under_member : (o : Option Data) (ms : json.Members) (k : List ℕ) (p : Data) (found ns : Members) → ((d : Data) → o ≡ Some d → p ≡ d) → ((new : Members) → of_members ms new ≡ Some ns → json_members_data ms new ≡ ns)
+    → option_and_then (λ d. of_members ms (put k d found)) o ≡ Some ns → json_members_data ms (put k p found) ≡ ns
 under_member None ms k p found ns first rest e = absurd (cc)
-under_member (Some d) ms k p found ns first rest e = ap (λ x. plain_members ms (put k x found)) (first d refl) ∙ rest (put k d found) e
+under_member (Some d) ms k p found ns first rest e = ap (λ x. json_members_data ms (put k x found)) (first d refl) ∙ rest (put k d found) e
 
 mutual
-  pub plain-of_json : (j : json.Json) (d : Data) → of_json j ≡ Some d → plain j ≡ d
+  pub plain-of_json : (j : json.Json) (d : Data) → of_json j ≡ Some d → json_data j ≡ d
   plain-of_json json.null d e = cc
   plain-of_json (json.boolean b) d e = cc
   plain-of_json (json.number s) d e = number-plain (number_of s) d e
   plain-of_json (json.string s) d e = cc
-  plain-of_json (json.array js) d e = under_array (of_items js) (plain_items js) d (plain-of_items js) e
-  plain-of_json (json.object ms) d e = under_object (of_members ms no_members) (plain_members ms no_members) d (plain-of_members ms no_members) e
+  plain-of_json (json.array js) d e = under_array (of_items js) (json_items_data js) d (plain-of_items js) e
+  plain-of_json (json.object ms) d e = under_object (of_members ms no_members) (json_members_data ms no_members) d (plain-of_members ms no_members) e
 
-  plain-of_items : (js : json.Items) (ds : Items) → of_items js ≡ Some ds → plain_items js ≡ ds
+  plain-of_items : (js : json.Items) (ds : Items) → of_items js ≡ Some ds → json_items_data js ≡ ds
   plain-of_items json.no_items ds e = cc
-  plain-of_items (json.item j js) ds e = under_item (of_json j) (of_items js) (plain j) (plain_items js) ds (plain-of_json j) (plain-of_items js) e
+  plain-of_items (json.item j js) ds e = under_item (of_json j) (of_items js) (json_data j) (json_items_data js) ds (plain-of_json j) (plain-of_items js) e
 
-  plain-of_members : (ms : json.Members) (found ns : Members) → of_members ms found ≡ Some ns → plain_members ms found ≡ ns
+  plain-of_members : (ms : json.Members) (found ns : Members) → of_members ms found ≡ Some ns → json_members_data ms found ≡ ns
   plain-of_members json.no_members found ns e = cc
   plain-of_members (json.member k j ms) found ns e =
-      under_member (of_json j) ms k (plain j) found ns (plain-of_json j) (λ new h. plain-of_members ms new ns h) e
+      under_member (of_json j) ms k (json_data j) found ns (plain-of_json j) (λ new h. plain-of_members ms new ns h) e
 
 -- ---- the numbers of a value without objects fit where those of its data do
 
 mutual
-  pub fits-lists : (j : json.Json) → has_lists_only (plain j) ≡ true → fits j ≡ true
+  pub fits-lists : (j : json.Json) → has_lists_only (json_data j) ≡ true → fits j ≡ true
   fits-lists json.null e = refl
   fits-lists (json.boolean b) e = refl
   fits-lists (json.number s) e = e
@@ -131,8 +132,8 @@ mutual
   fits-lists (json.array js) e = items_fit-lists js e
   fits-lists (json.object ms) e = absurd (cc)
 
-  items_fit-lists : (js : json.Items) → items_have_lists_only (plain_items js) ≡ true → items_fit js ≡ true
+  items_fit-lists : (js : json.Items) → items_have_lists_only (json_items_data js) ≡ true → items_fit js ≡ true
   items_fit-lists json.no_items e = refl
   items_fit-lists (json.item j js) e =
-      let h = both (has_lists_only (plain j)) (items_have_lists_only (plain_items js)) e in
+      let h = both (has_lists_only (json_data j)) (items_have_lists_only (json_items_data js)) e in
       both_of (fits j) (items_fit js) (fits-lists j h.0) (items_fit-lists js h.1)

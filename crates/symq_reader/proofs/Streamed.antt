@@ -5,8 +5,9 @@ use Rattle.json.specs.Token.{Token}
 use Rattle.json.specs.Json.{Json, null, array, object, Items, no_items, item, Members, no_members, parse_map, after_end_array, items, members, value}
 use Rattle.json.proofs.Grammar.{left, value-begin_array, value-begin_object, value_is, skip_value-shorter}
 use Rattle.serde_json.specs.Data.{Data}
-use Rattle.symq_reader.specs.Plain.{plain, plain_items, items_fit}
-use Rattle.symq_reader.specs.Streams.{items_joined, joined, TookItems, Passed, Around, list_at, optional_at, Reads, ReadsItems, ReadsMembers}
+use Rattle.symq_reader.specs.JsonData.{json_data, json_items_data}
+use Rattle.symq_reader.specs.inner.JsonData.{items_fit}
+use Rattle.symq_reader.specs.inner.Streams.{items_joined, members_joined, TookItems, Passed, Around, list_at, optional_at, ReadsValue, ReadsItems, ReadsMembers}
 use Rattle.symq_reader.specs.UnderKeys.{each_item}
 use Rattle.symq_reader.proofs.Taking.{took_item, took_all_items, item_fits, item_of_form, around_none, around_one}
 
@@ -14,14 +15,14 @@ pub mapped_ok : {A E : Type 0} (r : Result A E) (P Q : A → Type 0) → ((x : A
 mapped_ok (Ok x) P Q f h = f x h
 mapped_ok (Err e) P Q f h = tt
 
-pub reads_shorter : {S : Type 0} (depth : ℕ) (old new : List Token) (form : Data → Option S) (x : S) → Reads depth old new form x → length new < length old
+pub reads_shorter : {S : Type 0} (depth : ℕ) (old new : List Token) (form : Data → Option S) (x : S) → ReadsValue depth old new form x → length new < length old
 reads_shorter depth old new form x reads = skip_value-shorter depth old new (ap left reads.read)
 
 -- ---- lists
 
 pub items_turn : {S T : Type 0} (form : Data → Option S) (shape : T → S) (depth : ℕ) (old ts now r : List Token) (done : Items) (before after : List T) (x : T) → TookItems depth old done ts → items_fit done ≡ true
-    → each_item form (plain_items done) ≡ Some (map shape before) → after_end_array ts ≡ None → now ≡ ts → Reads depth now r form (shape x) → after ≡ before ++ x ∷ []
-    → (new : Items) × TookItems depth old new r × (items_fit new ≡ true) × (each_item form (plain_items new) ≡ Some (map shape after))
+    → each_item form (json_items_data done) ≡ Some (map shape before) → after_end_array ts ≡ None → now ≡ ts → ReadsValue depth now r form (shape x) → after ≡ before ++ x ∷ []
+    → (new : Items) × TookItems depth old new r × (items_fit new ≡ true) × (each_item form (json_items_data new) ≡ Some (map shape after))
 items_turn form shape depth old ts now r done before after x took fit are going same reads pushed =
     let j = reads.at in
     let is : value depth ts ≡ Some (j, r) = ap (value depth) (sym same) ∙ reads.read in (
@@ -31,12 +32,12 @@ items_turn form shape depth old ts now r done before after x took fit are going 
       item_of_form form done j (map shape before) (shape x) are reads.is ∙ ap Some (sym (ap (map shape) pushed ∙ map-append shape before (x ∷ []))),
     )
 
-pub items_done : {S : Type 0} (form : Data → Option S) (depth : ℕ) (old ts r : List Token) (done : Items) (xs : List S) → TookItems depth old done ts → items_fit done ≡ true → each_item form (plain_items done) ≡ Some xs
+pub items_done : {S : Type 0} (form : Data → Option S) (depth : ℕ) (old ts r : List Token) (done : Items) (xs : List S) → TookItems depth old done ts → items_fit done ≡ true → each_item form (json_items_data done) ≡ Some xs
     → after_end_array ts ≡ Some r → ReadsItems depth old r form xs
 items_done form depth old ts r done xs took fit are over = record { all = done; read = took_all_items depth old ts r done took over; fit = fit; are = are }
 
 pub list_read : {S : Type 0} (form : Data → Option S) (outer inner : ℕ) (old rest new : List Token) (xs : List S) → 0 < outer → outer - 1 ≡ inner → old ≡ Token.begin_array ∷ rest → ReadsItems inner rest new form xs
-    → Reads outer old new (λ d. list_at form (Some d)) xs
+    → ReadsValue outer old new (λ d. list_at form (Some d)) xs
 list_read form outer inner old rest new xs some less begins h = record {
   at = array h.all;
   read = ap (value outer) begins ∙ value-begin_array outer rest some ∙ ap (λ d. parse_map array (items (value d) (length rest) rest)) less ∙ ap (parse_map array) h.read;
@@ -44,7 +45,7 @@ list_read form outer inner old rest new xs some less begins h = record {
   is = h.are;
 }
 
-pub null_read : {X : Type 0} (form : Option Data → Option X) (depth : ℕ) (old new : List Token) (x : X) → old ≡ Token.null ∷ new → form (Some (plain null)) ≡ Some x → Reads depth old new (λ d. form (Some d)) x
+pub null_read : {X : Type 0} (form : Option Data → Option X) (depth : ℕ) (old new : List Token) (x : X) → old ≡ Token.null ∷ new → form (Some (json_data null)) ≡ Some x → ReadsValue depth old new (λ d. form (Some d)) x
 null_read form depth old new x begins is = record {
   at = null;
   read = ap (value depth) begins ∙ value_is depth (Token.null ∷ new);
@@ -60,7 +61,7 @@ object_value outer inner old rest new ms some less begins is =
     ap (value outer) begins ∙ value-begin_object outer rest some ∙ ap (λ d. parse_map object (members (value d) (length rest) rest)) less ∙ ap (parse_map object) is
 
 pub object_read : {X : Type 0} (form : Data → Option X) (outer inner : ℕ) (old rest new : List Token) (x : X) → 0 < outer → outer - 1 ≡ inner → old ≡ Token.begin_object ∷ rest → ReadsMembers inner rest new form x
-    → Reads outer old new form x
+    → ReadsValue outer old new form x
 object_read form outer inner old rest new x some less begins h = record {
   at = object h.all;
   read = object_value outer inner old rest new h.all some less begins h.read;
@@ -69,7 +70,7 @@ object_read form outer inner old rest new x some less begins h = record {
 }
 
 pub optional_read : {X : Type 0} (form : Data → Option X) (outer inner : ℕ) (old rest new : List Token) (x : X) → 0 < outer → outer - 1 ≡ inner → old ≡ Token.begin_object ∷ rest → ReadsMembers inner rest new form x
-    → Reads outer old new (λ d. optional_at form (Some d)) (Some x)
+    → ReadsValue outer old new (λ d. optional_at form (Some d)) (Some x)
 optional_read form outer inner old rest new x some less begins h = record {
   at = object h.all;
   read = object_value outer inner old rest new h.all some less begins h.read;
@@ -81,16 +82,16 @@ with_test : (depth : ℕ) (old : List Token) (key : List ℕ) (met is : Bool) (n
 with_test depth old key met is new done same passed = subst (λ (b : Bool). Passed depth old key b new done) same passed
 
 pub among_none : {X : Type 0} (form : Option Data → Option X) (depth : ℕ) (old new : List Token) (key : List ℕ) (met : Bool) (start done kept : Members) (x : X) → met ≡ false → Passed depth old key met new done → start ≡ no_members
-    → kept ≡ joined start done → form None ≡ Some x → (there : Option Json) × Around depth old new key there kept × (form (option_map plain there) ≡ Some x)
+    → kept ≡ members_joined start done → form None ≡ Some x → (there : Option Json) × Around depth old new key there kept × (form (option_map json_data there) ≡ Some x)
 among_none form depth old new key met start done kept x same passed empty all is =
-    (None, around_none depth old new key done kept (with_test depth old key met false new done same passed) (all ∙ ap (λ ms. joined ms done) empty), is)
+    (None, around_none depth old new key done kept (with_test depth old key met false new done same passed) (all ∙ ap (λ ms. members_joined ms done) empty), is)
 
 pub among_one : {X : Type 0} (form : Option Data → Option X) (depth : ℕ) (old r s new : List Token) (key : List ℕ) (met again : Bool) (start before mid after kept : Members) (x : X) → met ≡ true → Passed depth old key met r before
-    → start ≡ no_members → mid ≡ joined start before → Reads depth r s (λ d. form (Some d)) x → again ≡ false → Passed depth s key again new after → kept ≡ joined mid after
-    → (there : Option Json) × Around depth old new key there kept × (form (option_map plain there) ≡ Some x)
+    → start ≡ no_members → mid ≡ members_joined start before → ReadsValue depth r s (λ d. form (Some d)) x → again ≡ false → Passed depth s key again new after → kept ≡ members_joined mid after
+    → (there : Option Json) × Around depth old new key there kept × (form (option_map json_data there) ≡ Some x)
 among_one form depth old r s new key met again start before mid after kept x same first empty front reads over second all = (
   Some reads.at,
   around_one depth old r s new key before after kept reads.at (with_test depth old key met true r before same first) reads.read reads.fit (with_test depth s key again false new after over second)
-      (all ∙ ap (λ ms. joined ms after) (front ∙ ap (λ ms. joined ms before) empty)),
+      (all ∙ ap (λ ms. members_joined ms after) (front ∙ ap (λ ms. members_joined ms before) empty)),
   reads.is,
 )

@@ -8,9 +8,10 @@ use Rattle.json.specs.Value.{value_view, members_view}
 use Rattle.json.specs.declared.value.Value.{Value}
 use Rattle.json.proofs.Grammar.{left, items_end, items_more, members_end, members_more, skip_value-shorter, read_key-shorter}
 use Rattle.serde_json.specs.Data.{Data}
-use Rattle.symq_reader.specs.Plain.{plain, plain_items, fits, items_fit, members_fit}
+use Rattle.symq_reader.specs.JsonData.{json_data, json_items_data}
+use Rattle.symq_reader.specs.inner.JsonData.{fits, items_fit, members_fit}
 use Rattle.symq_reader.specs.UnderKeys.{each_item}
-use Rattle.symq_reader.specs.Streams.{items_joined, joined, TookItems, Took, Passed, Around}
+use Rattle.symq_reader.specs.inner.Streams.{items_joined, members_joined, TookItems, Took, Passed, Around}
 
 -- ---- more turns than are needed read the same
 
@@ -79,7 +80,7 @@ pub took_all_items : (depth : ℕ) (old ts r : List Token) (done : Items) → To
 took_all_items depth old ts r done took e =
     took.on no_items r (items_end (value depth) (length ts) ts r (omega arith) e) ∙ ap (λ x. Some (x, r)) (items_joined-none done)
 
-both : (a b : Bool) → a ≡ true → b ≡ true → (a && b) ≡ true
+pub both : (a b : Bool) → a ≡ true → b ≡ true → (a && b) ≡ true
 both a b e f = rw e f
 
 apart : (a b : Bool) → (a && b) ≡ true → (a ≡ true) × (b ≡ true)
@@ -99,21 +100,21 @@ first_then (Some y) None back xs x more e = absurd (cc)
 first_then (Some y) (Some ys) back xs x more e =
     let is : y ∷ ys ≡ xs = cc in ap (option_map (λ zs. y ∷ zs)) (more ys refl) ∙ ap (λ zs. Some (zs ++ x ∷ [])) is
 
-pub item_of_form : {S : Type 0} (form : Data → Option S) (done : Items) (j : Json) (xs : List S) (x : S) → each_item form (plain_items done) ≡ Some xs → form (plain j) ≡ Some x
-    → each_item form (plain_items (items_joined done (item j no_items))) ≡ Some (xs ++ x ∷ [])
+pub item_of_form : {S : Type 0} (form : Data → Option S) (done : Items) (j : Json) (xs : List S) (x : S) → each_item form (json_items_data done) ≡ Some xs → form (json_data j) ≡ Some x
+    → each_item form (json_items_data (items_joined done (item j no_items))) ≡ Some (xs ++ x ∷ [])
 item_of_form form no_items j xs x e is =
     let none : [] ≡ xs = cc in
     ap (option_and_then (λ y. option_map (λ ys. y ∷ ys) (Some []))) is ∙ ap (λ ys. Some (ys ++ x ∷ [])) none
 item_of_form form (item i done) j xs x e is =
-    first_then (form (plain i)) (each_item form (plain_items done)) (each_item form (plain_items (items_joined done (item j no_items)))) xs x (λ ys h. item_of_form form done j ys x h is) e
+    first_then (form (json_data i)) (each_item form (json_items_data done)) (each_item form (json_items_data (items_joined done (item j no_items)))) xs x (λ ys h. item_of_form form done j ys x h is) e
 
 -- ---- members
 
-regrouped : (done : Members) (k : List ℕ) (j : Json) (ms : Members) → joined (joined done (member k j no_members)) ms ≡ joined done (member k j ms)
+regrouped : (done : Members) (k : List ℕ) (j : Json) (ms : Members) → members_joined (members_joined done (member k j no_members)) ms ≡ members_joined done (member k j ms)
 regrouped no_members k j ms = refl
 regrouped (member l i done) k j ms = ap (member l i) (regrouped done k j ms)
 
-pub joined-none : (done : Members) → joined done no_members ≡ done
+pub joined-none : (done : Members) → members_joined done no_members ≡ done
 joined-none no_members = refl
 joined-none (member l i done) = ap (member l i) (joined-none done)
 
@@ -131,7 +132,7 @@ member_before depth k ts s r j ms rest named is h =
     let enough : members p (length ts - 1) r ≡ Some (ms, rest) = more_members p (length r) (length ts - 1) r (ms, rest) (omega arith) h in
     turn ∙ ap (parse_map (member k j)) enough
 
-pub took_member : (depth : ℕ) (k : List ℕ) (old ts s r : List Token) (done : Members) (j : Json) → Took depth old done ts → read_key ts ≡ Some (Some k, s) → value depth s ≡ Some (j, r) → Took depth old (joined done (member k j no_members)) r
+pub took_member : (depth : ℕ) (k : List ℕ) (old ts s r : List Token) (done : Members) (j : Json) → Took depth old done ts → read_key ts ≡ Some (Some k, s) → value depth s ≡ Some (j, r) → Took depth old (members_joined done (member k j no_members)) r
 took_member depth k old ts s r done j took named is = record {
   on = λ ms rest h. took.on (member k j ms) rest (member_before depth k ts s r j ms rest named is h) ∙ ap (λ x. Some (x, rest)) (sym (regrouped done k j ms));
 }
@@ -140,11 +141,11 @@ pub took_all : (depth : ℕ) (old ts r : List Token) (done : Members) → Took d
 took_all depth old ts r done took e =
     took.on no_members r (members_end (value depth) (length ts) ts r (omega arith) e) ∙ ap (λ x. Some (x, r)) (joined-none done)
 
-pub member_fits : (done : Members) (k : List ℕ) (j : Json) (ms : Members) → members_fit done ≡ true → fits j ≡ true → members_fit ms ≡ true → members_fit (joined done (member k j ms)) ≡ true
+pub member_fits : (done : Members) (k : List ℕ) (j : Json) (ms : Members) → members_fit done ≡ true → fits j ≡ true → members_fit ms ≡ true → members_fit (members_joined done (member k j ms)) ≡ true
 member_fits no_members k j ms d e f = both (fits j) (members_fit ms) e f
 member_fits (member l i done) k j ms d e f =
     let h = apart (fits i) (members_fit done) d in
-    both (fits i) (members_fit (joined done (member k j ms))) h.0 (member_fits done k j ms h.1 e f)
+    both (fits i) (members_fit (members_joined done (member k j ms))) h.0 (member_fits done k j ms h.1 e f)
 
 later_or-None : (o : Option Json) → later_or o None ≡ o
 later_or-None None = refl
@@ -154,7 +155,7 @@ later_or-assoc : (a b c : Option Json) → later_or (later_or a b) c ≡ later_o
 later_or-assoc None b c = refl
 later_or-assoc (Some j) b c = refl
 
-get_member-joined : (q : List ℕ) (a b : Members) → get_member q (joined a b) ≡ later_or (get_member q b) (get_member q a)
+get_member-joined : (q : List ℕ) (a b : Members) → get_member q (members_joined a b) ≡ later_or (get_member q b) (get_member q a)
 get_member-joined q no_members b = sym (later_or-None (get_member q b))
 get_member-joined q (member k j a) b =
     let here = cond (bytes_eq k q) (Some j) None in
@@ -171,17 +172,17 @@ same_key : (k : List ℕ) (j : Json) → cond (bytes_eq k k) (Some j) None ≡ S
 same_key k j = ap (λ b. cond b (Some j) None) ((bytes_eq-Decides k k).1 refl)
 
 -- a member under another key is not found
-pub none_more : (q k : List ℕ) (done : Members) (j : Json) → get_member q done ≡ None → (q ≡ k → ⊥) → get_member q (joined done (member k j no_members)) ≡ None
+pub none_more : (q k : List ℕ) (done : Members) (j : Json) → get_member q done ≡ None → (q ≡ k → ⊥) → get_member q (members_joined done (member k j no_members)) ≡ None
 none_more q k done j none other =
     get_member-joined q done (member k j no_members)
     ∙ ap (λ o. later_or o (get_member q done)) (other_key k q j other)
     ∙ none
 
-pub members_view-more : {A : Type 0} (kept : List (Bor (List ℕ) × Value A)) (k : Bor (List ℕ)) (v : Value A) → members_view (kept ++ (k, v) ∷ []) ≡ joined (members_view kept) (member k.now (value_view v) no_members)
+pub members_view-more : {A : Type 0} (kept : List (Bor (List ℕ) × Value A)) (k : Bor (List ℕ)) (v : Value A) → members_view (kept ++ (k, v) ∷ []) ≡ members_joined (members_view kept) (member k.now (value_view v) no_members)
 members_view-more [] k v = refl
 members_view-more (m ∷ kept) k v = ap (member m.0.now (value_view m.1)) (members_view-more kept k v)
 
-pub joined_more : (before done after : Members) → joined (joined before done) after ≡ joined before (joined done after)
+pub joined_more : (before done after : Members) → members_joined (members_joined before done) after ≡ members_joined before (members_joined done after)
 joined_more no_members done after = refl
 joined_more (member l i before) done after = ap (member l i) (joined_more before done after)
 
@@ -197,11 +198,11 @@ around_none depth old new key done kept passed same = record {
 }
 
 pub around_one : (depth : ℕ) (old r s new : List Token) (key : List ℕ) (before after kept : Members) (j : Json) → Passed depth old key true r before → value depth r ≡ Some (j, s) → fits j ≡ true → Passed depth s key false new after
-    → kept ≡ joined before after → Around depth old new key (Some j) kept
+    → kept ≡ members_joined before after → Around depth old new key (Some j) kept
 around_one depth old r s new key before after kept j first is fit second same =
     let rest = took_all depth s second.stand new after second.took second.next in
     record {
-      all = joined before (member key j after);
+      all = members_joined before (member key j after);
       read = first.took.on (member key j after) new (member_before depth key first.stand r s j after new first.next is rest);
       fit = member_fits before key j after first.fit fit second.fit;
       under =

@@ -6,7 +6,7 @@ use Rattle.std.specs.declared.alloc.Global.{Global}
 use Rattle.json.specs.Value.{items_view}
 use Rattle.json.specs.declared.value.Value.{Value}
 use Rattle.serde_json.specs.Data.{Data}
-use Rattle.symq_reader.specs.Plain.{data_of, plain_items}
+use Rattle.symq_reader.specs.JsonData.{data_of, json_items_data}
 use Rattle.symq_reader.specs.UnderKeys.{each_item}
 
 cons_drop : {A : Type 0} (xs : List A) (i : ℕ) (v : A) → i < length xs → v ≡ get_or xs i v → drop i xs ≡ v ∷ drop (i + 1) xs
@@ -17,14 +17,14 @@ behind front x None = refl
 behind front x (Some xs) = ap Some (append_assoc front (x ∷ []) xs)
 
 pub each_turn : {S T : Type 0} (form : Data → Option S) (shape : T → S) (done after : List T) (x : T) (v : Value Global) (vs : List (Value Global)) (i : ℕ) (all : Option (List S)) → i < length vs → v ≡ get_or vs i v
-    → form (data_of v) ≡ Some (shape x) → after ≡ done ++ x ∷ [] → option_map (λ rest. map shape done ++ rest) (each_item form (plain_items (items_view (drop i vs)))) ≡ all
-    → option_map (λ rest. map shape after ++ rest) (each_item form (plain_items (items_view (drop (i + 1) vs)))) ≡ all
+    → form (data_of v) ≡ Some (shape x) → after ≡ done ++ x ∷ [] → option_map (λ rest. map shape done ++ rest) (each_item form (json_items_data (items_view (drop i vs)))) ≡ all
+    → option_map (λ rest. map shape after ++ rest) (each_item form (json_items_data (items_view (drop (i + 1) vs)))) ≡ all
 each_turn form shape done after x v vs i all less is read pushed before =
-    let rest = each_item form (plain_items (items_view (drop (i + 1) vs))) in
+    let rest = each_item form (json_items_data (items_view (drop (i + 1) vs))) in
     let here = cons_drop vs i v less is in
     ap (λ xs. option_map (λ rest. map shape xs ++ rest) rest) pushed
     ∙ ap (λ xs. option_map (λ rest. xs ++ rest) rest) (map-append shape done (x ∷ []))
     ∙ behind (map shape done) (shape x) rest
     ∙ ap (λ o. option_map (λ rest. map shape done ++ rest) (option_and_then (λ y. option_map (λ xs. y ∷ xs) rest) o)) (sym read)
-    ∙ ap (λ xs. option_map (λ rest. map shape done ++ rest) (each_item form (plain_items (items_view xs)))) (sym here)
+    ∙ ap (λ xs. option_map (λ rest. map shape done ++ rest) (each_item form (json_items_data (items_view xs)))) (sym here)
     ∙ before

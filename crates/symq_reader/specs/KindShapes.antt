@@ -13,47 +13,47 @@ use Rattle.symbols_syntax.specs.declared.tree.kinds.Expr.{Expr}
 use Rattle.symbols_syntax.specs.declared.tree.kinds.Pat.{Pat}
 use Rattle.symbols_syntax.specs.declared.tree.kinds.Kind.{Kind}
 use Rattle.symq_reader.specs.UnderKeys.{required_under}
-use Rattle.symq_reader.specs.Kinds.{Slot, holds_child, holds_optional_child, holds_children, holds_text, holds_optional_text, holds_flag, holds_identifier, holds_accessibility, holds_method_kind, fields_of, slots_at, named, item_texts, decl_texts, member_texts, ty_texts, expr_texts, pat_texts}
+use Rattle.symq_reader.specs.Kinds.{Slot, holds_child, holds_optional_child, holds_children, holds_text, holds_optional_text, holds_flag, holds_identifier, holds_accessibility, holds_method_kind, fields_of, slots_at, kind_of_text, item_texts, decl_texts, member_texts, ty_texts, expr_texts, pat_texts}
 
 pub record KindShape : Type 0 where
   pub name : KindName
   pub slots : List (List ℕ × Slot)
 
 -- an object read as the kind of a name
-abbrev pub read_as : KindName → Data → Option KindShape
-read_as name d = option_map (λ slots. record { name = name; slots = slots }) (slots_at (fields_of name) d)
+abbrev pub read_as_kind : KindName → Data → Option KindShape
+read_as_kind name d = option_map (λ slots. record { name = name; slots = slots }) (slots_at (fields_of name) d)
 
 -- an object read as a kind of one enum: Some None where no kind of the enum has the text
 abbrev pub read_if : Option KindName → Data → Option (Option KindShape)
 read_if None d = Some None
-read_if (Some name) d = option_map Some (read_as name d)
+read_if (Some name) d = option_map Some (read_as_kind name d)
 
 unfoldable pub read_item : List ℕ → Data → Option (Option KindShape)
-read_item t d = read_if (named item_texts t) d
+read_item t d = read_if (kind_of_text item_texts t) d
 
 unfoldable pub read_decl : List ℕ → Data → Option (Option KindShape)
-read_decl t d = read_if (named decl_texts t) d
+read_decl t d = read_if (kind_of_text decl_texts t) d
 
 unfoldable pub read_member : List ℕ → Data → Option (Option KindShape)
-read_member t d = read_if (named member_texts t) d
+read_member t d = read_if (kind_of_text member_texts t) d
 
 unfoldable pub read_ty : List ℕ → Data → Option (Option KindShape)
-read_ty t d = read_if (named ty_texts t) d
+read_ty t d = read_if (kind_of_text ty_texts t) d
 
 unfoldable pub read_expr : List ℕ → Data → Option (Option KindShape)
-read_expr t d = read_if (named expr_texts t) d
+read_expr t d = read_if (kind_of_text expr_texts t) d
 
 unfoldable pub read_pat : List ℕ → Data → Option (Option KindShape)
-read_pat t d = read_if (named pat_texts t) d
+read_pat t d = read_if (kind_of_text pat_texts t) d
 
 -- what the first enum gives, and else what follows
-abbrev pub or_else : Option (Option KindShape) → Option KindShape → Option KindShape
-or_else None later = None
-or_else (Some None) later = later
-or_else (Some (Some shape)) later = Some shape
+abbrev pub shape_or : Option (Option KindShape) → Option KindShape → Option KindShape
+shape_or None later = None
+shape_or (Some None) later = later
+shape_or (Some (Some shape)) later = Some shape
 
 abbrev pub read_named : List ℕ → Data → Option KindShape
-read_named t d = or_else (read_expr t d) (or_else (read_pat t d) (or_else (read_member t d) (or_else (read_decl t d) (or_else (read_ty t d) (or_else (read_item t d) None)))))
+read_named t d = shape_or (read_expr t d) (shape_or (read_pat t d) (shape_or (read_member t d) (shape_or (read_decl t d) (shape_or (read_ty t d) (shape_or (read_item t d) None)))))
 
 -- the kind that an object says that it is
 unfoldable pub read_kind : Data → Option KindShape

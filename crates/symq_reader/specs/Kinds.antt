@@ -240,6 +240,6 @@ pat_texts =
     []
 
 -- the kind that has the text
-abbrev pub named : List (List ℕ × KindName) → List ℕ → Option KindName
-named [] t = None
-named (row ∷ rows) t = if bytes_eq t row.0 then Some row.1 else named rows t
+abbrev pub kind_of_text : List (List ℕ × KindName) → List ℕ → Option KindName
+kind_of_text [] t = None
+kind_of_text (row ∷ rows) t = if bytes_eq t row.0 then Some row.1 else kind_of_text rows t

@@ -1,11 +1,10 @@
-pub mod Reading
 pub mod UnderKeys
 pub mod Numbers
 pub mod Lists
-pub mod Plain
+pub mod JsonData
 pub mod Words
 pub mod Kinds
 pub mod KindShapes
 pub mod GraphText
-pub mod Streams
-pub mod Outcomes
+pub mod PlainLists
+pub mod inner

@@ -8,12 +8,12 @@ unless_null null = None
 unless_null d = Some d
 
 -- the value under a key: none where the key is absent or its value null, or where there is no object
-abbrev pub field : List ℕ → Data → Option Data
-field key d = option_and_then unless_null (get key d)
+abbrev pub value_at_key : List ℕ → Data → Option Data
+value_at_key key d = option_and_then unless_null (get key d)
 
 -- what has to be there
 abbrev pub required_under : {A : Type 0} → (Data → Option A) → List ℕ → Data → Option A
-required_under form key d = option_and_then form (field key d)
+required_under form key d = option_and_then form (value_at_key key d)
 
 abbrev pub if_there : {A : Type 0} → (Data → Option A) → Option Data → Option (Option A)
 if_there form None = Some None
@@ -21,7 +21,7 @@ if_there form (Some d) = option_map Some (form d)
 
 -- what may be absent
 abbrev pub optional_under : {A : Type 0} → (Data → Option A) → List ℕ → Data → Option (Option A)
-optional_under form key d = if_there form (field key d)
+optional_under form key d = if_there form (value_at_key key d)
 
 -- every item, in order
 abbrev pub each_item : {A : Type 0} → (Data → Option A) → Items → Option (List A)
@@ -33,11 +33,11 @@ or_no_items None = Some no_items
 or_no_items (Some d) = as_array d
 
 -- the items of a list, which is empty where it is absent
-abbrev pub items_under : List ℕ → Data → Option Items
-items_under key d = or_no_items (field key d)
+abbrev pub array_under : List ℕ → Data → Option Items
+array_under key d = or_no_items (value_at_key key d)
 
 abbrev pub list_under : {A : Type 0} → (Data → Option A) → List ℕ → Data → Option (List A)
-list_under form key d = option_and_then (each_item form) (items_under key d)
+list_under form key d = option_and_then (each_item form) (array_under key d)
 
 abbrev pub or_false : Option Data → Option Bool
 or_false None = Some false
@@ -45,7 +45,7 @@ or_false (Some d) = as_bool d
 
 -- a bool, which is false where it is absent
 abbrev pub flag_under : List ℕ → Data → Option Bool
-flag_under key d = or_false (field key d)
+flag_under key d = or_false (value_at_key key d)
 
 -- ---- single values
 

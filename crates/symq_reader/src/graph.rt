@@ -2,13 +2,14 @@
 
 ghost use Rattle.std.specs.Prelude.{codes, map, option_and_then};
 ghost use Rattle.serde_json.specs.Find.{as_str};
-ghost use Rattle.symq_reader.specs.Plain.{data_of};
-ghost use Rattle.symq_reader.specs.Reading.{Gives};
+ghost use Rattle.symq_reader.specs.JsonData.{data_of};
+ghost use Rattle.symq_reader.specs.inner.Reading.{Gives};
 ghost use Rattle.symq_reader.specs.UnderKeys.{list_under};
 ghost use Rattle.symq_reader.specs.GraphText.{esm_of, module_kind_of, module_kind_shape, as_module, module_shape, as_redirect, redirect_shape, as_resolution, resolution_shape, if_object, graph_fields, graph_shape};
 
 use crate::faults::FormatFault;
-use crate::{fields, nodes};
+use crate::fields::{self, Object};
+use crate::{lookup, nodes};
 use json::Value;
 use std::alloc::Global;
 use symbols_syntax::graph::{RawGraph, RawModule, RawModuleKind, RawResolution};
@@ -17,9 +18,9 @@ use symbols_syntax::graph::{RawGraph, RawModule, RawModuleKind, RawResolution};
 fn esm(alloc: Global, value: &Value<'_>) -> Result<RawModuleKind, FormatFault>
     ensures { Gives module_kind_shape result (esm_of (data_of value.now)) }
 {
-    let text = fields::text(alloc, value, "text")?;
+    let text = fields::text(alloc, &Object::Value(value), "text")?;
     let tree = nodes::optional_tree(alloc, value)?;
-    let types = fields::optional_text(alloc, value, "types")?;
+    let types = fields::optional_text(alloc, &Object::Value(value), "types")?;
     Ok(RawModuleKind::Esm { text, tree, types })
 }
 
@@ -30,7 +31,7 @@ fn kind_named(alloc: Global, kind: &str, value: &Value<'_>) -> Result<RawModuleK
     match kind {
         "esm" => esm(alloc, value),
         "json" => Ok(RawModuleKind::Json {
-            text: fields::text(alloc, value, "text")?,
+            text: fields::text(alloc, &Object::Value(value), "text")?,
         }),
         "external" => Ok(RawModuleKind::External),
         _ => Err(FormatFault::BadForm),
@@ -41,8 +42,8 @@ fn kind_named(alloc: Global, kind: &str, value: &Value<'_>) -> Result<RawModuleK
 pub(crate) fn module(alloc: Global, value: &Value<'_>) -> Result<RawModule, FormatFault>
     ensures { Gives module_shape result (as_module (data_of value.now)) }
 {
-    let specifier = fields::text(alloc, value, "specifier")?;
-    let Some(kind) = fields::field(value, "kind").and_then(fields::as_text) else {
+    let specifier = fields::text(alloc, &Object::Value(value), "specifier")?;
+    let Some(kind) = lookup::field(value, "kind").and_then(lookup::as_text) else {
         return Err(FormatFault::BadForm);
     };
     let kind = kind_named(alloc, kind, value)?;
@@ -53,7 +54,7 @@ fn modules(alloc: Global, value: &Value<'_>) -> Result<Vec<RawModule>, FormatFau
     ensures { Gives (λ v. map module_shape v.items) result
         (list_under as_module (codes "modules") (data_of value.now)) }
 {
-    let Some(items) = fields::list(value, "modules")? else {
+    let Some(items) = lookup::list(value, "modules")? else {
         return Ok(Vec::new(alloc));
     };
     let mut modules = Vec::with_capacity(alloc, items.len())?;
@@ -67,10 +68,10 @@ fn modules(alloc: Global, value: &Value<'_>) -> Result<Vec<RawModule>, FormatFau
 fn redirect(alloc: Global, value: &Value<'_>) -> Result<(String, String), FormatFault>
     ensures { Gives redirect_shape result (as_redirect (data_of value.now)) }
 {
-    let Some((from, to)) = fields::pair(value) else {
+    let Some((from, to)) = lookup::pair(value) else {
         return Err(FormatFault::BadForm);
     };
-    let (Some(from), Some(to)) = (fields::as_text(from), fields::as_text(to)) else {
+    let (Some(from), Some(to)) = (lookup::as_text(from), lookup::as_text(to)) else {
         return Err(FormatFault::BadForm);
     };
     let from = String::from_str(alloc, from)?;
@@ -82,7 +83,7 @@ fn redirects(alloc: Global, value: &Value<'_>) -> Result<Vec<(String, String)>, 
     ensures { Gives (λ v. map redirect_shape v.items) result
         (list_under as_redirect (codes "redirects") (data_of value.now)) }
 {
-    let Some(items) = fields::list(value, "redirects")? else {
+    let Some(items) = lookup::list(value, "redirects")? else {
         return Ok(Vec::new(alloc));
     };
     let mut redirects = Vec::with_capacity(alloc, items.len())?;
@@ -96,13 +97,13 @@ fn redirects(alloc: Global, value: &Value<'_>) -> Result<Vec<(String, String)>, 
 fn resolution(alloc: Global, value: &Value<'_>) -> Result<RawResolution, FormatFault>
     ensures { Gives resolution_shape result (as_resolution (data_of value.now)) }
 {
-    let Some((referrer, text, to)) = fields::triple(value) else {
+    let Some((referrer, text, to)) = lookup::triple(value) else {
         return Err(FormatFault::BadForm);
     };
     let (Some(referrer), Some(text), Some(to)) = (
-        fields::as_text(referrer),
-        fields::as_text(text),
-        fields::as_text(to),
+        lookup::as_text(referrer),
+        lookup::as_text(text),
+        lookup::as_text(to),
     ) else {
         return Err(FormatFault::BadForm);
     };
@@ -117,7 +118,7 @@ fn resolutions(alloc: Global, value: &Value<'_>) -> Result<Vec<RawResolution>, F
     ensures { Gives (λ v. map resolution_shape v.items) result
         (list_under as_resolution (codes "resolutions") (data_of value.now)) }
 {
-    let Some(items) = fields::list(value, "resolutions")? else {
+    let Some(items) = lookup::list(value, "resolutions")? else {
         return Ok(Vec::new(alloc));
     };
     let mut resolutions = Vec::with_capacity(alloc, items.len())?;

@@ -1,8 +1,8 @@
 //! The kinds of nodes: an object read as the kind that it says that it is.
 
 ghost use Rattle.std.specs.Prelude.{◌≡◌};
-ghost use Rattle.symq_reader.specs.Plain.{data_of};
-ghost use Rattle.symq_reader.specs.Reading.{Gives};
+ghost use Rattle.symq_reader.specs.inner.Objects.{object_data};
+ghost use Rattle.symq_reader.specs.inner.Reading.{Gives};
 ghost use Rattle.symq_reader.specs.KindShapes.{read_kind, kind_shape, read_named};
 
 mod decls;
@@ -13,31 +13,30 @@ mod pats;
 mod tys;
 
 use crate::faults::FormatFault;
-use crate::fields;
-use json::Value;
+use crate::fields::{self, Object};
 use std::alloc::Global;
 use symbols_syntax::tree::Kind;
 
 /// An object read as the kind of this text; those that most nodes have are tried first.
-fn kind_named(alloc: Global, kind: &str, value: &Value<'_>) -> Result<Kind, FormatFault>
-    ensures { Gives kind_shape result (read_named kind.now (data_of value.now)) }
+fn kind_named(alloc: Global, kind: &str, object: &Object<'_, '_>) -> Result<Kind, FormatFault>
+    ensures { Gives kind_shape result (read_named kind.now (object_data object.now)) }
 {
-    if let Some(expr) = exprs::expr(alloc, kind, value)? {
+    if let Some(expr) = exprs::expr(alloc, kind, object)? {
         return Ok(Kind::Expr(expr));
     }
-    if let Some(pat) = pats::pat(alloc, kind, value)? {
+    if let Some(pat) = pats::pat(alloc, kind, object)? {
         return Ok(Kind::Pat(pat));
     }
-    if let Some(member) = members::member(alloc, kind, value)? {
+    if let Some(member) = members::member(alloc, kind, object)? {
         return Ok(Kind::Member(member));
     }
-    if let Some(decl) = decls::decl(alloc, kind, value)? {
+    if let Some(decl) = decls::decl(alloc, kind, object)? {
         return Ok(Kind::Decl(decl));
     }
-    if let Some(ty) = tys::ty(alloc, kind, value)? {
+    if let Some(ty) = tys::ty(alloc, kind, object)? {
         return Ok(Kind::Ty(ty));
     }
-    if let Some(item) = items::item(alloc, kind, value)? {
+    if let Some(item) = items::item(alloc, kind, object)? {
         return Ok(Kind::Item(item));
     }
     Err(FormatFault::BadForm)
@@ -45,11 +44,11 @@ fn kind_named(alloc: Global, kind: &str, value: &Value<'_>) -> Result<Kind, Form
 
 /// An object read as the kind that it says that it is.
 #[tactic(auto, unfolding(crate::specs::KindShapes::read_kind))]
-pub(crate) fn kind(alloc: Global, value: &Value<'_>) -> Result<Kind, FormatFault>
-    ensures { Gives kind_shape result (read_kind (data_of value.now)) }
+pub(crate) fn kind(alloc: Global, object: &Object<'_, '_>) -> Result<Kind, FormatFault>
+    ensures { Gives kind_shape result (read_kind (object_data object.now)) }
 {
-    match fields::field(value, "kind").and_then(fields::as_text) {
-        Some(kind) => kind_named(alloc, kind, value),
+    match fields::field(object, "kind").and_then(fields::as_text) {
+        Some(kind) => kind_named(alloc, kind, object),
         None => Err(FormatFault::BadForm),
     }
 }

@@ -4,10 +4,15 @@
 //! name, '(own rule)' where this library sets it.
 #![tactic(auto)]
 
+mod ends;
+mod entries;
+mod escapes;
 mod faults;
 mod fields;
 mod graph;
 mod kinds;
+mod lists;
+mod lookup;
 mod nodes;
 mod numbers;
 mod stream;
@@ -16,7 +21,8 @@ mod whole;
 mod words;
 
 pub use faults::FormatFault;
-pub use fields::{as_list, as_text};
+pub use lists::{Behind, PlainList, read_plain_list};
+pub use lookup::{as_list, as_text};
 pub use numbers::as_u32;
 pub use values::read_value;
 pub use whole::read_graph;

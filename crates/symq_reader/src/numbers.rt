@@ -6,7 +6,8 @@ ghost use Rattle.serde_json.specs.Find.{as_u64};
 ghost use Rattle.serde_json.specs.Read.{number_of, number_from};
 ghost use Rattle.serde_json.specs.View.{view, items_view as data_items, members_view as data_members};
 ghost use Rattle.symq_reader.specs.Numbers.{is_whole, items_are_whole, members_are_whole};
-ghost use Rattle.symq_reader.specs.Plain.{num_or, data_of, fits, items_fit, members_fit};
+ghost use Rattle.symq_reader.specs.JsonData.{num_or, data_of};
+ghost use Rattle.symq_reader.specs.inner.JsonData.{fits, items_fit, members_fit};
 ghost use Rattle.symq_reader.specs.UnderKeys.{as_offset, as_u32};
 
 use fast_float::Numeral;
@@ -50,6 +51,7 @@ fn members_are_whole(members: &Map<String, serde_json::Value>) -> bool
     true
 }
 
+#[inline(always)]
 fn has_minus(bytes: &[u8]) -> bool
     ensures value { result ≡ (slice_index bytes.now 0 == 45) }
     ensures len { IsTrue result → 0 < length bytes.now }
@@ -58,6 +60,7 @@ fn has_minus(bytes: &[u8]) -> bool
 }
 
 #[tactic(auto, using(crate::proofs::Numerals::no_float))]
+#[inline(always)]
 fn unsigned(numeral: &Numeral<'_>) -> Option<u64>
     ensures { result ≡ as_u64 (num_or (number_from false numeral.now)) }
 {
@@ -69,7 +72,7 @@ fn unsigned(numeral: &Numeral<'_>) -> Option<u64>
 
 /// The whole number of a numeral's text.
 #[tactic(auto, using(crate::proofs::Numerals::of_minus, crate::proofs::Numerals::of_digits))]
-fn whole(digits: &str) -> Option<u64>
+pub(crate) fn whole(digits: &str) -> Option<u64>
     ensures { result ≡ as_u64 (num_or (number_of digits.now)) }
 {
     let bytes = digits.as_bytes();

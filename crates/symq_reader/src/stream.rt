@@ -2,16 +2,19 @@
 //!
 //! A graph is given only where `serde_json`'s value of the bytes is that graph. At anything odd the
 //! reader gives up: where a text is no JSON or its form is wrong, where a number isn't whole, under
-//! any key, and where a list of modules, a tree or a list of nodes stands twice in one object.
+//! any key, where a list in a node is neither one of whole numbers nor a text with one, and where a
+//! list of modules, a tree or a list of nodes stands twice in one object.
 
 ghost use Rattle.std.specs.Prelude.{◌≡◌, IfOk, Ok};
 ghost use Rattle.symq_reader.specs.GraphText.{graph_shape, outcome_of, if_object, graph_fields};
-ghost use Rattle.symq_reader.specs.Streams.{ReadsMembers, Reads};
-ghost use Rattle.symq_reader.specs.Outcomes.{by_format, by_json};
+ghost use Rattle.symq_reader.specs.inner.Streams.{ReadsMembers, ReadsValue};
+ghost use Rattle.symq_reader.specs.inner.Outcomes.{by_format, by_json};
 ghost use Rattle.symq_reader.specs.declared.stream.GiveUp.TheVariants.{OutOfMemory, Odd};
 
+mod entries;
 mod members;
 mod modules;
+mod pieces;
 mod trees;
 
 use crate::faults::FormatFault;
@@ -89,7 +92,7 @@ fn graph_members(alloc: Global, reader: &mut Reader<'_>) -> Result<RawGraph, Giv
 
 /// The graph of a text's value.
 fn graph_value(alloc: Global, reader: &mut Reader<'_>) -> Result<RawGraph, GiveUp>
-    ensures { IfOk result (λ graph. Reads 127 reader.old reader.new
+    ensures { IfOk result (λ graph. ReadsValue 127 reader.old reader.new
         (if_object graph_fields) (graph_shape graph)) }
 {
     let Some(Token::BeginObject) = reader.next() else {
@@ -98,8 +101,8 @@ fn graph_value(alloc: Global, reader: &mut Reader<'_>) -> Result<RawGraph, GiveU
     graph_members(alloc, reader)
 }
 
-/// The graph that bytes are, if they are of the plain form.
-pub(crate) fn graph(alloc: Global, bytes: &[u8]) -> Result<RawGraph, GiveUp>
+/// The graph of bytes whose tokens are read by one reader.
+fn graph_at_once(alloc: Global, bytes: &[u8]) -> Result<RawGraph, GiveUp>
     ensures { IfOk result (λ graph. outcome_of bytes.now ≡ Ok (graph_shape graph)) }
 {
     let Ok(text) = simdutf8::compat::from_utf8(bytes) else {
@@ -111,5 +114,15 @@ pub(crate) fn graph(alloc: Global, bytes: &[u8]) -> Result<RawGraph, GiveUp>
     match reader.next() {
         Some(_) => Err(GiveUp::Odd),
         None => Ok(graph),
+    }
+}
+
+/// The graph that bytes are, if they are of the plain form.
+pub(crate) fn graph(alloc: Global, bytes: &[u8]) -> Result<RawGraph, GiveUp>
+    ensures { IfOk result (λ graph. outcome_of bytes.now ≡ Ok (graph_shape graph)) }
+{
+    match pieces::after_opening(bytes) {
+        Some(list) => pieces::graph(alloc, list),
+        None => graph_at_once(alloc, bytes),
     }
 }

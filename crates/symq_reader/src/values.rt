@@ -3,7 +3,7 @@
 ghost use Rattle.std.specs.Prelude.{◌≡◌, false, Some, IfOk, IfSome, MatchOption};
 ghost use Rattle.symq_reader.specs.GraphText.{json_of};
 ghost use Rattle.symq_reader.specs.Lists.{has_lists_only};
-ghost use Rattle.symq_reader.specs.Plain.{data_of};
+ghost use Rattle.symq_reader.specs.JsonData.{data_of};
 
 use crate::numbers;
 use crate::whole::whole_value;

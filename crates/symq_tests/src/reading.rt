@@ -5,7 +5,7 @@ use deno_symbols::check::{RawModule, RawModuleKind};
 use deno_symbols::tree::{Accessibility, Kind, Member, MethodKind};
 use json::Scratch;
 use std::alloc::{AllocError, Global};
-use symq_reader::{FormatFault, read_graph, read_value};
+use symq_reader::{FormatFault, read_graph, read_plain_list, read_value};
 
 /// The text of a graph with one module whose tree has this node alone.
 fn graph_text(alloc: Global, kind: &str, fields: &str) -> Result<String, AllocError> {
@@ -166,6 +166,29 @@ fn takes_whole_numbers_alone(rt: HostRuntime) -> Checked {
         ("[-1]", false),
     ] {
         if is_value(rt.alloc(), text) != Some(wanted) {
+            return Err(text);
+        }
+    }
+    Ok(())
+}
+
+#[test]
+fn reads_lists_of_the_plain_form() -> Checked {
+    for (text, wanted) in [
+        (r#"["module","a"]"#, true),
+        (r#"["exports", "file:///a/module/of/a/folder.ts"]"#, true),
+        (r#"["name","a",0]"#, true),
+        (r#"["paths", "a", 123456789]"#, true),
+        (r#"["deps","a",7,"all"]"#, true),
+        (r#"["deps", "é", 10, "types"]"#, true),
+        (r#"["name","a",01]"#, false),
+        (r#"["name","a",1234567890]"#, false),
+        (r#"["name" ,"a",1]"#, false),
+        (r#"["name","\u0061",1]"#, false),
+        (r#"["name","a",1] "#, false),
+        (r#"["name","a","b"]"#, false),
+    ] {
+        if read_plain_list(text.as_bytes()).is_some() != wanted {
             return Err(text);
         }
     }

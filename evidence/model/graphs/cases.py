@@ -71,6 +71,15 @@ def case_of_seed(seed: int, accepted_only=False, strict=None) -> Case:
     return _case(random.Random(seed), family, seed // len(FAMILIES[strict])).by(strict)
 
 
+def mutated_case(seed: int) -> Case:
+    """A graph that is accepted, its text changed at one to three places."""
+    rng = random.Random('mutated %d' % seed)
+    text = graph_text(rng, ACCEPTED[rng.choice(sorted(ACCEPTED))](rng))
+    for _ in range(rng.choice([1, 1, 2, 3])):
+        text = broken_text(rng, text)
+    return Case('mutated', text, [b'["exports","a"]', b'["names","a"]'], None)
+
+
 def _case(rng, family, turn) -> Case:
     if family == 'fixed' and turn % 3:
         return Case(family, FIXED_TEXTS[(turn - turn // 3) % len(FIXED_TEXTS)], list(BAD_LINES), None)

@@ -2,8 +2,10 @@
 
 ghost use Rattle.std.specs.Prelude.{◌≡◌, ◌<◌, ◌≤◌, ◌∷◌, IfOk, OnOk, List, ℕ, length, map, string_bytes};
 ghost use Rattle.symbols_exports.specs.Paths.{resolved_export, statements_on};
-ghost use Rattle.symbols_exports.specs.Sharing.{are_shared, shared_only, comes_along};
-ghost use Rattle.symbols_exports.specs.Taking.{name_view, named_way, shared_view, shared_views, lists_in, with_other, group_of, groups_of};
+ghost use Rattle.symbols_exports.specs.Sharing.{is_shared_group, shared_only};
+ghost use Rattle.symbols_exports.specs.inner.Sharing.{comes_along};
+ghost use Rattle.symbols_exports.specs.Taking.{name_view, path_view, shared_view, shared_views};
+ghost use Rattle.symbols_exports.specs.inner.Taking.{lists_in, with_other, group_of, groups_of};
 
 use crate::exports::path::ResolvedExportOrReExportAllPath;
 use crate::exports::shared_name::SharedName;
@@ -68,7 +70,7 @@ fn is_shared(
     first: &ResolvedExportOrReExportAllPath<'_>,
     others: &[ResolvedExportOrReExportAllPath<'_>],
 ) -> bool
-    ensures { (name : List ℕ) → result ≡ are_shared comes_along (named_way name first.now ∷ map (named_way name) others.now) }
+    ensures { (name : List ℕ) → result ≡ is_shared_group comes_along (path_view name first.now ∷ map (path_view name) others.now) }
 {
     match first {
         ResolvedExportOrReExportAllPath::ReExportAllPath(_) => !others.is_empty(),
@@ -84,7 +86,7 @@ fn shared_name<'a>(
     others: Vec<ResolvedExportOrReExportAllPath<'a>>,
 ) -> Result<SharedName<'a>, AllocError>
     ensures name { IfOk result (λ shared. string_bytes shared.name ≡ name.now) }
-    ensures owners { IfOk result (λ shared. map (named_way name.now) shared.owners.items ≡ named_way name.now first.now ∷ map (named_way name.now) others.entry.items) }
+    ensures owners { IfOk result (λ shared. map (path_view name.now) shared.owners.items ≡ path_view name.now first.now ∷ map (path_view name.now) others.entry.items) }
 {
     let mut owners = others;
     owners.insert(0, copied(alloc, first)?)?;

@@ -1,12 +1,13 @@
 //! The names that a module gives to the world.
 
-ghost use Rattle.std.specs.Prelude.{◌≡◌, ◌≢◌, ◌<◌, ◌++◌, ◌∷◌, [], ℕ, List, length, map, flat_map, All, AllPairs, Some, IfOk, IfErr, OnOk, if◌then◌else◌};
-ghost use Rattle.symbols_table.specs.declared.info.fault.SymbolsFault.TheVariants.{OutOfMemory};
+ghost use Rattle.std.specs.Prelude.{◌≡◌, ◌≢◌, ◌++◌, ◌∷◌, [], ℕ, List, map, flat_map, All, AllPairs, Some, IfOk, IfErr, OnOk, if◌then◌else◌};
 ghost use Rattle.symbols_table.specs.DeclViews.{exports_view};
-ghost use Rattle.symbols_root.specs.Roots.{widest, specifier_in};
+ghost use Rattle.symbols_root.specs.Roots.{specifier_in};
 ghost use Rattle.symbols_root.specs.Growing.{HasGrown};
+ghost use Rattle.symbols_root.specs.Calls.{IsStored, WidestIsEnough};
 ghost use Rattle.symbols_exports.specs.Answers.{AreListed, IsFault};
-ghost use Rattle.symbols_exports.specs.PublicNames.{name_item, is_nameless, exported_by, members_under, items_under, items_of, IsOwned, IsNamesAnswer};
+ghost use Rattle.symbols_exports.specs.PublicNames.{name_item, is_nameless, exported_by, members_under, items_under, IsNamesAnswer};
+ghost use Rattle.symbols_exports.specs.inner.PublicNames.{items_of, IsOwned};
 ghost use Rattle.symbols_exports.specs.Taking.{NameView, names_view};
 
 use crate::exports::path::{ResolvedExport, ResolvedExportOrReExportAllPath};
@@ -133,7 +134,7 @@ pub fn public_names(
     ensures faults { IfErr result (λ fault. (asked : ℕ) × IsFault root.old root.new module_id fault asked) }
     ensures listed { (start : List ℕ) → AreListed root.old.graph start }
     ensures kept { HasGrown root.old root.new }
-    ensures enough { root.old.limits ≡ widest → module_id.0 < length root.old.stored → IfErr result (λ fault. fault ≡ OutOfMemory) }
+    ensures enough { IsStored root.old module_id → WidestIsEnough root.old result }
 {
     let found = exports(root, module_id)?;
     Ok(list_names(root, &found.resolved)?)

@@ -1,15 +1,12 @@
 //! What a stored module exports itself, and its statements `export *` with where they lead.
 
-ghost use Rattle.std.specs.Prelude.{◌≡◌, ◌<◌, ◌+◌, ◌≤◌, ◌^◌, ℕ, List, length, slice_get, Some, IfSome, IfOk, IfErr, OnOk, OnErr};
-ghost use Rattle.std.specs.List.{IsDistinct};
+ghost use Rattle.std.specs.Prelude.{◌≡◌, ◌<◌, ◌+◌, ◌^◌, ℕ, List, length, slice_get, Some, IfSome, IfOk, OnOk, OnErr};
 ghost use Rattle.std.specs.Option.{option_map};
-ghost use Rattle.std.specs.Str.{bytes_eq};
 ghost use Rattle.symbols_syntax.specs.Graph.{ModuleView};
 ghost use Rattle.symbols_table.specs.DeclViews.{exports_view};
-ghost use Rattle.symbols_table.specs.declared.info.fault.SymbolsFault.TheVariants.{OutOfMemory};
 ghost use Rattle.symbols_root.specs.Specifiers.{module_under};
-ghost use Rattle.symbols_root.specs.Roots.{widest, with_stored, specifier_under, IsRefusal, specifier_in};
-ghost use Rattle.symbols_root.specs.Growing.{HasGrown};
+ghost use Rattle.symbols_root.specs.Roots.{with_stored, specifier_under, IsRefusal, specifier_in};
+ghost use Rattle.symbols_root.specs.Calls.{IsStored, Keeps};
 ghost use Rattle.symbols_exports.specs.StarStatements.{star_texts, text_target, owned_of};
 
 use crate::exports::steps::Steps;
@@ -25,11 +22,10 @@ pub(crate) fn statement_at<'a>(
     referrer: ModuleId,
     position: usize,
 ) -> Option<Turn<'a>>
-    requires { referrer.0 < length root.now.stored }
+    requires { IsStored root.now referrer }
     ensures text { option_map (λ turn. turn.text.now) result ≡ slice_get (star_texts root.now.graph (specifier_in root.now referrer)) position }
     ensures place { IfSome result (λ turn. (turn.referrer ≡ referrer) × (turn.position ≡ position)) }
     ensures few { length (star_texts root.now.graph (specifier_in root.now referrer)) < 2 ^ 63 }
-    ensures once { IsDistinct bytes_eq root.now.stored }
 {
     let text = root.module_from_id(referrer)?.re_export_all_text(position)?;
     Some(Turn {
@@ -44,7 +40,7 @@ pub(crate) fn own_names<'r>(
     root: &'r RootSymbol<'_>,
     module_id: ModuleId,
 ) -> &'r IndexMap<String, SymbolId>
-    requires { module_id.0 < length root.now.stored }
+    requires { IsStored root.now module_id }
     ensures { exports_view result.now.entries ≡ owned_of root.now.graph (specifier_in root.now module_id) }
 {
     match root.module_from_id(module_id) {
@@ -55,7 +51,7 @@ pub(crate) fn own_names<'r>(
 
 /// The specifier of a stored module.
 pub(crate) fn specifier_of<'a>(root: &RootSymbol<'a>, module_id: ModuleId) -> &'a str
-    requires { module_id.0 < length root.now.stored }
+    requires { IsStored root.now module_id }
     ensures { result.now ≡ specifier_in root.now module_id }
 {
     match root.module_from_id(module_id) {
@@ -72,16 +68,14 @@ pub(crate) fn text_target(
     text: &str,
     steps: &mut Steps,
 ) -> Result<Option<ModuleId>, SymbolsFault>
-    requires known { referrer.0 < length root.old.stored }
+    requires known { IsStored root.old referrer }
     requires room { steps.old.count + 1 < 2 ^ 128 }
-    ensures kept { HasGrown root.old root.new }
+    ensures keeps { Keeps root.old root.new (IsRefusal root.old (text_target root.old.graph (specifier_in root.old referrer) text.now)) result }
     ensures gives { IfOk result (λ id. option_map (specifier_under root.new) id ≡ option_map (λ s. Some s) (text_target root.old.graph (specifier_in root.old referrer) text.now)) }
     ensures stored { OnOk result (root.new ≡ with_stored root.old (text_target root.old.graph (specifier_in root.old referrer) text.now)) }
     ensures unchanged { OnErr result (root.new ≡ root.old) }
-    ensures refused { IfErr result (IsRefusal root.old (text_target root.old.graph (specifier_in root.old referrer) text.now)) }
     ensures there { OnOk result ((v : List ℕ) → text_target root.old.graph (specifier_in root.old referrer) text.now ≡ Some v → (m : ModuleView) × (module_under root.old.graph v ≡ Some m)) }
     ensures counted { steps.new.count ≡ steps.old.count + 1 }
-    ensures enough { root.old.limits ≡ widest → IfErr result (λ fault. fault ≡ OutOfMemory) }
 {
     let specifier = specifier_of(root, referrer);
     steps.tick();

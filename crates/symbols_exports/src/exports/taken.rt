@@ -1,11 +1,17 @@
 //! What a walk took of the modules that it came by.
 
-ghost use Rattle.std.specs.Prelude.{◌≡◌, ◌<◌, ◌∷◌, ◌++◌, IfOk, OnOk, [], length, map};
+ghost use Rattle.std.specs.Prelude.{◌≡◌, ◌<◌, ◌∷◌, ◌++◌, IfOk, OnOk, [], length, map, is_some, string_bytes, String};
+ghost use Rattle.std.specs.Global.{Global};
+ghost use Rattle.std.specs.List.{position};
+ghost use Rattle.std.specs.Map.{keys_of, lookup};
+ghost use Rattle.std.specs.Str.{bytes_eq};
 ghost use Rattle.symbols_table.specs.DeclViews.{exports_view};
 ghost use Rattle.symbols_root.specs.Roots.{specifier_in};
-ghost use Rattle.symbols_exports.specs.Sharing.{shared_only, comes_along};
-ghost use Rattle.symbols_exports.specs.Taking.{names_view, shared_views, turn_told, unresolved_told, nothing_taken, with_missed, with_owned};
-ghost use Rattle.symbols_exports.specs.Wanted.{is_done, owned_for};
+ghost use Rattle.symbols_exports.specs.Sharing.{shared_only};
+ghost use Rattle.symbols_exports.specs.inner.Sharing.{comes_along};
+ghost use Rattle.symbols_exports.specs.Taking.{names_view, shared_views, unresolved_told};
+ghost use Rattle.symbols_exports.specs.inner.Taking.{turn_told, nothing_taken, with_missed, with_owned};
+ghost use Rattle.symbols_exports.specs.inner.Wanted.{is_done, owned_for};
 
 use crate::exports::module_exports::{ModuleExports, UnresolvedSpecifier};
 use crate::exports::offers::{Others, put_other, shared_names};
@@ -20,6 +26,20 @@ use std::marker::Model;
 use symbols_root::root::RootSymbol;
 use symbols_tree::ids::{ModuleId, SymbolId};
 
+/// The place of a name among those that were taken; where none was it isn't looked up.
+fn place_of(
+    resolved: &IndexMap<String, ResolvedExportOrReExportAllPath<'_>>,
+    name: &str,
+) -> Option<usize>
+    ensures index { result ≡ position (λ (key : String Global). bytes_eq name.now (string_bytes key)) (keys_of resolved.now.entries) }
+    ensures found { is_some result ≡ is_some (lookup (λ (key : String Global). bytes_eq name.now (string_bytes key)) resolved.now.entries) }
+{
+    if resolved.is_empty() {
+        return None;
+    }
+    resolved.get_index_of(name)
+}
+
 /// Names with the first ways that they come by; where shared names are told, the ways behind these,
 /// too; and statements that lead to no module.
 #[derive(Drop)]
@@ -32,7 +52,8 @@ pub(crate) struct Taken<'a> {
 
 impl<'a> Model for Taken<'a> {
     ghost use Rattle.std.specs.Prelude.{◌≤◌, length, map, [], if◌then◌else◌};
-    ghost use Rattle.symbols_exports.specs.Taking.{WalkView, names_view, lists_in, groups_of, unresolved_told};
+    ghost use Rattle.symbols_exports.specs.Taking.{names_view, unresolved_told};
+    ghost use Rattle.symbols_exports.specs.inner.Taking.{WalkView, lists_in, groups_of};
 
     ghost Value = { WalkView };
 
@@ -75,7 +96,7 @@ impl<'a> Taken<'a> {
         if stays_behind(name, above) {
             return Ok(());
         }
-        let Some(place) = self.resolved.get_index_of(name) else {
+        let Some(place) = place_of(&self.resolved, name) else {
             let way = path_along(alloc, above, export)?;
             self.resolved.insert(String::from_str(alloc, name)?, way)?;
             return Ok(());

@@ -1,7 +1,8 @@
 //! The way of a walk to the module where it stands.
 
 ghost use Rattle.std.specs.Prelude.{◌≡◌};
-ghost use Rattle.symbols_exports.specs.Taking.{turn_told, unresolved_told};
+ghost use Rattle.symbols_exports.specs.Taking.{unresolved_told};
+ghost use Rattle.symbols_exports.specs.inner.Taking.{turn_told};
 
 use crate::exports::module_exports::UnresolvedSpecifier;
 use symbols_tree::ids::ModuleId;

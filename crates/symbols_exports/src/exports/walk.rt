@@ -1,15 +1,18 @@
 //! The walk along `export *`.
 
-ghost use Rattle.std.specs.Prelude.{◌≡◌, ◌<◌, ◌+◌, ◌^◌, ℕ, List, ◌++◌, ◌∷◌, [], length, map, true, not, if◌then◌else◌, option_map, option_to_list, IfOk, IfErr, OnOk};
+ghost use Rattle.std.specs.Prelude.{◌≡◌, ◌<◌, ◌+◌, ◌^◌, ℕ, List, ◌++◌, ◌∷◌, [], length, map, true, not, if◌then◌else◌, option_map, option_to_list, slice_get, None, IfOk, IfErr, OnOk};
 ghost use Rattle.std.specs.List.{list_any};
 ghost use Rattle.indexmap.specs.IndexSet.{insert_key};
-ghost use Rattle.symbols_table.specs.declared.info.fault.SymbolsFault.TheVariants.{OutOfMemory};
-ghost use Rattle.symbols_root.specs.Roots.{widest, specifier_in};
+ghost use Rattle.symbols_root.specs.Roots.{specifier_in};
 ghost use Rattle.symbols_root.specs.Growing.{HasGrown};
+ghost use Rattle.symbols_root.specs.Calls.{IsStored, WidestIsEnough};
 ghost use Rattle.symbols_exports.specs.Answers.{AreListed, IsAnswer, IsFault};
-ghost use Rattle.symbols_exports.specs.OneName.{IsNameAnswer, IsNameFault, IsWalked, IsWalkFault};
-ghost use Rattle.symbols_exports.specs.Taking.{is_number, turn_told, unresolved_told, names_view, named_way, shared_views, with_owned};
-ghost use Rattle.symbols_exports.specs.Wanted.{owned_for};
+ghost use Rattle.symbols_exports.specs.StarStatements.{star_texts};
+ghost use Rattle.symbols_exports.specs.OneName.{IsNameAnswer, IsOneNameFault};
+ghost use Rattle.symbols_exports.specs.inner.OneName.{IsWalked, IsWalkFault};
+ghost use Rattle.symbols_exports.specs.Taking.{unresolved_told, names_view, path_view, shared_views};
+ghost use Rattle.symbols_exports.specs.inner.Taking.{is_number, turn_told, with_owned};
+ghost use Rattle.symbols_exports.specs.inner.Wanted.{owned_for};
 
 use crate::exports::module_exports::ModuleExports;
 use crate::exports::path::ResolvedExportOrReExportAllPath;
@@ -20,6 +23,7 @@ use crate::exports::turn::Turn;
 use crate::exports::wanted::Wanted;
 use indexmap::IndexSet;
 use std::alloc::AllocError;
+use symbols_root::laws::stored_once;
 use symbols_root::root::RootSymbol;
 use symbols_table::info::SymbolsFault;
 use symbols_tree::ids::ModuleId;
@@ -35,7 +39,7 @@ fn enter<'a>(
     above: &mut Vec<Turn<'a>>,
     taken: &mut Taken<'a>,
 ) -> Result<bool, AllocError>
-    requires { target.0 < length root.now.stored }
+    requires { IsStored root.now target }
     ensures new { IfOk result (λ is_new. is_new ≡ not (list_any (is_number target) met.old.keys)) }
     ensures met { OnOk result (met.new.keys ≡ insert_key is_number met.old.keys target) }
     ensures few { IfOk result (λ is_new. is_new ≡ true → length met.old.keys < 2 ^ 64) }
@@ -50,22 +54,37 @@ fn enter<'a>(
     Ok(is_new)
 }
 
+/// What is wanted of a stored module that has no statement `export *`.
+fn take_alone<'a>(
+    root: &RootSymbol<'a>,
+    module_id: ModuleId,
+    wanted: Wanted<'_>,
+) -> Result<ModuleExports<'a>, AllocError>
+    requires known { IsStored root.now module_id }
+    requires alone { slice_get (star_texts root.now.graph (specifier_in root.now module_id)) 0 ≡ None }
+    requires few { length (star_texts root.now.graph (specifier_in root.now module_id)) < 2 ^ 63 }
+    ensures { IfOk result (λ answer. IsWalked wanted.entry root.now root.now module_id (names_view answer.resolved.entries) (shared_views answer.shared.items) (map unresolved_told answer.unresolved_specifiers.items) 0) }
+{
+    let none_above: Vec<Turn<'a>> = Vec::new(root.alloc());
+    let mut taken = Taken::new(root.alloc(), wanted.keeps_offers(root.rules()));
+    taken.take(root, module_id, &none_above, wanted)?;
+    Ok(taken.into_exports(root.alloc())?)
+}
+
 /// Goes along the statements `export *` of a stored module, in chain order, until all is found that
 /// is wanted.
-fn walk<'a>(
+fn walk_along<'a>(
     root: &mut RootSymbol<'a>,
     module_id: ModuleId,
     wanted: Wanted<'_>,
     steps: &mut Steps,
 ) -> Result<ModuleExports<'a>, SymbolsFault>
+    requires known { IsStored root.old module_id }
     requires room { steps.old.count < 2 ^ 64 }
     ensures answers { IfOk result (λ answer. (asked : ℕ) × (steps.new.count ≡ steps.old.count + asked) × IsWalked wanted.entry root.old root.new module_id (names_view answer.resolved.entries) (shared_views answer.shared.items) (map unresolved_told answer.unresolved_specifiers.items) asked) }
     ensures faults { IfErr result (λ fault. (asked : ℕ) × (steps.new.count ≡ steps.old.count + asked) × IsWalkFault wanted.entry root.old root.new module_id fault asked) }
-    ensures enough { root.old.limits ≡ widest → module_id.0 < length root.old.stored → IfErr result (λ fault. fault ≡ OutOfMemory) }
+    ensures enough { WidestIsEnough root.old result }
 {
-    if root.module_from_id(module_id).is_none() {
-        return Err(SymbolsFault::UnknownModule);
-    }
     let mut met = IndexSet::new(root.alloc());
     met.insert(module_id)?;
     let mut above: Vec<Turn<'a>> = Vec::new(root.alloc());
@@ -74,6 +93,7 @@ fn walk<'a>(
     let mut here = module_id;
     let mut next = 0;
     'walk: while !taken.is_done(wanted) {
+        stored_once(root);
         if let Some(turn) = statement_at(root, here, next) {
             match text_target(root, here, turn.text, steps) {
                 Err(fault) => return Err(fault),
@@ -100,6 +120,28 @@ fn walk<'a>(
     Ok(taken.into_exports(root.alloc())?)
 }
 
+/// What is wanted of a stored module. One that has no statement `export *` is met alone, and no set of
+/// modules is made for it.
+fn walk<'a>(
+    root: &mut RootSymbol<'a>,
+    module_id: ModuleId,
+    wanted: Wanted<'_>,
+    steps: &mut Steps,
+) -> Result<ModuleExports<'a>, SymbolsFault>
+    requires room { steps.old.count < 2 ^ 64 }
+    ensures answers { IfOk result (λ answer. (asked : ℕ) × (steps.new.count ≡ steps.old.count + asked) × IsWalked wanted.entry root.old root.new module_id (names_view answer.resolved.entries) (shared_views answer.shared.items) (map unresolved_told answer.unresolved_specifiers.items) asked) }
+    ensures faults { IfErr result (λ fault. (asked : ℕ) × (steps.new.count ≡ steps.old.count + asked) × IsWalkFault wanted.entry root.old root.new module_id fault asked) }
+    ensures enough { IsStored root.old module_id → WidestIsEnough root.old result }
+{
+    if root.module_from_id(module_id).is_none() {
+        return Err(SymbolsFault::UnknownModule);
+    }
+    match statement_at(root, module_id, 0) {
+        Some(_) => walk_along(root, module_id, wanted, steps),
+        None => Ok(take_alone(root, module_id, wanted)?),
+    }
+}
+
 /// What a stored module exports: its own names, and those of the modules along its statements
 /// `export *` (as deno_graph). The steps grow by one for each statement of each module that is
 /// reached (own rule).
@@ -118,7 +160,7 @@ pub fn exports_counted<'a>(
     ensures faults { IfErr result (λ fault. (asked : ℕ) × (steps.new.count ≡ steps.old.count + asked) × IsFault root.old root.new module_id fault asked) }
     ensures listed { (start : List ℕ) → AreListed root.old.graph start }
     ensures kept { HasGrown root.old root.new }
-    ensures enough { root.old.limits ≡ widest → module_id.0 < length root.old.stored → IfErr result (λ fault. fault ≡ OutOfMemory) }
+    ensures enough { IsStored root.old module_id → WidestIsEnough root.old result }
 {
     walk(root, module_id, Wanted::AllNames, steps)
 }
@@ -138,7 +180,7 @@ pub fn exports<'a>(
     ensures faults { IfErr result (λ fault. (asked : ℕ) × IsFault root.old root.new module_id fault asked) }
     ensures listed { (start : List ℕ) → AreListed root.old.graph start }
     ensures kept { HasGrown root.old root.new }
-    ensures enough { root.old.limits ≡ widest → module_id.0 < length root.old.stored → IfErr result (λ fault. fault ≡ OutOfMemory) }
+    ensures enough { IsStored root.old module_id → WidestIsEnough root.old result }
 {
     exports_counted(root, module_id, &mut Steps::new())
 }
@@ -159,11 +201,11 @@ pub fn export_of_counted<'a>(
     steps: &mut Steps,
 ) -> Result<Option<ResolvedExportOrReExportAllPath<'a>>, SymbolsFault>
     requires room { steps.old.count < 2 ^ 64 }
-    ensures answers { IfOk result (λ path. (asked : ℕ) × (steps.new.count ≡ steps.old.count + asked) × IsNameAnswer root.old root.new module_id name.now (option_to_list (option_map (named_way name.now) path)) asked) }
-    ensures faults { IfErr result (λ fault. (asked : ℕ) × (steps.new.count ≡ steps.old.count + asked) × IsNameFault root.old root.new module_id name.now fault asked) }
+    ensures answers { IfOk result (λ path. (asked : ℕ) × (steps.new.count ≡ steps.old.count + asked) × IsNameAnswer root.old root.new module_id name.now (option_to_list (option_map (path_view name.now) path)) asked) }
+    ensures faults { IfErr result (λ fault. (asked : ℕ) × (steps.new.count ≡ steps.old.count + asked) × IsOneNameFault root.old root.new module_id name.now fault asked) }
     ensures listed { (start : List ℕ) → AreListed root.old.graph start }
     ensures kept { HasGrown root.old root.new }
-    ensures enough { root.old.limits ≡ widest → module_id.0 < length root.old.stored → IfErr result (λ fault. fault ≡ OutOfMemory) }
+    ensures enough { IsStored root.old module_id → WidestIsEnough root.old result }
 {
     let mut answer = walk(root, module_id, Wanted::OneName(name), steps)?;
     match answer.resolved.pop() {
@@ -184,11 +226,11 @@ pub fn export_of<'a>(
     module_id: ModuleId,
     name: &str,
 ) -> Result<Option<ResolvedExportOrReExportAllPath<'a>>, SymbolsFault>
-    ensures answers { IfOk result (λ path. (asked : ℕ) × IsNameAnswer root.old root.new module_id name.now (option_to_list (option_map (named_way name.now) path)) asked) }
-    ensures faults { IfErr result (λ fault. (asked : ℕ) × IsNameFault root.old root.new module_id name.now fault asked) }
+    ensures answers { IfOk result (λ path. (asked : ℕ) × IsNameAnswer root.old root.new module_id name.now (option_to_list (option_map (path_view name.now) path)) asked) }
+    ensures faults { IfErr result (λ fault. (asked : ℕ) × IsOneNameFault root.old root.new module_id name.now fault asked) }
     ensures listed { (start : List ℕ) → AreListed root.old.graph start }
     ensures kept { HasGrown root.old root.new }
-    ensures enough { root.old.limits ≡ widest → module_id.0 < length root.old.stored → IfErr result (λ fault. fault ≡ OutOfMemory) }
+    ensures enough { IsStored root.old module_id → WidestIsEnough root.old result }
 {
     export_of_counted(root, module_id, name, &mut Steps::new())
 }

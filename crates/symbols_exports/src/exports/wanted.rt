@@ -2,7 +2,7 @@
 
 ghost use Rattle.std.specs.Prelude.{◌≡◌};
 ghost use Rattle.symbols_exports.specs.Taking.{names_view};
-ghost use Rattle.symbols_exports.specs.Wanted.{is_done, keeps_offers};
+ghost use Rattle.symbols_exports.specs.inner.Wanted.{is_done, keeps_offers};
 
 use crate::exports::path::ResolvedExportOrReExportAllPath;
 use indexmap::IndexMap;

@@ -2,9 +2,9 @@
 
 ghost use Rattle.std.specs.Prelude.{◌≡◌, ◌&&◌, IfOk, map};
 ghost use Rattle.std.specs.Str.{bytes_eq};
-ghost use Rattle.symbols_exports.specs.Exports.{default_name};
+ghost use Rattle.symbols_table.specs.Events.{default_name};
 ghost use Rattle.symbols_exports.specs.Paths.{resolved_export, statements_on};
-ghost use Rattle.symbols_exports.specs.Taking.{turn_told, is_way};
+ghost use Rattle.symbols_exports.specs.inner.Taking.{turn_told, has_statements};
 
 use crate::exports::path::{
     ResolvedExport, ResolvedExportOrReExportAllPath, ResolvedReExportAllPath,
@@ -35,7 +35,7 @@ pub(crate) fn path_along<'a>(
 
 /// Whether a name isn't taken along the turns: it is `default`, and there is a turn.
 pub(crate) fn stays_behind(name: &str, above: &[Turn<'_>]) -> bool
-    ensures { result ≡ (bytes_eq name.now default_name && is_way (map turn_told above.now)) }
+    ensures { result ≡ (bytes_eq name.now default_name && has_statements (map turn_told above.now)) }
 {
     name == "default" && !above.is_empty()
 }

@@ -3,7 +3,7 @@
 ghost use Rattle.std.specs.Prelude.{◌≡◌, is_some};
 ghost use Rattle.symbols_syntax.specs.NodeRefs.{node_view};
 ghost use Rattle.symbols_nodes.specs.Annotations.{annotation_of, has_annotation, is_annotated};
-ghost use Rattle.symbols_nodes.specs.KnownFacts.{is_known};
+ghost use Rattle.symbols_nodes.specs.inner.KnownFacts.{is_known};
 ghost use Rattle.symbols_nodes.specs.Readings.{read_below};
 
 use crate::deps::dotted_names::node_below;

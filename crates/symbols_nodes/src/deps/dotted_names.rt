@@ -6,7 +6,7 @@ ghost use Rattle.std.specs.Option.{option_map, option_copied, option_and_then};
 ghost use Rattle.symbols_syntax.specs.NodeRefs.{node_view, node_in, kind_of};
 ghost use Rattle.symbols_syntax.specs.Nodes.{children};
 ghost use Rattle.symbols_syntax.specs.WellFormed.{IsWellFormed};
-ghost use Rattle.symbols_nodes.specs.DepViews.{part_view, member_name_view};
+ghost use Rattle.symbols_nodes.specs.inner.DepViews.{part_view, member_name_view};
 ghost use Rattle.symbols_nodes.specs.DottedNames.{entity_name_view, member_part, entity_name, member_name};
 ghost use Rattle.symbols_nodes.specs.Expando.{string_text};
 ghost use Rattle.symbols_nodes.specs.Readings.{node_below, read_below};

@@ -3,10 +3,10 @@
 ghost use Rattle.std.specs.Prelude.{◌≡◌, ◌++◌, map, OnOk, Some, is_some};
 ghost use Rattle.symbols_syntax.specs.NodeRefs.{node_view, kind_of};
 ghost use Rattle.symbols_nodes.specs.Annotations.{has_annotation};
-ghost use Rattle.symbols_nodes.specs.EdgeTable.{signature_rules, key_rules, decl_edges, member_edges, ty_edges, expr_edges, pat_edges, signature_edges, asserts, property_edges, edges, first_edges};
-ghost use Rattle.symbols_nodes.specs.KnownFacts.{is_known, IsExpr, IsPat};
+ghost use Rattle.symbols_nodes.specs.EdgeTable.{signature_rules, key_rules, decl_edges, member_edges, ty_edges, expr_edges, pat_edges, signature_edges, asserts_type, property_edges, edges, first_edges};
+ghost use Rattle.symbols_nodes.specs.inner.KnownFacts.{is_known, IsExpr, IsPat};
 ghost use Rattle.symbols_nodes.specs.References.{dependency_view, reference_at};
-ghost use Rattle.symbols_nodes.specs.TableParts.{statement_edges, function_edges, class_edges, keyed_edges, unkeyed_edges, initializer_rules, plain_rules};
+ghost use Rattle.symbols_nodes.specs.inner.TableParts.{statement_edges, function_edges, class_edges, keyed_edges, unkeyed_edges, initializer_rules, plain_rules};
 
 use crate::deps::annotations::{has_annotation, is_annotated};
 use crate::deps::dep::ReferenceNamespace;
@@ -49,7 +49,7 @@ pub(crate) fn plain_rules() -> Rules
 }
 
 fn asserts(node: NodeRef<'_>, expr: NodeId) -> bool
-    ensures { result ≡ asserts (node_view node.entry) expr }
+    ensures { result ≡ asserts_type (node_view node.entry) expr }
 {
     match node_below(node, expr) {
         Some(expr) => is_assertion(expr.kind()),
@@ -58,7 +58,7 @@ fn asserts(node: NodeRef<'_>, expr: NodeId) -> bool
 }
 
 impl<'a> Visit<'a> {
-    ghost use Rattle.symbols_nodes.specs.Visits.{along_edges};
+    ghost use Rattle.symbols_nodes.specs.inner.Visits.{along_edges};
 
     /// Declarations that are statements, and their parts.
     #[cycle(walk)]

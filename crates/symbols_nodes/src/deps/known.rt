@@ -3,7 +3,7 @@
 
 ghost use Rattle.std.specs.Prelude.{◌≡◌, Some, false, is_some};
 ghost use Rattle.symbols_syntax.specs.NodeRefs.{TreeNode, node_view};
-ghost use Rattle.symbols_nodes.specs.KnownFacts.{is_known, IsMember};
+ghost use Rattle.symbols_nodes.specs.inner.KnownFacts.{is_known, IsMember};
 ghost use Rattle.symbols_nodes.specs.Readings.{node_below};
 ghost use Rattle.symbols_nodes.specs.References.{reference_at};
 

@@ -2,7 +2,7 @@
 
 ghost use Rattle.std.specs.Prelude.{◌≡◌, map, IfOk};
 ghost use Rattle.symbols_nodes.specs.DepPaths.{IsSubsequence};
-ghost use Rattle.symbols_nodes.specs.Dependencies.{IsListOf, starts, exported_steps, dependencies, exported_dependencies};
+ghost use Rattle.symbols_nodes.specs.Dependencies.{IsListOf, start_steps, exported_steps, dependencies, exported_dependencies};
 ghost use Rattle.symbols_nodes.specs.NodeViews.{export_decl_view, symbol_node_view};
 ghost use Rattle.symbols_nodes.specs.References.{Dependency, dependency_view, reference_view};
 ghost use Rattle.symbols_nodes.specs.declared.deps.dep.ResolveDepsMode.TheVariants.{TypesAndExpressions};
@@ -84,7 +84,7 @@ impl<'a> SymbolNodeRef<'a> {
         alloc: Global,
         mode: ResolveDepsMode,
     ) -> Result<Vec<(SymbolNodeDep<'a>, ReferenceNamespace)>, AllocError>
-        ensures list { IfOk result (λ list. IsListOf mode (starts (symbol_node_view self.entry)) (map dependency_view list.items)) }
+        ensures list { IfOk result (λ list. IsListOf mode (start_steps (symbol_node_view self.entry)) (map dependency_view list.items)) }
         ensures value { IfOk result (λ list. map dependency_view list.items ≡ dependencies mode (symbol_node_view self.entry)) }
         ensures subsequence { IsSubsequence (dependencies mode (symbol_node_view self.entry)) (dependencies TypesAndExpressions (symbol_node_view self.entry)) }
     {

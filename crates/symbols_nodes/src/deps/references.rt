@@ -8,9 +8,10 @@ ghost use Rattle.symbols_syntax.specs.declared.tree.kinds.Kind.TheVariants as Ki
 ghost use Rattle.symbols_syntax.specs.Ids.{id_view};
 ghost use Rattle.symbols_syntax.specs.NodeRefs.{node_view, kind_of};
 ghost use Rattle.symbols_nodes.specs.DottedNames.{entity_name, member_name};
-ghost use Rattle.symbols_nodes.specs.KnownFacts.{is_known, may_refer};
+ghost use Rattle.symbols_nodes.specs.inner.KnownFacts.{is_known, may_refer};
 ghost use Rattle.symbols_nodes.specs.Readings.{read_below};
-ghost use Rattle.symbols_nodes.specs.References.{id, reference_view, dependency_view, in_namespace, by_name, of_module, reference_at};
+ghost use Rattle.symbols_nodes.specs.References.{id, reference_view, dependency_view, by_name, of_module, reference_at};
+ghost use Rattle.symbols_nodes.specs.inner.References.{in_namespace};
 
 use crate::deps::dep::{ReferenceNamespace, SymbolNodeDep};
 use crate::deps::dotted_names::{entity_name, member_name, node_below};

@@ -5,7 +5,7 @@ ghost use Rattle.symbols_syntax.specs.declared.tree.categories.Category.TheVaria
 ghost use Rattle.symbols_syntax.specs.Categories.{allows};
 ghost use Rattle.symbols_syntax.specs.Names.{kind_name};
 ghost use Rattle.symbols_nodes.specs.Dependencies.{is_computed, is_rest, signature_if, form_of, value_if, mark_of, is_guarded};
-ghost use Rattle.symbols_nodes.specs.EdgeRules.{open_rules, in_form, with_mark, with_guard, marking};
+ghost use Rattle.symbols_nodes.specs.EdgeRules.{open_rules, in_form, with_mark, with_guard, marked_rules};
 ghost use Rattle.symbols_nodes.specs.EdgeTable.{is_assertion};
 ghost use Rattle.symbols_nodes.specs.References.{visits_expressions};
 
@@ -76,7 +76,7 @@ impl Rules {
 
     /// In both modes, with this mark.
     pub(crate) fn marking(namespace: ReferenceNamespace) -> Rules
-        ensures { result ≡ marking namespace }
+        ensures { result ≡ marked_rules namespace }
     {
         Rules::open().with_mark(MarkRule::Marked(namespace))
     }

@@ -4,7 +4,7 @@ ghost use Rattle.std.specs.Prelude.{◌≡◌, ◌++◌, map, OnOk, [], Option};
 ghost use Rattle.std.specs.Option.{option_map, option_map_or};
 ghost use Rattle.symbols_syntax.specs.NodeRefs.{TreeNode, node_view, kind_of, child_of};
 ghost use Rattle.symbols_syntax.specs.ChildFields.{decl_of};
-ghost use Rattle.symbols_nodes.specs.Dependencies.{dependencies_by, node_steps, function_steps, exported_steps, default_steps, starts, first_steps};
+ghost use Rattle.symbols_nodes.specs.Dependencies.{dependencies_by, node_steps, function_steps, exported_steps, default_steps, start_steps, first_steps};
 ghost use Rattle.symbols_nodes.specs.NodeViews.{export_decl_view, symbol_node_view};
 ghost use Rattle.symbols_nodes.specs.References.{dependency_view};
 
@@ -178,7 +178,7 @@ pub(crate) fn push_dependencies<'a>(
     node: SymbolNodeRef<'a>,
     found: &mut Found<'a>,
 ) -> Result<(), AllocError>
-    ensures { OnOk result (map dependency_view found.new.items ≡ map dependency_view found.old.items ++ dependencies_by mode (starts (symbol_node_view node.entry))) }
+    ensures { OnOk result (map dependency_view found.new.items ≡ map dependency_view found.old.items ++ dependencies_by mode (start_steps (symbol_node_view node.entry))) }
 {
     match node {
         SymbolNodeRef::Module(_) | SymbolNodeRef::TsNamespace(_) => Ok(()),

@@ -5,11 +5,12 @@ ghost use Rattle.symbols_syntax.specs.Ids.{id_view};
 ghost use Rattle.symbols_syntax.specs.NodeRefs.{TreeNode, node_view};
 ghost use Rattle.symbols_nodes.specs.declared.deps.dep.ReferenceNamespace.TheVariants as In;
 ghost use Rattle.symbols_nodes.specs.Dependencies.{place_of};
-ghost use Rattle.symbols_nodes.specs.EdgeRules.{open_rules, marking, to_child, to_each, to_optional};
-ghost use Rattle.symbols_nodes.specs.KnownFacts.{is_known};
+ghost use Rattle.symbols_nodes.specs.EdgeRules.{open_rules, marked_rules, to_child, to_each, to_optional};
+ghost use Rattle.symbols_nodes.specs.inner.KnownFacts.{is_known};
 ghost use Rattle.symbols_nodes.specs.Readings.{node_below};
-ghost use Rattle.symbols_nodes.specs.References.{dependency_view, id, in_namespace};
-ghost use Rattle.symbols_nodes.specs.TableParts.{plain_rules};
+ghost use Rattle.symbols_nodes.specs.References.{dependency_view, id};
+ghost use Rattle.symbols_nodes.specs.inner.References.{in_namespace};
+ghost use Rattle.symbols_nodes.specs.inner.TableParts.{plain_rules};
 
 use crate::deps::dep::{ReferenceNamespace, ResolveDepsMode};
 use crate::deps::dotted_names::node_below;
@@ -52,7 +53,7 @@ pub(crate) fn unless(condition: bool, child: Option<NodeId>) -> Option<NodeId>
 }
 
 impl<'a> Visit<'a> {
-    ghost use Rattle.symbols_nodes.specs.Visits.{along_edge, dependencies_at, at_child};
+    ghost use Rattle.symbols_nodes.specs.inner.Visits.{along_edge, dependencies_at, at_child};
 
     /// Adds what stands at a node of any kind, of which this is known, and below it. The node is come
     /// to in a form.
@@ -244,7 +245,7 @@ impl<'a> Visit<'a> {
     #[cycle(walk)]
     #[inline(always)]
     pub(crate) fn visit_type(self, ty: NodeId, found: &mut Found<'a>) -> Result<(), AllocError>
-        ensures { OnOk result (map dependency_view found.new.items ≡ map dependency_view found.old.items ++ along_edge self.entry (to_child (marking In.Type) ty)) }
+        ensures { OnOk result (map dependency_view found.new.items ≡ map dependency_view found.old.items ++ along_edge self.entry (to_child (marked_rules In.Type) ty)) }
     {
         self.visit_child(Rules::marking(ReferenceNamespace::Type), ty, found)
     }

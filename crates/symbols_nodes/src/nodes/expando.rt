@@ -5,7 +5,8 @@ ghost use Rattle.std.specs.Option.{option_map, option_copied, option_map_or, opt
 ghost use Rattle.std.specs.Str.{chars};
 ghost use Rattle.symbols_syntax.specs.NodeRefs.{node_view, kind_of, range_of};
 ghost use Rattle.symbols_nodes.specs.Expando.{Expando, may_start, may_continue, is_identifier, is_plain, is_ident, string_text, prop_text, prop_name, expando_in};
-ghost use Rattle.symbols_nodes.specs.ExpandoViews.{expando_node, parts_view};
+ghost use Rattle.symbols_nodes.specs.ExpandoViews.{expando_node};
+ghost use Rattle.symbols_nodes.specs.inner.ExpandoViews.{parts_view};
 
 use crate::nodes::refs::ExpandoPropertyRef;
 use symbols_syntax::tree::{Expr, Kind, NodeRef, SourceRange};

@@ -3,7 +3,7 @@
 ghost use Rattle.std.specs.Prelude.{◌≡◌, true, false};
 ghost use Rattle.symbols_syntax.specs.NodeRefs.{node_view, kind_of};
 ghost use Rattle.symbols_nodes.specs.NodeViews.{symbol_node_view};
-ghost use Rattle.symbols_nodes.specs.NodeMembers.{is_member, is_decl, accessibility_of, is_marked_private, has_private_name, is_private_member};
+ghost use Rattle.symbols_nodes.specs.NodeMembers.{is_member_node, is_decl, accessibility_of, is_marked_private, has_private_name, is_private_member};
 
 use crate::nodes::refs::{ExportDeclRef, SymbolNodeRef};
 use symbols_syntax::tree::{Accessibility, Expr, Kind, Member, NodeRef};
@@ -68,7 +68,7 @@ impl SymbolNodeRef<'_> {
     /// Whether it is a member of a class or an interface, or a property that is assigned to a
     /// function (as deno_graph).
     pub fn is_member(&self) -> bool
-        ensures { result ≡ is_member (symbol_node_view self.now) }
+        ensures { result ≡ is_member_node (symbol_node_view self.now) }
     {
         matches!(
             self,

@@ -1,12 +1,12 @@
 //! What the node of a declaration is called.
 
-ghost use Rattle.std.specs.Prelude.{◌≡◌, ◌∷◌, Some, None, IfOk, IsOkAnd, string_bytes, codes};
+ghost use Rattle.std.specs.Prelude.{◌≡◌, ◌++◌, Some, None, IfOk, IsOkAnd, string_bytes, codes};
 ghost use Rattle.std.specs.Option.{option_map, option_copied, option_and_then};
 ghost use Rattle.std.specs.Cow.{cow_str_bytes};
 ghost use Rattle.symbols_syntax.specs.NodeRefs.{node_view, kind_of};
 ghost use Rattle.symbols_syntax.specs.ChildFields.{ident_of, id_of, key_of, expr_of};
 ghost use Rattle.symbols_nodes.specs.NodeViews.{export_decl_view, symbol_node_view};
-ghost use Rattle.symbols_nodes.specs.NodeNames.{ident_or_literal_text, text_in, key_text, key_name, binding_name, param_text, param_name, default_text, default_name, exported_name, lent_name, node_name};
+ghost use Rattle.symbols_nodes.specs.NodeNames.{ident_or_literal_text, text_in, key_text, key_name, binding_name, param_text, param_name, default_decl_text, default_decl_name, exported_name, lent_name, node_name};
 
 use crate::nodes::refs::{ExportDeclRef, SymbolNodeRef};
 use std::alloc::{AllocError, Global};
@@ -33,7 +33,7 @@ fn text_in<'a>(child: Option<NodeRef<'a>>) -> Option<&'a str>
 
 /// The text of a private name, after `#`.
 fn private_text(alloc: Global, name: &str) -> Result<String, AllocError>
-    ensures { IfOk result (λ text. string_bytes text ≡ 35 ∷ name.now) }
+    ensures { IfOk result (λ text. string_bytes text ≡ codes "#" ++ name.now) }
 {
     let mut text = String::new(alloc);
     text.push('#')?;
@@ -101,7 +101,7 @@ fn param_name<'a>(node: NodeRef<'a>) -> Option<&'a str>
 
 /// The name after `export default`, if one stands there.
 fn default_name<'a>(node: NodeRef<'a>) -> Option<&'a str>
-    ensures { option_copied result ≡ default_name (node_view node.entry) }
+    ensures { option_copied result ≡ default_decl_name (node_view node.entry) }
 {
     let decl = node.decl()?;
     match decl.kind() {

@@ -5,7 +5,7 @@ ghost use Rattle.std.specs.Cow.{cow_str_bytes};
 ghost use Rattle.std.specs.Option.{option_map, option_and_then};
 ghost use Rattle.symbols_syntax.specs.NodeRefs.{node_view};
 ghost use Rattle.symbols_nodes.specs.NodeNames.{node_name};
-ghost use Rattle.symbols_nodes.specs.NodeViews.{symbol_node_view, nodes_of, source_of};
+ghost use Rattle.symbols_nodes.specs.NodeViews.{symbol_node_view, nodes_of, tree_of_node};
 
 use crate::nodes::refs::SymbolNodeRef;
 use std::alloc::{AllocError, Global};
@@ -48,7 +48,7 @@ fn first_node<'a>(node: SymbolNodeRef<'a>) -> NodeRef<'a>
 impl<'a> SymbolNodeRef<'a> {
     /// The tree of the node: of the first, where the declaration is made of several.
     pub fn source(self) -> &'a Tree
-        ensures { Some result.now ≡ source_of (symbol_node_view self.entry) }
+        ensures { Some result.now ≡ tree_of_node (symbol_node_view self.entry) }
     {
         first_node(self).tree
     }
@@ -86,7 +86,7 @@ impl<'a> SymbolNode<'a> {
     /// The node, if the definition has one, and the tree that it is of (as deno_graph).
     pub fn maybe_ref_and_source(&self) -> Option<(SymbolNodeRef<'a>, &'a Tree)>
         ensures node { option_map (λ both. both.0) result ≡ self.now.node }
-        ensures source { option_map (λ both. both.1.now) result ≡ option_and_then source_of (option_map symbol_node_view self.now.node) }
+        ensures source { option_map (λ both. both.1.now) result ≡ option_and_then tree_of_node (option_map symbol_node_view self.now.node) }
     {
         match self.node {
             Some(node) => Some((node, node.source())),

@@ -1,18 +1,18 @@
 //! Where a symbol is defined.
 
-ghost use Rattle.std.specs.Prelude.{◌≡◌, ◌≢◌, ◌<◌, ℕ, List, length, map, None, IfOk, IfErr};
+ghost use Rattle.std.specs.Prelude.{◌≡◌, ℕ, List, map, IfOk, IfErr};
 ghost use Rattle.symbols_nodes.specs.References.{reference_view};
-ghost use Rattle.symbols_table.specs.declared.info.fault.SymbolsFault.TheVariants.{OutOfMemory};
-ghost use Rattle.symbols_root.specs.Roots.{widest, specifier_in};
+ghost use Rattle.symbols_root.specs.Roots.{specifier_in};
 ghost use Rattle.symbols_root.specs.Growing.{HasGrown};
+ghost use Rattle.symbols_root.specs.Calls.{IsStored, WidestIsEnough};
 ghost use Rattle.symbols_exports.specs.Answers.{AreListed};
 ghost use Rattle.symbols_paths.specs.Trees.{NamedSymbol, Parts, Forest, leaves_in, definitions_in};
-ghost use Rattle.symbols_paths.specs.PartWays.{links_in};
+ghost use Rattle.symbols_paths.specs.PartLeads.{routes_in};
 ghost use Rattle.symbols_paths.specs.Choice.{IsChosen, IsChosenUnder};
 ghost use Rattle.symbols_paths.specs.Computed.{paths_of};
 ghost use Rattle.symbols_paths.specs.Views.{named_in, forest_told, definition_told, leaf_told, module_of_definition, module_of_end, definitions_left, ends_left, AreStored};
-ghost use Rattle.symbols_paths.specs.Trails.{trails_told, modules_of_trails};
-ghost use Rattle.symbols_paths.specs.Answers.{ArePaths, symbol_in, IsPathsAnswer, IsPathsFault};
+ghost use Rattle.symbols_paths.specs.inner.Trails.{trails_told, modules_of_trails};
+ghost use Rattle.symbols_paths.specs.Answers.{ArePaths, HasSymbol, IsPathsAnswer, IsPathsFault};
 ghost use Rattle.symbols_paths.specs.DepAnswers.{entry_told, modules_of_entries, entries_of, IsDepAnswer, IsDepFault};
 
 use crate::paths::calls::FindDefinitions;
@@ -39,12 +39,12 @@ fn trails_of<'a>(
 ) -> Result<Vec<Trail<'a>>, SymbolsFault>
     ensures answers { IfOk result (λ trails. ArePaths root.old.rules root.old.graph (named_in root.old module_id symbol_id) (trails_told root.new trails.items)) }
     ensures listed { IfOk result (λ trails. trails_told root.new trails.items ≡ paths_of root.old.rules root.old.graph (named_in root.old module_id symbol_id)) }
-    ensures known { IfOk result (λ trails. (module_id.0 < length root.old.stored) × (symbol_in root.old module_id symbol_id ≢ None)) }
+    ensures known { IfOk result (λ trails. HasSymbol root.old module_id symbol_id) }
     ensures stored { IfOk result (λ trails. AreStored root.new (modules_of_trails trails.items)) }
     ensures faults { IfErr result (IsPathsFault root.old root.new module_id symbol_id) }
     ensures kept { HasGrown root.old root.new }
     ensures exports_listed { (start : List ℕ) → AreListed root.old.graph start }
-    ensures enough { root.old.limits ≡ widest → module_id.0 < length root.old.stored → symbol_in root.old module_id symbol_id ≢ None → IfErr result (λ fault. fault ≡ OutOfMemory) }
+    ensures enough { HasSymbol root.old module_id symbol_id → WidestIsEnough root.old result }
 {
     exports_are_listed(root);
     match root.module_from_id(module_id) {
@@ -71,9 +71,9 @@ impl<'a> FindDefinitions<'a> for RootSymbol<'a> {
         ensures listed { IfOk result (λ paths. forest_told self.new paths.items ≡ paths_of self.old.rules self.old.graph (named_in self.old module_id symbol_id)) }
         ensures faults { IfErr result (IsPathsFault self.old self.new module_id symbol_id) }
         ensures kept { HasGrown self.old self.new }
-        ensures only { (f g : Forest) → IsChosen (links_in self.old) (named_in self.old module_id symbol_id) f → IsChosen (links_in self.old) (named_in self.old module_id symbol_id) g → f ≡ g }
+        ensures only { (f g : Forest) → IsChosen (routes_in self.old) (named_in self.old module_id symbol_id) f → IsChosen (routes_in self.old) (named_in self.old module_id symbol_id) g → f ≡ g }
         ensures exports_listed { (start : List ℕ) → AreListed self.old.graph start }
-        ensures enough { self.old.limits ≡ widest → module_id.0 < length self.old.stored → symbol_in self.old module_id symbol_id ≢ None → IfErr result (λ fault. fault ≡ OutOfMemory) }
+        ensures enough { HasSymbol self.old module_id symbol_id → WidestIsEnough self.old result }
     {
         match trails_of(self, module_id, symbol_id) {
             Err(fault) => Err(fault),
@@ -88,12 +88,12 @@ impl<'a> FindDefinitions<'a> for RootSymbol<'a> {
     ) -> Result<DefinitionsOrUnresolvedsIter<'a>, SymbolsFault>
         ensures answers { IfOk result (λ ends. (paths : Forest) × ArePaths self.old.rules self.old.graph (named_in self.old module_id symbol_id) paths × (map (leaf_told self.new) (ends_left ends) ≡ leaves_in paths)) }
         ensures listed { IfOk result (λ ends. map (leaf_told self.new) (ends_left ends) ≡ leaves_in (paths_of self.old.rules self.old.graph (named_in self.old module_id symbol_id))) }
-        ensures known { IfOk result (λ ends. (module_id.0 < length self.old.stored) × (symbol_in self.old module_id symbol_id ≢ None)) }
+        ensures known { IfOk result (λ ends. HasSymbol self.old module_id symbol_id) }
         ensures stored { IfOk result (λ ends. AreStored self.new (map module_of_end (ends_left ends))) }
         ensures faults { IfErr result (IsPathsFault self.old self.new module_id symbol_id) }
         ensures kept { HasGrown self.old self.new }
         ensures exports_listed { (start : List ℕ) → AreListed self.old.graph start }
-        ensures enough { self.old.limits ≡ widest → module_id.0 < length self.old.stored → symbol_in self.old module_id symbol_id ≢ None → IfErr result (λ fault. fault ≡ OutOfMemory) }
+        ensures enough { HasSymbol self.old module_id symbol_id → WidestIsEnough self.old result }
     {
         match trails_of(self, module_id, symbol_id) {
             Err(fault) => Err(fault),
@@ -108,12 +108,12 @@ impl<'a> FindDefinitions<'a> for RootSymbol<'a> {
     ) -> Result<DefinitionsIter<'a>, SymbolsFault>
         ensures answers { IfOk result (λ definitions. (paths : Forest) × ArePaths self.old.rules self.old.graph (named_in self.old module_id symbol_id) paths × (map (definition_told self.new) (definitions_left definitions) ≡ definitions_in (leaves_in paths))) }
         ensures listed { IfOk result (λ definitions. map (definition_told self.new) (definitions_left definitions) ≡ definitions_in (leaves_in (paths_of self.old.rules self.old.graph (named_in self.old module_id symbol_id)))) }
-        ensures known { IfOk result (λ definitions. (module_id.0 < length self.old.stored) × (symbol_in self.old module_id symbol_id ≢ None)) }
+        ensures known { IfOk result (λ definitions. HasSymbol self.old module_id symbol_id) }
         ensures stored { IfOk result (λ definitions. AreStored self.new (map module_of_definition (definitions_left definitions))) }
         ensures faults { IfErr result (IsPathsFault self.old self.new module_id symbol_id) }
         ensures kept { HasGrown self.old self.new }
         ensures exports_listed { (start : List ℕ) → AreListed self.old.graph start }
-        ensures enough { self.old.limits ≡ widest → module_id.0 < length self.old.stored → symbol_in self.old module_id symbol_id ≢ None → IfErr result (λ fault. fault ≡ OutOfMemory) }
+        ensures enough { HasSymbol self.old module_id symbol_id → WidestIsEnough self.old result }
     {
         let ends = match self.go_to_definitions_or_unresolveds(module_id, symbol_id) {
             Err(fault) => return Err(fault),
@@ -127,14 +127,15 @@ impl<'a> FindDefinitions<'a> for RootSymbol<'a> {
         module_id: ModuleId,
         dep: &SymbolNodeDep<'_>,
     ) -> Result<Vec<ResolvedSymbolDepEntry<'a>>, SymbolsFault>
-        ensures answers { IfOk result (λ entries. (module_id.0 < length self.old.stored) × IsDepAnswer self.old.rules self.old.graph (specifier_in self.old module_id) (reference_view dep.now) (map (entry_told self.new) entries.items)) }
+        ensures answers { IfOk result (λ entries. IsStored self.old module_id
+            × IsDepAnswer self.old.rules self.old.graph (specifier_in self.old module_id) (reference_view dep.now) (map (entry_told self.new) entries.items)) }
         ensures listed { IfOk result (λ entries. map (entry_told self.new) entries.items ≡ entries_of self.old.rules self.old.graph (specifier_in self.old module_id) (reference_view dep.now)) }
         ensures stored { IfOk result (λ entries. AreStored self.new (modules_of_entries entries.items)) }
         ensures faults { IfErr result (IsDepFault self.old self.new module_id (reference_view dep.now)) }
         ensures kept { HasGrown self.old self.new }
-        ensures only { (s : NamedSymbol) (parts : Parts) (f g : Forest) → IsChosenUnder (links_in self.old) s parts f → IsChosenUnder (links_in self.old) s parts g → f ≡ g }
+        ensures only { (s : NamedSymbol) (parts : Parts) (f g : Forest) → IsChosenUnder (routes_in self.old) s parts f → IsChosenUnder (routes_in self.old) s parts g → f ≡ g }
         ensures exports_listed { (start : List ℕ) → AreListed self.old.graph start }
-        ensures enough { self.old.limits ≡ widest → module_id.0 < length self.old.stored → IfErr result (λ fault. fault ≡ OutOfMemory) }
+        ensures enough { IsStored self.old module_id → WidestIsEnough self.old result }
     {
         exports_are_listed(self);
         if self.module_from_id(module_id).is_none() {

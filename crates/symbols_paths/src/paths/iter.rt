@@ -4,7 +4,7 @@ ghost use Rattle.std.specs.Prelude.{◌≡◌, ◌++◌, ◌∷◌, [], map, IfO
 ghost use Rattle.symbols_root.specs.Roots.{RootView};
 ghost use Rattle.symbols_paths.specs.Trees.{leaves_of, leaves_in, definitions_in};
 ghost use Rattle.symbols_paths.specs.Views.{tree_told, forest_told, definition_told, leaf_told, module_of_definition, module_of_end, symbol_of_end, definitions_left, ends_left, AreStored};
-ghost use Rattle.symbols_paths.specs.Trails.{trail_told, trails_told, modules_of_trail, modules_of_trails};
+ghost use Rattle.symbols_paths.specs.inner.Trails.{trail_told, trails_told, modules_of_trail, modules_of_trails};
 
 use crate::paths::definition::Definition;
 use crate::paths::node::{DefinitionPathLink, DefinitionPathNode, DefinitionPathNodeResolved};

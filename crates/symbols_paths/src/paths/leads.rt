@@ -8,12 +8,14 @@ ghost use Rattle.symbols_table.specs.DeclViews.{decl_view};
 ghost use Rattle.symbols_table.specs.Modules.{lent_table, mapped_in};
 ghost use Rattle.symbols_root.specs.declared.root.rules.Rules.{Rules};
 ghost use Rattle.symbols_root.specs.Roots.{specifier_in};
+ghost use Rattle.symbols_root.specs.Calls.{IsStored};
 ghost use Rattle.symbols_exports.specs.StarStatements.{star_texts};
 ghost use Rattle.symbols_paths.specs.Trees.{NamedSymbol};
-ghost use Rattle.symbols_paths.specs.Leads.{own_export, passes_on, declarations_of, lead_of, symbol_of_id};
-ghost use Rattle.symbols_paths.specs.PartWays.{export_of_symbol, is_class_at};
-ghost use Rattle.symbols_paths.specs.Views.{named, decl_told, texts_of, first_part};
-ghost use Rattle.symbols_paths.specs.Searching.{lead_told, IsImportOf, IsRead};
+ghost use Rattle.symbols_paths.specs.Leads.{own_export, passes_name, declarations_of, lead_of, symbol_of_id};
+ghost use Rattle.symbols_paths.specs.PartLeads.{export_of_symbol, is_class_at};
+ghost use Rattle.symbols_paths.specs.Views.{decl_told, texts_of};
+ghost use Rattle.symbols_paths.specs.inner.Views.{symbol_told, first_part};
+ghost use Rattle.symbols_paths.specs.inner.Searching.{lead_told, IsImportOf, IsDeclarationRead};
 
 use crate::paths::definition::{DeclRef, DefinitionKind};
 use crate::paths::shared_parts::SharedParts;
@@ -88,8 +90,8 @@ fn declarations<'r, 'a>(
     root: &'r RootSymbol<'a>,
     symbol: UniqueSymbolId,
 ) -> Option<&'r [SymbolDecl<'a>]>
-    requires { symbol.module_id.0 < length root.now.stored }
-    ensures decls { option_map_or (λ decls. map decl_view decls.now) result [] ≡ declarations_of root.now.graph (named root.now symbol) }
+    requires { IsStored root.now symbol.module_id }
+    ensures decls { option_map_or (λ decls. map decl_view decls.now) result [] ≡ declarations_of root.now.graph (symbol_told root.now symbol) }
     ensures few { IfSome result (λ decls. length decls.now < 2 ^ 32) }
 {
     match root.module_from_id(symbol.module_id)? {
@@ -104,9 +106,9 @@ pub(crate) fn lead_at<'a>(
     symbol: UniqueSymbolId,
     index: u32,
 ) -> Result<Option<Lead<'a>>, AllocError>
-    requires { symbol.module_id.0 < length root.now.stored }
-    ensures reads { IfOk result (λ lead. MatchOption lead (slice_get (declarations_of root.now.graph (named root.now symbol)) index ≡ None) (IsRead root.now.rules root.now.graph (named root.now symbol) index)) }
-    ensures few { length (declarations_of root.now.graph (named root.now symbol)) < 2 ^ 32 }
+    requires { IsStored root.now symbol.module_id }
+    ensures reads { IfOk result (λ lead. MatchOption lead (slice_get (declarations_of root.now.graph (symbol_told root.now symbol)) index ≡ None) (IsDeclarationRead root.now.rules root.now.graph (symbol_told root.now symbol) index)) }
+    ensures few { length (declarations_of root.now.graph (symbol_told root.now symbol)) < 2 ^ 32 }
 {
     let Some(info) = root.module_from_id(symbol.module_id) else {
         return Ok(None);
@@ -122,7 +124,7 @@ pub(crate) fn lead_at<'a>(
 
 /// The symbol that a stored module exports itself under a name.
 pub(crate) fn own_export(root: &RootSymbol<'_>, module_id: ModuleId, name: &str) -> Option<SymbolId>
-    requires { module_id.0 < length root.now.stored }
+    requires { IsStored root.now module_id }
     ensures { result ≡ own_export root.now.graph (specifier_in root.now module_id) name.now }
 {
     match root.module_from_id(module_id) {
@@ -133,7 +135,7 @@ pub(crate) fn own_export(root: &RootSymbol<'_>, module_id: ModuleId, name: &str)
 
 /// Whether the statements `export *` pass a name on, by these rules.
 pub(crate) fn passes_on(rules: Rules, name: &str) -> bool
-    ensures { result ≡ passes_on rules name.now }
+    ensures { result ≡ passes_name rules name.now }
 {
     match rules {
         Rules::Deno => true,
@@ -147,7 +149,7 @@ pub(crate) fn star_text<'a>(
     module_id: ModuleId,
     position: usize,
 ) -> Option<&'a str>
-    requires { module_id.0 < length root.now.stored }
+    requires { IsStored root.now module_id }
     ensures text { option_map (λ text. text.now) result ≡ slice_get (star_texts root.now.graph (specifier_in root.now module_id)) position }
     ensures few { length (star_texts root.now.graph (specifier_in root.now module_id)) < 2 ^ 63 }
 {
@@ -159,7 +161,7 @@ pub(crate) fn star_text<'a>(
 
 /// The specifier of a stored module.
 pub(crate) fn specifier_of<'a>(root: &RootSymbol<'a>, module_id: ModuleId) -> &'a str
-    requires { module_id.0 < length root.now.stored }
+    requires { IsStored root.now module_id }
     ensures { result.now ≡ specifier_in root.now module_id }
 {
     match root.module_from_id(module_id) {
@@ -170,7 +172,7 @@ pub(crate) fn specifier_of<'a>(root: &RootSymbol<'a>, module_id: ModuleId) -> &'
 
 /// The symbol that a name of a stored module stands for.
 pub(crate) fn symbol_of_id(root: &RootSymbol<'_>, module_id: ModuleId, id: &Id) -> Option<SymbolId>
-    requires { module_id.0 < length root.now.stored }
+    requires { IsStored root.now module_id }
     ensures { result ≡ symbol_of_id root.now.graph (specifier_in root.now module_id) (id_view id.now) }
 {
     match root.module_from_id(module_id) {
@@ -186,9 +188,9 @@ pub(crate) fn export_of_symbol(
     symbol: UniqueSymbolId,
     parts: &[String],
 ) -> Option<SymbolId>
-    requires known { symbol.module_id.0 < length root.now.stored }
+    requires known { IsStored root.now symbol.module_id }
     requires some { 0 < length parts.now }
-    ensures { result ≡ export_of_symbol root.now.graph (named root.now symbol) (first_part (texts_of parts.now)) }
+    ensures { result ≡ export_of_symbol root.now.graph (symbol_told root.now symbol) (first_part (texts_of parts.now)) }
 {
     match root.module_from_id(symbol.module_id)? {
         ModuleInfoRef::Esm(esm) => esm.symbol(symbol.symbol_id)?.export(parts[0].as_str()),
@@ -198,7 +200,7 @@ pub(crate) fn export_of_symbol(
 
 /// Whether a declaration of a stored module is a class; false where there is no such declaration.
 pub(crate) fn is_class_at(root: &RootSymbol<'_>, module_id: ModuleId, decl: DeclRef) -> bool
-    requires { module_id.0 < length root.now.stored }
+    requires { IsStored root.now module_id }
     ensures { result ≡ is_class_at root.now.graph (decl_told root.now module_id decl) }
 {
     match declarations(root, UniqueSymbolId::new(module_id, decl.symbol)) {

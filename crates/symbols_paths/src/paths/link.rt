@@ -5,9 +5,10 @@ ghost use Rattle.std.specs.Option.{option_to_list};
 ghost use Rattle.symbols_syntax.specs.Ids.{id_view};
 ghost use Rattle.symbols_root.specs.Roots.{RootView, specifier_in};
 ghost use Rattle.symbols_paths.specs.declared.paths.trail.Trail.{Trail};
-ghost use Rattle.symbols_paths.specs.Trees.{leaf, link, one, link_to, definition, unresolved, no_symbol, no_part};
-ghost use Rattle.symbols_paths.specs.Views.{named, decl_told, star_of, reason_told, texts_of, unresolved_told, AreStored};
-ghost use Rattle.symbols_paths.specs.Trails.{parts_told, step_head, trail_told, trails_told, trails_of_option, modules_of_trail, modules_of_trails};
+ghost use Rattle.symbols_paths.specs.Trees.{leaf, link, one_tree, link_to, definition, unresolved, no_symbol, no_part};
+ghost use Rattle.symbols_paths.specs.Views.{decl_told, star_of, reason_told, texts_of, missing_told, AreStored};
+ghost use Rattle.symbols_paths.specs.inner.Views.{symbol_told};
+ghost use Rattle.symbols_paths.specs.inner.Trails.{parts_told, step_head, trail_told, trails_told, trails_of_option, modules_of_trail, modules_of_trails};
 
 use crate::paths::definition::{DeclRef, Definition, DefinitionKind};
 use crate::paths::iter::DefinitionOrUnresolved;
@@ -26,7 +27,7 @@ pub(crate) fn defined<'a>(
     kind: DefinitionKind<'a>,
     range: SourceRange,
 ) -> Trail<'a>
-    ensures told { (root : RootView) → trail_told root result ≡ one (leaf (definition (record { decl = decl_told root «module» symbol_decl; range = range; star = star_of kind.entry }))) }
+    ensures told { (root : RootView) → trail_told root result ≡ one_tree (leaf (definition (record { decl = decl_told root «module» symbol_decl; range = range; star = star_of kind.entry }))) }
     ensures stored { (root : RootView) → «module».0 < length root.stored → AreStored root (modules_of_trail result) }
 {
     let definition = Definition {
@@ -62,7 +63,7 @@ fn link<'a>(
     symbol_decl: DeclRef,
     next: Vec<Trail<'a>>,
 ) -> Result<Option<Trail<'a>>, AllocError>
-    ensures told { IfOk result (λ trail. (root : RootView) → trails_of_option root trail ≡ link_to (record { symbol = named root symbol; decl = decl_told root symbol.module_id symbol_decl; parts = [] }) (trails_told root next.entry.items)) }
+    ensures told { IfOk result (λ trail. (root : RootView) → trails_of_option root trail ≡ link_to (record { symbol = symbol_told root symbol; decl = decl_told root symbol.module_id symbol_decl; parts = [] }) (trails_told root next.entry.items)) }
     ensures stored { IfOk result (λ trail. (root : RootView) → symbol.module_id.0 < length root.stored → AreStored root (modules_of_trails next.entry.items) → IfSome trail (λ t. AreStored root (modules_of_trail t))) }
 {
     let step = Step {
@@ -82,7 +83,7 @@ pub(crate) fn link_under<'a>(
     parts: &SharedParts,
     next: Vec<Trail<'a>>,
 ) -> Result<Option<Trail<'a>>, AllocError>
-    ensures told { IfOk result (λ trail. (root : RootView) → trails_of_option root trail ≡ link_to (record { symbol = named root symbol; decl = decl_told root symbol.module_id symbol_decl; parts = parts_told parts.now }) (trails_told root next.entry.items)) }
+    ensures told { IfOk result (λ trail. (root : RootView) → trails_of_option root trail ≡ link_to (record { symbol = symbol_told root symbol; decl = decl_told root symbol.module_id symbol_decl; parts = parts_told parts.now }) (trails_told root next.entry.items)) }
     ensures stored { IfOk result (λ trail. (root : RootView) → symbol.module_id.0 < length root.stored → AreStored root (modules_of_trails next.entry.items) → IfSome trail (λ t. AreStored root (modules_of_trail t))) }
 {
     if next.is_empty() {
@@ -114,7 +115,7 @@ pub(crate) fn one_unresolved<'a>(
     alloc: Global,
     missing: DefinitionUnresolved,
 ) -> Result<Vec<Trail<'a>>, AllocError>
-    ensures told { IfOk result (λ trails. (root : RootView) → trails_told root trails.items ≡ one (leaf (unresolved (unresolved_told root missing)))) }
+    ensures told { IfOk result (λ trails. (root : RootView) → trails_told root trails.items ≡ one_tree (leaf (unresolved (missing_told root missing)))) }
     ensures stored { IfOk result (λ trails. (root : RootView) → missing.«module».0 < length root.stored → AreStored root (modules_of_trails trails.items)) }
 {
     let mut trails = Vec::new(alloc);
@@ -129,7 +130,7 @@ pub(crate) fn unresolved<'a>(
     kind: DefinitionUnresolvedKind,
     parts: Vec<String>,
 ) -> Result<Vec<Trail<'a>>, AllocError>
-    ensures told { IfOk result (λ trails. (root : RootView) → trails_told root trails.items ≡ one (leaf (unresolved (record { specifier = specifier_in root module_id; reason = reason_told kind; parts = texts_of parts.items })))) }
+    ensures told { IfOk result (λ trails. (root : RootView) → trails_told root trails.items ≡ one_tree (leaf (unresolved (record { specifier = specifier_in root module_id; reason = reason_told kind; parts = texts_of parts.items })))) }
     ensures stored { IfOk result (λ trails. (root : RootView) → module_id.0 < length root.stored → AreStored root (modules_of_trails trails.items)) }
 {
     let missing = DefinitionUnresolved {
@@ -146,7 +147,7 @@ pub(crate) fn no_export<'a>(
     module_id: ModuleId,
     name: &str,
 ) -> Result<Vec<Trail<'a>>, AllocError>
-    ensures told { IfOk result (λ trails. (root : RootView) → trails_told root trails.items ≡ one (leaf (unresolved (record { specifier = specifier_in root module_id; reason = no_part name.now; parts = [] })))) }
+    ensures told { IfOk result (λ trails. (root : RootView) → trails_told root trails.items ≡ one_tree (leaf (unresolved (record { specifier = specifier_in root module_id; reason = no_part name.now; parts = [] })))) }
     ensures stored { IfOk result (λ trails. (root : RootView) → module_id.0 < length root.stored → AreStored root (modules_of_trails trails.items)) }
 {
     let kind = DefinitionUnresolvedKind::Part(String::from_str(alloc, name)?);
@@ -181,7 +182,7 @@ fn unmapped<'a>(
     id: &Id,
     parts: &SharedParts,
 ) -> Result<Option<Trail<'a>>, AllocError>
-    ensures told { IfOk result (λ trail. (root : RootView) → trails_of_option root trail ≡ one (link (record { symbol = named root symbol; decl = decl_told root symbol.module_id symbol_decl; parts = parts_told parts.now }) (one (leaf (unresolved (record { specifier = specifier_in root symbol.module_id; reason = no_symbol (id_view id.now); parts = parts_told parts.now })))))) }
+    ensures told { IfOk result (λ trail. (root : RootView) → trails_of_option root trail ≡ one_tree (link (record { symbol = symbol_told root symbol; decl = decl_told root symbol.module_id symbol_decl; parts = parts_told parts.now }) (one_tree (leaf (unresolved (record { specifier = specifier_in root symbol.module_id; reason = no_symbol (id_view id.now); parts = parts_told parts.now })))))) }
     ensures stored { IfOk result (λ trail. (root : RootView) → symbol.module_id.0 < length root.stored → IfSome trail (λ t. AreStored root (modules_of_trail t))) }
 {
     let kind = DefinitionUnresolvedKind::Id(copied_id(alloc, id)?);
@@ -200,7 +201,7 @@ pub(crate) fn add_defined<'a>(
     range: SourceRange,
     trails: &mut Vec<Trail<'a>>,
 ) -> Result<(), AllocError>
-    ensures { OnOk result ((trail : Trail) × (trails.new.items ≡ trails.old.items ++ trail ∷ []) × ((root : RootView) → trail_told root trail ≡ one (leaf (definition (record { decl = decl_told root «module» symbol_decl; range = range; star = star_of kind.entry })))) × ((root : RootView) → «module».0 < length root.stored → AreStored root (modules_of_trail trail))) }
+    ensures { OnOk result ((trail : Trail) × (trails.new.items ≡ trails.old.items ++ trail ∷ []) × ((root : RootView) → trail_told root trail ≡ one_tree (leaf (definition (record { decl = decl_told root «module» symbol_decl; range = range; star = star_of kind.entry })))) × ((root : RootView) → «module».0 < length root.stored → AreStored root (modules_of_trail trail))) }
 {
     let trail = defined(alloc, module, symbol_decl, kind, range);
     trails.push(trail)?;
@@ -216,7 +217,7 @@ pub(crate) fn add_link<'a>(
     next: Vec<Trail<'a>>,
     trails: &mut Vec<Trail<'a>>,
 ) -> Result<(), AllocError>
-    ensures { OnOk result ((trail : Option Trail) × (trails.new.items ≡ trails.old.items ++ option_to_list trail) × ((root : RootView) → trails_of_option root trail ≡ link_to (record { symbol = named root symbol; decl = decl_told root symbol.module_id symbol_decl; parts = [] }) (trails_told root next.entry.items)) × ((root : RootView) → symbol.module_id.0 < length root.stored → AreStored root (modules_of_trails next.entry.items) → IfSome trail (λ t. AreStored root (modules_of_trail t)))) }
+    ensures { OnOk result ((trail : Option Trail) × (trails.new.items ≡ trails.old.items ++ option_to_list trail) × ((root : RootView) → trails_of_option root trail ≡ link_to (record { symbol = symbol_told root symbol; decl = decl_told root symbol.module_id symbol_decl; parts = [] }) (trails_told root next.entry.items)) × ((root : RootView) → symbol.module_id.0 < length root.stored → AreStored root (modules_of_trails next.entry.items) → IfSome trail (λ t. AreStored root (modules_of_trail t)))) }
 {
     let trail = link(alloc, symbol, symbol_decl, next)?;
     add(trails, trail)
@@ -233,7 +234,7 @@ pub(crate) fn add_link_under<'a>(
     next: Vec<Trail<'a>>,
     trails: &mut Vec<Trail<'a>>,
 ) -> Result<(), AllocError>
-    ensures { OnOk result ((trail : Option Trail) × (trails.new.items ≡ trails.old.items ++ option_to_list trail) × ((root : RootView) → trails_of_option root trail ≡ link_to (record { symbol = named root symbol; decl = decl_told root symbol.module_id symbol_decl; parts = parts_told parts.now }) (trails_told root next.entry.items)) × ((root : RootView) → symbol.module_id.0 < length root.stored → AreStored root (modules_of_trails next.entry.items) → IfSome trail (λ t. AreStored root (modules_of_trail t)))) }
+    ensures { OnOk result ((trail : Option Trail) × (trails.new.items ≡ trails.old.items ++ option_to_list trail) × ((root : RootView) → trails_of_option root trail ≡ link_to (record { symbol = symbol_told root symbol; decl = decl_told root symbol.module_id symbol_decl; parts = parts_told parts.now }) (trails_told root next.entry.items)) × ((root : RootView) → symbol.module_id.0 < length root.stored → AreStored root (modules_of_trails next.entry.items) → IfSome trail (λ t. AreStored root (modules_of_trail t)))) }
 {
     let trail = link_under(alloc, symbol, symbol_decl, parts, next)?;
     add(trails, trail)
@@ -249,7 +250,7 @@ pub(crate) fn add_unmapped<'a>(
     parts: &SharedParts,
     trails: &mut Vec<Trail<'a>>,
 ) -> Result<(), AllocError>
-    ensures { OnOk result ((trail : Option Trail) × (trails.new.items ≡ trails.old.items ++ option_to_list trail) × ((root : RootView) → trails_of_option root trail ≡ one (link (record { symbol = named root symbol; decl = decl_told root symbol.module_id symbol_decl; parts = parts_told parts.now }) (one (leaf (unresolved (record { specifier = specifier_in root symbol.module_id; reason = no_symbol (id_view id.now); parts = parts_told parts.now })))))) × ((root : RootView) → symbol.module_id.0 < length root.stored → IfSome trail (λ t. AreStored root (modules_of_trail t)))) }
+    ensures { OnOk result ((trail : Option Trail) × (trails.new.items ≡ trails.old.items ++ option_to_list trail) × ((root : RootView) → trails_of_option root trail ≡ one_tree (link (record { symbol = symbol_told root symbol; decl = decl_told root symbol.module_id symbol_decl; parts = parts_told parts.now }) (one_tree (leaf (unresolved (record { specifier = specifier_in root symbol.module_id; reason = no_symbol (id_view id.now); parts = parts_told parts.now })))))) × ((root : RootView) → symbol.module_id.0 < length root.stored → IfSome trail (λ t. AreStored root (modules_of_trail t)))) }
 {
     let trail = unmapped(alloc, symbol, symbol_decl, id, parts)?;
     add(trails, trail)

@@ -1,15 +1,16 @@
 //! What the parts of definitions lead to.
 
-ghost use Rattle.std.specs.Prelude.{◌≡◌, ◌<◌, ℕ, List, length, Some, IfOk, IfErr};
-ghost use Rattle.symbols_table.specs.declared.info.fault.SymbolsFault.TheVariants.{OutOfMemory};
-ghost use Rattle.symbols_root.specs.Roots.{RootView, widest, specifier_in};
-ghost use Rattle.symbols_root.specs.Growing.{HasGrown};
+ghost use Rattle.std.specs.Prelude.{◌≡◌, ◌<◌, length, IfOk};
+ghost use Rattle.symbols_root.specs.Roots.{RootView, specifier_in};
+ghost use Rattle.symbols_root.specs.Calls.{IsStored, Keeps};
 ghost use Rattle.symbols_exports.specs.OneName.{export_named};
 ghost use Rattle.symbols_exports.specs.StarStatements.{text_target};
-ghost use Rattle.symbols_paths.specs.PartWays.{lacks, own_part, export_of_symbol, module_part, text_part, part_of};
-ghost use Rattle.symbols_paths.specs.Views.{named_in, decl_told, definition_told, reason_told, first_part, later_parts, texts_of};
-ghost use Rattle.symbols_paths.specs.Needed.{IsNeeded, IsRefused, IsStarDeclared};
-ghost use Rattle.symbols_paths.specs.Searching.{way_told, IsWayStored};
+ghost use Rattle.symbols_paths.specs.PartLeads.{lacks, own_part, export_of_symbol, module_part, text_part, part_of};
+ghost use Rattle.symbols_paths.specs.Views.{named_in, decl_told, definition_told, reason_told, texts_of};
+ghost use Rattle.symbols_paths.specs.inner.Views.{first_part, later_parts};
+ghost use Rattle.symbols_paths.specs.Needed.{IsRefused};
+ghost use Rattle.symbols_paths.specs.inner.Needed.{IsImportRefused, IsStarDeclared};
+ghost use Rattle.symbols_paths.specs.inner.Searching.{part_told, IsPartStored};
 
 use crate::paths::definition::{DeclRef, Definition, DefinitionKind};
 use crate::paths::leads::{export_of_symbol, is_class_at};
@@ -38,8 +39,8 @@ fn lacking(
     kind: DefinitionUnresolvedKind,
     parts: &[String],
 ) -> Result<PartWay, AllocError>
-    ensures told { IfOk result (λ way. (root : RootView) → way_told root way ≡ lacks (record { specifier = specifier_in root «module»; reason = reason_told kind; parts = texts_of parts.now })) }
-    ensures stored { IfOk result (λ way. (root : RootView) → «module».0 < length root.stored → IsWayStored root way) }
+    ensures told { IfOk result (λ way. (root : RootView) → part_told root way ≡ lacks (record { specifier = specifier_in root «module»; reason = reason_told kind; parts = texts_of parts.now })) }
+    ensures stored { IfOk result (λ way. (root : RootView) → IsStored root «module» → IsPartStored root way) }
 {
     Ok(PartWay::Lacks(DefinitionUnresolved {
         module,
@@ -55,10 +56,10 @@ fn own_part(
     decl: DeclRef,
     parts: &[String],
 ) -> Result<PartWay, AllocError>
-    requires known { module_id.0 < length root.now.stored }
+    requires known { IsStored root.now module_id }
     requires some { 0 < length parts.now }
-    ensures told { IfOk result (λ way. way_told root.now way ≡ own_part root.now.graph (decl_told root.now module_id decl) (first_part (texts_of parts.now)) (later_parts (texts_of parts.now)) (export_of_symbol root.now.graph (named_in root.now module_id decl.symbol) (first_part (texts_of parts.now)))) }
-    ensures stored { IfOk result (IsWayStored root.now) }
+    ensures told { IfOk result (λ way. part_told root.now way ≡ own_part root.now.graph (decl_told root.now module_id decl) (first_part (texts_of parts.now)) (later_parts (texts_of parts.now)) (export_of_symbol root.now.graph (named_in root.now module_id decl.symbol) (first_part (texts_of parts.now)))) }
+    ensures stored { IfOk result (IsPartStored root.now) }
 {
     let symbol = UniqueSymbolId::new(module_id, decl.symbol);
     if let Some(symbol_id) = export_of_symbol(root, symbol, parts) {
@@ -82,13 +83,11 @@ fn module_part(
     module_id: ModuleId,
     parts: &[String],
 ) -> Result<PartWay, SymbolsFault>
-    requires known { module_id.0 < length root.old.stored }
+    requires known { IsStored root.old module_id }
     requires some { 0 < length parts.now }
-    ensures kept { HasGrown root.old root.new }
-    ensures told { IfOk result (λ way. way_told root.new way ≡ module_part (specifier_in root.old module_id) (first_part (texts_of parts.now)) (later_parts (texts_of parts.now)) (export_named root.old.graph (specifier_in root.old module_id) (first_part (texts_of parts.now)))) }
-    ensures stored { IfOk result (IsWayStored root.new) }
-    ensures refused { IfErr result (IsRefused root.new (specifier_in root.old module_id)) }
-    ensures enough { root.old.limits ≡ widest → IfErr result (λ fault. fault ≡ OutOfMemory) }
+    ensures keeps { Keeps root.old root.new (IsRefused root.new (specifier_in root.old module_id)) result }
+    ensures told { IfOk result (λ way. part_told root.new way ≡ module_part (specifier_in root.old module_id) (first_part (texts_of parts.now)) (later_parts (texts_of parts.now)) (export_named root.old.graph (specifier_in root.old module_id) (first_part (texts_of parts.now)))) }
+    ensures stored { IfOk result (IsPartStored root.new) }
 {
     match export_of(root, module_id, parts[0].as_str()) {
         Err(fault) => Err(fault),
@@ -111,13 +110,11 @@ pub(crate) fn text_part(
     text: &str,
     parts: &[String],
 ) -> Result<PartWay, SymbolsFault>
-    requires known { module_id.0 < length root.old.stored }
+    requires known { IsStored root.old module_id }
     requires some { 0 < length parts.now }
-    ensures kept { HasGrown root.old root.new }
-    ensures told { IfOk result (λ way. way_told root.new way ≡ text_part root.old.graph (specifier_in root.old module_id) text.now (first_part (texts_of parts.now)) (later_parts (texts_of parts.now)) (text_target root.old.graph (specifier_in root.old module_id) text.now)) }
-    ensures stored { IfOk result (IsWayStored root.new) }
-    ensures refused { IfErr result (λ fault. (start : List ℕ) → ((k : List ℕ) → text_target root.old.graph (specifier_in root.old module_id) text.now ≡ Some k → IsNeeded root.old.graph start k) → IsRefused root.new start fault) }
-    ensures enough { root.old.limits ≡ widest → IfErr result (λ fault. fault ≡ OutOfMemory) }
+    ensures keeps { Keeps root.old root.new (IsImportRefused root.old root.new module_id text.now) result }
+    ensures told { IfOk result (λ way. part_told root.new way ≡ text_part root.old.graph (specifier_in root.old module_id) text.now (first_part (texts_of parts.now)) (later_parts (texts_of parts.now)) (text_target root.old.graph (specifier_in root.old module_id) text.now)) }
+    ensures stored { IfOk result (IsPartStored root.new) }
 {
     match text_target(root, module_id, text) {
         Err(fault) => Err(fault),
@@ -137,14 +134,12 @@ pub(crate) fn part_of(
     definition: &Definition<'_>,
     parts: &[String],
 ) -> Result<PartWay, SymbolsFault>
-    requires known { definition.now.«module».0 < length root.old.stored }
+    requires known { IsStored root.old definition.now.«module» }
     requires some { 0 < length parts.now }
     requires declared { IsStarDeclared root.old.graph (definition_told root.old definition.now) }
-    ensures kept { HasGrown root.old root.new }
-    ensures told { IfOk result (λ way. way_told root.new way ≡ part_of root.old.graph (definition_told root.old definition.now) (first_part (texts_of parts.now)) (later_parts (texts_of parts.now))) }
-    ensures stored { IfOk result (IsWayStored root.new) }
-    ensures refused { IfErr result (IsRefused root.new (specifier_in root.old definition.now.«module»)) }
-    ensures enough { root.old.limits ≡ widest → IfErr result (λ fault. fault ≡ OutOfMemory) }
+    ensures keeps { Keeps root.old root.new (IsRefused root.new (specifier_in root.old definition.now.«module»)) result }
+    ensures told { IfOk result (λ way. part_told root.new way ≡ part_of root.old.graph (definition_told root.old definition.now) (first_part (texts_of parts.now)) (later_parts (texts_of parts.now))) }
+    ensures stored { IfOk result (IsPartStored root.new) }
 {
     match definition.kind {
         DefinitionKind::Definition => {

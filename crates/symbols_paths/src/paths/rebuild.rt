@@ -5,8 +5,8 @@ ghost use Rattle.std.specs.Option.{option_to_list};
 ghost use Rattle.symbols_root.specs.Roots.{RootView};
 ghost use Rattle.symbols_paths.specs.Views.{definition_told, leaf_told, module_of_end, module_of_definition, AreStored};
 ghost use Rattle.symbols_paths.specs.Trees.{Parts, leaf};
-ghost use Rattle.symbols_paths.specs.Rebuilt.{defined_of, defined_within, rebuilt_tree, rebuilt};
-ghost use Rattle.symbols_paths.specs.Trails.{parts_told, heads_in, heads_under, linked, trail_told, trails_told, trails_of_option, modules_of_stretches, modules_of_trail, modules_of_trails, present};
+ghost use Rattle.symbols_paths.specs.inner.Rebuilt.{defined_of, defined_within, rebuilt_tree, rebuilt};
+ghost use Rattle.symbols_paths.specs.inner.Trails.{parts_told, heads_in, heads_under, below_links, trail_told, trails_told, trails_of_option, modules_of_stretches, modules_of_trail, modules_of_trails, trails_among};
 
 use crate::paths::definition::Definition;
 use crate::paths::iter::DefinitionOrUnresolved;
@@ -84,7 +84,7 @@ pub(crate) fn rebuild<'a>(
 ) -> Result<Vec<Trail<'a>>, AllocError>
     ensures found { IfOk result (λ found. (root : RootView) → trails_told root found.items ≡ (rebuilt (parts_told parts.now) (trails_told root trails.entry.items) (map (trails_of_option root) changed.old.items)).0) }
     ensures left { OnOk result ((root : RootView) → map (trails_of_option root) changed.new.items ≡ (rebuilt (parts_told parts.now) (trails_told root trails.entry.items) (map (trails_of_option root) changed.old.items)).1) }
-    ensures stored { IfOk result (λ found. (root : RootView) → AreStored root (modules_of_trails trails.entry.items) → AreStored root (modules_of_trails (present changed.old.items)) → AreStored root (modules_of_trails found.items) × AreStored root (modules_of_trails (present changed.new.items))) }
+    ensures stored { IfOk result (λ found. (root : RootView) → AreStored root (modules_of_trails trails.entry.items) → AreStored root (modules_of_trails (trails_among changed.old.items)) → AreStored root (modules_of_trails found.items) × AreStored root (modules_of_trails (trails_among changed.new.items))) }
 {
     let mut found = Vec::new(alloc);
     for trail in trails {
@@ -104,7 +104,7 @@ fn rebuild_one<'a>(
 ) -> Result<Option<Trail<'a>>, AllocError>
     ensures found { IfOk result (λ found. (root : RootView) → trails_of_option root found ≡ (rebuilt (parts_told parts.now) (trail_told root trail.entry) (map (trails_of_option root) changed.old.items)).0) }
     ensures left { OnOk result ((root : RootView) → map (trails_of_option root) changed.new.items ≡ (rebuilt (parts_told parts.now) (trail_told root trail.entry) (map (trails_of_option root) changed.old.items)).1) }
-    ensures stored { IfOk result (λ found. (root : RootView) → AreStored root (modules_of_trail trail.entry) → AreStored root (modules_of_trails (present changed.old.items)) → AreStored root (modules_of_trails (option_to_list found)) × AreStored root (modules_of_trails (present changed.new.items))) }
+    ensures stored { IfOk result (λ found. (root : RootView) → AreStored root (modules_of_trail trail.entry) → AreStored root (modules_of_trails (trails_among changed.old.items)) → AreStored root (modules_of_trails (option_to_list found)) × AreStored root (modules_of_trails (trails_among changed.new.items))) }
 {
     match trail {
         Trail::To(stretches, end) => {
@@ -129,7 +129,7 @@ fn rebuild_end<'a>(
 ) -> Option<Trail<'a>>
     ensures found { (root : RootView) (parts : Parts) → trails_of_option root result ≡ (rebuilt_tree parts (leaf (leaf_told root end.entry)) (map (trails_of_option root) changed.old.items)).0 }
     ensures left { (root : RootView) (parts : Parts) → map (trails_of_option root) changed.new.items ≡ (rebuilt_tree parts (leaf (leaf_told root end.entry)) (map (trails_of_option root) changed.old.items)).1 }
-    ensures stored { (root : RootView) → AreStored root (module_of_end end.entry ∷ []) → AreStored root (modules_of_trails (present changed.old.items)) → AreStored root (modules_of_trails (option_to_list result)) × AreStored root (modules_of_trails (present changed.new.items)) }
+    ensures stored { (root : RootView) → AreStored root (module_of_end end.entry ∷ []) → AreStored root (modules_of_trails (trails_among changed.old.items)) → AreStored root (modules_of_trails (option_to_list result)) × AreStored root (modules_of_trails (trails_among changed.new.items)) }
 {
     match end {
         DefinitionOrUnresolved::Definition(_) => changed.pop_front().flatten(),
@@ -146,7 +146,7 @@ fn under<'a>(
     parts: &SharedParts,
     trail: Option<Trail<'a>>,
 ) -> Result<Option<Trail<'a>>, AllocError>
-    ensures told { IfOk result (λ found. (root : RootView) → trails_of_option root found ≡ linked (heads_under (parts_told parts.now) (heads_in root stretches.items)) (trails_of_option root trail.entry)) }
+    ensures told { IfOk result (λ found. (root : RootView) → trails_of_option root found ≡ below_links (heads_under (parts_told parts.now) (heads_in root stretches.items)) (trails_of_option root trail.entry)) }
     ensures stored { IfOk result (λ found. (root : RootView) → AreStored root (modules_of_stretches stretches.items) → AreStored root (modules_of_trails (option_to_list trail.entry)) → AreStored root (modules_of_trails (option_to_list found))) }
 {
     match trail {

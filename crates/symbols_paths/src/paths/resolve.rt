@@ -1,22 +1,22 @@
 //! What a reference to a symbol stands for.
 
-ghost use Rattle.std.specs.Prelude.{◌≡◌, ◌<◌, ℕ, List, [], length, map, Some, IfOk, IfErr};
+ghost use Rattle.std.specs.Prelude.{◌≡◌, ◌<◌, [], length, map, IfOk};
 ghost use Rattle.std.specs.Cow.{cow_str_bytes};
-ghost use Rattle.std.specs.List.{IsDistinct};
-ghost use Rattle.std.specs.Str.{bytes_eq};
 ghost use Rattle.symbols_syntax.specs.Ids.{id_view};
 ghost use Rattle.symbols_nodes.specs.References.{qualified_id, import_type};
-ghost use Rattle.symbols_table.specs.declared.info.fault.SymbolsFault.TheVariants.{OutOfMemory};
-ghost use Rattle.symbols_root.specs.Roots.{RootView, widest, specifier_in};
-ghost use Rattle.symbols_root.specs.Growing.{HasGrown};
+ghost use Rattle.symbols_root.specs.Roots.{RootView, specifier_in};
+ghost use Rattle.symbols_root.specs.Calls.{IsStored, Keeps};
 ghost use Rattle.symbols_exports.specs.StarStatements.{text_target};
-ghost use Rattle.symbols_paths.specs.PartWays.{text_part};
+ghost use Rattle.symbols_paths.specs.PartLeads.{text_part};
 ghost use Rattle.symbols_paths.specs.Computed.{paths_under};
-ghost use Rattle.symbols_paths.specs.Views.{named, texts_in, first_part, later_parts, forest_told, modules_in, AreStored};
-ghost use Rattle.symbols_paths.specs.Trails.{parts_told, trails_told, modules_of_trails};
-ghost use Rattle.symbols_paths.specs.Needed.{IsNeeded, IsRefused};
+ghost use Rattle.symbols_paths.specs.Views.{forest_told, modules_in, AreStored};
+ghost use Rattle.symbols_paths.specs.inner.Views.{symbol_told, texts_in, first_part, later_parts};
+ghost use Rattle.symbols_paths.specs.inner.Trails.{parts_told, trails_told, modules_of_trails};
+ghost use Rattle.symbols_paths.specs.Needed.{IsRefused};
+ghost use Rattle.symbols_paths.specs.inner.Needed.{IsImportRefused};
 ghost use Rattle.symbols_paths.specs.Answers.{ArePathsFor};
-ghost use Rattle.symbols_paths.specs.DepAnswers.{entry_told, modules_of_entries, entries_in, asked_by_id, asked_by_way, missing_id, missing_way, other_entries, entries_of, ArePathsOf, IsDepAnswer};
+ghost use Rattle.symbols_paths.specs.DepAnswers.{entry_told, modules_of_entries, entries_in, asked_by_id, asked_by_part, missing_id, missing_part, other_entries, entries_of, IsDepAnswer};
+ghost use Rattle.symbols_paths.specs.inner.DepAnswers.{ArePathsOf};
 
 use crate::paths::leads::symbol_of_id;
 use crate::paths::link::{copied_id, copied_parts, one_unresolved, unresolved};
@@ -50,14 +50,11 @@ fn paths_under<'a>(
     symbol: UniqueSymbolId,
     parts: &SharedParts,
 ) -> Result<Vec<Trail<'a>>, SymbolsFault>
-    requires known { symbol.module_id.0 < length root.old.stored }
-    requires once { IsDistinct bytes_eq root.old.stored }
-    ensures kept { HasGrown root.old root.new }
-    ensures found { IfOk result (λ paths. ArePathsFor root.old.rules root.old.graph (named root.old symbol) (parts_told parts.now) (trails_told root.new paths.items)) }
-    ensures listed { IfOk result (λ paths. trails_told root.new paths.items ≡ paths_under root.old.rules root.old.graph (named root.old symbol) (parts_told parts.now)) }
+    requires known { IsStored root.old symbol.module_id }
+    ensures keeps { Keeps root.old root.new (IsRefused root.new (specifier_in root.old symbol.module_id)) result }
+    ensures found { IfOk result (λ paths. ArePathsFor root.old.rules root.old.graph (symbol_told root.old symbol) (parts_told parts.now) (trails_told root.new paths.items)) }
+    ensures listed { IfOk result (λ paths. trails_told root.new paths.items ≡ paths_under root.old.rules root.old.graph (symbol_told root.old symbol) (parts_told parts.now)) }
     ensures stored { IfOk result (λ paths. AreStored root.new (modules_of_trails paths.items)) }
-    ensures refused { IfErr result (IsRefused root.new (specifier_in root.old symbol.module_id)) }
-    ensures enough { root.old.limits ≡ widest → IfErr result (λ fault. fault ≡ OutOfMemory) }
 {
     let mut resolving = IndexSet::new(root.alloc());
     let mut met = IndexSet::new(root.alloc());
@@ -70,15 +67,12 @@ fn paths_behind_first<'a>(
     symbol: UniqueSymbolId,
     parts: &SharedParts,
 ) -> Result<Vec<Trail<'a>>, SymbolsFault>
-    requires known { symbol.module_id.0 < length root.old.stored }
+    requires known { IsStored root.old symbol.module_id }
     requires some { 0 < length (parts_told parts.now) }
-    requires once { IsDistinct bytes_eq root.old.stored }
-    ensures kept { HasGrown root.old root.new }
-    ensures found { IfOk result (λ paths. ArePathsFor root.old.rules root.old.graph (named root.old symbol) (later_parts (parts_told parts.now)) (trails_told root.new paths.items)) }
-    ensures listed { IfOk result (λ paths. trails_told root.new paths.items ≡ paths_under root.old.rules root.old.graph (named root.old symbol) (later_parts (parts_told parts.now))) }
+    ensures keeps { Keeps root.old root.new (IsRefused root.new (specifier_in root.old symbol.module_id)) result }
+    ensures found { IfOk result (λ paths. ArePathsFor root.old.rules root.old.graph (symbol_told root.old symbol) (later_parts (parts_told parts.now)) (trails_told root.new paths.items)) }
+    ensures listed { IfOk result (λ paths. trails_told root.new paths.items ≡ paths_under root.old.rules root.old.graph (symbol_told root.old symbol) (later_parts (parts_told parts.now))) }
     ensures stored { IfOk result (λ paths. AreStored root.new (modules_of_trails paths.items)) }
-    ensures refused { IfErr result (IsRefused root.new (specifier_in root.old symbol.module_id)) }
-    ensures enough { root.old.limits ≡ widest → IfErr result (λ fault. fault ≡ OutOfMemory) }
 {
     let rest = parts.behind_first()?;
     paths_under(root, symbol, &rest)
@@ -111,13 +105,10 @@ fn paths_of_id<'a>(
     id: &Id,
     parts: &SharedParts,
 ) -> Result<Vec<Trail<'a>>, SymbolsFault>
-    requires known { module_id.0 < length root.old.stored }
-    requires once { IsDistinct bytes_eq root.old.stored }
-    ensures kept { HasGrown root.old root.new }
+    requires known { IsStored root.old module_id }
+    ensures keeps { Keeps root.old root.new (IsRefused root.new (specifier_in root.old module_id)) result }
     ensures found { IfOk result (λ paths. ArePathsOf root.old.rules root.old.graph (asked_by_id root.old.graph (specifier_in root.old module_id) (id_view id.now) (parts_told parts.now)) (missing_id (specifier_in root.old module_id) (id_view id.now) (parts_told parts.now)) (trails_told root.new paths.items)) }
     ensures stored { IfOk result (λ paths. AreStored root.new (modules_of_trails paths.items)) }
-    ensures refused { IfErr result (IsRefused root.new (specifier_in root.old module_id)) }
-    ensures enough { root.old.limits ≡ widest → IfErr result (λ fault. fault ≡ OutOfMemory) }
 {
     match symbol_of_id(root, module_id, id) {
         Some(symbol_id) => paths_under(root, UniqueSymbolId::new(module_id, symbol_id), parts),
@@ -136,14 +127,11 @@ fn paths_of_import<'a>(
     text: &str,
     parts: &SharedParts,
 ) -> Result<Vec<Trail<'a>>, SymbolsFault>
-    requires known { module_id.0 < length root.old.stored }
+    requires known { IsStored root.old module_id }
     requires some { 0 < length (parts_told parts.now) }
-    requires once { IsDistinct bytes_eq root.old.stored }
-    ensures kept { HasGrown root.old root.new }
-    ensures found { IfOk result (λ paths. ArePathsOf root.old.rules root.old.graph (asked_by_way (later_parts (parts_told parts.now)) (text_part root.old.graph (specifier_in root.old module_id) text.now (first_part (parts_told parts.now)) (later_parts (parts_told parts.now)) (text_target root.old.graph (specifier_in root.old module_id) text.now))) (missing_way (text_part root.old.graph (specifier_in root.old module_id) text.now (first_part (parts_told parts.now)) (later_parts (parts_told parts.now)) (text_target root.old.graph (specifier_in root.old module_id) text.now))) (trails_told root.new paths.items)) }
+    ensures keeps { Keeps root.old root.new (IsImportRefused root.old root.new module_id text.now) result }
+    ensures found { IfOk result (λ paths. ArePathsOf root.old.rules root.old.graph (asked_by_part (later_parts (parts_told parts.now)) (text_part root.old.graph (specifier_in root.old module_id) text.now (first_part (parts_told parts.now)) (later_parts (parts_told parts.now)) (text_target root.old.graph (specifier_in root.old module_id) text.now))) (missing_part (text_part root.old.graph (specifier_in root.old module_id) text.now (first_part (parts_told parts.now)) (later_parts (parts_told parts.now)) (text_target root.old.graph (specifier_in root.old module_id) text.now))) (trails_told root.new paths.items)) }
     ensures stored { IfOk result (λ paths. AreStored root.new (modules_of_trails paths.items)) }
-    ensures refused { IfErr result (λ fault. (start : List ℕ) → ((k : List ℕ) → text_target root.old.graph (specifier_in root.old module_id) text.now ≡ Some k → IsNeeded root.old.graph start k) → IsRefused root.new start fault) }
-    ensures enough { root.old.limits ≡ widest → IfErr result (λ fault. fault ≡ OutOfMemory) }
 {
     match text_part(root, module_id, text, parts.texts()) {
         Err(fault) => Err(fault),
@@ -159,12 +147,10 @@ fn module_of_import<'a>(
     module_id: ModuleId,
     text: &str,
 ) -> Result<Vec<ResolvedSymbolDepEntry<'a>>, SymbolsFault>
-    requires known { module_id.0 < length root.old.stored }
-    ensures kept { HasGrown root.old root.new }
+    requires known { IsStored root.old module_id }
+    ensures keeps { Keeps root.old root.new (IsImportRefused root.old root.new module_id text.now) result }
     ensures found { IfOk result (λ entries. map (entry_told root.new) entries.items ≡ other_entries root.old.graph (specifier_in root.old module_id) (import_type text.now [])) }
     ensures stored { IfOk result (λ entries. AreStored root.new (modules_of_entries entries.items)) }
-    ensures refused { IfErr result (λ fault. (start : List ℕ) → ((k : List ℕ) → text_target root.old.graph (specifier_in root.old module_id) text.now ≡ Some k → IsNeeded root.old.graph start k) → IsRefused root.new start fault) }
-    ensures enough { root.old.limits ≡ widest → IfErr result (λ fault. fault ≡ OutOfMemory) }
 {
     match text_target(root, module_id, text) {
         Err(fault) => Err(fault),
@@ -217,14 +203,11 @@ pub(crate) fn entries_of_id<'a>(
     id: &Id,
     parts: &SharedParts,
 ) -> Result<Vec<ResolvedSymbolDepEntry<'a>>, SymbolsFault>
-    requires known { module_id.0 < length root.old.stored }
-    requires once { IsDistinct bytes_eq root.old.stored }
-    ensures kept { HasGrown root.old root.new }
+    requires known { IsStored root.old module_id }
+    ensures keeps { Keeps root.old root.new (IsRefused root.new (specifier_in root.old module_id)) result }
     ensures answers { IfOk result (λ entries. IsDepAnswer root.old.rules root.old.graph (specifier_in root.old module_id) (qualified_id (id_view id.now) (parts_told parts.now)) (map (entry_told root.new) entries.items)) }
     ensures listed { IfOk result (λ entries. map (entry_told root.new) entries.items ≡ entries_of root.old.rules root.old.graph (specifier_in root.old module_id) (qualified_id (id_view id.now) (parts_told parts.now))) }
     ensures stored { IfOk result (λ entries. AreStored root.new (modules_of_entries entries.items)) }
-    ensures refused { IfErr result (IsRefused root.new (specifier_in root.old module_id)) }
-    ensures enough { root.old.limits ≡ widest → IfErr result (λ fault. fault ≡ OutOfMemory) }
 {
     match paths_of_id(root, module_id, id, parts) {
         Err(fault) => Err(fault),
@@ -239,14 +222,11 @@ pub(crate) fn entries_of_import<'a>(
     text: &str,
     parts: &SharedParts,
 ) -> Result<Vec<ResolvedSymbolDepEntry<'a>>, SymbolsFault>
-    requires known { module_id.0 < length root.old.stored }
-    requires once { IsDistinct bytes_eq root.old.stored }
-    ensures kept { HasGrown root.old root.new }
+    requires known { IsStored root.old module_id }
+    ensures keeps { Keeps root.old root.new (IsImportRefused root.old root.new module_id text.now) result }
     ensures answers { IfOk result (λ entries. IsDepAnswer root.old.rules root.old.graph (specifier_in root.old module_id) (import_type text.now (parts_told parts.now)) (map (entry_told root.new) entries.items)) }
     ensures listed { IfOk result (λ entries. map (entry_told root.new) entries.items ≡ entries_of root.old.rules root.old.graph (specifier_in root.old module_id) (import_type text.now (parts_told parts.now))) }
     ensures stored { IfOk result (λ entries. AreStored root.new (modules_of_entries entries.items)) }
-    ensures refused { IfErr result (λ fault. (start : List ℕ) → ((k : List ℕ) → text_target root.old.graph (specifier_in root.old module_id) text.now ≡ Some k → IsNeeded root.old.graph start k) → IsRefused root.new start fault) }
-    ensures enough { root.old.limits ≡ widest → IfErr result (λ fault. fault ≡ OutOfMemory) }
 {
     if parts.is_empty() {
         return module_of_import(root, module_id, text);

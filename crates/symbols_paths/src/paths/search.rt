@@ -1,20 +1,19 @@
 //! The search for definitions: it goes from declaration to declaration, each symbol once.
 
-ghost use Rattle.std.specs.Prelude.{◌≡◌, ◌<◌, ◌++◌, List, [], length, Contains, Option, Some, IfOk, IfErr, IfSome, OnOk};
-ghost use Rattle.std.specs.List.{IsDistinct};
+ghost use Rattle.std.specs.Prelude.{◌≡◌, ◌<◌, ◌++◌, List, [], length, Contains, Option, Some, IfOk, IfSome, OnOk};
 ghost use Rattle.std.specs.Option.{option_to_list};
-ghost use Rattle.std.specs.Str.{bytes_eq};
 ghost use Rattle.symbols_syntax.specs.declared.ids.UniqueSymbolId.{UniqueSymbolId};
-ghost use Rattle.symbols_table.specs.declared.info.fault.SymbolsFault.TheVariants.{OutOfMemory};
 ghost use Rattle.symbols_table.specs.DeclViews.{Declaration};
-ghost use Rattle.symbols_root.specs.Roots.{widest, specifier_in};
-ghost use Rattle.symbols_root.specs.Growing.{HasGrown};
+ghost use Rattle.symbols_root.specs.Roots.{specifier_in};
+ghost use Rattle.symbols_root.specs.Calls.{IsStored, Keeps};
 ghost use Rattle.symbols_paths.specs.declared.paths.trail.Trail.{Trail};
 ghost use Rattle.symbols_paths.specs.Leads.{declarations_of};
-ghost use Rattle.symbols_paths.specs.Views.{named, later_parts, definition_told, AreStored};
-ghost use Rattle.symbols_paths.specs.Trails.{parts_told, modules_of_trails};
-ghost use Rattle.symbols_paths.specs.Needed.{IsRefused, IsStarDeclared};
-ghost use Rattle.symbols_paths.specs.Searching.{AreNumbered, AreAliasesNumbered, HasSearched, IsFound, IsFollowed, IsTried, IsOffered, IsResolved, IsWalked, IsChanged, IsImported, IsImportOf, ways_of_import, ways_along};
+ghost use Rattle.symbols_paths.specs.Views.{definition_told, AreStored};
+ghost use Rattle.symbols_paths.specs.inner.Views.{symbol_told, later_parts};
+ghost use Rattle.symbols_paths.specs.inner.Trails.{parts_told, modules_of_trails};
+ghost use Rattle.symbols_paths.specs.Needed.{IsRefused};
+ghost use Rattle.symbols_paths.specs.inner.Needed.{IsStarDeclared};
+ghost use Rattle.symbols_paths.specs.inner.Searching.{AreSymbolsNumbered, AreAliasesNumbered, IsReady, KeepsResolving, HasSearched, IsFound, IsFollowed, IsTried, IsCandidateFound, IsResolved, IsFoundUnder, IsFoundInPlace, IsImported, IsImportOf, forward_of_import, forward_along};
 
 use crate::paths::definition::{DeclRef, Definition};
 use crate::paths::leads::{Lead, NamedImport, lead_at, own_export, passes_on, star_text};
@@ -31,6 +30,7 @@ use crate::paths::trail::Trail;
 use crate::paths::unresolved::DefinitionUnresolvedKind;
 use indexmap::IndexSet;
 use std::collections::VecDeque;
+use symbols_root::laws::stored_once;
 use symbols_root::root::RootSymbol;
 use symbols_table::info::SymbolsFault;
 use symbols_tree::ids::{ModuleId, UniqueSymbolId};
@@ -43,17 +43,12 @@ pub(crate) fn find<'a>(
     met: &mut IndexSet<UniqueSymbolId>,
     symbol: UniqueSymbolId,
 ) -> Result<Vec<Trail<'a>>, SymbolsFault>
-    requires known { symbol.module_id.0 < length root.old.stored }
-    requires met { AreNumbered root.old met.old.keys }
-    requires resolving { AreAliasesNumbered root.old resolving.old.keys }
-    requires once { IsDistinct bytes_eq root.old.stored }
-    ensures kept { HasGrown root.old root.new }
+    requires ready { IsReady root.old symbol.module_id met.old.keys resolving.old.keys }
+    ensures behind { KeepsResolving root.old root.new symbol.module_id resolving.old.keys resolving.new.keys result }
     ensures found { IfOk result (λ paths. IsFound root.new resolving.old.keys met.old.keys symbol paths.items met.new.keys) }
     ensures searched { IfOk result (λ paths. HasSearched root.new met.old.keys met.new.keys (modules_of_trails paths.items)) }
-    ensures same { OnOk result (resolving.new.keys ≡ resolving.old.keys) }
-    ensures refused { IfErr result (IsRefused root.new (specifier_in root.old symbol.module_id)) }
-    ensures enough { root.old.limits ≡ widest → IfErr result (λ fault. fault ≡ OutOfMemory) }
 {
+    stored_once(root);
     let mut paths = Vec::new(root.alloc());
     let (_, is_new) = met.insert_full(symbol)?;
     if !is_new {
@@ -81,16 +76,10 @@ fn follow<'a>(
     lead: &Lead<'a>,
     paths: &mut Vec<Trail<'a>>,
 ) -> Result<(), SymbolsFault>
-    requires known { symbol.module_id.0 < length root.old.stored }
-    requires met { AreNumbered root.old met.old.keys }
-    requires resolving { AreAliasesNumbered root.old resolving.old.keys }
-    requires once { IsDistinct bytes_eq root.old.stored }
-    requires declared { (decl : Declaration) × Contains (declarations_of root.old.graph (named root.old symbol)) decl × IsImportOf lead.now decl }
-    ensures kept { HasGrown root.old root.new }
+    requires ready { IsReady root.old symbol.module_id met.old.keys resolving.old.keys }
+    requires declared { (decl : Declaration) × Contains (declarations_of root.old.graph (symbol_told root.old symbol)) decl × IsImportOf lead.now decl }
+    ensures behind { KeepsResolving root.old root.new symbol.module_id resolving.old.keys resolving.new.keys result }
     ensures followed { OnOk result ((path : Option Trail) × (paths.new.items ≡ paths.old.items ++ option_to_list path) × IsFollowed root.new resolving.old.keys met.old.keys symbol index lead.now path met.new.keys × HasSearched root.new met.old.keys met.new.keys (modules_of_trails (option_to_list path))) }
-    ensures same { OnOk result (resolving.new.keys ≡ resolving.old.keys) }
-    ensures refused { IfErr result (IsRefused root.new (specifier_in root.old symbol.module_id)) }
-    ensures enough { root.old.limits ≡ widest → IfErr result (λ fault. fault ≡ OutOfMemory) }
 {
     let decl = DeclRef {
         symbol: symbol.symbol_id,
@@ -140,17 +129,11 @@ fn import<'a>(
     symbol: UniqueSymbolId,
     taken: &NamedImport<'a>,
 ) -> Result<Vec<Trail<'a>>, SymbolsFault>
-    requires known { symbol.module_id.0 < length root.old.stored }
-    requires met { AreNumbered root.old met.old.keys }
-    requires resolving { AreAliasesNumbered root.old resolving.old.keys }
-    requires once { IsDistinct bytes_eq root.old.stored }
-    requires declared { IsImported root.old.graph (named root.old symbol) taken.now.name.now taken.now.text.now }
-    ensures kept { HasGrown root.old root.new }
-    ensures tried { IfOk result (λ paths. IsTried root.new resolving.old.keys met.old.keys (ways_of_import symbol taken.now.name.now taken.now.text.now) paths.items met.new.keys) }
+    requires ready { IsReady root.old symbol.module_id met.old.keys resolving.old.keys }
+    requires declared { IsImported root.old.graph (symbol_told root.old symbol) taken.now.name.now taken.now.text.now }
+    ensures behind { KeepsResolving root.old root.new symbol.module_id resolving.old.keys resolving.new.keys result }
+    ensures tried { IfOk result (λ paths. IsTried root.new resolving.old.keys met.old.keys (forward_of_import symbol taken.now.name.now taken.now.text.now) paths.items met.new.keys) }
     ensures searched { IfOk result (λ paths. HasSearched root.new met.old.keys met.new.keys (modules_of_trails paths.items)) }
-    ensures same { OnOk result (resolving.new.keys ≡ resolving.old.keys) }
-    ensures refused { IfErr result (IsRefused root.new (specifier_in root.old symbol.module_id)) }
-    ensures enough { root.old.limits ≡ widest → IfErr result (λ fault. fault ≡ OutOfMemory) }
 {
     let module_id = match text_target(root, symbol.module_id, taken.text) {
         Err(fault) => return Err(fault),
@@ -182,16 +165,10 @@ fn import_along<'a>(
     module_id: ModuleId,
     taken: &NamedImport<'a>,
 ) -> Result<Vec<Trail<'a>>, SymbolsFault>
-    requires known { module_id.0 < length root.old.stored }
-    requires met { AreNumbered root.old met.old.keys }
-    requires resolving { AreAliasesNumbered root.old resolving.old.keys }
-    requires once { IsDistinct bytes_eq root.old.stored }
-    ensures kept { HasGrown root.old root.new }
-    ensures tried { IfOk result (λ paths. IsTried root.new resolving.old.keys met.old.keys (ways_along module_id taken.now.name.now) paths.items met.new.keys) }
+    requires ready { IsReady root.old module_id met.old.keys resolving.old.keys }
+    ensures behind { KeepsResolving root.old root.new module_id resolving.old.keys resolving.new.keys result }
+    ensures tried { IfOk result (λ paths. IsTried root.new resolving.old.keys met.old.keys (forward_along module_id taken.now.name.now) paths.items met.new.keys) }
     ensures searched { IfOk result (λ paths. HasSearched root.new met.old.keys met.new.keys (modules_of_trails paths.items)) }
-    ensures same { OnOk result (resolving.new.keys ≡ resolving.old.keys) }
-    ensures refused { IfErr result (IsRefused root.new (specifier_in root.old module_id)) }
-    ensures enough { root.old.limits ≡ widest → IfErr result (λ fault. fault ≡ OutOfMemory) }
 {
     let mut position = 0;
     while let Some(text) = star_text(root, module_id, position) {
@@ -220,16 +197,14 @@ fn offered<'a>(
     met: &mut IndexSet<UniqueSymbolId>,
     candidate: Option<UniqueSymbolId>,
 ) -> Result<Vec<Trail<'a>>, SymbolsFault>
-    requires known { IfSome candidate (λ symbol. symbol.module_id.0 < length root.old.stored) }
-    requires met { AreNumbered root.old met.old.keys }
+    requires known { IfSome candidate (λ symbol. IsStored root.old symbol.module_id) }
+    requires met { AreSymbolsNumbered root.old met.old.keys }
     requires resolving { AreAliasesNumbered root.old resolving.old.keys }
-    requires once { IsDistinct bytes_eq root.old.stored }
-    ensures kept { HasGrown root.old root.new }
-    ensures offered { IfOk result (λ paths. IsOffered root.new resolving.old.keys met.old.keys candidate paths.items met.new.keys) }
+    ensures keeps { Keeps root.old root.new (λ fault. (symbol : UniqueSymbolId) × (candidate ≡ Some symbol)
+        × IsRefused root.new (specifier_in root.old symbol.module_id) fault) result }
+    ensures offered { IfOk result (λ paths. IsCandidateFound root.new resolving.old.keys met.old.keys candidate paths.items met.new.keys) }
     ensures searched { IfOk result (λ paths. HasSearched root.new met.old.keys met.new.keys (modules_of_trails paths.items)) }
     ensures same { OnOk result (resolving.new.keys ≡ resolving.old.keys) }
-    ensures refused { IfErr result (λ fault. (symbol : UniqueSymbolId) × (candidate ≡ Some symbol) × IsRefused root.new (specifier_in root.old symbol.module_id) fault) }
-    ensures enough { root.old.limits ≡ widest → IfErr result (λ fault. fault ≡ OutOfMemory) }
 {
     match candidate {
         None => Ok(Vec::new(root.alloc())),
@@ -247,17 +222,13 @@ fn resolve<'a>(
     target: UniqueSymbolId,
     parts: &SharedParts,
 ) -> Result<Vec<Trail<'a>>, SymbolsFault>
-    requires known { target.module_id.0 < length root.old.stored }
-    requires alias { alias.«module».0 < length root.old.stored }
-    requires resolving { AreAliasesNumbered root.old resolving.old.keys }
-    requires once { IsDistinct bytes_eq root.old.stored }
-    ensures kept { HasGrown root.old root.new }
+    requires ready { IsReady root.old target.module_id [] resolving.old.keys }
+    requires alias { IsStored root.old alias.«module» }
+    ensures behind { KeepsResolving root.old root.new target.module_id resolving.old.keys resolving.new.keys result }
     ensures resolved { IfOk result (λ paths. IsResolved root.new resolving.old.keys alias target (parts_told parts.now) paths.items) }
     ensures stored { IfOk result (λ paths. AreStored root.new (modules_of_trails paths.items)) }
-    ensures same { OnOk result (resolving.new.keys ≡ resolving.old.keys) }
-    ensures refused { IfErr result (IsRefused root.new (specifier_in root.old target.module_id)) }
-    ensures enough { root.old.limits ≡ widest → IfErr result (λ fault. fault ≡ OutOfMemory) }
 {
+    stored_once(root);
     let (_, is_new) = resolving.insert_full(alias)?;
     if !is_new {
         return Ok(Vec::new(root.alloc()));
@@ -281,16 +252,10 @@ pub(crate) fn walk<'a>(
     symbol: UniqueSymbolId,
     parts: &SharedParts,
 ) -> Result<Vec<Trail<'a>>, SymbolsFault>
-    requires known { symbol.module_id.0 < length root.old.stored }
-    requires met { AreNumbered root.old met.old.keys }
-    requires resolving { AreAliasesNumbered root.old resolving.old.keys }
-    requires once { IsDistinct bytes_eq root.old.stored }
-    ensures kept { HasGrown root.old root.new }
-    ensures walked { IfOk result (λ paths. IsWalked root.new resolving.old.keys met.old.keys symbol (parts_told parts.now) paths.items met.new.keys) }
+    requires ready { IsReady root.old symbol.module_id met.old.keys resolving.old.keys }
+    ensures behind { KeepsResolving root.old root.new symbol.module_id resolving.old.keys resolving.new.keys result }
+    ensures walked { IfOk result (λ paths. IsFoundUnder root.new resolving.old.keys met.old.keys symbol (parts_told parts.now) paths.items met.new.keys) }
     ensures searched { IfOk result (λ paths. HasSearched root.new met.old.keys met.new.keys (modules_of_trails paths.items)) }
-    ensures same { OnOk result (resolving.new.keys ≡ resolving.old.keys) }
-    ensures refused { IfErr result (IsRefused root.new (specifier_in root.old symbol.module_id)) }
-    ensures enough { root.old.limits ≡ widest → IfErr result (λ fault. fault ≡ OutOfMemory) }
 {
     let paths = match find(root, resolving, met, symbol) {
         Err(fault) => return Err(fault),
@@ -314,19 +279,13 @@ fn walk_definitions<'a>(
     parts: &SharedParts,
     paths: Vec<Trail<'a>>,
 ) -> Result<Vec<Trail<'a>>, SymbolsFault>
-    requires known { symbol.module_id.0 < length root.old.stored }
+    requires ready { IsReady root.old symbol.module_id met.old.keys resolving.old.keys }
     requires some { 0 < length (parts_told parts.now) }
     requires found { (before : List UniqueSymbolId) × IsFound root.old resolving.old.keys before symbol paths.items met.old.keys }
     requires stored { AreStored root.old (modules_of_trails paths.items) }
-    requires met { AreNumbered root.old met.old.keys }
-    requires resolving { AreAliasesNumbered root.old resolving.old.keys }
-    requires once { IsDistinct bytes_eq root.old.stored }
-    ensures kept { HasGrown root.old root.new }
-    ensures walked { IfOk result (λ found. (before : List UniqueSymbolId) → IsFound root.old resolving.old.keys before symbol paths.entry.items met.old.keys → IsWalked root.new resolving.old.keys before symbol (parts_told parts.now) found.items met.new.keys) }
+    ensures behind { KeepsResolving root.old root.new symbol.module_id resolving.old.keys resolving.new.keys result }
+    ensures walked { IfOk result (λ found. (before : List UniqueSymbolId) → IsFound root.old resolving.old.keys before symbol paths.entry.items met.old.keys → IsFoundUnder root.new resolving.old.keys before symbol (parts_told parts.now) found.items met.new.keys) }
     ensures searched { IfOk result (λ found. HasSearched root.new met.old.keys met.new.keys (modules_of_trails found.items)) }
-    ensures same { OnOk result (resolving.new.keys ≡ resolving.old.keys) }
-    ensures refused { IfErr result (IsRefused root.new (specifier_in root.old symbol.module_id)) }
-    ensures enough { root.old.limits ≡ widest → IfErr result (λ fault. fault ≡ OutOfMemory) }
 {
     let mut changed = VecDeque::new(root.alloc());
     let definitions = definitions_in(root.alloc(), &paths)?;
@@ -348,17 +307,11 @@ fn walk_on<'a>(
     symbol: UniqueSymbolId,
     parts: &SharedParts,
 ) -> Result<Vec<Trail<'a>>, SymbolsFault>
-    requires known { symbol.module_id.0 < length root.old.stored }
+    requires ready { IsReady root.old symbol.module_id met.old.keys resolving.old.keys }
     requires some { 0 < length (parts_told parts.now) }
-    requires met { AreNumbered root.old met.old.keys }
-    requires resolving { AreAliasesNumbered root.old resolving.old.keys }
-    requires once { IsDistinct bytes_eq root.old.stored }
-    ensures kept { HasGrown root.old root.new }
-    ensures walked { IfOk result (λ paths. IsWalked root.new resolving.old.keys met.old.keys symbol (later_parts (parts_told parts.now)) paths.items met.new.keys) }
+    ensures behind { KeepsResolving root.old root.new symbol.module_id resolving.old.keys resolving.new.keys result }
+    ensures walked { IfOk result (λ paths. IsFoundUnder root.new resolving.old.keys met.old.keys symbol (later_parts (parts_told parts.now)) paths.items met.new.keys) }
     ensures searched { IfOk result (λ paths. HasSearched root.new met.old.keys met.new.keys (modules_of_trails paths.items)) }
-    ensures same { OnOk result (resolving.new.keys ≡ resolving.old.keys) }
-    ensures refused { IfErr result (IsRefused root.new (specifier_in root.old symbol.module_id)) }
-    ensures enough { root.old.limits ≡ widest → IfErr result (λ fault. fault ≡ OutOfMemory) }
 {
     let rest = parts.behind_first()?;
     walk(root, resolving, met, symbol, &rest)
@@ -373,18 +326,12 @@ fn step<'a>(
     definition: &Definition<'a>,
     parts: &SharedParts,
 ) -> Result<Option<Trail<'a>>, SymbolsFault>
-    requires known { definition.now.«module».0 < length root.old.stored }
+    requires ready { IsReady root.old definition.now.«module» met.old.keys resolving.old.keys }
     requires some { 0 < length (parts_told parts.now) }
     requires declared { IsStarDeclared root.old.graph (definition_told root.old definition.now) }
-    requires met { AreNumbered root.old met.old.keys }
-    requires resolving { AreAliasesNumbered root.old resolving.old.keys }
-    requires once { IsDistinct bytes_eq root.old.stored }
-    ensures kept { HasGrown root.old root.new }
-    ensures changed { IfOk result (λ path. IsChanged root.new resolving.old.keys met.old.keys definition.now (parts_told parts.now) path met.new.keys) }
+    ensures behind { KeepsResolving root.old root.new definition.now.«module» resolving.old.keys resolving.new.keys result }
+    ensures changed { IfOk result (λ path. IsFoundInPlace root.new resolving.old.keys met.old.keys definition.now (parts_told parts.now) path met.new.keys) }
     ensures searched { IfOk result (λ path. HasSearched root.new met.old.keys met.new.keys (modules_of_trails (option_to_list path))) }
-    ensures same { OnOk result (resolving.new.keys ≡ resolving.old.keys) }
-    ensures refused { IfErr result (IsRefused root.new (specifier_in root.old definition.now.«module»)) }
-    ensures enough { root.old.limits ≡ widest → IfErr result (λ fault. fault ≡ OutOfMemory) }
 {
     let symbol = UniqueSymbolId::new(definition.module, definition.symbol_decl.symbol);
     let decl = definition.symbol_decl;

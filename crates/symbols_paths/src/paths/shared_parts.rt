@@ -2,7 +2,8 @@
 
 ghost use Rattle.std.specs.Prelude.{◌≡◌, ◌<◌, ◌≤◌, ◌^◌, ◌==◌, length, IfOk};
 ghost use Rattle.std.specs.Rc.{rc_slice_items};
-ghost use Rattle.symbols_paths.specs.Views.{texts_of, texts_in};
+ghost use Rattle.symbols_paths.specs.Views.{texts_of};
+ghost use Rattle.symbols_paths.specs.inner.Views.{texts_in};
 
 use std::alloc::{AllocError, Global};
 use std::rc::RcSlice;
@@ -29,8 +30,8 @@ fn copies_of(alloc: Global, texts: &[&str]) -> Result<Vec<String>, AllocError>
 }
 
 impl SharedParts {
-    ghost use Rattle.symbols_paths.specs.Views.{later_parts};
-    ghost use Rattle.symbols_paths.specs.Trails.{parts_told};
+    ghost use Rattle.symbols_paths.specs.inner.Views.{later_parts};
+    ghost use Rattle.symbols_paths.specs.inner.Trails.{parts_told};
 
     /// All of these, copied.
     pub(crate) fn new(alloc: Global, parts: &[&str]) -> Result<SharedParts, AllocError>

@@ -1,13 +1,12 @@
 //! What texts and `export *` of stored modules lead to, stored when it is asked for.
 
-ghost use Rattle.std.specs.Prelude.{◌≡◌, ◌<◌, ℕ, length, Some, slice_get, IfOk, IfErr, IfSome, OnErr};
+ghost use Rattle.std.specs.Prelude.{◌≡◌, ℕ, Some, slice_get, IfOk, IfSome, OnErr};
 ghost use Rattle.std.specs.Option.{option_map};
-ghost use Rattle.symbols_table.specs.declared.info.fault.SymbolsFault.TheVariants.{OutOfMemory};
-ghost use Rattle.symbols_root.specs.Roots.{widest, specifier_under, IsRefusal, specifier_in};
-ghost use Rattle.symbols_root.specs.Growing.{HasGrown};
+ghost use Rattle.symbols_root.specs.Roots.{specifier_under, IsRefusal, specifier_in};
+ghost use Rattle.symbols_root.specs.Calls.{IsStored, Keeps};
 ghost use Rattle.symbols_exports.specs.StarStatements.{star_texts, text_target};
 ghost use Rattle.symbols_paths.specs.Leads.{export_along};
-ghost use Rattle.symbols_paths.specs.Views.{named};
+ghost use Rattle.symbols_paths.specs.inner.Views.{symbol_told};
 ghost use Rattle.symbols_paths.specs.Needed.{IsRefused};
 
 use crate::paths::leads::specifier_of;
@@ -23,12 +22,10 @@ pub(crate) fn text_target(
     referrer: ModuleId,
     text: &str,
 ) -> Result<Option<ModuleId>, SymbolsFault>
-    requires { referrer.0 < length root.old.stored }
-    ensures kept { HasGrown root.old root.new }
+    requires { IsStored root.old referrer }
+    ensures keeps { Keeps root.old root.new (IsRefusal root.old (text_target root.old.graph (specifier_in root.old referrer) text.now)) result }
     ensures gives { IfOk result (λ id. option_map (specifier_under root.new) id ≡ option_map (λ s. Some s) (text_target root.old.graph (specifier_in root.old referrer) text.now)) }
     ensures unchanged { OnErr result (root.new ≡ root.old) }
-    ensures refused { IfErr result (IsRefusal root.old (text_target root.old.graph (specifier_in root.old referrer) text.now)) }
-    ensures enough { root.old.limits ≡ widest → IfErr result (λ fault. fault ≡ OutOfMemory) }
 {
     let specifier = specifier_of(root, referrer);
     match root.graph().resolve_dependency(text, specifier) {
@@ -45,13 +42,11 @@ pub(crate) fn export_along(
     text: &str,
     name: &str,
 ) -> Result<Option<UniqueSymbolId>, SymbolsFault>
-    requires known { module_id.0 < length root.old.stored }
+    requires known { IsStored root.old module_id }
     requires stands { (position : ℕ) × (slice_get (star_texts root.old.graph (specifier_in root.old module_id)) position ≡ Some text.now) }
-    ensures kept { HasGrown root.old root.new }
-    ensures gives { IfOk result (λ symbol. option_map (named root.new) symbol ≡ export_along root.old.graph name.now (text_target root.old.graph (specifier_in root.old module_id) text.now)) }
-    ensures stored { IfOk result (λ symbol. IfSome symbol (λ s. s.module_id.0 < length root.new.stored)) }
-    ensures refused { IfErr result (IsRefused root.new (specifier_in root.old module_id)) }
-    ensures enough { root.old.limits ≡ widest → IfErr result (λ fault. fault ≡ OutOfMemory) }
+    ensures keeps { Keeps root.old root.new (IsRefused root.new (specifier_in root.old module_id)) result }
+    ensures gives { IfOk result (λ symbol. option_map (symbol_told root.new) symbol ≡ export_along root.old.graph name.now (text_target root.old.graph (specifier_in root.old module_id) text.now)) }
+    ensures stored { IfOk result (λ symbol. IfSome symbol (λ s. IsStored root.new s.module_id)) }
 {
     let target = match text_target(root, module_id, text) {
         Err(fault) => return Err(fault),

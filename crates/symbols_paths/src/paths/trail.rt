@@ -3,9 +3,9 @@
 ghost use Rattle.std.specs.Prelude.{IfOk, ◌≡◌, ◌++◌, ◌∷◌, []};
 ghost use Rattle.std.specs.Option.{option_to_list};
 ghost use Rattle.symbols_root.specs.Roots.{RootView};
-ghost use Rattle.symbols_paths.specs.Trees.{one, leaf};
+ghost use Rattle.symbols_paths.specs.Trees.{one_tree, leaf};
 ghost use Rattle.symbols_paths.specs.Views.{leaf_told, module_of_end, AreStored};
-ghost use Rattle.symbols_paths.specs.Trails.{parts_told, heads_of, heads_in, heads_under, linked, trail_told, trails_told, trails_of_option, modules_of_stretch, modules_of_stretches, modules_of_trail, modules_of_trails};
+ghost use Rattle.symbols_paths.specs.inner.Trails.{parts_told, heads_of, heads_in, heads_under, below_links, trail_told, trails_told, trails_of_option, modules_of_stretch, modules_of_stretches, modules_of_trail, modules_of_trails};
 
 use crate::paths::definition::DeclRef;
 use crate::paths::iter::DefinitionOrUnresolved;
@@ -40,7 +40,7 @@ pub(crate) enum Trail<'a> {
 
 /// The trail that is an end alone.
 pub(crate) fn ended<'a>(alloc: Global, end: DefinitionOrUnresolved<'a>) -> Trail<'a>
-    ensures told { (root : RootView) → trail_told root result ≡ one (leaf (leaf_told root end.entry)) }
+    ensures told { (root : RootView) → trail_told root result ≡ one_tree (leaf (leaf_told root end.entry)) }
     ensures stored { (root : RootView) → AreStored root (module_of_end end.entry ∷ []) → AreStored root (modules_of_trail result) }
 {
     Trail::To(Vec::new(alloc), end)
@@ -48,7 +48,7 @@ pub(crate) fn ended<'a>(alloc: Global, end: DefinitionOrUnresolved<'a>) -> Trail
 
 /// The trail with a stretch more in front.
 pub(crate) fn put_before<'a>(trail: Trail<'a>, stretch: Stretch) -> Result<Trail<'a>, AllocError>
-    ensures told { IfOk result (λ longer. (root : RootView) → trail_told root longer ≡ linked (heads_of root stretch) (trail_told root trail.entry)) }
+    ensures told { IfOk result (λ longer. (root : RootView) → trail_told root longer ≡ below_links (heads_of root stretch) (trail_told root trail.entry)) }
     ensures stored { IfOk result (λ longer. (root : RootView) → AreStored root (modules_of_stretch stretch) → AreStored root (modules_of_trail trail.entry) → AreStored root (modules_of_trail longer)) }
 {
     match trail {
@@ -90,7 +90,7 @@ pub(crate) fn put_behind<'a>(
     parts: &SharedParts,
     trail: Trail<'a>,
 ) -> Result<Trail<'a>, AllocError>
-    ensures told { IfOk result (λ longer. (root : RootView) → trail_told root longer ≡ linked (heads_under (parts_told parts.now) (heads_in root stretches.items)) (trail_told root trail.entry)) }
+    ensures told { IfOk result (λ longer. (root : RootView) → trail_told root longer ≡ below_links (heads_under (parts_told parts.now) (heads_in root stretches.items)) (trail_told root trail.entry)) }
     ensures stored { IfOk result (λ longer. (root : RootView) → AreStored root (modules_of_stretches stretches.items) → AreStored root (modules_of_trail trail.entry) → AreStored root (modules_of_trail longer)) }
 {
     if stretches.is_empty() {

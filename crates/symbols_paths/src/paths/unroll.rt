@@ -3,9 +3,9 @@
 ghost use Rattle.std.specs.Prelude.{◌≡◌, ◌<◌, ◌∷◌, [], length, IfOk};
 ghost use Rattle.std.specs.Option.{option_map_or};
 ghost use Rattle.symbols_root.specs.Roots.{RootView};
-ghost use Rattle.symbols_paths.specs.Trees.{leaf, one, link_to};
+ghost use Rattle.symbols_paths.specs.Trees.{leaf, one_tree, link_to};
 ghost use Rattle.symbols_paths.specs.Views.{leaf_told, module_of_end, texts_of, forest_told, modules_in, AreStored};
-ghost use Rattle.symbols_paths.specs.Trails.{parts_told, step_head, heads_of, heads_in, heads_under, linked, trail_told, trails_told, modules_of_stretch, modules_of_stretches, modules_of_trail, modules_of_trails};
+ghost use Rattle.symbols_paths.specs.inner.Trails.{parts_told, step_head, heads_of, heads_in, heads_under, below_links, trail_told, trails_told, modules_of_stretch, modules_of_stretches, modules_of_trail, modules_of_trails};
 
 use crate::paths::iter::DefinitionOrUnresolved;
 use crate::paths::link::copied_parts;
@@ -19,7 +19,7 @@ fn end_alone<'a>(
     alloc: Global,
     end: DefinitionOrUnresolved<'a>,
 ) -> Result<Vec<DefinitionPathNode<'a>>, AllocError>
-    ensures told { IfOk result (λ paths. (root : RootView) → forest_told root paths.items ≡ one (leaf (leaf_told root end.entry))) }
+    ensures told { IfOk result (λ paths. (root : RootView) → forest_told root paths.items ≡ one_tree (leaf (leaf_told root end.entry))) }
     ensures stored { IfOk result (λ paths. (root : RootView) → AreStored root (module_of_end end.entry ∷ []) → AreStored root (modules_in paths.items)) }
 {
     let path = match end {
@@ -77,7 +77,7 @@ fn lay<'a>(
     stretches: Vec<Stretch>,
     next: Vec<DefinitionPathNode<'a>>,
 ) -> Result<Vec<DefinitionPathNode<'a>>, AllocError>
-    ensures told { IfOk result (λ paths. (root : RootView) → forest_told root paths.items ≡ linked (heads_in root stretches.items) (forest_told root next.entry.items)) }
+    ensures told { IfOk result (λ paths. (root : RootView) → forest_told root paths.items ≡ below_links (heads_in root stretches.items) (forest_told root next.entry.items)) }
     ensures stored { IfOk result (λ paths. (root : RootView) → AreStored root (modules_of_stretches stretches.items) → AreStored root (modules_in next.entry.items) → AreStored root (modules_in paths.items)) }
 {
     let mut paths = next;
@@ -93,7 +93,7 @@ fn lay_one<'a>(
     stretch: Stretch,
     next: Vec<DefinitionPathNode<'a>>,
 ) -> Result<Vec<DefinitionPathNode<'a>>, AllocError>
-    ensures told { IfOk result (λ paths. (root : RootView) → forest_told root paths.items ≡ linked (heads_of root stretch) (forest_told root next.entry.items)) }
+    ensures told { IfOk result (λ paths. (root : RootView) → forest_told root paths.items ≡ below_links (heads_of root stretch) (forest_told root next.entry.items)) }
     ensures stored { IfOk result (λ paths. (root : RootView) → AreStored root (modules_of_stretch stretch) → AreStored root (modules_in next.entry.items) → AreStored root (modules_in paths.items)) }
 {
     match stretch {
@@ -110,7 +110,7 @@ fn lay_under<'a>(
     parts: &SharedParts,
     next: Vec<DefinitionPathNode<'a>>,
 ) -> Result<Vec<DefinitionPathNode<'a>>, AllocError>
-    ensures told { IfOk result (λ paths. (root : RootView) → forest_told root paths.items ≡ linked (heads_under (parts_told parts.now) (heads_in root stretches.items)) (forest_told root next.entry.items)) }
+    ensures told { IfOk result (λ paths. (root : RootView) → forest_told root paths.items ≡ below_links (heads_under (parts_told parts.now) (heads_in root stretches.items)) (forest_told root next.entry.items)) }
     ensures stored { IfOk result (λ paths. (root : RootView) → AreStored root (modules_of_stretches stretches.items) → AreStored root (modules_in next.entry.items) → AreStored root (modules_in paths.items)) }
 {
     let mut paths = next;
@@ -128,7 +128,7 @@ fn lay_one_under<'a>(
     parts: &SharedParts,
     next: Vec<DefinitionPathNode<'a>>,
 ) -> Result<Vec<DefinitionPathNode<'a>>, AllocError>
-    ensures told { IfOk result (λ paths. (root : RootView) → forest_told root paths.items ≡ linked (heads_under (parts_told parts.now) (heads_of root stretch)) (forest_told root next.entry.items)) }
+    ensures told { IfOk result (λ paths. (root : RootView) → forest_told root paths.items ≡ below_links (heads_under (parts_told parts.now) (heads_of root stretch)) (forest_told root next.entry.items)) }
     ensures stored { IfOk result (λ paths. (root : RootView) → AreStored root (modules_of_stretch stretch) → AreStored root (modules_in next.entry.items) → AreStored root (modules_in paths.items)) }
 {
     match stretch {

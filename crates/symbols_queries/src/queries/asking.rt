@@ -1,14 +1,15 @@
 //! The answers to queries.
 
-ghost use Rattle.std.specs.Prelude.{◌≡◌, ◌<◌, ◌⊎◌, ℕ, List, length, map, Some, IfOk, IfErr};
+ghost use Rattle.std.specs.Prelude.{◌≡◌, ◌⊎◌, ℕ, List, map, Some, IfOk, IfErr};
 ghost use Rattle.std.specs.List.{AllZip};
 ghost use Rattle.symbols_syntax.specs.Ids.{id_view};
 ghost use Rattle.symbols_nodes.specs.References.{reference_view};
 ghost use Rattle.symbols_table.specs.declared.info.fault.SymbolsFault.TheVariants.{OutOfMemory, UnknownSymbol};
 ghost use Rattle.symbols_table.specs.Changes.{mapped_after};
-ghost use Rattle.symbols_root.specs.Roots.{widest, specifier_in};
-ghost use Rattle.symbols_root.specs.GraphModules.{changes_under};
+ghost use Rattle.symbols_root.specs.Roots.{widest_limits, specifier_in};
 ghost use Rattle.symbols_root.specs.Growing.{HasGrown};
+ghost use Rattle.symbols_root.specs.Calls.{IsStored, Keeps};
+ghost use Rattle.symbols_root.specs.GraphModules.{changes_under};
 ghost use Rattle.symbols_exports.specs.Answers.{AreListed};
 ghost use Rattle.symbols_answers.specs.Questions.{asks_exports, asks_names, asks_name, asks_deps, asks_paths, asks_definitions, asks_leaves, asks_entries};
 ghost use Rattle.symbols_answers.specs.QueryAnswers.{query_answer};
@@ -16,8 +17,9 @@ ghost use Rattle.symbols_answers.specs.Meanings.{IsAnswerTo};
 ghost use Rattle.symbols_answers.specs.Stored.{HasStoredFor};
 ghost use Rattle.symbols_queries.specs.Queries.{query_view};
 ghost use Rattle.symbols_queries.specs.AnswerViews.{answer_view};
-ghost use Rattle.symbols_queries.specs.Given.{IsGiven};
-ghost use Rattle.symbols_queries.specs.QueryFaults.{IsQuestionFault, IsQueryFault, IsRunFault};
+ghost use Rattle.symbols_queries.specs.inner.Given.{IsGiven};
+ghost use Rattle.symbols_queries.specs.QueryFaults.{IsQueryFault, IsRunFault};
+ghost use Rattle.symbols_queries.specs.inner.QueryFaults.{IsQuestionFault, KeepsAnswering};
 
 use crate::queries::answers::Answer;
 use crate::queries::deps::symbol_deps;
@@ -38,11 +40,9 @@ fn exports_answer<'a>(
     root: &mut RootSymbol<'a>,
     module_id: ModuleId,
 ) -> Result<Answer<'a>, SymbolsFault>
-    requires { module_id.0 < length root.old.stored }
-    ensures kept { HasGrown root.old root.new }
+    requires { IsStored root.old module_id }
+    ensures keeps { Keeps root.old root.new (IsQuestionFault root.old root.new (specifier_in root.old module_id) asks_exports) result }
     ensures given { IfOk result (λ answer. IsGiven root.old root.new (specifier_in root.old module_id) asks_exports (answer_view answer)) }
-    ensures faults { IfErr result (IsQuestionFault root.old root.new (specifier_in root.old module_id) asks_exports) }
-    ensures enough { root.old.limits ≡ widest → IfErr result (λ fault. fault ≡ OutOfMemory) }
 {
     match exports(root, module_id) {
         Err(fault) => Err(fault),
@@ -55,11 +55,9 @@ fn names_answer<'a>(
     root: &mut RootSymbol<'a>,
     module_id: ModuleId,
 ) -> Result<Answer<'a>, SymbolsFault>
-    requires { module_id.0 < length root.old.stored }
-    ensures kept { HasGrown root.old root.new }
+    requires { IsStored root.old module_id }
+    ensures keeps { Keeps root.old root.new (IsQuestionFault root.old root.new (specifier_in root.old module_id) asks_names) result }
     ensures given { IfOk result (λ answer. IsGiven root.old root.new (specifier_in root.old module_id) asks_names (answer_view answer)) }
-    ensures faults { IfErr result (IsQuestionFault root.old root.new (specifier_in root.old module_id) asks_names) }
-    ensures enough { root.old.limits ≡ widest → IfErr result (λ fault. fault ≡ OutOfMemory) }
 {
     match public_names(root, module_id) {
         Err(fault) => Err(fault),
@@ -69,7 +67,7 @@ fn names_answer<'a>(
 
 /// The symbol that a name of a stored module stands for.
 fn mapped_symbol(root: &RootSymbol<'_>, module_id: ModuleId, id: &Id) -> Option<SymbolId>
-    requires { module_id.0 < length root.now.stored }
+    requires { IsStored root.now module_id }
     ensures { result ≡ mapped_after (changes_under root.now.graph (specifier_in root.now module_id)) (id_view id.now) }
 {
     match root.module_from_id(module_id) {
@@ -85,7 +83,7 @@ fn name_answer<'a>(
     module_id: ModuleId,
     symbol: SymbolId,
 ) -> Result<Answer<'a>, SymbolsFault>
-    requires { module_id.0 < length root.now.stored }
+    requires { IsStored root.now module_id }
     ensures given { IfOk result (λ answer. IsGiven root.now root.now (specifier_in root.now module_id) (asks_name symbol) (answer_view answer)) }
     ensures faults { IfErr result (IsQuestionFault root.now root.now (specifier_in root.now module_id) (asks_name symbol)) }
 {
@@ -105,7 +103,7 @@ fn deps_answer<'a>(
     symbol_id: SymbolId,
     mode: ResolveDepsMode,
 ) -> Result<Answer<'a>, SymbolsFault>
-    requires { module_id.0 < length root.now.stored }
+    requires { IsStored root.now module_id }
     ensures given { IfOk result (λ answer. IsGiven root.now root.now (specifier_in root.now module_id) (asks_deps symbol_id mode) (answer_view answer)) }
     ensures faults { IfErr result (IsQuestionFault root.now root.now (specifier_in root.now module_id) (asks_deps symbol_id mode)) }
 {
@@ -124,11 +122,9 @@ fn paths_answer<'a>(
     module_id: ModuleId,
     symbol: SymbolId,
 ) -> Result<Answer<'a>, SymbolsFault>
-    requires { module_id.0 < length root.old.stored }
-    ensures kept { HasGrown root.old root.new }
+    requires { IsStored root.old module_id }
+    ensures keeps { KeepsAnswering root.old root.new (IsQuestionFault root.old root.new (specifier_in root.old module_id) (asks_paths symbol)) result }
     ensures given { IfOk result (λ answer. IsGiven root.old root.new (specifier_in root.old module_id) (asks_paths symbol) (answer_view answer)) }
-    ensures faults { IfErr result (IsQuestionFault root.old root.new (specifier_in root.old module_id) (asks_paths symbol)) }
-    ensures enough { root.old.limits ≡ widest → IfErr result (λ fault. (fault ≡ OutOfMemory) ⊎ (fault ≡ UnknownSymbol)) }
 {
     match root.find_definition_paths(module_id, symbol) {
         Err(fault) => Err(fault),
@@ -142,11 +138,9 @@ fn definitions_answer<'a>(
     module_id: ModuleId,
     symbol: SymbolId,
 ) -> Result<Answer<'a>, SymbolsFault>
-    requires { module_id.0 < length root.old.stored }
-    ensures kept { HasGrown root.old root.new }
+    requires { IsStored root.old module_id }
+    ensures keeps { KeepsAnswering root.old root.new (IsQuestionFault root.old root.new (specifier_in root.old module_id) (asks_definitions symbol)) result }
     ensures given { IfOk result (λ answer. IsGiven root.old root.new (specifier_in root.old module_id) (asks_definitions symbol) (answer_view answer)) }
-    ensures faults { IfErr result (IsQuestionFault root.old root.new (specifier_in root.old module_id) (asks_definitions symbol)) }
-    ensures enough { root.old.limits ≡ widest → IfErr result (λ fault. (fault ≡ OutOfMemory) ⊎ (fault ≡ UnknownSymbol)) }
 {
     match root.go_to_definitions(module_id, symbol) {
         Err(fault) => Err(fault),
@@ -163,11 +157,9 @@ fn leaves_answer<'a>(
     module_id: ModuleId,
     symbol: SymbolId,
 ) -> Result<Answer<'a>, SymbolsFault>
-    requires { module_id.0 < length root.old.stored }
-    ensures kept { HasGrown root.old root.new }
+    requires { IsStored root.old module_id }
+    ensures keeps { KeepsAnswering root.old root.new (IsQuestionFault root.old root.new (specifier_in root.old module_id) (asks_leaves symbol)) result }
     ensures given { IfOk result (λ answer. IsGiven root.old root.new (specifier_in root.old module_id) (asks_leaves symbol) (answer_view answer)) }
-    ensures faults { IfErr result (IsQuestionFault root.old root.new (specifier_in root.old module_id) (asks_leaves symbol)) }
-    ensures enough { root.old.limits ≡ widest → IfErr result (λ fault. (fault ≡ OutOfMemory) ⊎ (fault ≡ UnknownSymbol)) }
 {
     match root.go_to_definitions_or_unresolveds(module_id, symbol) {
         Err(fault) => Err(fault),
@@ -181,11 +173,10 @@ fn entries_answer<'a>(
     module_id: ModuleId,
     dep: &SymbolNodeDep<'_>,
 ) -> Result<Answer<'a>, SymbolsFault>
-    requires { module_id.0 < length root.old.stored }
-    ensures kept { HasGrown root.old root.new }
+    requires { IsStored root.old module_id }
+    ensures keeps { Keeps root.old root.new
+        (IsQuestionFault root.old root.new (specifier_in root.old module_id) (asks_entries (reference_view dep.now))) result }
     ensures given { IfOk result (λ answer. IsGiven root.old root.new (specifier_in root.old module_id) (asks_entries (reference_view dep.now)) (answer_view answer)) }
-    ensures faults { IfErr result (IsQuestionFault root.old root.new (specifier_in root.old module_id) (asks_entries (reference_view dep.now))) }
-    ensures enough { root.old.limits ≡ widest → IfErr result (λ fault. fault ≡ OutOfMemory) }
 {
     match root.resolve_symbol_dep(module_id, dep) {
         Err(fault) => Err(fault),
@@ -199,11 +190,10 @@ fn answer_on<'a>(
     module_id: ModuleId,
     query: &Query<'_>,
 ) -> Result<Answer<'a>, SymbolsFault>
-    requires { module_id.0 < length root.old.stored }
-    ensures kept { HasGrown root.old root.new }
+    requires { IsStored root.old module_id }
+    ensures keeps { KeepsAnswering root.old root.new
+        (IsQuestionFault root.old root.new (specifier_in root.old module_id) (query_view query.now).question) result }
     ensures given { IfOk result (λ answer. IsGiven root.old root.new (specifier_in root.old module_id) (query_view query.now).question (answer_view answer)) }
-    ensures faults { IfErr result (IsQuestionFault root.old root.new (specifier_in root.old module_id) (query_view query.now).question) }
-    ensures enough { root.old.limits ≡ widest → IfErr result (λ fault. (fault ≡ OutOfMemory) ⊎ (fault ≡ UnknownSymbol)) }
 {
     match query {
         Query::Module(_) => Ok(Answer::Module(specifier_of(root, module_id))),
@@ -247,7 +237,7 @@ impl<'a> AnswerQueries<'a> for RootSymbol<'a> {
         ensures stored { IfOk result (λ answer. HasStoredFor self.new (query_view query.now) (answer_view answer)) }
         ensures listed { (start : List ℕ) → AreListed self.old.graph start }
         ensures faults { IfErr result (IsQueryFault self.old self.new (query_view query.now)) }
-        ensures enough { self.old.limits ≡ widest → IfErr result (λ fault. (fault ≡ OutOfMemory) ⊎ (fault ≡ UnknownSymbol)) }
+        ensures enough { self.old.limits ≡ widest_limits → IfErr result (λ fault. (fault ≡ OutOfMemory) ⊎ (fault ≡ UnknownSymbol)) }
     {
         exports_are_listed(self);
         match self.module_from_specifier(query.specifier()) {
@@ -264,7 +254,7 @@ impl<'a> AnswerQueries<'a> for RootSymbol<'a> {
         ensures stored { IfOk result (λ answers. AllZip (λ query answer. HasStoredFor self.new (query_view query) (answer_view answer)) queries.now answers.items) }
         ensures listed { (start : List ℕ) → AreListed self.old.graph start }
         ensures faults { IfErr result (IsRunFault self.old self.new (map query_view queries.now)) }
-        ensures enough { self.old.limits ≡ widest → IfErr result (λ fault. (fault ≡ OutOfMemory) ⊎ (fault ≡ UnknownSymbol)) }
+        ensures enough { self.old.limits ≡ widest_limits → IfErr result (λ fault. (fault ≡ OutOfMemory) ⊎ (fault ≡ UnknownSymbol)) }
     {
         exports_are_listed(self);
         let mut answers = Vec::new(self.alloc());

@@ -76,6 +76,17 @@ fn named_statement<'a>(
     }
 }
 
+/// How many statements are on a way: for the room that they take, and nothing else.
+fn chain_room(path: &ResolvedExportOrReExportAllPath<'_>) -> usize {
+    let mut room: usize = 0;
+    for rest in path.iter() {
+        if let ResolvedExportOrReExportAllPath::ReExportAllPath(_) = rest {
+            room = room.saturating_add(1);
+        }
+    }
+    room
+}
+
 /// The statements on a way, in order.
 #[tactic(auto, using(crate::proofs::Naming::statements_of_rests))]
 pub(crate) fn named_chain<'a>(
@@ -86,7 +97,7 @@ pub(crate) fn named_chain<'a>(
     requires { AreNumbered root.now (statements_on path.now) }
     ensures { IfOk result (λ chain. map statement_view chain.items ≡ map (told_number root.now) (statements_on path.now)) }
 {
-    let mut chain = Vec::new(alloc);
+    let mut chain = Vec::with_capacity(alloc, chain_room(path))?;
     for rest in path.iter() {
         if let ResolvedExportOrReExportAllPath::ReExportAllPath(re_export) = rest {
             chain.push(named_statement(root, re_export.referrer_module, re_export.specifier))?;
@@ -122,7 +133,7 @@ fn named_names<'a>(
     requires { AllNumbered root.now (names_view resolved.entries) }
     ensures { IfOk result (λ exports. map export_view exports.items ≡ map (told_name root.now) (names_view resolved.entry.entries)) }
 {
-    let mut exports = Vec::new(alloc);
+    let mut exports = Vec::with_capacity(alloc, resolved.len())?;
     for (name, path) in resolved {
         exports.push(named_export(alloc, root, name, &path)?)?;
     }

@@ -3,9 +3,10 @@
 ghost use Rattle.std.specs.Prelude.{◌≡◌, ◌<◌, length, map, IfOk};
 ghost use Rattle.symbols_paths.specs.declared.paths.node.DefinitionPathNode.TheVariants as node;
 ghost use Rattle.symbols_paths.specs.declared.paths.node.DefinitionPathNodeResolved.TheVariants as resolved;
-ghost use Rattle.symbols_paths.specs.Views.{definition_told, unresolved_told, tree_told, forest_told, leaf_told, definitions_left, ends_left, modules_of, modules_in, module_of_definition, module_of_end, AreStored};
+ghost use Rattle.symbols_paths.specs.Views.{definition_told, missing_told, tree_told, forest_told, leaf_told, definitions_left, ends_left, modules_of, modules_in, module_of_definition, module_of_end, AreStored};
 ghost use Rattle.symbols_paths.specs.DepAnswers.{entry_told, modules_of_entry, modules_of_entries};
-ghost use Rattle.symbols_queries.specs.AnswerViews.{defined_view, missing_view, link_view, tree_view, forest_view, end_view, entry_view};
+ghost use Rattle.symbols_queries.specs.AnswerViews.{defined_view, missing_view, tree_view, forest_view, end_view, entry_view};
+ghost use Rattle.symbols_queries.specs.inner.AnswerViews.{link_view};
 
 use crate::queries::exports::specifier_of;
 use std::alloc::{AllocError, Global};
@@ -100,7 +101,7 @@ fn named_unresolved<'a>(
     unresolved: DefinitionUnresolved,
 ) -> NamedUnresolved<'a>
     requires { unresolved.«module».0 < length root.now.stored }
-    ensures { missing_view result ≡ unresolved_told root.now unresolved }
+    ensures { missing_view result ≡ missing_told root.now unresolved }
 {
     NamedUnresolved {
         module: specifier_of(root, unresolved.module),

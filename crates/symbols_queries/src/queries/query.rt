@@ -7,29 +7,29 @@ use symbols_nodes::deps::{ResolveDepsMode, SymbolNodeDep};
 use symbols_tree::ids::SymbolId;
 use symbols_tree::tree::Id;
 
-/// What is asked of the module that a specifier stands for, which comes first (own rule).
+/// What is asked of the module that a specifier stands for, which comes first and is lent (own rule).
 #[derive(Drop)]
 pub enum Query<'r> {
     /// Which module it is.
-    Module(String),
+    Module(&'r str),
     /// What it exports, and which of its `export *` lead to no module.
-    Exports(String),
+    Exports(&'r str),
     /// The names that it gives to the world.
-    Names(String),
+    Names(&'r str),
     /// The symbol that a name stands for in it.
-    Symbol(String, Id),
+    Symbol(&'r str, Id),
     /// What a symbol of it is called in full.
-    Name(String, SymbolId),
+    Name(&'r str, SymbolId),
     /// What each declaration of a symbol of it depends on.
-    Deps(String, SymbolId, ResolveDepsMode),
+    Deps(&'r str, SymbolId, ResolveDepsMode),
     /// The paths to what a symbol of it is defined by.
-    Paths(String, SymbolId),
+    Paths(&'r str, SymbolId),
     /// The definitions at the ends of these paths.
-    Definitions(String, SymbolId),
+    Definitions(&'r str, SymbolId),
     /// All ends of these paths.
-    Leaves(String, SymbolId),
+    Leaves(&'r str, SymbolId),
     /// What a reference in it stands for, whose names are lent.
-    Resolve(String, SymbolNodeDep<'r>),
+    Resolve(&'r str, SymbolNodeDep<'r>),
 }
 
 impl Query<'_> {
@@ -47,7 +47,7 @@ impl Query<'_> {
             | Query::Paths(specifier, _)
             | Query::Definitions(specifier, _)
             | Query::Leaves(specifier, _)
-            | Query::Resolve(specifier, _) => specifier.as_str(),
+            | Query::Resolve(specifier, _) => specifier,
         }
     }
 }

@@ -4,10 +4,10 @@ ghost use Rattle.std.specs.Prelude.{◌≡◌, ◌<◌, ℕ, List, length, map, 
 ghost use Rattle.std.specs.Option.{option_map};
 ghost use Rattle.symbols_exports.specs.Paths.{resolved_export, statements_on};
 ghost use Rattle.symbols_exports.specs.Sharing.{told_sharing, AllShareNumbered};
-ghost use Rattle.symbols_exports.specs.Taking.{named_way, shared_view, shared_views};
+ghost use Rattle.symbols_exports.specs.Taking.{path_view, shared_view, shared_views};
 ghost use Rattle.symbols_exports.specs.Told.{told_name, AreNumbered, AllNumbered};
 ghost use Rattle.symbols_answers.specs.QueryAnswers.{by_strict};
-ghost use Rattle.symbols_queries.specs.AnswerViews.{owner_view, shared_view as named_view, sharing_view};
+ghost use Rattle.symbols_queries.specs.AnswerViews.{owner_view, named_shared_view as named_view, sharing_view};
 
 use crate::queries::exports::{NamedStatement, named_chain, specifier_of};
 use std::alloc::{AllocError, Global};
@@ -42,7 +42,7 @@ fn named_owner<'a>(
 ) -> Result<NamedOwner<'a>, AllocError>
     requires statements { AreNumbered root.now (statements_on path.now) }
     requires owner { (resolved_export path.now).«module».0 < length root.now.stored }
-    ensures { IfOk result (λ owner. (name : List ℕ) → owner_view name owner ≡ told_name root.now (named_way name path.now)) }
+    ensures { IfOk result (λ owner. (name : List ℕ) → owner_view name owner ≡ told_name root.now (path_view name path.now)) }
 {
     let export = path.as_resolved_export();
     Ok(NamedOwner {

@@ -1,7 +1,10 @@
 //! Which module a specifier stands for.
 
-ghost use Rattle.std.specs.Prelude.{◌≡◌, ◌<◌, ◌↔◌, List, length, Some, if◌then◌else◌, IfOk, IfSome};
+ghost use Rattle.std.specs.Prelude.{◌≡◌, ◌<◌, ◌↔◌, ℕ, List, length, Some, if◌then◌else◌, IfOk, IfSome};
+ghost use Rattle.std.specs.Borrow.{Bor};
+ghost use Rattle.std.specs.List.{list_any};
 ghost use Rattle.std.specs.Option.{option_copied};
+ghost use Rattle.std.specs.Str.{bytes_eq};
 ghost use Rattle.symbols_syntax.specs.Graph.{ModuleView, IsChecked};
 ghost use Rattle.symbols_root.specs.Specifiers.{module_under};
 ghost use Rattle.symbols_root.specs.TypesChains.{is_analyzable, types_chain, standing_module, IsOnlyTypesChain};
@@ -33,6 +36,13 @@ fn later<'a>(
     }
 }
 
+/// Whether a specifier is among those before it; where there are none it isn't looked up.
+fn is_met(before: &IndexSet<&str>, specifier: &str) -> bool
+    ensures { result ≡ list_any (λ (key : Bor (List ℕ)). bytes_eq specifier.now key.now) before.now.keys }
+{
+    !before.is_empty() && before.contains(&specifier)
+}
+
 /// The last module with symbols on the types chain of a specifier. Each module of the chain is
 /// looked up once, and once among those before it.
 pub(crate) fn standing_module<'a>(
@@ -50,7 +60,7 @@ pub(crate) fn standing_module<'a>(
     let mut standing = None;
     let mut found = graph.get(specifier);
     'types: while let Some(graph_module) = found {
-        if before.contains(&graph_module.specifier()) {
+        if is_met(&before, graph_module.specifier()) {
             return Ok(standing);
         }
         standing = later(standing, graph_module);

@@ -2,7 +2,7 @@
 
 ghost use Rattle.std.specs.Prelude.{◌≡◌, ◌∷◌, [], OnOk, ◌++◌};
 ghost use Rattle.std.specs.List.{flat_map};
-ghost use Rattle.symbols_syntax.specs.Fields.{fields, field_view, field_views, one, optional, many, item_fields, decl_fields, member_fields, ty_fields, expr_fields, pat_fields};
+ghost use Rattle.symbols_syntax.specs.Fields.{fields, field_view, field_views, one_field, optional_field, many_field, item_fields, decl_fields, member_fields, ty_fields, expr_fields, pat_fields};
 
 use crate::tree::arena::NodeId;
 use crate::tree::categories::Category;
@@ -27,21 +27,21 @@ pub struct Field<'a> {
 pub type Fields<'a> = [Option<Field<'a>>; 5];
 
 fn one<'a>(category: Category, child: &NodeId) -> Field<'a>
-    ensures { field_view result ≡ one category child.now }
+    ensures { field_view result ≡ one_field category child.now }
 {
     let children = Children::One(*child);
     Field { category, children }
 }
 
 fn optional<'a>(category: Category, child: &Option<NodeId>) -> Field<'a>
-    ensures { field_view result ≡ optional category child.now }
+    ensures { field_view result ≡ optional_field category child.now }
 {
     let children = Children::Optional(*child);
     Field { category, children }
 }
 
 fn many<'a>(category: Category, children: &'a Vec<NodeId>) -> Field<'a>
-    ensures { field_view result ≡ many category children.now.items }
+    ensures { field_view result ≡ many_field category children.now.items }
 {
     let children = Children::Many(children.as_slice());
     Field { category, children }

@@ -6,7 +6,7 @@ ghost use Rattle.symbols_syntax.specs.WellFormed.{IsWellFormed};
 ghost use Rattle.symbols_table.specs.DeclViews.{decl_view};
 ghost use Rattle.symbols_table.specs.Events.{begins, changes_by};
 ghost use Rattle.symbols_table.specs.JsonEvents.{json_range, json_decl};
-ghost use Rattle.symbols_table.specs.Tables.{IsTableOf};
+ghost use Rattle.symbols_table.specs.inner.Tables.{IsTableOf};
 ghost use Rattle.symbols_table.specs.Modules.{parsed, json_text, esm_table, json_table};
 ghost use Rattle.symbols_table.specs.Analysis.{tree_changes, json_changes, symbol_count, IsAnalyzed, IsTooMany, IsAnalysis, IsAnalysisFault};
 ghost use Rattle.symbols_table.specs.declared.builder.table.BuildFault.TheVariants.{TooManySymbols};
@@ -14,7 +14,7 @@ ghost use Rattle.symbols_table.specs.declared.info.fault.SymbolsFault.TheVariant
 
 use crate::builder::scope::Scope;
 use crate::builder::table::{BuildFault, Builder, Setting};
-use crate::decl::SymbolDecl;
+use crate::decl::{Symbol, SymbolDecl};
 use crate::info::{EsModuleInfo, JsonModuleInfo, ModuleInfo, SymbolsFault};
 use indexmap::IndexMap;
 use std::alloc::Global;
@@ -42,6 +42,15 @@ fn begin<'a>(setting: Setting, decl: SymbolDecl<'a>) -> Result<Builder<'a>, Buil
     };
     builder.add_symbol(None, decl)?;
     Ok(builder)
+}
+
+/// The symbols of a table that is filled, with room for no more.
+fn without_room(symbols: Vec<Symbol<'_>>) -> Vec<Symbol<'_>>
+    ensures { result.items ≡ symbols.entry.items }
+{
+    let mut symbols = symbols;
+    symbols.shrink_to_fit();
+    symbols
 }
 
 /// The table of a tree, whole, or a fault and nothing.
@@ -77,7 +86,7 @@ fn build<'a>(
         specifier,
         text,
         source: tree,
-        symbols,
+        symbols: without_room(symbols),
         ids,
         stars,
     })

@@ -8,23 +8,24 @@ ghost use Rattle.symbols_syntax.specs.WellFormed.{IsWellFormed};
 ghost use Rattle.symbols_nodes.specs.NodeViews.{export_decl_view, symbol_node_view};
 ghost use Rattle.symbols_table.specs.DeclViews.{decl_view};
 ghost use Rattle.symbols_table.specs.Events.{Row, rows_after, symbol_at, changes_of};
-ghost use Rattle.symbols_table.specs.Walks.{none, on, each};
+ghost use Rattle.symbols_table.specs.Walks.{empty_walk, walk_if_there, walk_of_each};
 ghost use Rattle.symbols_table.specs.MemberEvents.{member_at, member_nodes};
-ghost use Rattle.symbols_table.specs.DeclarationEvents.{plain, declared_as, whole_range, is_exported, export_if, added, declared, variable_form, binding_at, declarator_at, variables_events, named_form, own_name, named_events, declaration_events};
-ghost use Rattle.symbols_table.specs.VariablesViews.{variables_view};
+ghost use Rattle.symbols_table.specs.DeclarationEvents.{unexported_form, declaration_form, whole_range, is_exported, export_if, adding_events, declaring_events, variable_form, binding_at, declarator_at, variables_events, named_form, own_name, named_events, declaration_events};
+ghost use Rattle.symbols_table.specs.inner.VariablesViews.{variables_view};
 
 use crate::builder::members::member_nodes;
-use crate::builder::patterns::leaves;
+use crate::builder::patterns::{leaves, own_leaf};
 use crate::builder::scope::Scope;
 use crate::builder::table::{BuildFault, Builder};
 use crate::decl::SymbolDecl;
+use std::slice;
 use symbols_nodes::nodes::{ExportDeclRef, SymbolNodeRef};
 use symbols_syntax::ids::SymbolId;
 use symbols_syntax::tree::{Decl, Id, Kind, NodeId, NodeRef, SourceRange};
 
 /// The plain form of a declaration, where no `export` stands before it.
 fn plain<'a>(decl: ExportDeclRef<'a>) -> SymbolNodeRef<'a>
-    ensures { symbol_node_view result ≡ plain (export_decl_view decl.entry) }
+    ensures { symbol_node_view result ≡ unexported_form (export_decl_view decl.entry) }
 {
     match decl {
         ExportDeclRef::Class(node) => SymbolNodeRef::ClassDecl(node),
@@ -42,7 +43,7 @@ pub(crate) fn declared_as<'a>(
     exported: Option<NodeRef<'a>>,
     decl: ExportDeclRef<'a>,
 ) -> SymbolNodeRef<'a>
-    ensures { symbol_node_view result ≡ declared_as (option_map node_view exported.entry) (export_decl_view decl.entry) }
+    ensures { symbol_node_view result ≡ declaration_form (option_map node_view exported.entry) (export_decl_view decl.entry) }
 {
     match exported {
         Some(node) => SymbolNodeRef::ExportDecl(node, decl),
@@ -124,8 +125,8 @@ fn variable_form<'a>(
 }
 
 impl<'a> Builder<'a> {
-    ghost use Rattle.symbols_table.specs.Tables.{IsTableOf, IsFilled, ReadsAll, ReadsWalk};
-    ghost use Rattle.symbols_table.specs.Keeping.{KeepsTable};
+    ghost use Rattle.symbols_table.specs.inner.Tables.{IsTableOf, IsFilled, ReadsAll, ReadsWalk};
+    ghost use Rattle.symbols_table.specs.inner.Keeping.{KeepsTable};
 
     /// Exports the symbol under the name where it is exported.
     pub(crate) fn export_if(
@@ -161,7 +162,7 @@ impl<'a> Builder<'a> {
         requires symbol { symbol.0 < length self.old.symbols.items }
         ensures keeps { KeepsTable result self.old self.new }
         ensures table { (rows : List Row) (h s : ℕ) → IsTableOf self.old (changes_of rows) → symbol_at rows h ≡ Some holder → symbol_at rows s ≡ Some symbol
-            → ReadsAll result self.old.setting.limit self.new (rows_after rows (added is_exported h name.now s)) }
+            → ReadsAll result self.old.setting.limit self.new (rows_after rows (adding_events is_exported h name.now s)) }
     {
         self.add_child(holder, symbol)?;
         self.export_if(holder, symbol, name, is_exported)
@@ -178,7 +179,7 @@ impl<'a> Builder<'a> {
         requires filled { IsFilled self.old }
         requires holder { holder.0 < length self.old.symbols.items }
         ensures keeps { KeepsTable result self.old self.new }
-        ensures table { ReadsWalk result self.old self.new (declared is_exported (id_view id.now) (decl_view decl.entry) none) holder }
+        ensures table { ReadsWalk result self.old self.new (declaring_events is_exported (id_view id.now) (decl_view decl.entry) empty_walk) holder }
     {
         let symbol = self.declare(holder, id, decl)?;
         self.add_to_holder(holder, symbol, id.name.as_str(), is_exported)
@@ -224,7 +225,7 @@ impl<'a> Builder<'a> {
         requires filled { IsFilled self.old }
         requires holder { holder.0 < length self.old.symbols.items }
         ensures keeps { KeepsTable result self.old self.new }
-        ensures table { ReadsWalk result self.old self.new (each (binding_at (variables_view variables.entry) (node_view declarator.entry)) names.now) holder }
+        ensures table { ReadsWalk result self.old self.new (walk_of_each (binding_at (variables_view variables.entry) (node_view declarator.entry)) names.now) holder }
     {
         for n in names {
             self.walk_binding(holder, variables, declarator, *n)?;
@@ -251,6 +252,9 @@ impl<'a> Builder<'a> {
         let Some(pattern) = declarator.name() else {
             return Ok(());
         };
+        if let Some(name) = own_leaf(pattern) {
+            return self.walk_bindings(holder, variables, declarator, slice::from_ref(&name));
+        }
         let names = leaves(self.setting.alloc, pattern)?;
         self.walk_bindings(holder, variables, declarator, &names)
     }
@@ -285,7 +289,7 @@ impl<'a> Builder<'a> {
         requires filled { IsFilled self.old }
         requires holder { holder.0 < length self.old.symbols.items }
         ensures keeps { KeepsTable result self.old self.new }
-        ensures table { ReadsWalk result self.old self.new (declared is_exported (id_view id.now) (decl_view decl.entry) (each (member_at node.entry.tree.now) (member_nodes (node_view node.entry)))) holder }
+        ensures table { ReadsWalk result self.old self.new (declaring_events is_exported (id_view id.now) (decl_view decl.entry) (walk_of_each (member_at node.entry.tree.now) (member_nodes (node_view node.entry)))) holder }
     {
         let symbol = self.declare(holder, id, decl)?;
         self.walk_members(symbol, node, member_nodes(node))?;
@@ -325,7 +329,7 @@ impl<'a> Builder<'a> {
         requires filled { IsFilled self.old }
         requires holder { holder.0 < length self.old.symbols.items }
         ensures keeps { KeepsTable result self.old self.new }
-        ensures table { ReadsWalk result self.old self.new (on (kind_of (node_view node.entry)) (declaration_events scope (option_map node_view exported.entry) (node_view node.entry))) holder }
+        ensures table { ReadsWalk result self.old self.new (walk_if_there (kind_of (node_view node.entry)) (declaration_events scope (option_map node_view exported.entry) (node_view node.entry))) holder }
     {
         let is_using = match node.kind() {
             Kind::Decl(Decl::VarDecl { .. }) => false,

@@ -4,9 +4,9 @@ ghost use Rattle.std.specs.Prelude.{◌≡◌, ◌+◌, ◌<◌, ◌++◌, [], �
 ghost use Rattle.std.specs.Cow.{cow_str_bytes};
 ghost use Rattle.symbols_syntax.specs.Ids.{id_view};
 ghost use Rattle.symbols_table.specs.DeclViews.{decl_view, is_definition};
-ghost use Rattle.symbols_table.specs.Changes.{Change, exports, has_child, maps, exported, mapped_after};
+ghost use Rattle.symbols_table.specs.Changes.{Change, exports, has_child, maps, exported_symbol, mapped_after};
 ghost use Rattle.symbols_table.specs.declared.builder.table.BuildFault.TheVariants.{OutOfMemory};
-ghost use Rattle.symbols_table.specs.Events.{default_text, declare_row, new_row, alias_row, default_row, member_found, member_changes, named_member_row, member_row, expando_row};
+ghost use Rattle.symbols_table.specs.Events.{default_name, declare_row, new_row, alias_row, default_row, member_found, member_changes, named_member_row, member_row, expando_row};
 
 use crate::builder::names::LocalName;
 use crate::builder::table::{BuildFault, Builder};
@@ -18,8 +18,8 @@ use symbols_syntax::tree::Id;
 pub(crate) const DEFAULT: &str = "default";
 
 impl<'a> Builder<'a> {
-    ghost use Rattle.symbols_table.specs.Tables.{IsTableOf, IsFilled, Reads, ReadsOnly};
-    ghost use Rattle.symbols_table.specs.Keeping.{KeepsTable, KeepsCount};
+    ghost use Rattle.symbols_table.specs.inner.Tables.{IsTableOf, IsFilled, Reads, ReadsOnly};
+    ghost use Rattle.symbols_table.specs.inner.Keeping.{KeepsTable, KeepsCount};
 
     /// A new symbol, for which the name then stands.
     fn declare_new(
@@ -85,7 +85,7 @@ impl<'a> Builder<'a> {
     fn exported_symbol(&self, holder: SymbolId, name: &str) -> Option<SymbolId>
         requires filled { IsFilled self.now }
         requires holder { holder.0 < length self.now.symbols.items }
-        ensures table { (changes : List Change) → IsTableOf self.now changes → result ≡ exported changes holder name.now }
+        ensures table { (changes : List Change) → IsTableOf self.now changes → result ≡ exported_symbol changes holder name.now }
         ensures inside { IfSome result (λ s. s.0 < length self.now.symbols.items) }
     {
         self.symbols[holder.0 as usize].export(name)
@@ -102,7 +102,7 @@ impl<'a> Builder<'a> {
         ensures inside { IfOk result (λ s. s.0 < length self.new.symbols.items) }
         ensures keeps { KeepsTable result self.old self.new }
         ensures table { (changes : List Change) → IsTableOf self.old changes
-            → Reads result (λ s. Some s) self.old.setting.limit self.new changes (new_row changes (Some holder) (decl_view decl.entry) (λ s. exports holder default_text s ∷ (if is_definition (decl_view decl.entry).kind then has_child holder s ∷ [] else []))) }
+            → Reads result (λ s. Some s) self.old.setting.limit self.new changes (new_row changes (Some holder) (decl_view decl.entry) (λ s. exports holder default_name s ∷ (if is_definition (decl_view decl.entry).kind then has_child holder s ∷ [] else []))) }
     {
         let is_definition = decl.kind.is_definition();
         let symbol = self.add_symbol(Some(holder), decl)?;

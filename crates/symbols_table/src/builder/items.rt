@@ -5,9 +5,9 @@ ghost use Rattle.std.specs.Option.{option_map, option_copied, option_and_then};
 ghost use Rattle.symbols_syntax.specs.NodeRefs.{node_view, kind_of, child_of};
 ghost use Rattle.symbols_syntax.specs.ChildFields.{id_of, body_node_of};
 ghost use Rattle.symbols_syntax.specs.WellFormed.{IsWellFormed};
-ghost use Rattle.symbols_table.specs.NamespaceViews.{namespace_view};
-ghost use Rattle.symbols_table.specs.Walks.{on, sym_in};
-ghost use Rattle.symbols_table.specs.Levels.{AreAbove, ReadsPart};
+ghost use Rattle.symbols_table.specs.inner.NamespaceViews.{namespace_view};
+ghost use Rattle.symbols_table.specs.Walks.{walk_if_there, sym_in};
+ghost use Rattle.symbols_table.specs.inner.Levels.{AreAbove, ReadsPart};
 ghost use Rattle.symbols_table.specs.Events.{Row, symbol_at, changes_of};
 ghost use Rattle.symbols_table.specs.TreeEvents.{plain_namespace, namespace_of, declares_items, part_first, body_within, body_at, namespace_events, plain_item_events, item_within, block_within};
 
@@ -74,8 +74,8 @@ fn namespace_id<'a>(node: NodeRef<'a>) -> Option<&'a Id>
 }
 
 impl<'a> Builder<'a> {
-    ghost use Rattle.symbols_table.specs.Tables.{IsTableOf, IsFilled, ReadsWalk};
-    ghost use Rattle.symbols_table.specs.Keeping.{KeepsTable};
+    ghost use Rattle.symbols_table.specs.inner.Tables.{IsTableOf, IsFilled, ReadsWalk};
+    ghost use Rattle.symbols_table.specs.inner.Keeping.{KeepsTable};
 
     /// A later part of the dotted name of a namespace.
     fn declare_part(
@@ -151,7 +151,7 @@ impl<'a> Builder<'a> {
         requires holder { holder.0 < length self.old.symbols.items }
         ensures keeps { KeepsTable result self.old self.new }
         ensures table { (levels : ℕ) → length whole.entry.tree.now.nodes.items ≤ whole.entry.number + suc levels
-            → ReadsWalk result self.old self.new (on (child_of (node_view whole.entry) body_node_of) (body_at (block_within whole.entry.tree.now levels) (node_view whole.entry) ambient)) holder }
+            → ReadsWalk result self.old self.new (walk_if_there (child_of (node_view whole.entry) body_node_of) (body_at (block_within whole.entry.tree.now levels) (node_view whole.entry) ambient)) holder }
     {
         match whole.body_node() {
             Some(body) => self.walk_body(holder, whole, ambient, body.node_id()),
@@ -172,7 +172,7 @@ impl<'a> Builder<'a> {
         requires holder { holder.0 < length self.old.symbols.items }
         ensures keeps { KeepsTable result self.old self.new }
         ensures table { (levels : ℕ) → length namespace.entry.decl.tree.now.nodes.items ≤ namespace.entry.decl.number + suc levels
-            → ReadsWalk result self.old self.new (on (kind_of (node_view namespace.entry.decl)) (namespace_events (block_within namespace.entry.decl.tree.now levels) scope (namespace_view namespace.entry))) holder }
+            → ReadsWalk result self.old self.new (walk_if_there (kind_of (node_view namespace.entry.decl)) (namespace_events (block_within namespace.entry.decl.tree.now levels) scope (namespace_view namespace.entry))) holder }
     {
         let Namespace { exported, decl } = namespace;
         let kind = decl.kind();
@@ -202,7 +202,7 @@ impl<'a> Builder<'a> {
         requires filled { IsFilled self.old }
         requires holder { holder.0 < length self.old.symbols.items }
         ensures keeps { KeepsTable result self.old self.new }
-        ensures table { ReadsWalk result self.old self.new (on (kind_of (node_view node.entry)) (plain_item_events scope (node_view node.entry))) holder }
+        ensures table { ReadsWalk result self.old self.new (walk_if_there (kind_of (node_view node.entry)) (plain_item_events scope (node_view node.entry))) holder }
     {
         match node.kind() {
             Kind::Item(Item::ExportDecl { .. }) => match node.decl() {

@@ -4,8 +4,8 @@ ghost use Rattle.std.specs.Prelude.{◌≡◌, ◌<◌, length, Some};
 ghost use Rattle.std.specs.Option.{option_map, option_and_then};
 ghost use Rattle.symbols_syntax.specs.NodeRefs.{node_view, kind_of};
 ghost use Rattle.symbols_nodes.specs.NodeViews.{symbol_node_view};
-ghost use Rattle.symbols_table.specs.MemberViews.{member_view};
-ghost use Rattle.symbols_table.specs.Walks.{each};
+ghost use Rattle.symbols_table.specs.inner.MemberViews.{member_view};
+ghost use Rattle.symbols_table.specs.Walks.{walk_of_each};
 ghost use Rattle.symbols_table.specs.MemberEvents.{member_nodes, one_member, param_at, constructor_events, simple_member, member_at};
 
 use crate::builder::table::{BuildFault, Builder};
@@ -77,8 +77,8 @@ fn simple_member<'a>(node: NodeRef<'a>) -> Option<SimpleMember<'a>>
 }
 
 impl<'a> Builder<'a> {
-    ghost use Rattle.symbols_table.specs.Tables.{IsFilled, ReadsWalk};
-    ghost use Rattle.symbols_table.specs.Keeping.{KeepsTable};
+    ghost use Rattle.symbols_table.specs.inner.Tables.{IsFilled, ReadsWalk};
+    ghost use Rattle.symbols_table.specs.inner.Keeping.{KeepsTable};
 
     /// One member, where its node stands.
     fn define_member(
@@ -131,7 +131,7 @@ impl<'a> Builder<'a> {
         requires filled { IsFilled self.old }
         requires holder { holder.0 < length self.old.symbols.items }
         ensures keeps { KeepsTable result self.old self.new }
-        ensures table { ReadsWalk result self.old self.new (each (param_at node.entry.tree.now) params.now) holder }
+        ensures table { ReadsWalk result self.old self.new (walk_of_each (param_at node.entry.tree.now) params.now) holder }
     {
         for n in params {
             self.walk_param(holder, node, *n)?;
@@ -190,7 +190,7 @@ impl<'a> Builder<'a> {
         requires filled { IsFilled self.old }
         requires holder { holder.0 < length self.old.symbols.items }
         ensures keeps { KeepsTable result self.old self.new }
-        ensures table { ReadsWalk result self.old self.new (each (member_at parent.entry.tree.now) members.now) holder }
+        ensures table { ReadsWalk result self.old self.new (walk_of_each (member_at parent.entry.tree.now) members.now) holder }
     {
         for n in members {
             self.walk_member(holder, parent, *n)?;

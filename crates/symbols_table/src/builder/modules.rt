@@ -5,7 +5,7 @@ ghost use Rattle.std.specs.Option.{option_map, option_copied, option_and_then};
 ghost use Rattle.symbols_syntax.specs.NodeRefs.{node_view, kind_of};
 ghost use Rattle.symbols_syntax.specs.WellFormed.{IsWellFormed};
 ghost use Rattle.symbols_table.specs.DeclViews.{decl_view, decl_kind_view, dep_name_view, file_ref};
-ghost use Rattle.symbols_table.specs.Walks.{on, each};
+ghost use Rattle.symbols_table.specs.Walks.{walk_if_there, walk_of_each};
 ghost use Rattle.symbols_table.specs.Events.{Row, changes_of, symbol_at, rows_after};
 ghost use Rattle.symbols_table.specs.DeclarationEvents.{own_name};
 ghost use Rattle.symbols_table.specs.declared.builder.table.BuildFault.TheVariants.{OutOfMemory};
@@ -107,8 +107,8 @@ fn alias_kind<'a>(
 }
 
 impl<'a> Builder<'a> {
-    ghost use Rattle.symbols_table.specs.Tables.{IsTableOf, IsFilled, ReadsWalk};
-    ghost use Rattle.symbols_table.specs.Keeping.{KeepsTable};
+    ghost use Rattle.symbols_table.specs.inner.Tables.{IsTableOf, IsFilled, ReadsWalk};
+    ghost use Rattle.symbols_table.specs.inner.Keeping.{KeepsTable};
 
     /// One name of an import, by its number.
     fn walk_import_specifier(
@@ -154,7 +154,7 @@ impl<'a> Builder<'a> {
         requires filled { IsFilled self.old }
         requires holder { holder.0 < length self.old.symbols.items }
         ensures keeps { KeepsTable result self.old self.new }
-        ensures table { ReadsWalk result self.old self.new (each (import_at src.now node.entry.tree.now) specifiers.now) holder }
+        ensures table { ReadsWalk result self.old self.new (walk_of_each (import_at src.now node.entry.tree.now) specifiers.now) holder }
     {
         for n in specifiers {
             self.walk_import_specifier(holder, src, node, *n)?;
@@ -250,7 +250,7 @@ impl<'a> Builder<'a> {
         requires filled { IsFilled self.old }
         requires holder { holder.0 < length self.old.symbols.items }
         ensures keeps { KeepsTable result self.old self.new }
-        ensures table { ReadsWalk result self.old self.new (each (export_at (option_copied src.entry) node.entry.tree.now) specifiers.now) holder }
+        ensures table { ReadsWalk result self.old self.new (walk_of_each (export_at (option_copied src.entry) node.entry.tree.now) specifiers.now) holder }
     {
         for n in specifiers {
             self.walk_export_name(holder, src, node, *n)?;
@@ -314,7 +314,7 @@ impl<'a> Builder<'a> {
         requires filled { IsFilled self.old }
         requires holder { holder.0 < length self.old.symbols.items }
         ensures keeps { KeepsTable result self.old self.new }
-        ensures table { ReadsWalk result self.old self.new (on (kind_of (node_view expr.entry)) (assignment_events (node_view expr.entry))) holder }
+        ensures table { ReadsWalk result self.old self.new (walk_if_there (kind_of (node_view expr.entry)) (assignment_events (node_view expr.entry))) holder }
     {
         match expr.kind() {
             Kind::Expr(Expr::Ident { sym }) => {
@@ -380,7 +380,7 @@ impl<'a> Builder<'a> {
         requires filled { IsFilled self.old }
         requires holder { holder.0 < length self.old.symbols.items }
         ensures keeps { KeepsTable result self.old self.new }
-        ensures table { ReadsWalk result self.old self.new (on (kind_of (node_view node.entry)) (module_events (node_view node.entry))) holder }
+        ensures table { ReadsWalk result self.old self.new (walk_if_there (kind_of (node_view node.entry)) (module_events (node_view node.entry))) holder }
     {
         let Kind::Item(item) = node.kind() else {
             return Ok(());

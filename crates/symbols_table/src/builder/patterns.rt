@@ -1,8 +1,9 @@
 //! The names that a pattern binds.
 
-ghost use Rattle.std.specs.Prelude.{◌≡◌, ◌≤◌, ◌+◌, ◌++◌, ℕ, length, IfOk, OnOk};
+ghost use Rattle.std.specs.Prelude.{◌≡◌, ◌≤◌, ◌+◌, ◌++◌, ◌∷◌, [], ℕ, length, IfOk, IfSome, OnOk};
 ghost use Rattle.symbols_syntax.specs.WellFormed.{IsWellFormed};
-ghost use Rattle.symbols_table.specs.Patterns.{is_binding, pattern_parts, leaves_within, leaves_of};
+ghost use Rattle.symbols_table.specs.Patterns.{pattern_parts, leaves_within, pattern_leaves};
+ghost use Rattle.symbols_table.specs.inner.Patterns.{is_binding};
 
 use std::alloc::{AllocError, Global};
 use std::slice;
@@ -48,10 +49,21 @@ fn add_leaves(node: NodeRef<'_>, leaves: &mut Vec<NodeId>) -> Result<(), AllocEr
     Ok(())
 }
 
+/// The name that a pattern is, if it is one, as most are: no list is made of it.
+pub(crate) fn own_leaf(pattern: NodeRef<'_>) -> Option<NodeId>
+    ensures { IfSome result (λ name. pattern_leaves pattern.entry.tree.now pattern.entry.number ≡ name ∷ []) }
+{
+    if is_binding(pattern.kind()) {
+        Some(pattern.node_id())
+    } else {
+        None
+    }
+}
+
 /// The names that a pattern binds, in order.
 pub(crate) fn leaves(alloc: Global, pattern: NodeRef<'_>) -> Result<Vec<NodeId>, AllocError>
     requires { IsWellFormed pattern.tree.now.nodes.items }
-    ensures { IfOk result (λ leaves. leaves.items ≡ leaves_of pattern.entry.tree.now pattern.entry.number) }
+    ensures { IfOk result (λ leaves. leaves.items ≡ pattern_leaves pattern.entry.tree.now pattern.entry.number) }
 {
     let mut leaves = Vec::new(alloc);
     add_leaves(pattern, &mut leaves)?;

@@ -7,8 +7,8 @@ ghost use Rattle.std.specs.Cow.{cow_str_bytes};
 ghost use Rattle.symbols_table.specs.DeclViews.{decl_view};
 ghost use Rattle.symbols_table.specs.Laws.{IsParentOf};
 ghost use Rattle.symbols_table.specs.Changes.{Change, only_if, makes, declares, exports, has_child, has_member, maps, passes_on, mapped_after};
-ghost use Rattle.symbols_table.specs.Tables.{name_in, symbol_named};
-ghost use Rattle.symbols_table.specs.LocalNames.{is_entry_of};
+ghost use Rattle.symbols_table.specs.inner.Tables.{name_in, symbol_named};
+ghost use Rattle.symbols_table.specs.inner.LocalNames.{is_entry_of};
 ghost use Rattle.symbols_table.specs.declared.builder.names.LocalName.{LocalName};
 ghost use Rattle.symbols_table.specs.declared.builder.table.BuildFault.TheVariants.{OutOfMemory, TooManySymbols};
 
@@ -65,12 +65,12 @@ pub(crate) struct Builder<'a> {
     pub(crate) stars: Vec<StarStatement<'a>>,
 }
 
-/// The declarations of a symbol that has one.
+/// The declarations of a symbol that has one, with room for no more: most symbols have just one.
 fn one_decl<'a>(alloc: Global, decl: SymbolDecl<'a>) -> Result<Vec<SymbolDecl<'a>>, BuildFault>
     ensures ok { IfOk result (λ decls. decls.items ≡ decl.entry ∷ []) }
     ensures err { IfErr result (λ fault. fault ≡ OutOfMemory) }
 {
-    let mut decls = Vec::new(alloc);
+    let mut decls = Vec::with_capacity(alloc, 1)?;
     decls.push(decl)?;
     Ok(decls)
 }
@@ -99,8 +99,8 @@ fn add_name<'a>(
 }
 
 impl<'a> Builder<'a> {
-    ghost use Rattle.symbols_table.specs.Tables.{IsTableOf, IsFilled};
-    ghost use Rattle.symbols_table.specs.Keeping.{KeepsCount};
+    ghost use Rattle.symbols_table.specs.inner.Tables.{IsTableOf, IsFilled};
+    ghost use Rattle.symbols_table.specs.inner.Keeping.{KeepsCount};
 
     /// Makes the next symbol, with its first declaration.
     pub(crate) fn add_symbol(
@@ -120,8 +120,9 @@ impl<'a> Builder<'a> {
         }
         let symbol_id = SymbolId(self.symbols.len() as u32);
         let has_function = decl.is_function();
+        self.symbols.reserve(1)?;
         let decls = one_decl(self.setting.alloc, decl.with_overloads(false))?;
-        let symbol = Symbol {
+        self.symbols.push_reserved(Symbol {
             alloc: self.setting.alloc,
             module_id: self.setting.module_id,
             symbol_id,
@@ -131,8 +132,7 @@ impl<'a> Builder<'a> {
             child_ids: IndexSet::new(self.setting.alloc),
             members: IndexSet::new(self.setting.alloc),
             has_function,
-        };
-        self.symbols.push(symbol)?;
+        });
         Ok(symbol_id)
     }
 

@@ -7,7 +7,7 @@ ghost use Rattle.std.specs.Map.{lookup};
 ghost use Rattle.std.specs.List.{list_any};
 ghost use Rattle.std.specs.Str.{bytes_eq};
 ghost use Rattle.symbols_nodes.specs.NodeTests.{is_function, is_module};
-ghost use Rattle.symbols_nodes.specs.NodeMembers.{is_decl, is_member, is_private_member};
+ghost use Rattle.symbols_nodes.specs.NodeMembers.{is_decl, is_member_node, is_private_member};
 ghost use Rattle.symbols_nodes.specs.NodeViews.{symbol_node_view};
 ghost use Rattle.symbols_table.specs.DeclViews.{decl_view, dep_view, first_dep, exports_view, node_test};
 
@@ -207,7 +207,7 @@ impl<'a> Symbol<'a> {
 
     /// Whether its first declaration is a member (as deno_graph); false without a node.
     pub fn is_member(&self) -> bool
-        ensures { result ≡ symbol_test is_member (symbol_view self.now) }
+        ensures { result ≡ symbol_test is_member_node (symbol_view self.now) }
     {
         match self.first_node() {
             Some(node) => node.is_member(),

@@ -6,7 +6,7 @@ ghost use Rattle.std.specs.Option.{option_copied, option_map};
 ghost use Rattle.symbols_nodes.specs.NodeViews.{symbol_node_view};
 ghost use Rattle.symbols_nodes.specs.References.{Dependency, reference_view};
 ghost use Rattle.symbols_nodes.specs.NodeTests.{is_class, is_function, is_interface, is_var, is_ctor, has_body, is_method};
-ghost use Rattle.symbols_table.specs.DeclViews.{decl_view, decl_kind_view, decl_name, decl_dependencies, declaration_at, defined, definition, decl_namespaces, dep_view, is_definition, node_of_kind, source_of_kind, dep_of_kind, node_test, last_decl, is_overload_after};
+ghost use Rattle.symbols_table.specs.DeclViews.{decl_view, decl_kind_view, decl_name, decl_dependencies, declaration_at, definition_at, definition, decl_namespaces, dep_view, is_definition, node_of_kind, tree_of_kind, dep_of_kind, node_test, last_decl, is_overload_after};
 
 use crate::decl::dep::FileDep;
 use std::alloc::{AllocError, Global};
@@ -39,7 +39,7 @@ impl<'a> SymbolDeclKind<'a> {
     /// The node of a definition that has one, and the tree that it is of (as deno_graph).
     pub fn maybe_node_and_source(&self) -> Option<(SymbolNodeRef<'a>, &'a Tree)>
         ensures node { option_map (λ both. symbol_node_view both.0) result ≡ node_of_kind (decl_kind_view self.now) }
-        ensures source { option_map (λ both. both.1.now) result ≡ source_of_kind (decl_kind_view self.now) }
+        ensures source { option_map (λ both. both.1.now) result ≡ tree_of_kind (decl_kind_view self.now) }
     {
         match self {
             SymbolDeclKind::Definition(node) => node.maybe_ref_and_source(),
@@ -87,7 +87,7 @@ impl<'a> SymbolDecl<'a> {
 
     /// A definition by its node.
     pub(crate) fn definition(node: SymbolNodeRef<'a>, range: SourceRange) -> SymbolDecl<'a>
-        ensures { decl_view result ≡ defined (symbol_node_view node.entry) range }
+        ensures { decl_view result ≡ definition_at (symbol_node_view node.entry) range }
     {
         let node = SymbolNode { node: Some(node) };
         SymbolDecl::new(SymbolDeclKind::Definition(node), range)
@@ -127,7 +127,7 @@ impl<'a> SymbolDecl<'a> {
 
     /// The tree that the node is of (as deno_graph); none without a node.
     pub fn maybe_source(&self) -> Option<&'a Tree>
-        ensures { option_copied result ≡ source_of_kind (decl_view self.now).kind }
+        ensures { option_copied result ≡ tree_of_kind (decl_view self.now).kind }
     {
         match self.maybe_node() {
             Some(node) => Some(node.source()),
@@ -138,7 +138,7 @@ impl<'a> SymbolDecl<'a> {
     /// The node of a definition that has one, and the tree that it is of (as deno_graph).
     pub fn maybe_node_and_source(&self) -> Option<(SymbolNodeRef<'a>, &'a Tree)>
         ensures node { option_map (λ both. symbol_node_view both.0) result ≡ node_of_kind (decl_view self.now).kind }
-        ensures source { option_map (λ both. both.1.now) result ≡ source_of_kind (decl_view self.now).kind }
+        ensures source { option_map (λ both. both.1.now) result ≡ tree_of_kind (decl_view self.now).kind }
     {
         self.kind.maybe_node_and_source()
     }

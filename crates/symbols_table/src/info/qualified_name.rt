@@ -6,10 +6,10 @@ ghost use Rattle.std.specs.Option.{option_map};
 ghost use Rattle.symbols_syntax.specs.declared.ids.ModuleId.{ModuleId};
 ghost use Rattle.symbols_nodes.specs.NodeTests.{is_class};
 ghost use Rattle.symbols_table.specs.Laws.{AreLawful};
-ghost use Rattle.symbols_table.specs.SymbolViews.{SymbolView, symbol_view, symbol_name, symbol_test, numbered};
+ghost use Rattle.symbols_table.specs.SymbolViews.{SymbolView, symbol_view, symbol_name, symbol_test, symbol_numbered};
 ghost use Rattle.symbols_table.specs.Modules.{lent_table, symbol_in};
-ghost use Rattle.symbols_table.specs.QualifiedNames.{escaped_char, escaped, behind, qualified_name, IsNameFault};
-ghost use Rattle.symbols_table.specs.NamePaths.{text_told, IsNamed};
+ghost use Rattle.symbols_table.specs.QualifiedNames.{escaped_char, escaped_text, inner_suffix, unless_empty, qualified_name, IsQualifiedNameFault};
+ghost use Rattle.symbols_table.specs.inner.NamePaths.{text_told, IsNamed};
 
 use crate::decl::Symbol;
 use crate::info::fault::SymbolsFault;
@@ -27,15 +27,14 @@ fn push_escaped(text: &mut String, c: char) -> Result<(), AllocError>
     text.push(c)
 }
 
-/// The text with `\` before each `"`.
-fn escaped(alloc: Global, text: &str) -> Result<String, AllocError>
-    ensures { IfOk result (λ made. string_bytes made ≡ escaped text.now) }
+/// Adds a text with `\` before each `"`.
+fn push_all_escaped(made: &mut String, text: &str) -> Result<(), AllocError>
+    ensures { OnOk result (string_bytes made.new ≡ string_bytes made.old ++ escaped_text text.now) }
 {
-    let mut made = String::new(alloc);
     for c in text.chars() {
-        push_escaped(&mut made, c)?;
+        push_escaped(made, c)?;
     }
-    Ok(made)
+    Ok(())
 }
 
 /// Whether the first declaration is a class.
@@ -48,11 +47,20 @@ fn is_class(symbol: &Symbol<'_>) -> bool
     }
 }
 
+/// How many bytes pieces have together: room to begin with, which nothing else goes by.
+fn room_for(pieces: &[CowStr<'_>]) -> usize {
+    let mut room = 0usize;
+    for piece in pieces {
+        room = room.saturating_add(piece.as_str().len());
+    }
+    room
+}
+
 /// Pieces of a text, from the last to the first, as one text.
 fn text_of(alloc: Global, pieces: Vec<CowStr<'_>>) -> Result<String, AllocError>
     ensures { IfOk result (λ text. string_bytes text ≡ text_told pieces.entry.items) }
 {
-    let mut text = String::new(alloc);
+    let mut text = String::with_capacity(alloc, room_for(&pieces))?;
     let mut pieces = pieces;
     while let Some(piece) = pieces.pop() {
         text.push_str(piece.as_str())?;
@@ -79,11 +87,13 @@ fn with_piece<'a>(pieces: Vec<CowStr<'a>>, piece: CowStr<'a>) -> Result<Vec<CowS
 
 /// A text in brackets and quotes, as one piece.
 fn in_brackets<'a>(alloc: Global, text: &str) -> Result<Vec<CowStr<'a>>, AllocError>
-    ensures { IfOk result (λ pieces. text_told pieces.items ≡ codes "[\"" ++ (escaped text.now ++ codes "\"]")) }
+    ensures { IfOk result (λ pieces. text_told pieces.items ≡ codes "[\"" ++ (escaped_text text.now ++ codes "\"]")) }
 {
-    let text = escaped(alloc, text)?;
-    let piece = CowStr::Owned(format!(in alloc; "[\"{text}\"]")?);
-    with_piece(Vec::new(alloc), piece)
+    let mut made = String::with_capacity(alloc, text.len().saturating_add(4))?;
+    made.push_str("[\"")?;
+    push_all_escaped(&mut made, text)?;
+    made.push_str("\"]")?;
+    with_piece(Vec::new(alloc), CowStr::Owned(made))
 }
 
 /// The pieces behind the name of a symbol that say what a symbol in it is called.
@@ -92,7 +102,7 @@ fn behind<'a>(
     symbol: &Symbol<'a>,
     inner: Named<'a>,
 ) -> Result<Vec<CowStr<'a>>, AllocError>
-    ensures { IfOk result (λ pieces. text_told pieces.items ≡ behind (symbol_view symbol.now) inner.entry.number (text_told inner.entry.pieces.items)) }
+    ensures { IfOk result (λ pieces. text_told pieces.items ≡ inner_suffix (symbol_view symbol.now) inner.entry.number (text_told inner.entry.pieces.items)) }
 {
     if !symbol.members.contains(&inner.number) {
         return with_piece(inner.pieces, CowStr::Borrowed("."));
@@ -130,15 +140,15 @@ fn name_from<'a>(
     }
 }
 
-/// The name along the path from below the module to a symbol; none where that is empty.
-fn qualified_name(
+/// The name along the path from below the module to a symbol, of any length; none where that is empty.
+fn name_along(
     alloc: Global,
     symbols: &[Symbol<'_>],
     symbol_id: SymbolId,
 ) -> Result<Option<String>, AllocError>
     requires lawful { (module_id : ModuleId) × AreLawful module_id symbols.now }
     requires stored { symbol_id.0 < length symbols.now }
-    ensures { IfOk result (λ name. option_map string_bytes name ≡ qualified_name (numbered symbols.now) symbol_id) }
+    ensures { IfOk result (λ name. option_map string_bytes name ≡ qualified_name (symbol_numbered symbols.now) symbol_id) }
 {
     let mut inner: Option<Named<'_>> = None;
     let mut number = symbol_id;
@@ -152,6 +162,40 @@ fn qualified_name(
     }
     match inner {
         Some(named) => Ok(Some(text_of(alloc, named.pieces)?)),
+        None => Ok(None),
+    }
+}
+
+/// The text of a name that stands alone; none where it is empty.
+fn lone_name(alloc: Global, name: &str) -> Result<Option<String>, AllocError>
+    ensures { IfOk result (λ text. option_map string_bytes text ≡ unless_empty name.now) }
+{
+    if name.is_empty() {
+        return Ok(None);
+    }
+    Ok(Some(String::from_str(alloc, name)?))
+}
+
+/// The name along the path from below the module to a symbol; none where that is empty. That of a
+/// symbol right below the module is its own.
+fn qualified_name(
+    alloc: Global,
+    symbols: &[Symbol<'_>],
+    symbol_id: SymbolId,
+) -> Result<Option<String>, AllocError>
+    requires lawful { (module_id : ModuleId) × AreLawful module_id symbols.now }
+    requires stored { symbol_id.0 < length symbols.now }
+    ensures { IfOk result (λ name. option_map string_bytes name ≡ qualified_name (symbol_numbered symbols.now) symbol_id) }
+{
+    let symbol = &symbols[symbol_id.0 as usize];
+    let Some(parent) = symbol.parent_id else {
+        return Ok(None);
+    };
+    if parent.0 != 0 {
+        return name_along(alloc, symbols, symbol_id);
+    }
+    match symbol.maybe_name()? {
+        Some(name) => Ok(lone_name(alloc, name.as_str())?),
         None => Ok(None),
     }
 }
@@ -172,7 +216,7 @@ impl<'r, 'a> ModuleInfoRef<'r, 'a> {
         symbol_id: SymbolId,
     ) -> Result<Option<String>, SymbolsFault>
         ensures name { IfOk result (λ name. IsSome (symbol_in (lent_table self.entry) symbol_id) × (option_map string_bytes name ≡ qualified_name (symbol_in (lent_table self.entry)) symbol_id)) }
-        ensures fault { IfErr result (IsNameFault (symbol_in (lent_table self.entry) symbol_id)) }
+        ensures fault { IfErr result (IsQualifiedNameFault (symbol_in (lent_table self.entry) symbol_id)) }
     {
         if self.symbol(symbol_id).is_none() {
             return Err(SymbolsFault::UnknownSymbol);

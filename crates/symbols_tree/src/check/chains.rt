@@ -4,7 +4,7 @@ ghost use Rattle.std.specs.Prelude.{IfOk, map};
 ghost use Rattle.std.specs.Option.{option_copied};
 ghost use Rattle.symbols_syntax.specs.Graph.{redirect_view};
 ghost use Rattle.symbols_tree.specs.GraphFaults.{IsChained};
-ghost use Rattle.symbols_tree.specs.CheckSteps.{IsFirstWhere};
+ghost use Rattle.symbols_tree.specs.inner.CheckSteps.{IsFirstWhere};
 
 use std::alloc::{AllocError, Global};
 use std::collections::HashSet;

@@ -3,9 +3,9 @@
 ghost use Rattle.std.specs.Prelude.{IfOk, map, string_bytes};
 ghost use Rattle.std.specs.Option.{option_copied, option_map};
 ghost use Rattle.symbols_syntax.specs.Graph.{module_view, redirect_view, resolution_view};
-ghost use Rattle.symbols_tree.specs.GraphFaults.{asked, sources, specifiers};
+ghost use Rattle.symbols_tree.specs.GraphFaults.{resolution_keys, redirect_sources, module_specifiers};
 ghost use Rattle.symbols_tree.specs.Repeats.{IsRepeat};
-ghost use Rattle.symbols_tree.specs.CheckSteps.{IsFirstWhere, IsRepeatBy};
+ghost use Rattle.symbols_tree.specs.inner.CheckSteps.{IsFirstWhere, IsRepeatBy};
 
 use std::alloc::{AllocError, Global};
 use std::collections::HashSet;
@@ -33,7 +33,7 @@ pub(crate) fn repeated_specifier(
     alloc: Global,
     modules: &[RawModule],
 ) -> Result<Option<&str>, AllocError>
-    ensures { IfOk result (λ found. IsFirstWhere (IsRepeat (specifiers (map module_view modules.now))) (option_copied found)) }
+    ensures { IfOk result (λ found. IsFirstWhere (IsRepeat (module_specifiers (map module_view modules.now))) (option_copied found)) }
 {
     let names: Vec<&str> = modules
         .iter()
@@ -47,7 +47,7 @@ pub(crate) fn repeated_source(
     alloc: Global,
     redirects: &[(String, String)],
 ) -> Result<Option<&str>, AllocError>
-    ensures { IfOk result (λ found. IsFirstWhere (IsRepeat (sources (map redirect_view redirects.now))) (option_copied found)) }
+    ensures { IfOk result (λ found. IsFirstWhere (IsRepeat (redirect_sources (map redirect_view redirects.now))) (option_copied found)) }
 {
     let names: Vec<&str> = redirects
         .iter()
@@ -61,7 +61,7 @@ pub(crate) fn repeated_resolution(
     alloc: Global,
     resolutions: &[RawResolution],
 ) -> Result<Option<(&str, &str)>, AllocError>
-    ensures { IfOk result (λ found. IsFirstWhere (IsRepeat (asked (map resolution_view resolutions.now))) (option_map (λ p. (p.0.now, p.1.now)) found)) }
+    ensures { IfOk result (λ found. IsFirstWhere (IsRepeat (resolution_keys (map resolution_view resolutions.now))) (option_map (λ p. (p.0.now, p.1.now)) found)) }
 {
     let pairs: Vec<(&str, &str)> = resolutions
         .iter()

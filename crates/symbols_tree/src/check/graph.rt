@@ -1,7 +1,9 @@
 //! Graphs that were accepted.
 
-ghost use Rattle.std.specs.Prelude.{◌≡◌, ◌≢◌, ◌<◌, ℕ, length, IfErr, IfOk, List, OnOk};
+ghost use Rattle.std.specs.Prelude.{◌≡◌, ◌≢◌, ◌<◌, ℕ, length, string_bytes, IfErr, IfOk, List, OnOk};
+ghost use Rattle.std.specs.Map.{lookup};
 ghost use Rattle.std.specs.Option.{option_copied};
+ghost use Rattle.std.specs.Str.{bytes_eq};
 ghost use Rattle.symbols_syntax.specs.declared.graph.faults.GraphFault.TheVariants.{OutOfMemory};
 ghost use Rattle.symbols_syntax.specs.Graph.{graph_view, module_of, resolution_of};
 ghost use Rattle.symbols_tree.specs.GraphFaults.{IsFaultlessGraph, IsFirstGraphFault};
@@ -26,13 +28,24 @@ impl Model for ModuleGraph {
     ghost use Rattle.std.specs.String.{string_eq};
     ghost use Rattle.indexmap.specs.IndexMap.{values, IsUnique};
     ghost use Rattle.symbols_syntax.specs.Graph.{GraphView};
-    ghost use Rattle.symbols_tree.specs.Tables.{AreKeyed, rows, text_pairs};
+    ghost use Rattle.symbols_tree.specs.Tables.{kept_resolutions, text_pairs};
+    ghost use Rattle.symbols_tree.specs.inner.Tables.{AreKeyed};
 
     ghost Value = { GraphView };
 
-    ghost view = { λ g. record { modules = values g.modules; redirects = text_pairs g.redirects.entries; resolutions = rows g.resolutions.entries } };
+    ghost view = { λ g. record { modules = values g.modules; redirects = text_pairs g.redirects.entries; resolutions = kept_resolutions g.resolutions.entries } };
 
     ghost invariant = { λ g. AreKeyed g.modules.entries × IsUnique string_eq g.resolutions × (length g.modules.entries < 4294967296) };
+}
+
+/// The target of the redirect from a specifier; where nothing is redirected it isn't looked up.
+fn target<'r>(redirects: &'r IndexMap<String, String>, specifier: &str) -> Option<&'r String>
+    ensures { option_copied result ≡ lookup (λ k. bytes_eq specifier.now (string_bytes k)) redirects.now.entries }
+{
+    if redirects.is_empty() {
+        return None;
+    }
+    redirects.get(specifier)
 }
 
 impl ModuleGraph {
@@ -73,7 +86,7 @@ impl ModuleGraph {
         ensures found { option_copied result ≡ module_of self.now specifier.now }
         ensures few { length self.now.modules < 4294967296 }
     {
-        match self.redirects.get(specifier) {
+        match target(&self.redirects, specifier) {
             Some(target) => self.modules.get(target.as_str()),
             None => self.modules.get(specifier),
         }

@@ -4,7 +4,7 @@ ghost use Rattle.std.specs.Prelude.{◌≢◌, All, IfErr, IfOk, IfNone, MatchOp
 ghost use Rattle.symbols_syntax.specs.declared.graph.faults.GraphFault.TheVariants.{OutOfMemory};
 ghost use Rattle.symbols_syntax.specs.Graph.{IsChecked, content_of, graph_view, module_view};
 ghost use Rattle.symbols_tree.specs.GraphFaults.{HasTreeFault, IsFaultlessGraph, IsFirstGraphFault};
-ghost use Rattle.symbols_tree.specs.CheckSteps.{HasNoneOf, IsFirstOf};
+ghost use Rattle.symbols_tree.specs.inner.CheckSteps.{HasNoneOf, IsFirstOf};
 
 use crate::check::chains::chained_redirect;
 use crate::check::duplicates::{repeated_resolution, repeated_source, repeated_specifier};

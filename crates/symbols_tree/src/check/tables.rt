@@ -5,9 +5,10 @@ ghost use Rattle.std.specs.Str.{bytes_eq};
 ghost use Rattle.std.specs.String.{string_eq};
 ghost use Rattle.indexmap.specs.IndexMap.{insert_entry, values, IsUnique, Updates};
 ghost use Rattle.symbols_syntax.specs.Graph.{IsChecked, content_of, module_view, redirect_view, resolution_view, found_resolution};
-ghost use Rattle.symbols_tree.specs.GraphFaults.{asked, sources, specifiers};
-ghost use Rattle.symbols_tree.specs.Tables.{AreKeyed, text_pairs};
-ghost use Rattle.symbols_tree.specs.CheckSteps.{HasNoRepeat, found_in_maps};
+ghost use Rattle.symbols_tree.specs.GraphFaults.{resolution_keys, redirect_sources, module_specifiers};
+ghost use Rattle.symbols_tree.specs.Tables.{text_pairs};
+ghost use Rattle.symbols_tree.specs.inner.Tables.{AreKeyed};
+ghost use Rattle.symbols_tree.specs.inner.CheckSteps.{HasNoRepeat, found_in_maps};
 
 use indexmap::IndexMap;
 use std::alloc::{AllocError, Global};
@@ -32,7 +33,7 @@ pub(crate) fn keyed_modules(
     modules: Vec<RawModule>,
 ) -> Result<IndexMap<String, GraphModule>, AllocError>
     requires checked { All (λ m. IsChecked (content_of m.kind)) modules.items }
-    requires distinct { HasNoRepeat (specifiers (map module_view modules.items)) }
+    requires distinct { HasNoRepeat (module_specifiers (map module_view modules.items)) }
     ensures modules { IfOk result (λ keyed. values keyed ≡ map module_view modules.items) }
     ensures keyed { IfOk result (λ keyed. AreKeyed keyed.entries) }
 {
@@ -49,7 +50,7 @@ pub(crate) fn keyed_redirects(
     alloc: Global,
     redirects: Vec<(String, String)>,
 ) -> Result<IndexMap<String, String>, AllocError>
-    requires distinct { HasNoRepeat (sources (map redirect_view redirects.items)) }
+    requires distinct { HasNoRepeat (redirect_sources (map redirect_view redirects.items)) }
     ensures { IfOk result (λ keyed. text_pairs keyed.entries ≡ map redirect_view redirects.items) }
 {
     let mut keyed = IndexMap::with_capacity(alloc, redirects.len())?;
@@ -86,7 +87,7 @@ pub(crate) fn keyed_resolutions(
     alloc: Global,
     resolutions: Vec<RawResolution>,
 ) -> Result<Resolutions, AllocError>
-    requires { HasNoRepeat (asked (map resolution_view resolutions.items)) }
+    requires { HasNoRepeat (resolution_keys (map resolution_view resolutions.items)) }
     ensures found { IfOk result (λ tables. (referrer text : List ℕ) → found_in_maps tables referrer text ≡ found_resolution (map resolution_view resolutions.items) referrer text) }
     ensures unique { IfOk result (IsUnique string_eq) }
 {

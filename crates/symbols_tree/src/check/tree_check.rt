@@ -2,7 +2,7 @@
 
 ghost use Rattle.std.specs.Prelude.{◌≡◌, ◌↔◌, ℕ, ◌+◌, ◌*◌, ◌<◌, ◌≤◌, ◌^◌, All, length, slice_index, SomeIndex, IsTrue, IfOk, IfSome, IfNone, Some, false};
 ghost use Rattle.symbols_syntax.specs.Nodes.{children};
-ghost use Rattle.symbols_tree.specs.Depths.{HasDepths, IsMetAt, GivesDepth};
+ghost use Rattle.symbols_tree.specs.inner.Depths.{HasDepths, IsMetAt, GivesDepth};
 ghost use Rattle.symbols_syntax.specs.TreeFaults.{begins_with_program, IsBadChild, IsRangeOf, NoneBelow, IsFirstTreeFault};
 ghost use Rattle.symbols_syntax.specs.WellFormed.{IsWellFormed};
 

@@ -1,37 +1,31 @@
 //! The answer to a line.
 
-ghost use Rattle.std.specs.Prelude.{◌≡◌, ◌<◌, ◌++◌, length, IfOk};
+ghost use Rattle.std.specs.Prelude.{◌≡◌, ◌++◌, option_map, string_bytes, IfOk};
 ghost use Rattle.std.specs.Option.{option_and_then};
-ghost use Rattle.symbols_syntax.specs.Ids.{id_view};
-ghost use Rattle.symbols_table.specs.Modules.{lent_table, symbol_in, mapped_in};
-ghost use Rattle.symbols_table.specs.QualifiedNames.{qualified_name};
 ghost use Rattle.symbols_root.specs.Growing.{HasGrown};
-ghost use Rattle.symbols_root.specs.Roots.{widest, specifier_in};
-ghost use Rattle.symbols_exports.specs.Sharing.{shared_told};
-ghost use Rattle.symbols_exports.specs.Ways.{exports_told, unresolved_told_in};
-ghost use Rattle.symbols_answers.specs.Answers.{tells_exports, tells_symbol, tells_name};
-ghost use Rattle.symbols_answers.specs.QueryAnswers.{by_strict, told_of, query_answer};
+ghost use Rattle.symbols_root.specs.Roots.{widest_limits};
+ghost use Rattle.symbols_answers.specs.Answers.{tells_symbol, tells_name};
+ghost use Rattle.symbols_answers.specs.QueryAnswers.{query_answer};
+ghost use Rattle.symbols_queries.specs.AnswerViews.{answer_view};
+ghost use Rattle.symbols_queries.specs.Queries.{query_view};
 ghost use Rattle.symq_reader.specs.GraphText.{json_of};
-ghost use Rattle.symq_reader.specs.Plain.{data_of};
+ghost use Rattle.symq_reader.specs.JsonData.{data_of};
 ghost use Rattle.symq_core.specs.Queries.{query_of};
-ghost use Rattle.symq_core.specs.AnswerData.{answer_data, found_data, asked_data};
+ghost use Rattle.symq_core.specs.AnswerData.{answer_data, answer_or_fault_data, asked_data};
 ghost use Rattle.symq_core.specs.AnswerTexts.{answer_text};
-ghost use Rattle.symq_core.specs.Answering.{query_view, table_answer};
-ghost use Rattle.symq_core.specs.Telling.{Tells};
+ghost use Rattle.symq_core.specs.inner.Telling.{Tells};
 
-use crate::program::dependencies::tell_deps;
 use crate::program::exporting::tell_exports;
-use crate::program::names::tell_public_names;
-use crate::program::paths::{tell_definitions, tell_leaves, tell_paths};
-use crate::program::query::{Query, Question, TableQuestion, read_query};
-use crate::program::resolving::tell_entries;
-use crate::program::telling::{tell_fault, tell_null, tell_number, tell_text};
+use crate::program::finding::tell_paths;
+use crate::program::plain_line::plain_query;
+use crate::program::query::read_query;
+use crate::program::telling::{tell_list, tell_null, tell_number, tell_text};
 use json::{Scratch, Value, Writer};
 use std::alloc::{AllocError, Global};
-use symbols_exports::exports::exports;
+use symbols_queries::queries::{Answer, AnswerQueries, Query};
 use symbols_root::root::RootSymbol;
-use symbols_table::info::ModuleInfoRef;
-use symbols_tree::ids::{ModuleId, SymbolId};
+use symbols_table::info::SymbolsFault;
+use symbols_tree::ids::SymbolId;
 use symbols_tree::tree::Id;
 use symq_reader::read_value;
 
@@ -45,116 +39,94 @@ fn tell_symbol(out: &mut Writer, symbol: Option<SymbolId>) -> Result<(), AllocEr
     }
 }
 
-/// The symbol that a name stands for in a module.
-fn mapped_symbol(info: ModuleInfoRef<'_, '_>, id: &Id) -> Option<SymbolId>
-    ensures { result ≡ mapped_in (lent_table info.entry) (id_view id.now) }
+/// What a symbol is called in full.
+fn tell_name(out: &mut Writer, name: &Option<String>) -> Result<(), AllocError>
+    ensures { Tells result out.old out.new (answer_data (tells_name (option_map string_bytes name.now))) }
 {
-    match info {
-        ModuleInfoRef::Esm(esm) => esm.symbol_id_from_swc(id),
-        ModuleInfoRef::Json(_) => None,
+    match name {
+        Some(name) => tell_text(out, "name", name.as_str()),
+        None => tell_null(out, "name"),
     }
 }
 
-/// What a symbol of a module is called in full.
-fn tell_name(
-    alloc: Global,
-    out: &mut Writer,
-    info: ModuleInfoRef<'_, '_>,
-    symbol: SymbolId,
-) -> Result<(), AllocError>
-    ensures { Tells result out.old out.new (found_data (told_of (symbol_in (lent_table info.entry) symbol) (tells_name (qualified_name (symbol_in (lent_table info.entry)) symbol)))) }
+/// An answer; null where the specifier stands for no module.
+fn tell_answer(out: &mut Writer, answer: &Answer<'_>) -> Result<(), AllocError>
+    ensures { Tells result out.old out.new (answer_data (answer_view answer.now)) }
 {
-    match info.fully_qualified_symbol_name(alloc, symbol) {
-        Ok(Some(name)) => tell_text(out, "name", name.as_str()),
-        Ok(None) => tell_null(out, "name"),
-        Err(fault) => tell_fault(out, &fault),
+    match answer {
+        Answer::NoModule => out.null(),
+        Answer::Module(specifier) => tell_text(out, "module", specifier),
+        Answer::Exports(named) => tell_exports(out, named),
+        Answer::Names(names) => tell_list(out, "names", names),
+        Answer::Symbol(symbol) => tell_symbol(out, *symbol),
+        Answer::Name(name) => tell_name(out, name),
+        Answer::Deps(deps) => tell_list(out, "deps", deps),
+        Answer::Paths(paths) => tell_paths(out, paths),
+        Answer::Definitions(definitions) => tell_list(out, "definitions", definitions),
+        Answer::Leaves(ends) => tell_list(out, "leaves", ends),
+        Answer::Resolve(entries) => tell_list(out, "entries", entries),
     }
 }
 
-/// The answer to a question on the table of a module.
-fn tell_info(
-    alloc: Global,
-    out: &mut Writer,
-    info: ModuleInfoRef<'_, '_>,
-    question: &TableQuestion,
-) -> Result<(), AllocError>
-    ensures { Tells result out.old out.new (found_data (table_answer question.now (lent_table info.entry))) }
-{
-    match question {
-        TableQuestion::Module => tell_text(out, "module", info.specifier()),
-        TableQuestion::Symbol(id) => tell_symbol(out, mapped_symbol(info, id)),
-        TableQuestion::Name(symbol) => tell_name(alloc, out, info, *symbol),
-        TableQuestion::Deps(symbol, mode) => tell_deps(alloc, out, info, *symbol, *mode),
-    }
-}
-
-/// What a stored module exports; a fault where a call on symbols gave nothing.
-fn tell_exports_of(
-    out: &mut Writer,
-    root: &mut RootSymbol<'_>,
-    module_id: ModuleId,
-) -> Result<(), AllocError>
-    requires widest { root.old.limits ≡ widest }
-    requires known { module_id.0 < length root.old.stored }
-    ensures kept { HasGrown root.old root.new }
-    ensures value { Tells result out.old out.new (answer_data (tells_exports (exports_told root.old.graph (specifier_in root.old module_id))
-        (by_strict root.old.rules (shared_told root.old.graph (specifier_in root.old module_id))) (unresolved_told_in root.old.graph (specifier_in root.old module_id)))) }
-{
-    match exports(root, module_id) {
-        Ok(answer) => tell_exports(out, root, &answer),
-        Err(fault) => tell_fault(out, &fault),
-    }
-}
-
-/// The answer to a query over a root, whose limits no checked graph meets: null where the specifier
-/// stands for no module.
+/// The answer to a query over a root, whose limits no checked graph meets; a fault where the module
+/// has no such symbol.
 fn tell_query(
-    alloc: Global,
     out: &mut Writer,
     root: &mut RootSymbol<'_>,
     query: &Query<'_>,
 ) -> Result<(), AllocError>
-    requires { root.old.limits ≡ widest }
+    requires { root.old.limits ≡ widest_limits }
     ensures kept { HasGrown root.old root.new }
-    ensures value { Tells result out.old out.new (found_data (query_answer root.old.rules root.old.graph (query_view query.now))) }
+    ensures value { Tells result out.old out.new (answer_or_fault_data (query_answer root.old.rules root.old.graph (query_view query.now))) }
 {
-    let module_id = match root.module_from_specifier(query.specifier) {
-        Ok(Some(module_id)) => module_id,
-        Ok(None) => return out.null(),
-        Err(fault) => return tell_fault(out, &fault),
-    };
-    match &query.question {
-        Question::Exports => tell_exports_of(out, root, module_id),
-        Question::Names => tell_public_names(out, root, module_id),
-        Question::Paths(symbol) => tell_paths(out, root, module_id, *symbol),
-        Question::Definitions(symbol) => tell_definitions(out, root, module_id, *symbol),
-        Question::Leaves(symbol) => tell_leaves(out, root, module_id, *symbol),
-        Question::Resolve(reference) => tell_entries(out, root, module_id, reference),
-        Question::Table(question) => match root.module_from_id(module_id) {
-            Some(info) => tell_info(alloc, out, info, question),
-            None => unreachable!(),
-        },
+    match root.answer(query) {
+        Ok(answer) => tell_answer(out, &answer),
+        Err(SymbolsFault::UnknownSymbol) => tell_text(out, "fault", "unknown symbol"),
+        Err(SymbolsFault::OutOfMemory) => Err(AllocError),
+        Err(_) => unreachable!(),
     }
 }
 
-/// The answer to what a value asks, be it a query or none.
-fn tell_asked(
+/// The answer to what a value asks, be it a query or none. The name of a reference that it asks of is
+/// kept where `kept` is.
+fn tell_asked<'r>(
     alloc: Global,
     out: &mut Writer,
     root: &mut RootSymbol<'_>,
-    value: &Value<'_>,
+    value: &Value<'r>,
+    kept: &'r mut Option<Id>,
 ) -> Result<(), AllocError>
-    requires { root.old.limits ≡ widest }
+    requires { root.old.limits ≡ widest_limits }
     ensures kept { HasGrown root.old root.new }
     ensures value { Tells result out.old out.new (asked_data root.old.rules root.old.graph (query_of (data_of value.now))) }
 {
-    match read_query(alloc, value)? {
-        Some(query) => tell_query(alloc, out, root, &query),
+    match read_query(alloc, value, kept)? {
+        Some(query) => tell_query(out, root, &query),
         None => tell_text(out, "fault", "bad query"),
     }
 }
 
-/// The answer to a line, be it JSON or not.
+/// The answer to a line of any form, be it JSON or not, of which a value is made.
+fn tell_by_value(
+    alloc: Global,
+    scratch: &mut Scratch,
+    out: &mut Writer,
+    root: &mut RootSymbol<'_>,
+    line: &[u8],
+) -> Result<(), AllocError>
+    requires { root.old.limits ≡ widest_limits }
+    ensures kept { HasGrown root.old root.new }
+    ensures value { Tells result out.old out.new (asked_data root.old.rules root.old.graph (option_and_then query_of (json_of line.now))) }
+{
+    let mut kept = None;
+    let value = read_value(alloc, line, scratch)?;
+    match &value {
+        Some(value) => tell_asked(alloc, out, root, value, &mut kept),
+        None => tell_text(out, "fault", "bad query"),
+    }
+}
+
+/// The answer to a line; only where it isn't of the plain form a value is made of it.
 fn tell_line(
     alloc: Global,
     scratch: &mut Scratch,
@@ -162,14 +134,13 @@ fn tell_line(
     root: &mut RootSymbol<'_>,
     line: &[u8],
 ) -> Result<(), AllocError>
-    requires { root.old.limits ≡ widest }
+    requires { root.old.limits ≡ widest_limits }
     ensures kept { HasGrown root.old root.new }
     ensures value { Tells result out.old out.new (asked_data root.old.rules root.old.graph (option_and_then query_of (json_of line.now))) }
 {
-    let value = read_value(alloc, line, scratch)?;
-    match &value {
-        Some(value) => tell_asked(alloc, out, root, value),
-        None => tell_text(out, "fault", "bad query"),
+    match plain_query(line) {
+        Some(plain) => tell_query(out, root, &plain),
+        None => tell_by_value(alloc, scratch, out, root, line),
     }
 }
 
@@ -181,7 +152,7 @@ pub(crate) fn answer(
     line: &[u8],
     bytes: Vec<u8>,
 ) -> Result<Vec<u8>, AllocError>
-    requires { root.old.limits ≡ widest }
+    requires { root.old.limits ≡ widest_limits }
     ensures kept { HasGrown root.old root.new }
     ensures text { IfOk result (λ text. text.items ≡ bytes.items ++ answer_text root.old.rules root.old.graph line.now) }
 {

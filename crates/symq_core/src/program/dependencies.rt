@@ -1,25 +1,19 @@
 //! What the declarations of a symbol depend on, as text.
 
-ghost use Rattle.std.specs.Prelude.{◌≡◌, map};
+ghost use Rattle.std.specs.Prelude.{◌≡◌, ℕ, List, map};
 ghost use Rattle.std.specs.Cow.{cow_str_bytes};
-ghost use Rattle.std.specs.Option.{option_map};
+ghost use Rattle.serde_json.specs.Data.{string};
 ghost use Rattle.symbols_syntax.specs.Ids.{id_view};
-ghost use Rattle.symbols_nodes.specs.References.{id as by_id, qualified_id, import_type, reference_view, dependency_view};
-ghost use Rattle.symbols_table.specs.DeclViews.{decl_view, decl_dependencies};
-ghost use Rattle.symbols_table.specs.Modules.{lent_table, symbol_in};
-ghost use Rattle.symbols_answers.specs.QueryAnswers.{dependencies_told};
-ghost use Rattle.symq_core.specs.AnswerData.{reference_data, namespace_words, dependency_data, dependencies_data, found_data};
-ghost use Rattle.symq_core.specs.Telling.{Tells, Adds, rest_tokens};
-ghost use Rattle.symq_core.specs.TextsData.{texts_data};
+ghost use Rattle.symbols_nodes.specs.References.{Dependency, id as by_id, qualified_id, import_type, reference_view, dependency_view};
+ghost use Rattle.symbols_queries.specs.AnswerViews.{deps_view};
+ghost use Rattle.symq_core.specs.AnswerData.{reference_data, namespace_words, dependency_data, dependencies_data};
+ghost use Rattle.symq_core.specs.inner.Telling.{Tells};
 
-use crate::program::telling::tell_text;
+use crate::program::telling::{Tell, tell_items};
 use json::Writer;
-use std::alloc::{AllocError, Global};
+use std::alloc::AllocError;
 use std::borrow::CowStr;
-use symbols_nodes::deps::{ReferenceNamespace, ResolveDepsMode, SymbolNodeDep};
-use symbols_table::decl::SymbolDecl;
-use symbols_table::info::ModuleInfoRef;
-use symbols_tree::ids::SymbolId;
+use symbols_nodes::deps::{ReferenceNamespace, SymbolNodeDep};
 use symbols_tree::tree::Id;
 
 /// A name with its scope.
@@ -33,15 +27,17 @@ fn tell_id(out: &mut Writer, id: &Id) -> Result<(), AllocError>
     out.end_array()
 }
 
-/// The parts after a name.
-fn tell_parts(out: &mut Writer, parts: &[CowStr<'_>]) -> Result<(), AllocError>
-    ensures { Tells result out.old out.new (texts_data (map cow_str_bytes parts.now)) }
-{
-    out.begin_array()?;
-    for part in parts {
-        out.string(part.as_str())?;
+/// A part after a name.
+impl Tell for CowStr<'_> {
+    ghost View = { List ℕ };
+
+    ghost view = { cow_str_bytes };
+
+    ghost value = { string };
+
+    fn tell(&self, out: &mut Writer) -> Result<(), AllocError> {
+        out.string(self.as_str())
     }
-    out.end_array()
 }
 
 /// A name with its scope, and the parts after it.
@@ -52,7 +48,7 @@ fn tell_qualified_id(out: &mut Writer, id: &Id, parts: &[CowStr<'_>]) -> Result<
     out.string("qualified")?;
     out.string(id.name.as_str())?;
     out.u64(u64::from(id.scope))?;
-    tell_parts(out, parts)?;
+    tell_items(out, parts)?;
     out.end_array()
 }
 
@@ -63,7 +59,7 @@ fn tell_import_type(out: &mut Writer, text: &str, parts: &[CowStr<'_>]) -> Resul
     out.begin_array()?;
     out.string("import")?;
     out.string(text)?;
-    tell_parts(out, parts)?;
+    tell_items(out, parts)?;
     out.end_array()
 }
 
@@ -90,84 +86,31 @@ fn namespace_word(namespace: ReferenceNamespace) -> &'static str
 }
 
 /// A dependency: a reference and its namespace.
-fn tell_dependency(
-    out: &mut Writer,
-    dependency: &(SymbolNodeDep<'_>, ReferenceNamespace),
-) -> Result<(), AllocError>
-    ensures { Tells result out.old out.new (dependency_data (dependency_view dependency.now)) }
-{
-    let (reference, namespace) = dependency;
-    out.begin_array()?;
-    tell_reference(out, reference)?;
-    out.string(namespace_word(*namespace))?;
-    out.end_array()
-}
+impl Tell for (SymbolNodeDep<'_>, ReferenceNamespace) {
+    ghost View = { Dependency };
 
-/// A list of dependencies.
-fn tell_dependencies(
-    out: &mut Writer,
-    dependencies: &[(SymbolNodeDep<'_>, ReferenceNamespace)],
-) -> Result<(), AllocError>
-    ensures { Tells result out.old out.new (dependencies_data (map dependency_view dependencies.now)) }
-{
-    out.begin_array()?;
-    for dependency in dependencies {
-        tell_dependency(out, dependency)?;
+    ghost view = { dependency_view };
+
+    ghost value = { dependency_data };
+
+    fn tell(&self, out: &mut Writer) -> Result<(), AllocError> {
+        let (reference, namespace) = self;
+        out.begin_array()?;
+        tell_reference(out, reference)?;
+        out.string(namespace_word(*namespace))?;
+        out.end_array()
     }
-    out.end_array()
 }
 
 /// What a declaration depends on.
-fn tell_decl(
-    alloc: Global,
-    out: &mut Writer,
-    decl: &SymbolDecl<'_>,
-    mode: ResolveDepsMode,
-) -> Result<(), AllocError>
-    ensures { Tells result out.old out.new (dependencies_data (decl_dependencies mode (decl_view decl.now))) }
-{
-    match decl.maybe_node() {
-        Some(node) => {
-            let dependencies = node.deps_with_namespace(alloc, mode)?;
-            tell_dependencies(out, dependencies.as_slice())
-        }
-        None => tell_dependencies(out, &[]),
-    }
-}
+impl Tell for Vec<(SymbolNodeDep<'_>, ReferenceNamespace)> {
+    ghost View = { List Dependency };
 
-/// What each of some declarations depends on, as the items of an array, and its end.
-fn tell_decls(
-    alloc: Global,
-    out: &mut Writer,
-    decls: &[SymbolDecl<'_>],
-    mode: ResolveDepsMode,
-) -> Result<(), AllocError>
-    ensures { Adds result out.old out.new (rest_tokens (map dependencies_data (map (decl_dependencies mode) (map decl_view decls.now)))) }
-{
-    for decl in decls {
-        tell_decl(alloc, out, decl, mode)?;
-    }
-    out.end_array()
-}
+    ghost view = { deps_view };
 
-/// What each declaration of a symbol of a module depends on.
-pub(crate) fn tell_deps(
-    alloc: Global,
-    out: &mut Writer,
-    info: ModuleInfoRef<'_, '_>,
-    symbol: SymbolId,
-    mode: ResolveDepsMode,
-) -> Result<(), AllocError>
-    ensures { Tells result out.old out.new (found_data (option_map (dependencies_told mode) (symbol_in (lent_table info.entry) symbol))) }
-{
-    match info.symbol(symbol) {
-        Some(symbol) => {
-            out.begin_object()?;
-            out.key("deps")?;
-            out.begin_array()?;
-            tell_decls(alloc, out, symbol.decls(), mode)?;
-            out.end_object()
-        }
-        None => tell_text(out, "fault", "unknown symbol"),
+    ghost value = { dependencies_data };
+
+    fn tell(&self, out: &mut Writer) -> Result<(), AllocError> {
+        tell_items(out, self.as_slice())
     }
 }

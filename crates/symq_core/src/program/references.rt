@@ -1,14 +1,14 @@
-//! References that a query asks of.
+//! References that a query asks of: their names and parts are lent by the line, but for a name with
+//! its scope, which is kept where the caller says.
 
-ghost use Rattle.std.specs.Prelude.{◌≡◌, map, string_bytes, option_map, IfOk};
+ghost use Rattle.std.specs.Prelude.{◌≡◌, map, option_map, IfOk};
 ghost use Rattle.std.specs.Cow.{cow_str_bytes};
 ghost use Rattle.std.specs.Option.{option_and_then};
 ghost use Rattle.serde_json.specs.Find.{as_array, as_str};
 ghost use Rattle.symbols_syntax.specs.Ids.{id_view};
 ghost use Rattle.symbols_nodes.specs.References.{reference_view};
-ghost use Rattle.symq_reader.specs.Plain.{data_of, items_data};
+ghost use Rattle.symq_reader.specs.JsonData.{data_of, items_data};
 ghost use Rattle.symq_reader.specs.UnderKeys.{each_item};
-ghost use Rattle.symq_core.specs.Answering.{asked_view};
 ghost use Rattle.symq_core.specs.ReferenceForms.{read_id, read_parts, id_form, qualified_form, import_form, word_and_rest, reference_of};
 
 use json::Value;
@@ -17,46 +17,6 @@ use std::borrow::CowStr;
 use symbols_nodes::deps::SymbolNodeDep;
 use symbols_tree::tree::Id;
 use symq_reader::{as_list, as_text, as_u32};
-
-/// A reference that a query asks of, as it is read from the line: it owns its names.
-#[derive(Drop)]
-pub(crate) enum AskedReference {
-    /// A name.
-    Id(Id),
-    /// A name with the parts after it.
-    QualifiedId(Id, Vec<String>),
-    /// The text of an import type, and the parts after it.
-    ImportType(String, Vec<String>),
-}
-
-/// Parts, lent.
-fn lent_parts<'r>(alloc: Global, parts: &'r [String]) -> Result<Vec<CowStr<'r>>, AllocError>
-    ensures { IfOk result (λ lent. map cow_str_bytes lent.items ≡ map string_bytes parts.now) }
-{
-    let mut lent = Vec::with_capacity(alloc, parts.len())?;
-    for part in parts {
-        lent.push(CowStr::Borrowed(part.as_str()))?;
-    }
-    Ok(lent)
-}
-
-impl AskedReference {
-    /// The reference with its names lent, as the library is asked.
-    pub(crate) fn lent<'r>(&'r self, alloc: Global) -> Result<SymbolNodeDep<'r>, AllocError>
-        ensures { IfOk result (λ dep. reference_view dep ≡ asked_view self.now) }
-    {
-        match self {
-            AskedReference::Id(id) => Ok(SymbolNodeDep::Id(id)),
-            AskedReference::QualifiedId(id, parts) => {
-                Ok(SymbolNodeDep::QualifiedId(id, lent_parts(alloc, parts)?))
-            }
-            AskedReference::ImportType(text, parts) => {
-                let parts = lent_parts(alloc, parts)?;
-                Ok(SymbolNodeDep::ImportType(text.as_str(), parts))
-            }
-        }
-    }
-}
 
 /// A name with its scope.
 pub(crate) fn read_id(
@@ -74,13 +34,13 @@ pub(crate) fn read_id(
 }
 
 /// Items that are all texts.
-fn read_texts(alloc: Global, items: &[Value<'_>]) -> Result<Option<Vec<String>>, AllocError>
-    ensures { IfOk result (λ texts. option_map (λ it. map string_bytes it.items) texts ≡ each_item as_str (items_data items.now)) }
+fn read_texts<'r>(alloc: Global, items: &[Value<'r>]) -> Result<Option<Vec<CowStr<'r>>>, AllocError>
+    ensures { IfOk result (λ texts. option_map (λ it. map cow_str_bytes it.items) texts ≡ each_item as_str (items_data items.now)) }
 {
     let mut texts = Vec::new(alloc);
     for item in items {
         match as_text(item) {
-            Some(text) => texts.push(String::from_str(alloc, text)?)?,
+            Some(text) => texts.push(CowStr::Borrowed(text))?,
             None => return Ok(None),
         }
     }
@@ -88,8 +48,8 @@ fn read_texts(alloc: Global, items: &[Value<'_>]) -> Result<Option<Vec<String>>,
 }
 
 /// A list of texts.
-fn read_parts(alloc: Global, value: &Value<'_>) -> Result<Option<Vec<String>>, AllocError>
-    ensures { IfOk result (λ texts. option_map (λ it. map string_bytes it.items) texts ≡ read_parts (data_of value.now)) }
+fn read_parts<'r>(alloc: Global, value: &Value<'r>) -> Result<Option<Vec<CowStr<'r>>>, AllocError>
+    ensures { IfOk result (λ texts. option_map (λ it. map cow_str_bytes it.items) texts ≡ read_parts (data_of value.now)) }
 {
     match as_list(value) {
         Some(items) => read_texts(alloc, items),
@@ -99,19 +59,30 @@ fn read_parts(alloc: Global, value: &Value<'_>) -> Result<Option<Vec<String>>, A
 
 /// The items behind the word `id`: a name with its scope.
 #[tactic(auto, using(crate::proofs::Forms::id_short, crate::proofs::Forms::id_long))]
-fn id_form(alloc: Global, items: &[Value<'_>]) -> Result<Option<AskedReference>, AllocError>
-    ensures { IfOk result (λ found. option_map asked_view found ≡ id_form (items_data items.now)) }
+fn id_form<'r>(
+    alloc: Global,
+    items: &[Value<'r>],
+    kept: &'r mut Option<Id>,
+) -> Result<Option<SymbolNodeDep<'r>>, AllocError>
+    ensures { IfOk result (λ found. option_map reference_view found ≡ id_form (items_data items.now)) }
 {
     let [name, scope] = items else {
         return Ok(None);
     };
-    Ok(read_id(alloc, name, scope)?.map(|id| AskedReference::Id(id)))
+    match read_id(alloc, name, scope)? {
+        Some(id) => Ok(Some(SymbolNodeDep::Id(kept.insert(id)))),
+        None => Ok(None),
+    }
 }
 
 /// The items behind the word `qualified`: a name with its scope, and the parts behind it.
 #[tactic(auto, using(crate::proofs::Forms::qualified_short, crate::proofs::Forms::qualified_long))]
-fn qualified_form(alloc: Global, items: &[Value<'_>]) -> Result<Option<AskedReference>, AllocError>
-    ensures { IfOk result (λ found. option_map asked_view found ≡ qualified_form (items_data items.now)) }
+fn qualified_form<'r>(
+    alloc: Global,
+    items: &[Value<'r>],
+    kept: &'r mut Option<Id>,
+) -> Result<Option<SymbolNodeDep<'r>>, AllocError>
+    ensures { IfOk result (λ found. option_map reference_view found ≡ qualified_form (items_data items.now)) }
 {
     let [name, scope, parts] = items else {
         return Ok(None);
@@ -119,13 +90,19 @@ fn qualified_form(alloc: Global, items: &[Value<'_>]) -> Result<Option<AskedRefe
     let Some(id) = read_id(alloc, name, scope)? else {
         return Ok(None);
     };
-    Ok(read_parts(alloc, parts)?.map(|parts| AskedReference::QualifiedId(id, parts)))
+    match read_parts(alloc, parts)? {
+        Some(parts) => Ok(Some(SymbolNodeDep::QualifiedId(kept.insert(id), parts))),
+        None => Ok(None),
+    }
 }
 
 /// The items behind the word `import`: the text of a module, and the parts behind it.
 #[tactic(auto, using(crate::proofs::Forms::import_short, crate::proofs::Forms::import_long))]
-fn import_form(alloc: Global, items: &[Value<'_>]) -> Result<Option<AskedReference>, AllocError>
-    ensures { IfOk result (λ found. option_map asked_view found ≡ import_form (items_data items.now)) }
+fn import_form<'r>(
+    alloc: Global,
+    items: &[Value<'r>],
+) -> Result<Option<SymbolNodeDep<'r>>, AllocError>
+    ensures { IfOk result (λ found. option_map reference_view found ≡ import_form (items_data items.now)) }
 {
     let [text, parts] = items else {
         return Ok(None);
@@ -133,8 +110,10 @@ fn import_form(alloc: Global, items: &[Value<'_>]) -> Result<Option<AskedReferen
     let Some(text) = as_text(text) else {
         return Ok(None);
     };
-    let text = String::from_str(alloc, text)?;
-    Ok(read_parts(alloc, parts)?.map(|parts| AskedReference::ImportType(text, parts)))
+    match read_parts(alloc, parts)? {
+        Some(parts) => Ok(Some(SymbolNodeDep::ImportType(text, parts))),
+        None => Ok(None),
+    }
 }
 
 /// The word that a list begins with, and the items behind it.
@@ -148,19 +127,20 @@ fn word_and_rest<'v, 'a>(value: &'v Value<'a>) -> Option<(&'a str, &'v [Value<'a
     }
 }
 
-/// The reference that a value is, if it is one.
-pub(crate) fn read_reference(
+/// The reference that a value is, if it is one. A name with its scope is kept where `kept` is.
+pub(crate) fn read_reference<'r>(
     alloc: Global,
-    value: &Value<'_>,
-) -> Result<Option<AskedReference>, AllocError>
-    ensures { IfOk result (λ found. option_map asked_view found ≡ reference_of (data_of value.now)) }
+    value: &Value<'r>,
+    kept: &'r mut Option<Id>,
+) -> Result<Option<SymbolNodeDep<'r>>, AllocError>
+    ensures { IfOk result (λ found. option_map reference_view found ≡ reference_of (data_of value.now)) }
 {
     let Some((word, items)) = word_and_rest(value) else {
         return Ok(None);
     };
     match word {
-        "id" => id_form(alloc, items),
-        "qualified" => qualified_form(alloc, items),
+        "id" => id_form(alloc, items, kept),
+        "qualified" => qualified_form(alloc, items, kept),
         "import" => import_form(alloc, items),
         _ => Ok(None),
     }

@@ -3,12 +3,12 @@
 ghost use Rattle.std.specs.Prelude.{◌≡◌, ◌+◌, ◌<◌, ◌++◌, ◌∷◌, [], OnOk, IfErr};
 ghost use Rattle.std.specs.Io.KnownBytes.{Appends};
 ghost use Rattle.symbols_root.specs.Growing.{HasGrown};
-ghost use Rattle.symbols_root.specs.Roots.{widest};
+ghost use Rattle.symbols_root.specs.Roots.{widest_limits};
 ghost use Rattle.symq_core.specs.AnswerTexts.{answer_text};
 ghost use Rattle.symq_core.specs.Devices.{COUNT_LIMIT};
 ghost use Rattle.symq_core.specs.Lines.{line_end, all_but_last, last_part, line_in, answers_to};
 ghost use Rattle.symq_core.specs.Serving.{AppendsBeginning};
-ghost use Rattle.symq_core.specs.Sessions.{Sends, IsAnswerFault, parts_after, answering};
+ghost use Rattle.symq_core.specs.inner.Sessions.{Sends, IsAnswerFault, parts_after, line_answer};
 
 use crate::program::answer::answer;
 use crate::program::device::Output;
@@ -38,7 +38,7 @@ pub(crate) struct Session<'g> {
     text: Vec<u8>,
     /// What reading a line needs, kept for its room alone.
     scratch: Scratch,
-    ghost widest: { root.limits ≡ widest },
+    ghost widest: { root.limits ≡ widest_limits },
 }
 
 /// Adds the answer to a line to those that wait, and ends its line. What the text held before is
@@ -51,9 +51,9 @@ fn add_answer(
     text: &mut Vec<u8>,
     answers: &mut Vec<u8>,
 ) -> Result<(), AllocError>
-    requires { root.old.limits ≡ widest }
+    requires { root.old.limits ≡ widest_limits }
     ensures kept { HasGrown root.old root.new }
-    ensures added { OnOk result (answers.new.items ≡ answers.old.items ++ (answering root.old line.now ++ line_end ∷ [])) }
+    ensures added { OnOk result (answers.new.items ≡ answers.old.items ++ (line_answer root.old line.now ++ line_end ∷ [])) }
 {
     text.clear();
     let begun = mem::replace(text, Vec::new(alloc));
@@ -67,7 +67,7 @@ fn add_answer(
 impl<'g> Session<'g> {
     /// A session by these rules in which nothing waits.
     pub(crate) fn new(alloc: Global, graph: &'g ModuleGraph, rules: Rules) -> Session<'g>
-        ensures answers_by { answering result.root ≡ answer_text rules graph.now }
+        ensures answers_by { line_answer result.root ≡ answer_text rules graph.now }
         ensures line { result.line.items ≡ [] }
         ensures answers { result.answers.items ≡ [] }
     {
@@ -88,7 +88,7 @@ impl<'g> Session<'g> {
     /// Writes the answers that wait.
     fn flush<W: Output>(&mut self, writer: &mut W) -> Result<(), EngineFault>
         requires { W.failures writer.old < COUNT_LIMIT }
-        ensures kept { (answering self.new.root ≡ answering self.old.root) × (self.new.line ≡ self.old.line) }
+        ensures kept { (line_answer self.new.root ≡ line_answer self.old.root) × (self.new.line ≡ self.old.line) }
         ensures ok { OnOk result (Appends (W.written writer.old) (W.written writer.new) self.old.answers.items
             × (self.new.answers.items ≡ []) × (W.failures writer.new ≡ W.failures writer.old)) }
         ensures err { IfErr result (λ fault. (fault ≡ EngineFault.OutputFailed)
@@ -102,9 +102,9 @@ impl<'g> Session<'g> {
 
     /// Answers the line that ends with these bytes, and clears it.
     fn end_line(&mut self, tail: &[u8]) -> Result<(), AllocError>
-        ensures same { answering self.new.root ≡ answering self.old.root }
+        ensures same { line_answer self.new.root ≡ line_answer self.old.root }
         ensures ended { OnOk result ((self.new.line.items ≡ []) × (self.new.answers.items
-            ≡ self.old.answers.items ++ (answering self.old.root (self.old.line.items ++ tail.now) ++ line_end ∷ []))) }
+            ≡ self.old.answers.items ++ (line_answer self.old.root (self.old.line.items ++ tail.now) ++ line_end ∷ []))) }
     {
         if self.line.is_empty() {
             return add_answer(
@@ -133,14 +133,14 @@ impl<'g> Session<'g> {
     /// a block.
     fn take_line<W: Output>(&mut self, writer: &mut W, tail: &[u8]) -> Result<(), EngineFault>
         requires { W.failures writer.old < COUNT_LIMIT }
-        ensures same { answering self.new.root ≡ answering self.old.root }
+        ensures same { line_answer self.new.root ≡ line_answer self.old.root }
         ensures ok { OnOk result (Sends (W.written writer.old) (W.written writer.new)
             self.old.answers.items self.new.answers.items
-            (answers_to (answering self.old.root) ((self.old.line.items ++ tail.now) ∷ []))
+            (answers_to (line_answer self.old.root) ((self.old.line.items ++ tail.now) ∷ []))
             × (self.new.line.items ≡ []) × (W.failures writer.new ≡ W.failures writer.old)) }
         ensures err { IfErr result (λ fault. IsAnswerFault fault (W.failures writer.old) (W.failures writer.new)
             × AppendsBeginning (W.written writer.old) (W.written writer.new) (self.old.answers.items
-            ++ answers_to (answering self.old.root) ((self.old.line.items ++ tail.now) ∷ []))) }
+            ++ answers_to (line_answer self.old.root) ((self.old.line.items ++ tail.now) ∷ []))) }
     {
         self.end_line(tail)?;
         if BLOCK <= self.answers.len() {
@@ -156,15 +156,15 @@ impl<'g> Session<'g> {
         block: &[u8],
     ) -> Result<(), EngineFault>
         requires { W.failures writer.old < COUNT_LIMIT }
-        ensures same { answering self.new.root ≡ answering self.old.root }
+        ensures same { line_answer self.new.root ≡ line_answer self.old.root }
         ensures ok { OnOk result (Appends (W.written writer.old) (W.written writer.new) (self.old.answers.items
-            ++ answers_to (answering self.old.root) (all_but_last (parts_after self.old.line.items block.now)))
+            ++ answers_to (line_answer self.old.root) (all_but_last (parts_after self.old.line.items block.now)))
             × (self.new.answers.items ≡ [])
             × (self.new.line.items ≡ last_part (parts_after self.old.line.items block.now))
             × (W.failures writer.new ≡ W.failures writer.old)) }
         ensures err { IfErr result (λ fault. IsAnswerFault fault (W.failures writer.old) (W.failures writer.new)
             × AppendsBeginning (W.written writer.old) (W.written writer.new) (self.old.answers.items
-            ++ answers_to (answering self.old.root) (all_but_last (parts_after self.old.line.items block.now)))) }
+            ++ answers_to (line_answer self.old.root) (all_but_last (parts_after self.old.line.items block.now)))) }
     {
         let mut rest = block;
         'lines: while let Some((line, more)) = split_line(rest) {
@@ -179,11 +179,11 @@ impl<'g> Session<'g> {
     pub(crate) fn finish<W: Output>(&mut self, writer: &mut W) -> Result<(), EngineFault>
         requires { W.failures writer.old < COUNT_LIMIT }
         ensures ok { OnOk result (Appends (W.written writer.old) (W.written writer.new) (self.old.answers.items
-            ++ answers_to (answering self.old.root) (line_in self.old.line.items))
+            ++ answers_to (line_answer self.old.root) (line_in self.old.line.items))
             × (W.failures writer.new ≡ W.failures writer.old)) }
         ensures err { IfErr result (λ fault. IsAnswerFault fault (W.failures writer.old) (W.failures writer.new)
             × AppendsBeginning (W.written writer.old) (W.written writer.new) (self.old.answers.items
-            ++ answers_to (answering self.old.root) (line_in self.old.line.items))) }
+            ++ answers_to (line_answer self.old.root) (line_in self.old.line.items))) }
     {
         if self.line.is_empty() {
             return self.flush(writer);

@@ -5,7 +5,7 @@ ghost use Rattle.std.specs.Global.{Global};
 ghost use Rattle.std.specs.Option.{option_map};
 ghost use Rattle.symbols_root.specs.declared.root.rules.Rules.{Rules};
 ghost use Rattle.symq_core.specs.Stopping.{IsStartStop};
-ghost use Rattle.symq_core.specs.Words.{started_by};
+ghost use Rattle.symq_core.specs.inner.Words.{started_by};
 
 use crate::program::stop::Stop;
 use std::io::ErrorKind;

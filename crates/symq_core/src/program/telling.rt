@@ -1,16 +1,69 @@
 //! Small parts of an answer, written at once.
 
-ghost use Rattle.std.specs.Prelude.{[], ◌∷◌, map, decimal, string_bytes, OnOk, IfSome, IsSome};
+ghost use Rattle.std.specs.Prelude.{ℕ, List, [], ◌∷◌, map, decimal, string_bytes};
 ghost use Rattle.json.specs.Token as token;
-ghost use Rattle.serde_json.specs.Data.{null, number, unsigned, string, object, no_members, member};
-ghost use Rattle.symq_core.specs.AnswerData.{fault_data};
-ghost use Rattle.symq_core.specs.TextsData.{texts_data};
-ghost use Rattle.symq_core.specs.Answering.{fault_words};
-ghost use Rattle.symq_core.specs.Telling.{Adds, Tells};
+ghost use Rattle.serde_json.specs.Data.{Data, null, number, unsigned, string, array, object, no_members, member};
+ghost use Rattle.serde_json.specs.View.{items_of};
+ghost use Rattle.symq_core.specs.inner.Telling.{Adds, Tells, rest_tokens};
 
 use json::Writer;
 use std::alloc::AllocError;
-use symbols_table::info::SymbolsFault;
+
+/// What is told as a JSON value.
+pub(crate) trait Tell {
+    /// What values of this type say.
+    ghost View: { Type 0 };
+
+    /// What one of them says.
+    ghost view: { Self → View };
+
+    /// The JSON value of that.
+    ghost value: { View → Data };
+
+    /// Writes the value.
+    fn tell(&self, out: &mut Writer) -> Result<(), AllocError>
+        ensures { Tells result out.old out.new (value (view self.now)) };
+}
+
+/// Values in order, as the items of an array, and its end.
+fn end_items<T: Tell>(out: &mut Writer, items: &[T]) -> Result<(), AllocError>
+    ensures { Adds result out.old out.new (rest_tokens (map T.value (map T.view items.now))) }
+{
+    for item in items {
+        item.tell(out)?;
+    }
+    out.end_array()
+}
+
+/// A list of values.
+pub(crate) fn tell_items<T: Tell>(out: &mut Writer, items: &[T]) -> Result<(), AllocError>
+    ensures { Tells result out.old out.new (array (items_of (map T.value (map T.view items.now)))) }
+{
+    out.begin_array()?;
+    end_items(out, items)
+}
+
+/// An object with one member, a list of values.
+pub(crate) fn tell_list<T: Tell>(out: &mut Writer, key: &str, items: &[T]) -> Result<(), AllocError>
+    ensures { Tells result out.old out.new (object (member key.now (array (items_of (map T.value (map T.view items.now)))) no_members)) }
+{
+    out.begin_object()?;
+    out.key(key)?;
+    tell_items(out, items)?;
+    out.end_object()
+}
+
+impl Tell for String {
+    ghost View = { List ℕ };
+
+    ghost view = { string_bytes };
+
+    ghost value = { string };
+
+    fn tell(&self, out: &mut Writer) -> Result<(), AllocError> {
+        out.string(self.as_str())
+    }
+}
 
 /// A member of an object, a text.
 pub(crate) fn add_text(out: &mut Writer, key: &str, text: &str) -> Result<(), AllocError>
@@ -54,29 +107,4 @@ pub(crate) fn tell_null(out: &mut Writer, key: &str) -> Result<(), AllocError>
     out.key(key)?;
     out.null()?;
     out.end_object()
-}
-
-/// A list of texts.
-pub(crate) fn tell_texts(out: &mut Writer, texts: &[String]) -> Result<(), AllocError>
-    ensures { Tells result out.old out.new (texts_data (map string_bytes texts.now)) }
-{
-    out.begin_array()?;
-    for text in texts {
-        out.string(text.as_str())?;
-    }
-    out.end_array()
-}
-
-/// The answer where a call on symbols gave nothing, want of memory apart.
-pub(crate) fn tell_fault(out: &mut Writer, fault: &SymbolsFault) -> Result<(), AllocError>
-    ensures told { IfSome (fault_words fault.now) (λ words. Tells result out.old out.new (fault_data words)) }
-    ensures memory { OnOk result (IsSome (fault_words fault.now)) }
-{
-    match fault {
-        SymbolsFault::OutOfMemory => Err(AllocError),
-        SymbolsFault::TooManyModules => tell_text(out, "fault", "too many modules"),
-        SymbolsFault::TooManySymbols(_) => tell_text(out, "fault", "too many symbols"),
-        SymbolsFault::UnknownModule => tell_text(out, "fault", "unknown module"),
-        SymbolsFault::UnknownSymbol => tell_text(out, "fault", "unknown symbol"),
-    }
 }

@@ -1,152 +1,151 @@
 //! Declarations and their parts.
 
 ghost use Rattle.std.specs.Prelude.{option_map};
-ghost use Rattle.symq_reader.specs.Plain.{data_of};
 ghost use Rattle.symbols_syntax.specs.declared.tree.names.KindName.TheVariants as Name;
-ghost use Rattle.symq_reader.specs.Reading.{Gives};
-ghost use Rattle.symq_reader.specs.KindShapes.{read_as, read_decl, decl_shape};
+ghost use Rattle.symq_reader.specs.inner.Objects.{object_data};
+ghost use Rattle.symq_reader.specs.inner.Reading.{Gives};
+ghost use Rattle.symq_reader.specs.KindShapes.{read_as_kind, read_decl, decl_shape};
 
 use crate::faults::FormatFault;
-use crate::fields;
-use json::Value;
+use crate::fields::{self, Object};
 use std::alloc::Global;
 use symbols_syntax::tree::Decl;
 
-fn class_decl(value: &Value<'_>) -> Result<Decl, FormatFault>
-    ensures { Gives decl_shape result (read_as Name.ClassDecl (data_of value.now)) }
+fn class_decl(object: &Object<'_, '_>) -> Result<Decl, FormatFault>
+    ensures { Gives decl_shape result (read_as_kind Name.ClassDecl (object_data object.now)) }
 {
-    let ident = fields::child(value, "ident")?;
-    let class = fields::child(value, "class")?;
+    let ident = fields::child(object, "ident")?;
+    let class = fields::child(object, "class")?;
     Ok(Decl::ClassDecl { ident, class })
 }
 
-fn class_expr(value: &Value<'_>) -> Result<Decl, FormatFault>
-    ensures { Gives decl_shape result (read_as Name.ClassExpr (data_of value.now)) }
+fn class_expr(object: &Object<'_, '_>) -> Result<Decl, FormatFault>
+    ensures { Gives decl_shape result (read_as_kind Name.ClassExpr (object_data object.now)) }
 {
-    let ident = fields::optional_child(value, "ident")?;
-    let class = fields::child(value, "class")?;
+    let ident = fields::optional_child(object, "ident")?;
+    let class = fields::child(object, "class")?;
     Ok(Decl::ClassExpr { ident, class })
 }
 
-fn class(alloc: Global, value: &Value<'_>) -> Result<Decl, FormatFault>
-    ensures { Gives decl_shape result (read_as Name.Class (data_of value.now)) }
+fn class(alloc: Global, object: &Object<'_, '_>) -> Result<Decl, FormatFault>
+    ensures { Gives decl_shape result (read_as_kind Name.Class (object_data object.now)) }
 {
     Ok(Decl::Class {
-        type_params: fields::optional_child(value, "type_params")?,
-        super_class: fields::optional_child(value, "super_class")?,
-        super_type_params: fields::optional_child(value, "super_type_params")?,
-        implements: fields::children(alloc, value, "implements")?,
-        body: fields::children(alloc, value, "body")?,
+        type_params: fields::optional_child(object, "type_params")?,
+        super_class: fields::optional_child(object, "super_class")?,
+        super_type_params: fields::optional_child(object, "super_type_params")?,
+        implements: fields::children(alloc, object, "implements")?,
+        body: fields::children(alloc, object, "body")?,
     })
 }
 
-fn fn_decl(value: &Value<'_>) -> Result<Decl, FormatFault>
-    ensures { Gives decl_shape result (read_as Name.FnDecl (data_of value.now)) }
+fn fn_decl(object: &Object<'_, '_>) -> Result<Decl, FormatFault>
+    ensures { Gives decl_shape result (read_as_kind Name.FnDecl (object_data object.now)) }
 {
-    let ident = fields::child(value, "ident")?;
-    let function = fields::child(value, "function")?;
+    let ident = fields::child(object, "ident")?;
+    let function = fields::child(object, "function")?;
     Ok(Decl::FnDecl { ident, function })
 }
 
-fn fn_expr(value: &Value<'_>) -> Result<Decl, FormatFault>
-    ensures { Gives decl_shape result (read_as Name.FnExpr (data_of value.now)) }
+fn fn_expr(object: &Object<'_, '_>) -> Result<Decl, FormatFault>
+    ensures { Gives decl_shape result (read_as_kind Name.FnExpr (object_data object.now)) }
 {
-    let ident = fields::optional_child(value, "ident")?;
-    let function = fields::child(value, "function")?;
+    let ident = fields::optional_child(object, "ident")?;
+    let function = fields::child(object, "function")?;
     Ok(Decl::FnExpr { ident, function })
 }
 
-fn function(alloc: Global, value: &Value<'_>) -> Result<Decl, FormatFault>
-    ensures { Gives decl_shape result (read_as Name.Function (data_of value.now)) }
+fn function(alloc: Global, object: &Object<'_, '_>) -> Result<Decl, FormatFault>
+    ensures { Gives decl_shape result (read_as_kind Name.Function (object_data object.now)) }
 {
     Ok(Decl::Function {
-        type_params: fields::optional_child(value, "type_params")?,
-        params: fields::children(alloc, value, "params")?,
-        return_type: fields::optional_child(value, "return_type")?,
-        body: fields::optional_child(value, "body")?,
+        type_params: fields::optional_child(object, "type_params")?,
+        params: fields::children(alloc, object, "params")?,
+        return_type: fields::optional_child(object, "return_type")?,
+        body: fields::optional_child(object, "body")?,
     })
 }
 
-fn var_decl(alloc: Global, value: &Value<'_>) -> Result<Decl, FormatFault>
-    ensures { Gives decl_shape result (read_as Name.VarDecl (data_of value.now)) }
+fn var_decl(alloc: Global, object: &Object<'_, '_>) -> Result<Decl, FormatFault>
+    ensures { Gives decl_shape result (read_as_kind Name.VarDecl (object_data object.now)) }
 {
-    let decls = fields::children(alloc, value, "decls")?;
+    let decls = fields::children(alloc, object, "decls")?;
     Ok(Decl::VarDecl { decls })
 }
 
-fn using_decl(alloc: Global, value: &Value<'_>) -> Result<Decl, FormatFault>
-    ensures { Gives decl_shape result (read_as Name.UsingDecl (data_of value.now)) }
+fn using_decl(alloc: Global, object: &Object<'_, '_>) -> Result<Decl, FormatFault>
+    ensures { Gives decl_shape result (read_as_kind Name.UsingDecl (object_data object.now)) }
 {
-    let decls = fields::children(alloc, value, "decls")?;
+    let decls = fields::children(alloc, object, "decls")?;
     Ok(Decl::UsingDecl { decls })
 }
 
-fn var_declarator(value: &Value<'_>) -> Result<Decl, FormatFault>
-    ensures { Gives decl_shape result (read_as Name.VarDeclarator (data_of value.now)) }
+fn var_declarator(object: &Object<'_, '_>) -> Result<Decl, FormatFault>
+    ensures { Gives decl_shape result (read_as_kind Name.VarDeclarator (object_data object.now)) }
 {
-    let name = fields::child(value, "name")?;
-    let init = fields::optional_child(value, "init")?;
+    let name = fields::child(object, "name")?;
+    let init = fields::optional_child(object, "init")?;
     Ok(Decl::VarDeclarator { name, init })
 }
 
-fn ts_interface_decl(alloc: Global, value: &Value<'_>) -> Result<Decl, FormatFault>
-    ensures { Gives decl_shape result (read_as Name.TsInterfaceDecl (data_of value.now)) }
+fn ts_interface_decl(alloc: Global, object: &Object<'_, '_>) -> Result<Decl, FormatFault>
+    ensures { Gives decl_shape result (read_as_kind Name.TsInterfaceDecl (object_data object.now)) }
 {
     Ok(Decl::TsInterfaceDecl {
-        id: fields::child(value, "id")?,
-        type_params: fields::optional_child(value, "type_params")?,
-        extends: fields::children(alloc, value, "extends")?,
-        body: fields::children(alloc, value, "body")?,
+        id: fields::child(object, "id")?,
+        type_params: fields::optional_child(object, "type_params")?,
+        extends: fields::children(alloc, object, "extends")?,
+        body: fields::children(alloc, object, "body")?,
     })
 }
 
-fn ts_type_alias_decl(value: &Value<'_>) -> Result<Decl, FormatFault>
-    ensures { Gives decl_shape result (read_as Name.TsTypeAliasDecl (data_of value.now)) }
+fn ts_type_alias_decl(object: &Object<'_, '_>) -> Result<Decl, FormatFault>
+    ensures { Gives decl_shape result (read_as_kind Name.TsTypeAliasDecl (object_data object.now)) }
 {
     Ok(Decl::TsTypeAliasDecl {
-        id: fields::child(value, "id")?,
-        type_params: fields::optional_child(value, "type_params")?,
-        type_ann: fields::child(value, "type_ann")?,
+        id: fields::child(object, "id")?,
+        type_params: fields::optional_child(object, "type_params")?,
+        type_ann: fields::child(object, "type_ann")?,
     })
 }
 
-fn ts_enum_decl(alloc: Global, value: &Value<'_>) -> Result<Decl, FormatFault>
-    ensures { Gives decl_shape result (read_as Name.TsEnumDecl (data_of value.now)) }
+fn ts_enum_decl(alloc: Global, object: &Object<'_, '_>) -> Result<Decl, FormatFault>
+    ensures { Gives decl_shape result (read_as_kind Name.TsEnumDecl (object_data object.now)) }
 {
-    let id = fields::child(value, "id")?;
-    let members = fields::children(alloc, value, "members")?;
+    let id = fields::child(object, "id")?;
+    let members = fields::children(alloc, object, "members")?;
     Ok(Decl::TsEnumDecl { id, members })
 }
 
-fn ts_enum_member(value: &Value<'_>) -> Result<Decl, FormatFault>
-    ensures { Gives decl_shape result (read_as Name.TsEnumMember (data_of value.now)) }
+fn ts_enum_member(object: &Object<'_, '_>) -> Result<Decl, FormatFault>
+    ensures { Gives decl_shape result (read_as_kind Name.TsEnumMember (object_data object.now)) }
 {
-    let init = fields::optional_child(value, "init")?;
+    let init = fields::optional_child(object, "init")?;
     Ok(Decl::TsEnumMember { init })
 }
 
-fn ts_module_decl(value: &Value<'_>) -> Result<Decl, FormatFault>
-    ensures { Gives decl_shape result (read_as Name.TsModuleDecl (data_of value.now)) }
+fn ts_module_decl(object: &Object<'_, '_>) -> Result<Decl, FormatFault>
+    ensures { Gives decl_shape result (read_as_kind Name.TsModuleDecl (object_data object.now)) }
 {
     Ok(Decl::TsModuleDecl {
-        id: fields::child(value, "id")?,
-        declare: fields::flag(value, "declare")?,
-        body: fields::optional_child(value, "body")?,
+        id: fields::child(object, "id")?,
+        declare: fields::flag(object, "declare")?,
+        body: fields::optional_child(object, "body")?,
     })
 }
 
-fn ts_namespace_decl(value: &Value<'_>) -> Result<Decl, FormatFault>
-    ensures { Gives decl_shape result (read_as Name.TsNamespaceDecl (data_of value.now)) }
+fn ts_namespace_decl(object: &Object<'_, '_>) -> Result<Decl, FormatFault>
+    ensures { Gives decl_shape result (read_as_kind Name.TsNamespaceDecl (object_data object.now)) }
 {
-    let id = fields::child(value, "id")?;
-    let body = fields::child(value, "body")?;
+    let id = fields::child(object, "id")?;
+    let body = fields::child(object, "body")?;
     Ok(Decl::TsNamespaceDecl { id, body })
 }
 
-fn ts_module_block(alloc: Global, value: &Value<'_>) -> Result<Decl, FormatFault>
-    ensures { Gives decl_shape result (read_as Name.TsModuleBlock (data_of value.now)) }
+fn ts_module_block(alloc: Global, object: &Object<'_, '_>) -> Result<Decl, FormatFault>
+    ensures { Gives decl_shape result (read_as_kind Name.TsModuleBlock (object_data object.now)) }
 {
-    let body = fields::children(alloc, value, "body")?;
+    let body = fields::children(alloc, object, "body")?;
     Ok(Decl::TsModuleBlock { body })
 }
 
@@ -155,27 +154,27 @@ fn ts_module_block(alloc: Global, value: &Value<'_>) -> Result<Decl, FormatFault
 pub(crate) fn decl(
     alloc: Global,
     kind: &str,
-    value: &Value<'_>,
+    object: &Object<'_, '_>,
 ) -> Result<Option<Decl>, FormatFault>
-    ensures { Gives (option_map decl_shape) result (read_decl kind.now (data_of value.now)) }
+    ensures { Gives (option_map decl_shape) result (read_decl kind.now (object_data object.now)) }
 {
     match kind {
-        "ClassDecl" => Ok(Some(class_decl(value)?)),
-        "ClassExpr" => Ok(Some(class_expr(value)?)),
-        "Class" => Ok(Some(class(alloc, value)?)),
-        "FnDecl" => Ok(Some(fn_decl(value)?)),
-        "FnExpr" => Ok(Some(fn_expr(value)?)),
-        "Function" => Ok(Some(function(alloc, value)?)),
-        "VarDecl" => Ok(Some(var_decl(alloc, value)?)),
-        "UsingDecl" => Ok(Some(using_decl(alloc, value)?)),
-        "VarDeclarator" => Ok(Some(var_declarator(value)?)),
-        "TsInterfaceDecl" => Ok(Some(ts_interface_decl(alloc, value)?)),
-        "TsTypeAliasDecl" => Ok(Some(ts_type_alias_decl(value)?)),
-        "TsEnumDecl" => Ok(Some(ts_enum_decl(alloc, value)?)),
-        "TsEnumMember" => Ok(Some(ts_enum_member(value)?)),
-        "TsModuleDecl" => Ok(Some(ts_module_decl(value)?)),
-        "TsNamespaceDecl" => Ok(Some(ts_namespace_decl(value)?)),
-        "TsModuleBlock" => Ok(Some(ts_module_block(alloc, value)?)),
+        "ClassDecl" => Ok(Some(class_decl(object)?)),
+        "ClassExpr" => Ok(Some(class_expr(object)?)),
+        "Class" => Ok(Some(class(alloc, object)?)),
+        "FnDecl" => Ok(Some(fn_decl(object)?)),
+        "FnExpr" => Ok(Some(fn_expr(object)?)),
+        "Function" => Ok(Some(function(alloc, object)?)),
+        "VarDecl" => Ok(Some(var_decl(alloc, object)?)),
+        "UsingDecl" => Ok(Some(using_decl(alloc, object)?)),
+        "VarDeclarator" => Ok(Some(var_declarator(object)?)),
+        "TsInterfaceDecl" => Ok(Some(ts_interface_decl(alloc, object)?)),
+        "TsTypeAliasDecl" => Ok(Some(ts_type_alias_decl(object)?)),
+        "TsEnumDecl" => Ok(Some(ts_enum_decl(alloc, object)?)),
+        "TsEnumMember" => Ok(Some(ts_enum_member(object)?)),
+        "TsModuleDecl" => Ok(Some(ts_module_decl(object)?)),
+        "TsNamespaceDecl" => Ok(Some(ts_namespace_decl(object)?)),
+        "TsModuleBlock" => Ok(Some(ts_module_block(alloc, object)?)),
         _ => Ok(None),
     }
 }

@@ -1,93 +1,92 @@
 //! Expressions and names.
 
 ghost use Rattle.std.specs.Prelude.{option_map};
-ghost use Rattle.symq_reader.specs.Plain.{data_of};
 ghost use Rattle.symbols_syntax.specs.declared.tree.names.KindName.TheVariants as Name;
-ghost use Rattle.symq_reader.specs.Reading.{Gives};
-ghost use Rattle.symq_reader.specs.KindShapes.{read_as, read_expr, expr_shape};
+ghost use Rattle.symq_reader.specs.inner.Objects.{object_data};
+ghost use Rattle.symq_reader.specs.inner.Reading.{Gives};
+ghost use Rattle.symq_reader.specs.KindShapes.{read_as_kind, read_expr, expr_shape};
 
 use crate::faults::FormatFault;
-use crate::fields;
-use json::Value;
+use crate::fields::{self, Object};
 use std::alloc::Global;
 use symbols_syntax::tree::Expr;
 
-fn ident(alloc: Global, value: &Value<'_>) -> Result<Expr, FormatFault>
-    ensures { Gives expr_shape result (read_as Name.Ident (data_of value.now)) }
+fn ident(alloc: Global, object: &Object<'_, '_>) -> Result<Expr, FormatFault>
+    ensures { Gives expr_shape result (read_as_kind Name.Ident (object_data object.now)) }
 {
-    let sym = fields::identifier(alloc, value, "sym")?;
+    let sym = fields::identifier(alloc, object, "sym")?;
     Ok(Expr::Ident { sym })
 }
 
-fn member(value: &Value<'_>) -> Result<Expr, FormatFault>
-    ensures { Gives expr_shape result (read_as Name.Member (data_of value.now)) }
+fn member(object: &Object<'_, '_>) -> Result<Expr, FormatFault>
+    ensures { Gives expr_shape result (read_as_kind Name.Member (object_data object.now)) }
 {
-    let obj = fields::child(value, "obj")?;
-    let prop = fields::child(value, "prop")?;
+    let obj = fields::child(object, "obj")?;
+    let prop = fields::child(object, "prop")?;
     Ok(Expr::Member { obj, prop })
 }
 
-fn ident_name(alloc: Global, value: &Value<'_>) -> Result<Expr, FormatFault>
-    ensures { Gives expr_shape result (read_as Name.IdentName (data_of value.now)) }
+fn ident_name(alloc: Global, object: &Object<'_, '_>) -> Result<Expr, FormatFault>
+    ensures { Gives expr_shape result (read_as_kind Name.IdentName (object_data object.now)) }
 {
-    let name = fields::text(alloc, value, "name")?;
+    let name = fields::text(alloc, object, "name")?;
     Ok(Expr::IdentName { name })
 }
 
-fn private_name(alloc: Global, value: &Value<'_>) -> Result<Expr, FormatFault>
-    ensures { Gives expr_shape result (read_as Name.PrivateName (data_of value.now)) }
+fn private_name(alloc: Global, object: &Object<'_, '_>) -> Result<Expr, FormatFault>
+    ensures { Gives expr_shape result (read_as_kind Name.PrivateName (object_data object.now)) }
 {
-    let name = fields::text(alloc, value, "name")?;
+    let name = fields::text(alloc, object, "name")?;
     Ok(Expr::PrivateName { name })
 }
 
-fn string(alloc: Global, value: &Value<'_>) -> Result<Expr, FormatFault>
-    ensures { Gives expr_shape result (read_as Name.Str (data_of value.now)) }
+fn string(alloc: Global, object: &Object<'_, '_>) -> Result<Expr, FormatFault>
+    ensures { Gives expr_shape result (read_as_kind Name.Str (object_data object.now)) }
 {
-    let value = fields::text(alloc, value, "value")?;
+    let value = fields::text(alloc, object, "value")?;
     Ok(Expr::Str { value })
 }
 
-fn number(alloc: Global, value: &Value<'_>) -> Result<Expr, FormatFault>
-    ensures { Gives expr_shape result (read_as Name.Num (data_of value.now)) }
+fn number(alloc: Global, object: &Object<'_, '_>) -> Result<Expr, FormatFault>
+    ensures { Gives expr_shape result (read_as_kind Name.Num (object_data object.now)) }
 {
-    let text = fields::text(alloc, value, "text")?;
+    let text = fields::text(alloc, object, "text")?;
     Ok(Expr::Num { text })
 }
 
-fn big_int(alloc: Global, value: &Value<'_>) -> Result<Expr, FormatFault>
-    ensures { Gives expr_shape result (read_as Name.BigInt (data_of value.now)) }
+fn big_int(alloc: Global, object: &Object<'_, '_>) -> Result<Expr, FormatFault>
+    ensures { Gives expr_shape result (read_as_kind Name.BigInt (object_data object.now)) }
 {
-    let text = fields::text(alloc, value, "text")?;
+    let text = fields::text(alloc, object, "text")?;
     Ok(Expr::BigInt { text })
 }
 
-fn computed(value: &Value<'_>) -> Result<Expr, FormatFault>
-    ensures { Gives expr_shape result (read_as Name.Computed (data_of value.now)) }
+fn computed(object: &Object<'_, '_>) -> Result<Expr, FormatFault>
+    ensures { Gives expr_shape result (read_as_kind Name.Computed (object_data object.now)) }
 {
-    let expr = fields::child(value, "expr")?;
+    let expr = fields::child(object, "expr")?;
     Ok(Expr::Computed { expr })
 }
 
-fn assign(value: &Value<'_>) -> Result<Expr, FormatFault>
-    ensures { Gives expr_shape result (read_as Name.Assign (data_of value.now)) }
+fn assign(object: &Object<'_, '_>) -> Result<Expr, FormatFault>
+    ensures { Gives expr_shape result (read_as_kind Name.Assign (object_data object.now)) }
 {
     Ok(Expr::Assign {
-        plain: fields::flag(value, "plain")?,
-        left: fields::child(value, "left")?,
-        right: fields::child(value, "right")?,
+        plain: fields::flag(object, "plain")?,
+        left: fields::child(object, "left")?,
+        right: fields::child(object, "right")?,
     })
 }
 
-fn arrow(alloc: Global, value: &Value<'_>) -> Result<Expr, FormatFault>
-    ensures { Gives expr_shape result (read_as Name.Arrow (data_of value.now)) }
+fn arrow(alloc: Global, object: &Object<'_, '_>) -> Result<Expr, FormatFault>
+    ensures { Gives expr_shape result (read_as_kind Name.Arrow (object_data object.now)) }
 {
     Ok(Expr::Arrow {
-        type_params: fields::optional_child(value, "type_params")?,
-        params: fields::children(alloc, value, "params")?,
-        return_type: fields::optional_child(value, "return_type")?,
-        is_block: fields::flag(value, "is_block")?,
-        body: fields::child(value, "body")?,
+        type_params: fields::optional_child(object, "type_params")?,
+        params: fields::children(alloc, object, "params")?,
+        return_type: fields::optional_child(object, "return_type")?,
+        is_block: fields::flag(object, "is_block")?,
+        body: fields::child(object, "body")?,
     })
 }
 
@@ -96,21 +95,21 @@ fn arrow(alloc: Global, value: &Value<'_>) -> Result<Expr, FormatFault>
 pub(crate) fn expr(
     alloc: Global,
     kind: &str,
-    value: &Value<'_>,
+    object: &Object<'_, '_>,
 ) -> Result<Option<Expr>, FormatFault>
-    ensures { Gives (option_map expr_shape) result (read_expr kind.now (data_of value.now)) }
+    ensures { Gives (option_map expr_shape) result (read_expr kind.now (object_data object.now)) }
 {
     match kind {
-        "Ident" => Ok(Some(ident(alloc, value)?)),
-        "Member" => Ok(Some(member(value)?)),
-        "IdentName" => Ok(Some(ident_name(alloc, value)?)),
-        "PrivateName" => Ok(Some(private_name(alloc, value)?)),
-        "Str" => Ok(Some(string(alloc, value)?)),
-        "Num" => Ok(Some(number(alloc, value)?)),
-        "BigInt" => Ok(Some(big_int(alloc, value)?)),
-        "Computed" => Ok(Some(computed(value)?)),
-        "Assign" => Ok(Some(assign(value)?)),
-        "Arrow" => Ok(Some(arrow(alloc, value)?)),
+        "Ident" => Ok(Some(ident(alloc, object)?)),
+        "Member" => Ok(Some(member(object)?)),
+        "IdentName" => Ok(Some(ident_name(alloc, object)?)),
+        "PrivateName" => Ok(Some(private_name(alloc, object)?)),
+        "Str" => Ok(Some(string(alloc, object)?)),
+        "Num" => Ok(Some(number(alloc, object)?)),
+        "BigInt" => Ok(Some(big_int(alloc, object)?)),
+        "Computed" => Ok(Some(computed(object)?)),
+        "Assign" => Ok(Some(assign(object)?)),
+        "Arrow" => Ok(Some(arrow(alloc, object)?)),
         _ => Ok(None),
     }
 }

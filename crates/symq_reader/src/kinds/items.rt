@@ -1,134 +1,133 @@
 //! Items of a module, their parts, and statements.
 
 ghost use Rattle.std.specs.Prelude.{option_map};
-ghost use Rattle.symq_reader.specs.Plain.{data_of};
 ghost use Rattle.symbols_syntax.specs.declared.tree.names.KindName.TheVariants as Name;
-ghost use Rattle.symq_reader.specs.Reading.{Gives};
-ghost use Rattle.symq_reader.specs.KindShapes.{read_as, read_item, item_shape};
+ghost use Rattle.symq_reader.specs.inner.Objects.{object_data};
+ghost use Rattle.symq_reader.specs.inner.Reading.{Gives};
+ghost use Rattle.symq_reader.specs.KindShapes.{read_as_kind, read_item, item_shape};
 
 use crate::faults::FormatFault;
-use crate::fields;
-use json::Value;
+use crate::fields::{self, Object};
 use std::alloc::Global;
 use symbols_syntax::tree::Item;
 
-fn program(alloc: Global, value: &Value<'_>) -> Result<Item, FormatFault>
-    ensures { Gives item_shape result (read_as Name.Program (data_of value.now)) }
+fn program(alloc: Global, object: &Object<'_, '_>) -> Result<Item, FormatFault>
+    ensures { Gives item_shape result (read_as_kind Name.Program (object_data object.now)) }
 {
-    let body = fields::children(alloc, value, "body")?;
+    let body = fields::children(alloc, object, "body")?;
     Ok(Item::Program { body })
 }
 
-fn import(alloc: Global, value: &Value<'_>) -> Result<Item, FormatFault>
-    ensures { Gives item_shape result (read_as Name.Import (data_of value.now)) }
+fn import(alloc: Global, object: &Object<'_, '_>) -> Result<Item, FormatFault>
+    ensures { Gives item_shape result (read_as_kind Name.Import (object_data object.now)) }
 {
-    let specifiers = fields::children(alloc, value, "specifiers")?;
-    let src = fields::text(alloc, value, "src")?;
+    let specifiers = fields::children(alloc, object, "specifiers")?;
+    let src = fields::text(alloc, object, "src")?;
     Ok(Item::Import { specifiers, src })
 }
 
-fn import_named(alloc: Global, value: &Value<'_>) -> Result<Item, FormatFault>
-    ensures { Gives item_shape result (read_as Name.ImportNamed (data_of value.now)) }
+fn import_named(alloc: Global, object: &Object<'_, '_>) -> Result<Item, FormatFault>
+    ensures { Gives item_shape result (read_as_kind Name.ImportNamed (object_data object.now)) }
 {
-    let local = fields::child(value, "local")?;
-    let imported = fields::optional_text(alloc, value, "imported")?;
+    let local = fields::child(object, "local")?;
+    let imported = fields::optional_text(alloc, object, "imported")?;
     Ok(Item::ImportNamed { local, imported })
 }
 
-fn import_default(value: &Value<'_>) -> Result<Item, FormatFault>
-    ensures { Gives item_shape result (read_as Name.ImportDefault (data_of value.now)) }
+fn import_default(object: &Object<'_, '_>) -> Result<Item, FormatFault>
+    ensures { Gives item_shape result (read_as_kind Name.ImportDefault (object_data object.now)) }
 {
-    let local = fields::child(value, "local")?;
+    let local = fields::child(object, "local")?;
     Ok(Item::ImportDefault { local })
 }
 
-fn import_namespace(value: &Value<'_>) -> Result<Item, FormatFault>
-    ensures { Gives item_shape result (read_as Name.ImportNamespace (data_of value.now)) }
+fn import_namespace(object: &Object<'_, '_>) -> Result<Item, FormatFault>
+    ensures { Gives item_shape result (read_as_kind Name.ImportNamespace (object_data object.now)) }
 {
-    let local = fields::child(value, "local")?;
+    let local = fields::child(object, "local")?;
     Ok(Item::ImportNamespace { local })
 }
 
-fn export_decl(value: &Value<'_>) -> Result<Item, FormatFault>
-    ensures { Gives item_shape result (read_as Name.ExportDecl (data_of value.now)) }
+fn export_decl(object: &Object<'_, '_>) -> Result<Item, FormatFault>
+    ensures { Gives item_shape result (read_as_kind Name.ExportDecl (object_data object.now)) }
 {
-    let decl = fields::child(value, "decl")?;
+    let decl = fields::child(object, "decl")?;
     Ok(Item::ExportDecl { decl })
 }
 
-fn export_named(alloc: Global, value: &Value<'_>) -> Result<Item, FormatFault>
-    ensures { Gives item_shape result (read_as Name.ExportNamed (data_of value.now)) }
+fn export_named(alloc: Global, object: &Object<'_, '_>) -> Result<Item, FormatFault>
+    ensures { Gives item_shape result (read_as_kind Name.ExportNamed (object_data object.now)) }
 {
-    let specifiers = fields::children(alloc, value, "specifiers")?;
-    let src = fields::optional_text(alloc, value, "src")?;
+    let specifiers = fields::children(alloc, object, "specifiers")?;
+    let src = fields::optional_text(alloc, object, "src")?;
     Ok(Item::ExportNamed { specifiers, src })
 }
 
-fn export_specifier(alloc: Global, value: &Value<'_>) -> Result<Item, FormatFault>
-    ensures { Gives item_shape result (read_as Name.ExportSpecifier (data_of value.now)) }
+fn export_specifier(alloc: Global, object: &Object<'_, '_>) -> Result<Item, FormatFault>
+    ensures { Gives item_shape result (read_as_kind Name.ExportSpecifier (object_data object.now)) }
 {
-    let orig = fields::child(value, "orig")?;
-    let exported = fields::optional_text(alloc, value, "exported")?;
+    let orig = fields::child(object, "orig")?;
+    let exported = fields::optional_text(alloc, object, "exported")?;
     Ok(Item::ExportSpecifier { orig, exported })
 }
 
-fn export_namespace(alloc: Global, value: &Value<'_>) -> Result<Item, FormatFault>
-    ensures { Gives item_shape result (read_as Name.ExportNamespace (data_of value.now)) }
+fn export_namespace(alloc: Global, object: &Object<'_, '_>) -> Result<Item, FormatFault>
+    ensures { Gives item_shape result (read_as_kind Name.ExportNamespace (object_data object.now)) }
 {
-    let name = fields::text(alloc, value, "name")?;
+    let name = fields::text(alloc, object, "name")?;
     Ok(Item::ExportNamespace { name })
 }
 
-fn export_default_specifier(value: &Value<'_>) -> Result<Item, FormatFault>
-    ensures { Gives item_shape result (read_as Name.ExportDefaultSpecifier (data_of value.now)) }
+fn export_default_specifier(object: &Object<'_, '_>) -> Result<Item, FormatFault>
+    ensures { Gives item_shape result (read_as_kind Name.ExportDefaultSpecifier (object_data object.now)) }
 {
-    let local = fields::child(value, "local")?;
+    let local = fields::child(object, "local")?;
     Ok(Item::ExportDefaultSpecifier { local })
 }
 
-fn export_default_decl(value: &Value<'_>) -> Result<Item, FormatFault>
-    ensures { Gives item_shape result (read_as Name.ExportDefaultDecl (data_of value.now)) }
+fn export_default_decl(object: &Object<'_, '_>) -> Result<Item, FormatFault>
+    ensures { Gives item_shape result (read_as_kind Name.ExportDefaultDecl (object_data object.now)) }
 {
-    let decl = fields::child(value, "decl")?;
+    let decl = fields::child(object, "decl")?;
     Ok(Item::ExportDefaultDecl { decl })
 }
 
-fn export_default_expr(value: &Value<'_>) -> Result<Item, FormatFault>
-    ensures { Gives item_shape result (read_as Name.ExportDefaultExpr (data_of value.now)) }
+fn export_default_expr(object: &Object<'_, '_>) -> Result<Item, FormatFault>
+    ensures { Gives item_shape result (read_as_kind Name.ExportDefaultExpr (object_data object.now)) }
 {
-    let expr = fields::child(value, "expr")?;
+    let expr = fields::child(object, "expr")?;
     Ok(Item::ExportDefaultExpr { expr })
 }
 
-fn ts_export_assignment(value: &Value<'_>) -> Result<Item, FormatFault>
-    ensures { Gives item_shape result (read_as Name.TsExportAssignment (data_of value.now)) }
+fn ts_export_assignment(object: &Object<'_, '_>) -> Result<Item, FormatFault>
+    ensures { Gives item_shape result (read_as_kind Name.TsExportAssignment (object_data object.now)) }
 {
-    let expr = fields::child(value, "expr")?;
+    let expr = fields::child(object, "expr")?;
     Ok(Item::TsExportAssignment { expr })
 }
 
-fn export_all(alloc: Global, value: &Value<'_>) -> Result<Item, FormatFault>
-    ensures { Gives item_shape result (read_as Name.ExportAll (data_of value.now)) }
+fn export_all(alloc: Global, object: &Object<'_, '_>) -> Result<Item, FormatFault>
+    ensures { Gives item_shape result (read_as_kind Name.ExportAll (object_data object.now)) }
 {
-    let src = fields::text(alloc, value, "src")?;
+    let src = fields::text(alloc, object, "src")?;
     Ok(Item::ExportAll { src })
 }
 
-fn ts_import_equals_decl(alloc: Global, value: &Value<'_>) -> Result<Item, FormatFault>
-    ensures { Gives item_shape result (read_as Name.TsImportEqualsDecl (data_of value.now)) }
+fn ts_import_equals_decl(alloc: Global, object: &Object<'_, '_>) -> Result<Item, FormatFault>
+    ensures { Gives item_shape result (read_as_kind Name.TsImportEqualsDecl (object_data object.now)) }
 {
     Ok(Item::TsImportEqualsDecl {
-        is_export: fields::flag(value, "is_export")?,
-        id: fields::child(value, "id")?,
-        entity: fields::optional_child(value, "entity")?,
-        external: fields::optional_text(alloc, value, "external")?,
+        is_export: fields::flag(object, "is_export")?,
+        id: fields::child(object, "id")?,
+        entity: fields::optional_child(object, "entity")?,
+        external: fields::optional_text(alloc, object, "external")?,
     })
 }
 
-fn expr_stmt(value: &Value<'_>) -> Result<Item, FormatFault>
-    ensures { Gives item_shape result (read_as Name.ExprStmt (data_of value.now)) }
+fn expr_stmt(object: &Object<'_, '_>) -> Result<Item, FormatFault>
+    ensures { Gives item_shape result (read_as_kind Name.ExprStmt (object_data object.now)) }
 {
-    let expr = fields::child(value, "expr")?;
+    let expr = fields::child(object, "expr")?;
     Ok(Item::ExprStmt { expr })
 }
 
@@ -137,27 +136,27 @@ fn expr_stmt(value: &Value<'_>) -> Result<Item, FormatFault>
 pub(crate) fn item(
     alloc: Global,
     kind: &str,
-    value: &Value<'_>,
+    object: &Object<'_, '_>,
 ) -> Result<Option<Item>, FormatFault>
-    ensures { Gives (option_map item_shape) result (read_item kind.now (data_of value.now)) }
+    ensures { Gives (option_map item_shape) result (read_item kind.now (object_data object.now)) }
 {
     match kind {
-        "Program" => Ok(Some(program(alloc, value)?)),
-        "Import" => Ok(Some(import(alloc, value)?)),
-        "ImportNamed" => Ok(Some(import_named(alloc, value)?)),
-        "ImportDefault" => Ok(Some(import_default(value)?)),
-        "ImportNamespace" => Ok(Some(import_namespace(value)?)),
-        "ExportDecl" => Ok(Some(export_decl(value)?)),
-        "ExportNamed" => Ok(Some(export_named(alloc, value)?)),
-        "ExportSpecifier" => Ok(Some(export_specifier(alloc, value)?)),
-        "ExportNamespace" => Ok(Some(export_namespace(alloc, value)?)),
-        "ExportDefaultSpecifier" => Ok(Some(export_default_specifier(value)?)),
-        "ExportDefaultDecl" => Ok(Some(export_default_decl(value)?)),
-        "ExportDefaultExpr" => Ok(Some(export_default_expr(value)?)),
-        "TsExportAssignment" => Ok(Some(ts_export_assignment(value)?)),
-        "ExportAll" => Ok(Some(export_all(alloc, value)?)),
-        "TsImportEqualsDecl" => Ok(Some(ts_import_equals_decl(alloc, value)?)),
-        "ExprStmt" => Ok(Some(expr_stmt(value)?)),
+        "Program" => Ok(Some(program(alloc, object)?)),
+        "Import" => Ok(Some(import(alloc, object)?)),
+        "ImportNamed" => Ok(Some(import_named(alloc, object)?)),
+        "ImportDefault" => Ok(Some(import_default(object)?)),
+        "ImportNamespace" => Ok(Some(import_namespace(object)?)),
+        "ExportDecl" => Ok(Some(export_decl(object)?)),
+        "ExportNamed" => Ok(Some(export_named(alloc, object)?)),
+        "ExportSpecifier" => Ok(Some(export_specifier(alloc, object)?)),
+        "ExportNamespace" => Ok(Some(export_namespace(alloc, object)?)),
+        "ExportDefaultSpecifier" => Ok(Some(export_default_specifier(object)?)),
+        "ExportDefaultDecl" => Ok(Some(export_default_decl(object)?)),
+        "ExportDefaultExpr" => Ok(Some(export_default_expr(object)?)),
+        "TsExportAssignment" => Ok(Some(ts_export_assignment(object)?)),
+        "ExportAll" => Ok(Some(export_all(alloc, object)?)),
+        "TsImportEqualsDecl" => Ok(Some(ts_import_equals_decl(alloc, object)?)),
+        "ExprStmt" => Ok(Some(expr_stmt(object)?)),
         _ => Ok(None),
     }
 }

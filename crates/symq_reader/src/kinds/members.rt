@@ -1,141 +1,144 @@
 //! Members of classes and interfaces.
 
 ghost use Rattle.std.specs.Prelude.{option_map};
-ghost use Rattle.symq_reader.specs.Plain.{data_of};
 ghost use Rattle.symbols_syntax.specs.declared.tree.names.KindName.TheVariants as Name;
-ghost use Rattle.symq_reader.specs.Reading.{Gives};
-ghost use Rattle.symq_reader.specs.KindShapes.{read_as, read_member, member_shape};
+ghost use Rattle.symq_reader.specs.inner.Objects.{object_data};
+ghost use Rattle.symq_reader.specs.inner.Reading.{Gives};
+ghost use Rattle.symq_reader.specs.KindShapes.{read_as_kind, read_member, member_shape};
 
 use crate::faults::FormatFault;
-use crate::{fields, words};
-use json::Value;
+use crate::fields::{self, Object};
+use crate::words;
 use std::alloc::Global;
 use symbols_syntax::tree::Member;
 
-fn constructor(alloc: Global, value: &Value<'_>) -> Result<Member, FormatFault>
-    ensures { Gives member_shape result (read_as Name.Constructor (data_of value.now)) }
+fn constructor(alloc: Global, object: &Object<'_, '_>) -> Result<Member, FormatFault>
+    ensures { Gives member_shape result (read_as_kind Name.Constructor (object_data object.now)) }
 {
     Ok(Member::Constructor {
-        params: fields::children(alloc, value, "params")?,
-        body: fields::optional_child(value, "body")?,
-        accessibility: words::accessibility(value, "accessibility")?,
+        params: fields::children(alloc, object, "params")?,
+        body: fields::optional_child(object, "body")?,
+        accessibility: words::accessibility(object, "accessibility")?,
     })
 }
 
-fn ts_param_prop(value: &Value<'_>) -> Result<Member, FormatFault>
-    ensures { Gives member_shape result (read_as Name.TsParamProp (data_of value.now)) }
+fn ts_param_prop(object: &Object<'_, '_>) -> Result<Member, FormatFault>
+    ensures { Gives member_shape result (read_as_kind Name.TsParamProp (object_data object.now)) }
 {
     Ok(Member::TsParamProp {
-        param: fields::child(value, "param")?,
-        accessibility: words::accessibility(value, "accessibility")?,
+        param: fields::child(object, "param")?,
+        accessibility: words::accessibility(object, "accessibility")?,
     })
 }
 
-fn class_method(value: &Value<'_>) -> Result<Member, FormatFault>
-    ensures { Gives member_shape result (read_as Name.ClassMethod (data_of value.now)) }
+fn class_method(object: &Object<'_, '_>) -> Result<Member, FormatFault>
+    ensures { Gives member_shape result (read_as_kind Name.ClassMethod (object_data object.now)) }
 {
     Ok(Member::ClassMethod {
-        key: fields::child(value, "key")?,
-        function: fields::child(value, "function")?,
-        kind: words::method_kind(value, "method_kind")?,
-        is_static: fields::flag(value, "is_static")?,
-        accessibility: words::accessibility(value, "accessibility")?,
+        key: fields::child(object, "key")?,
+        function: fields::child(object, "function")?,
+        kind: words::method_kind(object, "method_kind")?,
+        is_static: fields::flag(object, "is_static")?,
+        accessibility: words::accessibility(object, "accessibility")?,
     })
 }
 
-fn class_prop(value: &Value<'_>) -> Result<Member, FormatFault>
-    ensures { Gives member_shape result (read_as Name.ClassProp (data_of value.now)) }
+fn class_prop(object: &Object<'_, '_>) -> Result<Member, FormatFault>
+    ensures { Gives member_shape result (read_as_kind Name.ClassProp (object_data object.now)) }
 {
     Ok(Member::ClassProp {
-        key: fields::child(value, "key")?,
-        type_ann: fields::optional_child(value, "type_ann")?,
-        value: fields::optional_child(value, "value")?,
-        is_static: fields::flag(value, "is_static")?,
-        accessibility: words::accessibility(value, "accessibility")?,
+        key: fields::child(object, "key")?,
+        type_ann: fields::optional_child(object, "type_ann")?,
+        value: fields::optional_child(object, "value")?,
+        is_static: fields::flag(object, "is_static")?,
+        accessibility: words::accessibility(object, "accessibility")?,
     })
 }
 
-fn auto_accessor(value: &Value<'_>) -> Result<Member, FormatFault>
-    ensures { Gives member_shape result (read_as Name.AutoAccessor (data_of value.now)) }
+fn auto_accessor(object: &Object<'_, '_>) -> Result<Member, FormatFault>
+    ensures { Gives member_shape result (read_as_kind Name.AutoAccessor (object_data object.now)) }
 {
     Ok(Member::AutoAccessor {
-        key: fields::child(value, "key")?,
-        type_ann: fields::optional_child(value, "type_ann")?,
-        value: fields::optional_child(value, "value")?,
-        is_static: fields::flag(value, "is_static")?,
-        accessibility: words::accessibility(value, "accessibility")?,
+        key: fields::child(object, "key")?,
+        type_ann: fields::optional_child(object, "type_ann")?,
+        value: fields::optional_child(object, "value")?,
+        is_static: fields::flag(object, "is_static")?,
+        accessibility: words::accessibility(object, "accessibility")?,
     })
 }
 
-fn ts_index_signature(alloc: Global, value: &Value<'_>) -> Result<Member, FormatFault>
-    ensures { Gives member_shape result (read_as Name.TsIndexSignature (data_of value.now)) }
+fn ts_index_signature(alloc: Global, object: &Object<'_, '_>) -> Result<Member, FormatFault>
+    ensures { Gives member_shape result (read_as_kind Name.TsIndexSignature (object_data object.now)) }
 {
     Ok(Member::TsIndexSignature {
-        params: fields::children(alloc, value, "params")?,
-        type_ann: fields::optional_child(value, "type_ann")?,
-        is_static: fields::flag(value, "is_static")?,
+        params: fields::children(alloc, object, "params")?,
+        type_ann: fields::optional_child(object, "type_ann")?,
+        is_static: fields::flag(object, "is_static")?,
     })
 }
 
-fn ts_call_signature_decl(alloc: Global, value: &Value<'_>) -> Result<Member, FormatFault>
-    ensures { Gives member_shape result (read_as Name.TsCallSignatureDecl (data_of value.now)) }
+fn ts_call_signature_decl(alloc: Global, object: &Object<'_, '_>) -> Result<Member, FormatFault>
+    ensures { Gives member_shape result (read_as_kind Name.TsCallSignatureDecl (object_data object.now)) }
 {
     Ok(Member::TsCallSignatureDecl {
-        type_params: fields::optional_child(value, "type_params")?,
-        params: fields::children(alloc, value, "params")?,
-        type_ann: fields::optional_child(value, "type_ann")?,
+        type_params: fields::optional_child(object, "type_params")?,
+        params: fields::children(alloc, object, "params")?,
+        type_ann: fields::optional_child(object, "type_ann")?,
     })
 }
 
-fn ts_construct_signature_decl(alloc: Global, value: &Value<'_>) -> Result<Member, FormatFault>
-    ensures { Gives member_shape result (read_as Name.TsConstructSignatureDecl (data_of value.now)) }
+fn ts_construct_signature_decl(
+    alloc: Global,
+    object: &Object<'_, '_>,
+) -> Result<Member, FormatFault>
+    ensures { Gives member_shape result (read_as_kind Name.TsConstructSignatureDecl (object_data object.now)) }
 {
     Ok(Member::TsConstructSignatureDecl {
-        type_params: fields::optional_child(value, "type_params")?,
-        params: fields::children(alloc, value, "params")?,
-        type_ann: fields::optional_child(value, "type_ann")?,
+        type_params: fields::optional_child(object, "type_params")?,
+        params: fields::children(alloc, object, "params")?,
+        type_ann: fields::optional_child(object, "type_ann")?,
     })
 }
 
-fn ts_property_signature(value: &Value<'_>) -> Result<Member, FormatFault>
-    ensures { Gives member_shape result (read_as Name.TsPropertySignature (data_of value.now)) }
+fn ts_property_signature(object: &Object<'_, '_>) -> Result<Member, FormatFault>
+    ensures { Gives member_shape result (read_as_kind Name.TsPropertySignature (object_data object.now)) }
 {
     Ok(Member::TsPropertySignature {
-        key: fields::child(value, "key")?,
-        computed: fields::flag(value, "computed")?,
-        type_ann: fields::optional_child(value, "type_ann")?,
+        key: fields::child(object, "key")?,
+        computed: fields::flag(object, "computed")?,
+        type_ann: fields::optional_child(object, "type_ann")?,
     })
 }
 
-fn ts_getter_signature(value: &Value<'_>) -> Result<Member, FormatFault>
-    ensures { Gives member_shape result (read_as Name.TsGetterSignature (data_of value.now)) }
+fn ts_getter_signature(object: &Object<'_, '_>) -> Result<Member, FormatFault>
+    ensures { Gives member_shape result (read_as_kind Name.TsGetterSignature (object_data object.now)) }
 {
     Ok(Member::TsGetterSignature {
-        key: fields::child(value, "key")?,
-        computed: fields::flag(value, "computed")?,
-        type_ann: fields::optional_child(value, "type_ann")?,
+        key: fields::child(object, "key")?,
+        computed: fields::flag(object, "computed")?,
+        type_ann: fields::optional_child(object, "type_ann")?,
     })
 }
 
-fn ts_setter_signature(value: &Value<'_>) -> Result<Member, FormatFault>
-    ensures { Gives member_shape result (read_as Name.TsSetterSignature (data_of value.now)) }
+fn ts_setter_signature(object: &Object<'_, '_>) -> Result<Member, FormatFault>
+    ensures { Gives member_shape result (read_as_kind Name.TsSetterSignature (object_data object.now)) }
 {
     Ok(Member::TsSetterSignature {
-        key: fields::child(value, "key")?,
-        computed: fields::flag(value, "computed")?,
-        param: fields::child(value, "param")?,
+        key: fields::child(object, "key")?,
+        computed: fields::flag(object, "computed")?,
+        param: fields::child(object, "param")?,
     })
 }
 
-fn ts_method_signature(alloc: Global, value: &Value<'_>) -> Result<Member, FormatFault>
-    ensures { Gives member_shape result (read_as Name.TsMethodSignature (data_of value.now)) }
+fn ts_method_signature(alloc: Global, object: &Object<'_, '_>) -> Result<Member, FormatFault>
+    ensures { Gives member_shape result (read_as_kind Name.TsMethodSignature (object_data object.now)) }
 {
     Ok(Member::TsMethodSignature {
-        key: fields::child(value, "key")?,
-        computed: fields::flag(value, "computed")?,
-        type_params: fields::optional_child(value, "type_params")?,
-        params: fields::children(alloc, value, "params")?,
-        type_ann: fields::optional_child(value, "type_ann")?,
+        key: fields::child(object, "key")?,
+        computed: fields::flag(object, "computed")?,
+        type_params: fields::optional_child(object, "type_params")?,
+        params: fields::children(alloc, object, "params")?,
+        type_ann: fields::optional_child(object, "type_ann")?,
     })
 }
 
@@ -144,23 +147,23 @@ fn ts_method_signature(alloc: Global, value: &Value<'_>) -> Result<Member, Forma
 pub(crate) fn member(
     alloc: Global,
     kind: &str,
-    value: &Value<'_>,
+    object: &Object<'_, '_>,
 ) -> Result<Option<Member>, FormatFault>
-    ensures { Gives (option_map member_shape) result (read_member kind.now (data_of value.now)) }
+    ensures { Gives (option_map member_shape) result (read_member kind.now (object_data object.now)) }
 {
     match kind {
-        "Constructor" => Ok(Some(constructor(alloc, value)?)),
-        "TsParamProp" => Ok(Some(ts_param_prop(value)?)),
-        "ClassMethod" => Ok(Some(class_method(value)?)),
-        "ClassProp" => Ok(Some(class_prop(value)?)),
-        "AutoAccessor" => Ok(Some(auto_accessor(value)?)),
-        "TsIndexSignature" => Ok(Some(ts_index_signature(alloc, value)?)),
-        "TsCallSignatureDecl" => Ok(Some(ts_call_signature_decl(alloc, value)?)),
-        "TsConstructSignatureDecl" => Ok(Some(ts_construct_signature_decl(alloc, value)?)),
-        "TsPropertySignature" => Ok(Some(ts_property_signature(value)?)),
-        "TsGetterSignature" => Ok(Some(ts_getter_signature(value)?)),
-        "TsSetterSignature" => Ok(Some(ts_setter_signature(value)?)),
-        "TsMethodSignature" => Ok(Some(ts_method_signature(alloc, value)?)),
+        "Constructor" => Ok(Some(constructor(alloc, object)?)),
+        "TsParamProp" => Ok(Some(ts_param_prop(object)?)),
+        "ClassMethod" => Ok(Some(class_method(object)?)),
+        "ClassProp" => Ok(Some(class_prop(object)?)),
+        "AutoAccessor" => Ok(Some(auto_accessor(object)?)),
+        "TsIndexSignature" => Ok(Some(ts_index_signature(alloc, object)?)),
+        "TsCallSignatureDecl" => Ok(Some(ts_call_signature_decl(alloc, object)?)),
+        "TsConstructSignatureDecl" => Ok(Some(ts_construct_signature_decl(alloc, object)?)),
+        "TsPropertySignature" => Ok(Some(ts_property_signature(object)?)),
+        "TsGetterSignature" => Ok(Some(ts_getter_signature(object)?)),
+        "TsSetterSignature" => Ok(Some(ts_setter_signature(object)?)),
+        "TsMethodSignature" => Ok(Some(ts_method_signature(alloc, object)?)),
         _ => Ok(None),
     }
 }

@@ -3,7 +3,7 @@
 ghost use Rattle.std.specs.Prelude.{◌≡◌, IfOk};
 ghost use Rattle.json.specs.Json as spec;
 ghost use Rattle.json.specs.Value.{members_view};
-ghost use Rattle.symq_reader.specs.Streams.{Passed, joined};
+ghost use Rattle.symq_reader.specs.inner.Streams.{Passed, members_joined};
 
 use crate::numbers;
 use crate::stream::GiveUp;
@@ -21,7 +21,7 @@ pub(crate) fn pass_until<'a>(
 ) -> Result<bool, GiveUp>
     ensures { IfOk result (λ met. (done : spec.Members)
         × Passed depth reader.old key.now met reader.new done
-        × (members_view kept.new.items ≡ joined (members_view kept.old.items) done)) }
+        × (members_view kept.new.items ≡ members_joined (members_view kept.old.items) done)) }
 {
     'members: loop {
         let Some(name) = reader.next_key()? else {

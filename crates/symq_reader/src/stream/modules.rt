@@ -1,11 +1,12 @@
 //! Modules, one by one.
 
-ghost use Rattle.std.specs.Prelude.{◌≡◌, [], IfOk, Option, codes, map, option_map, Some};
+ghost use Rattle.std.specs.Prelude.{◌≡◌, [], IfOk, OnOk, Option, codes, map, option_map, Some};
 ghost use Rattle.json.specs.Json as spec;
 ghost use Rattle.json.specs.Value.{members_view};
 ghost use Rattle.symq_reader.specs.GraphText.{as_module, as_tree, module_shape, tree_shape};
-ghost use Rattle.symq_reader.specs.Plain.{plain};
-ghost use Rattle.symq_reader.specs.Streams.{Around, Reads, ReadsItems, ReadsMembers, list_at, optional_at, with_tree};
+ghost use Rattle.symq_reader.specs.inner.Pieces.{ReadsMore};
+ghost use Rattle.symq_reader.specs.JsonData.{json_data};
+ghost use Rattle.symq_reader.specs.inner.Streams.{Around, ReadsValue, ReadsItems, ReadsMembers, list_at, optional_at, with_tree};
 
 use crate::graph;
 use crate::stream::{GiveUp, members, trees};
@@ -23,7 +24,7 @@ fn tree_among<'a>(
     requires { kept.old.items ≡ [] }
     ensures { IfOk result (λ found. (there : Option spec.Json)
         × Around 124 reader.old reader.new (codes "tree") there (members_view kept.new.items)
-        × (optional_at as_tree (option_map plain there) ≡ Some (option_map tree_shape found))) }
+        × (optional_at as_tree (option_map json_data there) ≡ Some (option_map tree_shape found))) }
 {
     if !members::pass_until(alloc, reader, 124, "tree", kept)? {
         return Ok(None);
@@ -48,7 +49,7 @@ fn with_tree(read: RawModule, tree: Option<Tree>) -> RawModule
 }
 
 /// The module of an object whose brace was taken.
-fn module_members(alloc: Global, reader: &mut Reader<'_>) -> Result<RawModule, GiveUp>
+pub(crate) fn module_members(alloc: Global, reader: &mut Reader<'_>) -> Result<RawModule, GiveUp>
     ensures { IfOk result (λ found. ReadsMembers 124 reader.old reader.new
         as_module (module_shape found)) }
 {
@@ -60,12 +61,26 @@ fn module_members(alloc: Global, reader: &mut Reader<'_>) -> Result<RawModule, G
 
 /// A module, of whose value nothing but its tree's nodes is large.
 fn module(alloc: Global, reader: &mut Reader<'_>) -> Result<RawModule, GiveUp>
-    ensures { IfOk result (λ found. Reads 125 reader.old reader.new as_module (module_shape found)) }
+    ensures { IfOk result (λ found. ReadsValue 125 reader.old reader.new as_module (module_shape found)) }
 {
     let Some(Token::BeginObject) = reader.next() else {
         return Err(GiveUp::Odd);
     };
     module_members(alloc, reader)
+}
+
+/// The modules up to the end of their list, behind those before.
+pub(crate) fn more_modules(
+    alloc: Global,
+    reader: &mut Reader<'_>,
+    found: &mut Vec<RawModule>,
+) -> Result<(), GiveUp>
+    ensures { OnOk result (ReadsMore reader.old reader.new found.old.items found.new.items) }
+{
+    'items: while !reader.take_end_array() {
+        found.push(module(alloc, reader)?)?;
+    }
+    Ok(())
 }
 
 /// The modules of a list whose bracket was taken.
@@ -74,15 +89,14 @@ fn module_items(alloc: Global, reader: &mut Reader<'_>) -> Result<Vec<RawModule>
         as_module (map module_shape found.items)) }
 {
     let mut found = Vec::new(alloc);
-    'items: while !reader.take_end_array() {
-        found.push(module(alloc, reader)?)?;
-    }
+    more_modules(alloc, reader, &mut found)?;
+    found.shrink_to_fit();
     Ok(found)
 }
 
 /// The modules of a list, which may be null.
 fn module_list(alloc: Global, reader: &mut Reader<'_>) -> Result<Vec<RawModule>, GiveUp>
-    ensures { IfOk result (λ found. Reads 126 reader.old reader.new
+    ensures { IfOk result (λ found. ReadsValue 126 reader.old reader.new
         (λ d. list_at as_module (Some d)) (map module_shape found.items)) }
 {
     match reader.next() {
@@ -101,7 +115,7 @@ pub(crate) fn modules_among<'a>(
     requires { kept.old.items ≡ [] }
     ensures { IfOk result (λ found. (there : Option spec.Json)
         × Around 126 reader.old reader.new (codes "modules") there (members_view kept.new.items)
-        × (list_at as_module (option_map plain there) ≡ Some (map module_shape found.items))) }
+        × (list_at as_module (option_map json_data there) ≡ Some (map module_shape found.items))) }
 {
     if !members::pass_until(alloc, reader, 126, "modules", kept)? {
         return Ok(Vec::new(alloc));

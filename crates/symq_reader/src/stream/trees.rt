@@ -4,41 +4,49 @@ ghost use Rattle.std.specs.Prelude.{◌≡◌, [], IfOk, Option, codes, map, opt
 ghost use Rattle.json.specs.Json as spec;
 ghost use Rattle.json.specs.Value.{members_view};
 ghost use Rattle.symq_reader.specs.GraphText.{as_node, as_tree, node_shape, tree_shape};
-ghost use Rattle.symq_reader.specs.Plain.{plain};
-ghost use Rattle.symq_reader.specs.Streams.{Around, Reads, ReadsItems, ReadsMembers, list_at, optional_at};
+ghost use Rattle.symq_reader.specs.JsonData.{json_data};
+ghost use Rattle.symq_reader.specs.inner.Streams.{Around, ReadsValue, ReadsItems, ReadsMembers, list_at, optional_at};
 
-use crate::stream::{GiveUp, members};
-use crate::{nodes, numbers};
+use crate::entries::Entry;
+use crate::fields::Object;
+use crate::nodes;
+use crate::stream::{GiveUp, entries, members};
 use json::{Reader, Token, Value};
 use std::alloc::Global;
 use symbols_syntax::tree::{Node, Tree};
 
-/// A node, whose value is let go.
-fn node(alloc: Global, reader: &mut Reader<'_>) -> Result<Node, GiveUp>
-    ensures { IfOk result (λ node. Reads 122 reader.old reader.new as_node (node_shape node)) }
+/// A node, by its members, which are kept in place of those that were kept.
+fn node<'a>(
+    alloc: Global,
+    reader: &mut Reader<'a>,
+    kept: &mut Vec<(&'a str, Entry<'a>)>,
+) -> Result<Node, GiveUp>
+    ensures { IfOk result (λ node. ReadsValue 122 reader.old reader.new as_node (node_shape node)) }
 {
-    let value = Value::read(alloc, reader, 122)?;
-    if !numbers::fits(&value) {
+    let Some(Token::BeginObject) = reader.next() else {
         return Err(GiveUp::Odd);
-    }
-    Ok(nodes::node(alloc, &value)?)
+    };
+    entries::take_all(alloc, reader, kept)?;
+    Ok(nodes::node(alloc, &Object::Entries(kept.as_slice()))?)
 }
 
 /// The nodes of a list whose bracket was taken.
-fn node_items(alloc: Global, reader: &mut Reader<'_>) -> Result<Vec<Node>, GiveUp>
+fn node_items<'a>(alloc: Global, reader: &mut Reader<'a>) -> Result<Vec<Node>, GiveUp>
     ensures { IfOk result (λ found. ReadsItems 122 reader.old reader.new
         as_node (map node_shape found.items)) }
 {
     let mut found = Vec::new(alloc);
+    let mut kept = Vec::new(alloc);
     'items: while !reader.take_end_array() {
-        found.push(node(alloc, reader)?)?;
+        found.push(node(alloc, reader, &mut kept)?)?;
     }
+    found.shrink_to_fit();
     Ok(found)
 }
 
 /// The nodes of a list, which may be null.
 fn node_list(alloc: Global, reader: &mut Reader<'_>) -> Result<Vec<Node>, GiveUp>
-    ensures { IfOk result (λ found. Reads 123 reader.old reader.new
+    ensures { IfOk result (λ found. ReadsValue 123 reader.old reader.new
         (λ d. list_at as_node (Some d)) (map node_shape found.items)) }
 {
     match reader.next() {
@@ -57,7 +65,7 @@ fn nodes_among<'a>(
     requires { kept.old.items ≡ [] }
     ensures { IfOk result (λ found. (there : Option spec.Json)
         × Around 123 reader.old reader.new (codes "nodes") there (members_view kept.new.items)
-        × (list_at as_node (option_map plain there) ≡ Some (map node_shape found.items))) }
+        × (list_at as_node (option_map json_data there) ≡ Some (map node_shape found.items))) }
 {
     if !members::pass_until(alloc, reader, 123, "nodes", kept)? {
         return Ok(Vec::new(alloc));
@@ -82,7 +90,7 @@ fn tree_members(alloc: Global, reader: &mut Reader<'_>) -> Result<Tree, GiveUp>
 
 /// A tree, which may be null.
 pub(crate) fn optional_tree(alloc: Global, reader: &mut Reader<'_>) -> Result<Option<Tree>, GiveUp>
-    ensures { IfOk result (λ found. Reads 124 reader.old reader.new
+    ensures { IfOk result (λ found. ReadsValue 124 reader.old reader.new
         (λ d. optional_at as_tree (Some d)) (option_map tree_shape found)) }
 {
     match reader.next() {

@@ -1,6 +1,6 @@
 use Rattle.std.proofs.Common.{◌≡◌, drop}
 use Rattle.json.specs.Value.{items_view, members_view}
-use Rattle.symq_reader.specs.Plain.{items_fit, members_fit}
+use Rattle.symq_reader.specs.inner.JsonData.{items_fit, members_fit}
 use Rattle.symq_reader.proofs.numbers.+fits.Given as goal
 
 abbrev pub invariant-items_fit-loop-item : goal.invariant-items_fit-loop-item

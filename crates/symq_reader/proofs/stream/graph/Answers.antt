@@ -1,10 +1,6 @@
-use Rattle.std.proofs.Common.{◌≡◌, [], rules}
-use Rattle.symq_reader.specs.GraphText.{graph_shape}
-use Rattle.symq_reader.proofs.Texts.{text_outcome}
+use Rattle.std.proofs.Common.{◌≡◌, ℕ, List, Ok, IfOk, sym, subst}
+use Rattle.symq_reader.specs.GraphText.{graph_shape, outcome_of}
 use Rattle.symq_reader.proofs.stream.graph.Goals as goal
 
-pub returns : goal.returns
-returns c =
-    let utf8 = c.in-Ok.ensures.cases in
-    let over : c.graph_value.new.reader ≡ [] = search rules in
-    text_outcome c.args.bytes.now c.in-Ok.text.now c.in_ok-reader.reader c.graph_value.new.reader (graph_shape c.in_ok-graph.graph) utf8.1 utf8.0 c.in_ok-reader.ensures.ok over c.in_ok-graph.ensures
+pub returns-in-Some : goal.returns-in-Some
+returns-in-Some c = subst (λ (bytes : List ℕ). IfOk c.graph.result (λ graph. outcome_of bytes ≡ Ok (graph_shape graph))) (sym c.in-Some.ensures) c.graph.ensures

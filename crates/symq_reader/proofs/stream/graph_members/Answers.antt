@@ -3,7 +3,7 @@ use Rattle.json.proofs.Trees.{view-Object}
 use Rattle.json.specs.Json.{object}
 use Rattle.json.specs.Value.{members_view}
 use Rattle.symq_reader.specs.GraphText.{if_object, graph_fields, graph_shape, module_shape}
-use Rattle.symq_reader.specs.Plain.{plain}
+use Rattle.symq_reader.specs.JsonData.{json_data}
 use Rattle.symq_reader.proofs.Parts.{graph_whole}
 use Rattle.symq_reader.proofs.stream.graph_members.Goals as goal
 
@@ -12,7 +12,7 @@ returns c =
     let h = c.in_ok-found.ensures in
     let kept = members_view c.modules_among.new.kept.items in
     let read = graph_shape c.in_ok-graph.graph in
-    let around : if_object graph_fields (plain (object kept)) ≡ Some read = ap (λ j. if_object graph_fields (plain j)) (sym (view-Object c.modules_among.new.kept)) ∙ c.in_ok-graph.ensures in
+    let around : if_object graph_fields (json_data (object kept)) ≡ Some read = ap (λ j. if_object graph_fields (json_data j)) (sym (view-Object c.modules_among.new.kept)) ∙ c.in_ok-graph.ensures in
     record {
       all = h.1.all;
       read = h.1.read;

@@ -3,7 +3,7 @@ use Rattle.json.specs.Json.{value}
 use Rattle.json.specs.Lex.{tokens}
 use Rattle.json.specs.Value.{value_view}
 use Rattle.serde_json.specs.Read.{read}
-use Rattle.symq_reader.specs.Plain.{fits}
+use Rattle.symq_reader.specs.inner.JsonData.{fits}
 use Rattle.symq_reader.proofs.Outcomes.{json_of-refused}
 use Rattle.symq_reader.proofs.Texts.{fitting_value, misfitting_value, no_value}
 use Rattle.symq_reader.proofs.values.read_value.Goals as goal

@@ -4,7 +4,7 @@ use Rattle.json.specs.Lex.{tokens}
 use Rattle.json.specs.Value.{value_view}
 use Rattle.serde_json.specs.Read.{read}
 use Rattle.symq_reader.specs.GraphText.{outcome_for}
-use Rattle.symq_reader.specs.Plain.{fits}
+use Rattle.symq_reader.specs.inner.JsonData.{fits}
 use Rattle.symq_reader.proofs.Outcomes.{json_of-refused}
 use Rattle.symq_reader.proofs.Texts.{fitting_outcome}
 use Rattle.symq_reader.proofs.whole.graph_of_any_form.Goals as goal

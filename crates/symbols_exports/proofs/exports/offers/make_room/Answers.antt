@@ -1,6 +1,6 @@
 use Rattle.std.proofs.Common.{arith}
 use Rattle.std.proofs.lemmas.List.{length_push}
-use Rattle.symbols_exports.specs.Taking.{lists_in}
+use Rattle.symbols_exports.specs.inner.Taking.{lists_in}
 use Rattle.symbols_exports.proofs.OtherWays.{room_made}
 use Rattle.symbols_exports.proofs.exports.offers.make_room.Goals as goal
 

@@ -1,7 +1,9 @@
 use Rattle.std.proofs.Common.{◌≡◌, ◌≤◌, ◌++◌, length}
 use Rattle.std.specs.Vec.Iter.{into_iter_items}
-use Rattle.symbols_exports.specs.Sharing.{shared_only, comes_along}
-use Rattle.symbols_exports.specs.Taking.{shared_views, groups_of, lists_in}
+use Rattle.symbols_exports.specs.Sharing.{shared_only}
+use Rattle.symbols_exports.specs.inner.Sharing.{comes_along}
+use Rattle.symbols_exports.specs.Taking.{shared_views}
+use Rattle.symbols_exports.specs.inner.Taking.{groups_of, lists_in}
 use Rattle.symbols_exports.proofs.exports.offers.shared_names.Given as goal
 
 abbrev pub invariant-loop-ways : goal.invariant-loop-ways

@@ -5,7 +5,8 @@ use Rattle.symbols_root.specs.Roots.{RootView, specifier_in}
 use Rattle.symbols_exports.specs.declared.exports.path.ResolvedExport.{ResolvedExport}
 use Rattle.symbols_exports.specs.declared.exports.path.ResolvedExportOrReExportAllPath.{ResolvedExportOrReExportAllPath}
 use Rattle.symbols_exports.specs.Paths.{resolved_export}
-use Rattle.symbols_exports.specs.PublicNames.{NameItem, name_item, exported_by, items_under, items_of, IsOwned}
+use Rattle.symbols_exports.specs.PublicNames.{NameItem, name_item, exported_by, items_under}
+use Rattle.symbols_exports.specs.inner.PublicNames.{items_of, IsOwned}
 use Rattle.symbols_exports.specs.Taking.{NameView, name_view, names_view}
 use Rattle.symbols_exports.proofs.exports.public.list_names.Goals as goal
 

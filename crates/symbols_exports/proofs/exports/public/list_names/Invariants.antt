@@ -1,6 +1,7 @@
 use Rattle.std.proofs.Common.{◌≡◌, ◌++◌, map}
 use Rattle.std.specs.Prelude.{All, flat_map}
-use Rattle.symbols_exports.specs.PublicNames.{name_item, items_of, IsOwned}
+use Rattle.symbols_exports.specs.PublicNames.{name_item}
+use Rattle.symbols_exports.specs.inner.PublicNames.{items_of, IsOwned}
 use Rattle.symbols_exports.specs.Taking.{NameView, names_view}
 use Rattle.symbols_exports.proofs.exports.public.list_names.Given as goal
 

@@ -1,6 +1,6 @@
 use Rattle.std.proofs.Common.{◌≡◌, ◌++◌, map}
 use Rattle.symbols_exports.specs.Paths.{resolved_export, statements_on}
-use Rattle.symbols_exports.specs.Taking.{turn_told}
+use Rattle.symbols_exports.specs.inner.Taking.{turn_told}
 use Rattle.symbols_exports.proofs.exports.ways.path_along.Given as goal
 
 abbrev pub invariant-loop-turn : goal.invariant-loop-turn

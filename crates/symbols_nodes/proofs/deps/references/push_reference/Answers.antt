@@ -2,7 +2,7 @@ use Rattle.std.proofs.Common.{◌≡◌, false, Some, refl, sym, map, append-nil
 use Rattle.symbols_syntax.specs.declared.tree.kinds.Kind.TheVariants as Kind
 use Rattle.symbols_syntax.specs.declared.tree.kinds.Expr.TheVariants as Expr
 use Rattle.symbols_syntax.specs.NodeRefs.{node_view, kind_of}
-use Rattle.symbols_nodes.specs.KnownFacts.{may_refer}
+use Rattle.symbols_nodes.specs.inner.KnownFacts.{may_refer}
 use Rattle.symbols_nodes.specs.References.{dependency_view}
 use Rattle.symbols_nodes.proofs.KnownLemmas.{refers_to_nothing, refers_by_name}
 use Rattle.symbols_nodes.proofs.deps.references.push_reference.Goals as goal

@@ -2,7 +2,7 @@ use Rattle.std.proofs.Common.{◌≡◌, ◌++◌, ◌∙◌, ap, false, Some, L
 use Rattle.std.proofs.lemmas.Result.{on_ok_weaker}
 use Rattle.symbols_syntax.specs.declared.tree.kinds.Kind.{Kind}
 use Rattle.symbols_syntax.specs.NodeRefs.{node_view, kind_of}
-use Rattle.symbols_nodes.specs.KnownFacts.{may_refer}
+use Rattle.symbols_nodes.specs.inner.KnownFacts.{may_refer}
 use Rattle.symbols_nodes.specs.References.{Dependency, dependency_view}
 use Rattle.symbols_nodes.proofs.VisitLists.{begins_alone, begins_unnamed}
 use Rattle.symbols_nodes.proofs.deps.starts.push_node.Goals as goal

@@ -20,7 +20,7 @@ on_fault (Ok x) f h = tt
 on_fault (Err e) f h = f e h
 
 pub returns-then-is_none-clause-enough : goal.returns-then-is_none-clause-enough
-returns-then-is_none-clause-enough c = λ wide known has. absurd (has (no_symbol_there c.args.root.now c.args.module_id (lent_table c.in-Some.info) c.in-Some.ensures.table c.args.symbol_id c.symbol.result c.symbol.ensures c.if-is_none.ensures))
+returns-then-is_none-clause-enough c = λ has wide. absurd (has.1 (no_symbol_there c.args.root.now c.args.module_id (lent_table c.in-Some.info) c.in-Some.ensures.table c.args.symbol_id c.symbol.result c.symbol.ensures c.if-is_none.ensures))
 
 pub returns-then-is_none-clause-faults : goal.returns-then-is_none-clause-faults
 returns-then-is_none-clause-faults c = inr (inl (record {
@@ -34,13 +34,13 @@ pub returns-clause-answers : goal.returns-clause-answers
 returns-clause-answers c =
     let found = rw (c.new-met.ensures.empty, c.new-resolving.ensures.empty) at c.find.ensures.found in
     let searched = rw c.new-met.ensures.empty at c.find.ensures.searched in
-    on_both c.find.result (λ trails is so. paths_found trails.items (c.in-Some.ensures.found.0 refl) c.new-symbol.ensures.module c.new-symbol.ensures.symbol c.find.ensures.kept is so) found searched
+    on_both c.find.result (λ trails is so. paths_found trails.items (c.in-Some.ensures.found.0 refl) c.new-symbol.ensures.module c.new-symbol.ensures.symbol c.find.ensures.behind.keeps.grown is so) found searched
 
 pub returns-clause-listed : goal.returns-clause-listed
 returns-clause-listed c =
     let found = rw (c.new-met.ensures.empty, c.new-resolving.ensures.empty) at c.find.ensures.found in
     let searched = rw c.new-met.ensures.empty at c.find.ensures.searched in
-    on_both c.find.result (λ trails is so. paths_listed trails.items (c.in-Some.ensures.found.0 refl) c.new-symbol.ensures.module c.new-symbol.ensures.symbol c.find.ensures.kept is so) found searched
+    on_both c.find.result (λ trails is so. paths_listed trails.items (c.in-Some.ensures.found.0 refl) c.new-symbol.ensures.module c.new-symbol.ensures.symbol c.find.ensures.behind.keeps.grown is so) found searched
 
 pub returns-clause-known : goal.returns-clause-known
 returns-clause-known c =
@@ -53,4 +53,4 @@ returns-clause-stored c = on_answer c.find.result (λ trails is. is.stored) c.fi
 pub returns-clause-faults : goal.returns-clause-faults
 returns-clause-faults c =
     let has = symbol_there c.args.root.now c.args.module_id (lent_table c.in-Some.info) c.in-Some.ensures.table c.args.symbol_id c.symbol.result c.symbol.ensures c.if-is_none.ensures in
-    on_fault c.find.result (λ fault refused. inr (inr (record { known = c.in-Some.ensures.found.0 refl; has_symbol = has; refused = subst (λ (id : ModuleId). IsRefused c.find.new.root (specifier_in c.args.root.now id) fault) c.new-symbol.ensures.module refused }))) c.find.ensures.refused
+    on_fault c.find.result (λ fault refused. inr (inr (record { known = c.in-Some.ensures.found.0 refl; has_symbol = has; refused = subst (λ (id : ModuleId). IsRefused c.find.new.root (specifier_in c.args.root.now id) fault) c.new-symbol.ensures.module refused }))) c.find.ensures.behind.keeps.refused

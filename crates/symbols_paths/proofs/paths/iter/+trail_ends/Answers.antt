@@ -3,7 +3,7 @@ use Rattle.std.specs.Prelude.{Result, Ok, Err, OnOk}
 use Rattle.std.proofs.lemmas.List.{map-append, nil_from_length}
 use Rattle.symbols_paths.specs.Trees.{leaves_in}
 use Rattle.symbols_paths.specs.Views.{leaf_told, module_of_end, AreStored}
-use Rattle.symbols_paths.specs.Trails.{trail_told, trails_told, modules_of_stretches, modules_of_trail, modules_of_trails}
+use Rattle.symbols_paths.specs.inner.Trails.{trail_told, trails_told, modules_of_stretches, modules_of_trail, modules_of_trails}
 use Rattle.symbols_paths.proofs.Ends.{AreTrailEndsSo, leaves_to, leaves_fork, trail_ends_first, trail_ends_next, trail_ends_last, end_stored}
 use Rattle.symbols_paths.proofs.Trailing.{modules_to, modules_fork, stored_apart}
 use Rattle.symbols_paths.proofs.paths.iter.+trail_ends.Goals as goal

@@ -1,7 +1,7 @@
 use Rattle.std.proofs.Common.{◌++◌, map, sym, ap, subst, ◌∙◌}
 use Rattle.symbols_paths.specs.Trees.{leaves_in}
 use Rattle.symbols_paths.specs.Views.{leaf_told, module_of_end, AreStored}
-use Rattle.symbols_paths.specs.Trails.{trails_told}
+use Rattle.symbols_paths.specs.inner.Trails.{trails_told}
 use Rattle.symbols_paths.proofs.Trailing.{none_stored}
 use Rattle.symbols_paths.proofs.paths.iter.ends_of.Goals as goal
 

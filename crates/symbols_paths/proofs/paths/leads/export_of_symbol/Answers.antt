@@ -3,7 +3,8 @@ use Rattle.std.specs.Map.{lookup}
 use Rattle.std.specs.Str.{bytes_eq}
 use Rattle.symbols_table.specs.Modules.{esm_table, json_table}
 use Rattle.symbols_table.specs.Symbols.{exports_in}
-use Rattle.symbols_paths.specs.Views.{texts_of, first_part}
+use Rattle.symbols_paths.specs.Views.{texts_of}
+use Rattle.symbols_paths.specs.inner.Views.{first_part}
 use Rattle.symbols_paths.proofs.PartReading.{first_read}
 use Rattle.symbols_paths.proofs.Reading.{symbol_exports}
 use Rattle.symbols_paths.proofs.paths.leads.export_of_symbol.Goals as goal

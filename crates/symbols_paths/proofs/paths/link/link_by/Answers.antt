@@ -1,7 +1,7 @@
 use Rattle.std.proofs.Common.{[], option_to_list, ap, sym, subst, ◌∙◌}
 use Rattle.symbols_paths.specs.Trees.{link_to}
 use Rattle.symbols_paths.specs.Views.{AreStored}
-use Rattle.symbols_paths.specs.Trails.{step_head, linked, trail_told, trails_of_option, modules_of_trails}
+use Rattle.symbols_paths.specs.inner.Trails.{step_head, below_links, trail_told, trails_of_option, modules_of_trails}
 use Rattle.symbols_paths.proofs.Told.{stored_more}
 use Rattle.symbols_paths.proofs.Trailing.{heads_of_step, modules_of_one_step, none_stored, stored_alone}
 use Rattle.symbols_paths.proofs.paths.link.link_by.Goals as goal
@@ -15,7 +15,7 @@ pub returns-in_ok-put_before-in-Some-clause-told : goal.returns-in_ok-put_before
 returns-in_ok-put_before-in-Some-clause-told c = λ root.
     let head = step_head root c.args.step in
     c.in_ok-put_before-in-Some.ensures.told root
-    ∙ (ap (λ heads. linked heads (trail_told root c.in-Some.trail)) (heads_of_step root c.args.step)
+    ∙ (ap (λ heads. below_links heads (trail_told root c.in-Some.trail)) (heads_of_step root c.args.step)
     ∙ (ap (λ trail. link_to head (trails_of_option root trail)) (sym c.in-Some.is) ∙ ap (link_to head) (c.in_ok-whole.ensures.told root)))
 
 pub returns-in_ok-put_before-in-Some-clause-stored : goal.returns-in_ok-put_before-in-Some-clause-stored

@@ -1,7 +1,8 @@
 use Rattle.std.proofs.Common.{Result, Ok, Err, IfOk, ap, sym, ◌∙◌}
 use Rattle.symbols_paths.specs.Trees.{link_to}
-use Rattle.symbols_paths.specs.Views.{named, decl_told}
-use Rattle.symbols_paths.specs.Trails.{parts_told, trails_told}
+use Rattle.symbols_paths.specs.Views.{decl_told}
+use Rattle.symbols_paths.specs.inner.Views.{symbol_told}
+use Rattle.symbols_paths.specs.inner.Trails.{parts_told, trails_told}
 use Rattle.symbols_paths.proofs.Told.{head_told}
 use Rattle.symbols_paths.proofs.Trailing.{is_none}
 use Rattle.symbols_paths.proofs.paths.link.link_under.Goals as goal
@@ -19,4 +20,4 @@ pub returns-clause-told : goal.returns-clause-told
 returns-clause-told c =
     let s = c.args.symbol in
     on_answer c.link_by.result c.link_by.ensures.told (λ trail told root.
-    told root ∙ (λ i. link_to (record { symbol = named root s; decl = decl_told root s.module_id c.args.symbol_decl; parts = c.in_ok-same.ensures i }) (trails_told root c.args.next.items)))
+    told root ∙ (λ i. link_to (record { symbol = symbol_told root s; decl = decl_told root s.module_id c.args.symbol_decl; parts = c.in_ok-same.ensures i }) (trails_told root c.args.next.items)))

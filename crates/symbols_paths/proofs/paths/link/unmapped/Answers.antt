@@ -1,7 +1,7 @@
 use Rattle.std.proofs.Common.{Result, Ok, Err, IfOk, ap, ◌∙◌}
 use Rattle.symbols_root.specs.Roots.{specifier_in}
-use Rattle.symbols_paths.specs.Trees.{one, leaf, link_to, unresolved, no_symbol}
-use Rattle.symbols_paths.specs.Trails.{parts_told}
+use Rattle.symbols_paths.specs.Trees.{one_tree, leaf, link_to, unresolved, no_symbol}
+use Rattle.symbols_paths.specs.inner.Trails.{parts_told}
 use Rattle.symbols_paths.proofs.Told.{head_told}
 use Rattle.symbols_paths.proofs.paths.link.unmapped.Goals as goal
 
@@ -14,7 +14,7 @@ returns-clause-told c =
     let s = c.args.symbol in
     on_answer c.link_under.result c.link_under.ensures.told (λ trail told root.
     told root
-    ∙ ap (link_to (head_told root s.module_id s.symbol_id c.args.symbol_decl (parts_told c.args.parts.now))) (c.in_ok-next.ensures.told root ∙ (λ i. one (leaf (unresolved (record { specifier = specifier_in root s.module_id; reason = no_symbol (c.in_ok-copied_id.ensures i); parts = (c.in_ok-missing.ensures ∙ c.texts.ensures.told) i }))))))
+    ∙ ap (link_to (head_told root s.module_id s.symbol_id c.args.symbol_decl (parts_told c.args.parts.now))) (c.in_ok-next.ensures.told root ∙ (λ i. one_tree (leaf (unresolved (record { specifier = specifier_in root s.module_id; reason = no_symbol (c.in_ok-copied_id.ensures i); parts = (c.in_ok-missing.ensures ∙ c.texts.ensures.told) i }))))))
 
 pub returns-clause-stored : goal.returns-clause-stored
 returns-clause-stored c = on_answer c.link_under.result c.link_under.ensures.stored (λ trail stored root h. stored root h (c.in_ok-next.ensures.stored root h))

@@ -5,15 +5,20 @@ use Rattle.symbols_root.specs.Roots.{specifier_in}
 use Rattle.symbols_root.specs.laws.Growing.{same_specifier, still_stored}
 use Rattle.symbols_exports.specs.OneName.{export_named}
 use Rattle.symbols_paths.specs.Trees.{no_part}
-use Rattle.symbols_paths.specs.PartWays.{lacks, module_part}
-use Rattle.symbols_paths.specs.Views.{texts_of, first_part, later_parts}
+use Rattle.symbols_paths.specs.PartLeads.{lacks, module_part}
+use Rattle.symbols_paths.specs.Views.{texts_of}
+use Rattle.symbols_paths.specs.inner.Views.{first_part, later_parts}
 use Rattle.symbols_paths.proofs.PartReading.{first_read}
 use Rattle.symbols_paths.proofs.Walking.{some_parts}
 use Rattle.symbols_paths.proofs.Targets.{refused_export, none_exported, some_stored}
 use Rattle.symbols_paths.proofs.paths.parts.module_part.Goals as goal
 
-pub returns-in-Err-clause-refused : goal.returns-in-Err-clause-refused
-returns-in-Err-clause-refused c = refused_export c.args.root.now c.export_of.new.root _ c.args.module_id c.in-Err.fault c.in-Err.ensures.faults.0 c.requires.known c.in-Err.ensures.kept c.in-Err.ensures.faults.1
+pub returns-in-Err-clause-keeps : goal.returns-in-Err-clause-keeps
+returns-in-Err-clause-keeps c = record {
+  grown = c.in-Err.ensures.kept;
+  refused = refused_export c.args.root.now c.export_of.new.root _ c.args.module_id c.in-Err.fault c.in-Err.ensures.faults.0 c.requires.known c.in-Err.ensures.kept c.in-Err.ensures.faults.1;
+  enough = c.in-Err.ensures.enough c.requires.known;
+}
 
 pub returns-in_ok-lacking-in-Ok-None-clause-told : goal.returns-in_ok-lacking-in-Ok-None-clause-told
 returns-in_ok-lacking-in-Ok-None-clause-told c =

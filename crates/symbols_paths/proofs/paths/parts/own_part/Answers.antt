@@ -4,8 +4,9 @@ use Rattle.std.specs.Prelude.{string_bytes}
 use Rattle.std.proofs.lemmas.List.{length-map}
 use Rattle.symbols_root.specs.Roots.{specifier_in}
 use Rattle.symbols_paths.specs.Trees.{no_part}
-use Rattle.symbols_paths.specs.PartWays.{lacks, prototype_name, is_class_at, export_of_symbol}
-use Rattle.symbols_paths.specs.Views.{decl_told, texts_of, first_part, later_parts}
+use Rattle.symbols_paths.specs.PartLeads.{lacks, prototype_name, is_class_at, export_of_symbol}
+use Rattle.symbols_paths.specs.Views.{decl_told, texts_of}
+use Rattle.symbols_paths.specs.inner.Views.{first_part, later_parts}
 use Rattle.symbols_paths.proofs.PartReading.{first_read, bytes_swapped, lacks_own, not_first, not_second}
 use Rattle.symbols_paths.proofs.Walking.{some_parts}
 use Rattle.symbols_paths.proofs.paths.parts.own_part.Goals as goal

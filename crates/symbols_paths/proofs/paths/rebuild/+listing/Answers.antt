@@ -1,8 +1,8 @@
 use Rattle.std.proofs.Common.{◌≡◌, ◌++◌, ◌+◌, ◌∷◌, [], map, drop, ap, sym, subst, ◌∙◌, arith, append_assoc}
 use Rattle.std.specs.Prelude.{Result, Ok, Err, OnOk}
-use Rattle.symbols_paths.specs.Rebuilt.{defined_within}
+use Rattle.symbols_paths.specs.inner.Rebuilt.{defined_within}
 use Rattle.symbols_paths.specs.Views.{definition_told, module_of_end, AreStored}
-use Rattle.symbols_paths.specs.Trails.{trail_told, trails_told, modules_of_stretches, modules_of_trail, modules_of_trails}
+use Rattle.symbols_paths.specs.inner.Trails.{trail_told, trails_told, modules_of_stretches, modules_of_trail, modules_of_trails}
 use Rattle.symbols_paths.proofs.Trailing.{modules_to, modules_fork, stored_apart}
 use Rattle.symbols_paths.proofs.Listing.{AreListed, drop_all, listed_next, listed_last, drop_read, defined_to, defined_fork}
 use Rattle.symbols_paths.proofs.paths.rebuild.+listing.Goals as goal

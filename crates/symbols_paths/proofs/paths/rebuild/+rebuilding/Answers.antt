@@ -2,9 +2,9 @@ use Rattle.std.proofs.Common.{◌++◌, ◌∷◌, [], List, map, ap, sym, subst
 use Rattle.std.specs.Prelude.{Result, Ok, Err, OnOk, IfOk}
 use Rattle.std.proofs.lemmas.List.{nil_from_length}
 use Rattle.symbols_paths.specs.Trees.{Forest}
-use Rattle.symbols_paths.specs.Rebuilt.{rebuilt}
+use Rattle.symbols_paths.specs.inner.Rebuilt.{rebuilt}
 use Rattle.symbols_paths.specs.Views.{module_of_end, AreStored}
-use Rattle.symbols_paths.specs.Trails.{parts_told, heads_in, heads_under, linked, trail_told, trails_told, trails_of_option, modules_of_stretches, modules_of_trail, modules_of_trails}
+use Rattle.symbols_paths.specs.inner.Trails.{parts_told, heads_in, heads_under, below_links, trail_told, trails_told, trails_of_option, modules_of_stretches, modules_of_trail, modules_of_trails}
 use Rattle.symbols_paths.proofs.Trailing.{told_with_option, modules_to, modules_fork, stored_apart, stored_with_option}
 use Rattle.symbols_paths.proofs.Listing.{AreRebuilt, rebuilt_next, rebuilt_last, rebuilt_to, rebuilt_fork, both_rebuilt, left_of_both}
 use Rattle.symbols_paths.proofs.paths.rebuild.+rebuilding.Goals as goal
@@ -47,7 +47,7 @@ rebuild_one-returns-in-To-clause-found t c =
     on_answer c.under.result c.under.ensures.told (λ found told root.
     let ready = map (trails_of_option root) c.args.changed.now.items in
     told root
-    ∙ (ap (linked (heads_under ps (heads_in root xs.items))) (c.rebuild_end-trail.ensures.found root ps)
+    ∙ (ap (below_links (heads_under ps (heads_in root xs.items))) (c.rebuild_end-trail.ensures.found root ps)
     ∙ (ap (λ (p : Forest × List Forest). p.0) (sym (rebuilt_to root ps xs c.in-To.end ready)) ∙ ap (λ trail. (rebuilt ps (trail_told root trail) ready).0) (sym c.in-To.is))))
 
 pub rebuild_one-returns-in-To-clause-left : goal.rebuild_one-returns-in-To-clause-left
@@ -77,7 +77,7 @@ rebuild_one-returns-in_ok-whole-in-Fork-clause-found t c =
     let ready = map (trails_of_option root) c.args.changed.now.items in
     let both = both_rebuilt ps (trails_told root x.others.items) (trail_told root x.last.value) ready (map (trails_of_option root) c.rebuild.new.changed.items) (trails_told root next) (trails_of_option root last) (c.in_ok-next-in-Fork.ensures.found root) (c.in_ok-next-in-Fork.ensures.left root) (c.in_ok-last-in-Fork.ensures.found root ∙ ap (λ trail. (rebuilt ps (trail_told root trail) (map (trails_of_option root) c.rebuild.new.changed.items)).0) c.into_inner.ensures) in
     told root
-    ∙ (ap (linked (heads_under ps (heads_in root x.stretches.items))) (c.in_ok-whole-in-Fork.ensures.told root ∙ (ap (trails_told root) c.in_ok-add-in-Fork.ensures ∙ (told_with_option root next last ∙ both)))
+    ∙ (ap (below_links (heads_under ps (heads_in root x.stretches.items))) (c.in_ok-whole-in-Fork.ensures.told root ∙ (ap (trails_told root) c.in_ok-add-in-Fork.ensures ∙ (told_with_option root next last ∙ both)))
     ∙ (ap (λ (p : Forest × List Forest). p.0) (sym (rebuilt_fork root ps x.stretches x.others x.last ready)) ∙ ap (λ trail. (rebuilt ps (trail_told root trail) ready).0) (sym x.is))))
 
 pub rebuild_one-returns-in_ok-whole-in-Fork-clause-left : goal.rebuild_one-returns-in_ok-whole-in-Fork-clause-left

@@ -1,4 +1,4 @@
-use Rattle.symbols_paths.specs.Trails.{parts_told}
+use Rattle.symbols_paths.specs.inner.Trails.{parts_told}
 use Rattle.symbols_paths.proofs.Listing.{AreRebuilt}
 use Rattle.symbols_paths.proofs.paths.rebuild.+rebuilding.Given as goal
 

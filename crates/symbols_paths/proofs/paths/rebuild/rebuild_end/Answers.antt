@@ -1,6 +1,6 @@
 use Rattle.std.proofs.Common.{option_to_list, subst, sym}
 use Rattle.symbols_paths.specs.Views.{AreStored}
-use Rattle.symbols_paths.specs.Trails.{modules_of_trails}
+use Rattle.symbols_paths.specs.inner.Trails.{modules_of_trails}
 use Rattle.symbols_paths.proofs.Listing.{popped_stored}
 use Rattle.symbols_paths.proofs.paths.rebuild.rebuild_end.Goals as goal
 

@@ -1,7 +1,7 @@
 use Rattle.std.proofs.Common.{map, refl}
 use Rattle.symbols_syntax.specs.Ids.{id_view}
 use Rattle.symbols_root.specs.Roots.{specifier_in}
-use Rattle.symbols_paths.specs.Trails.{parts_told, trails_told}
+use Rattle.symbols_paths.specs.inner.Trails.{parts_told, trails_told}
 use Rattle.symbols_paths.specs.DepAnswers.{entry_told, entries_in, asked_by_id, missing_id}
 use Rattle.symbols_paths.proofs.DepEntries.{entries_answer, entries_listed}
 use Rattle.symbols_paths.proofs.paths.resolve.entries_of_id.Goals as goal

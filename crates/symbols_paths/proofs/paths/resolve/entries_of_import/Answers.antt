@@ -1,6 +1,6 @@
 use Rattle.std.proofs.Common.{length, map, sym, ◌∙◌}
 use Rattle.symbols_root.specs.Roots.{specifier_in}
-use Rattle.symbols_paths.specs.Trails.{parts_told, trails_told}
+use Rattle.symbols_paths.specs.inner.Trails.{parts_told, trails_told}
 use Rattle.symbols_paths.specs.DepAnswers.{entry_told}
 use Rattle.symbols_paths.proofs.DepEntries.{import_answer, some_left}
 use Rattle.symbols_paths.proofs.paths.resolve.entries_of_import.Goals as goal

@@ -2,8 +2,8 @@ use Rattle.std.proofs.Common.{length, ◌-◌, ◌^◌}
 use Rattle.symbols_root.specs.Roots.{specifier_in}
 use Rattle.symbols_exports.specs.StarStatements.{star_texts}
 use Rattle.symbols_paths.specs.Leads.{declarations_of}
-use Rattle.symbols_paths.specs.Views.{named}
-use Rattle.symbols_paths.specs.Trails.{parts_told}
+use Rattle.symbols_paths.specs.inner.Views.{symbol_told}
+use Rattle.symbols_paths.specs.inner.Trails.{parts_told}
 use Rattle.symbols_paths.proofs.Finding.{IsFinding, left}
 use Rattle.symbols_paths.proofs.Trying.{IsAsking}
 use Rattle.symbols_paths.proofs.Walking.{IsWalking, AreGiven}
@@ -28,7 +28,7 @@ abbrev pub invariant-find-loop-paths : goal.invariant-find-loop-paths
 invariant-find-loop-paths l = IsFinding l.fn.root l.fn.resolving.keys l.fn.met.keys l.symbol l.root l.resolving.keys l.index l.met.keys l.paths.items
 
 abbrev pub decreases-find-loop-paths : goal.decreases-find-loop-paths
-decreases-find-loop-paths l = length (declarations_of l.fn.root.graph (named l.fn.root l.symbol)) - l.index
+decreases-find-loop-paths l = length (declarations_of l.fn.root.graph (symbol_told l.fn.root l.symbol)) - l.index
 
 abbrev pub invariant-import_along-loop-text : goal.invariant-import_along-loop-text
 invariant-import_along-loop-text l = IsAsking l.fn.root l.fn.resolving.keys l.fn.met.keys l.module_id l.taken.name.now l.root l.resolving.keys l.position l.met.keys

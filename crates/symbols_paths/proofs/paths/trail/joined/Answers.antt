@@ -1,9 +1,9 @@
 use Rattle.std.proofs.Common.{ap, sym, subst, ◌∙◌, ◌++◌}
 use Rattle.std.specs.Prelude.{vec_len}
 use Rattle.symbols_paths.specs.declared.paths.trail.Trail.TheVariants as trail
-use Rattle.symbols_paths.specs.Trees.{join}
+use Rattle.symbols_paths.specs.Trees.{joined_forests}
 use Rattle.symbols_paths.specs.Views.{AreStored}
-use Rattle.symbols_paths.specs.Trails.{heads_in, linked, trail_told, trails_told, modules_of_stretches, modules_of_trail, modules_of_trails}
+use Rattle.symbols_paths.specs.inner.Trails.{heads_in, below_links, trail_told, trails_told, modules_of_stretches, modules_of_trail, modules_of_trails}
 use Rattle.symbols_paths.proofs.Told.{none_at}
 use Rattle.symbols_paths.proofs.Trailing.{told_fork, modules_fork, told_alone, told_with_trail, modules_with_trail, stored_one}
 use Rattle.symbols_paths.proofs.paths.trail.joined.Goals as goal
@@ -17,7 +17,7 @@ pub returns-clause-told : goal.returns-clause-told
 returns-clause-told c = λ root.
     let others = c.pop.new.self in
     told_fork root c.new-2.result others c.in_ok-last.last
-    ∙ ((λ i. linked (heads_in root (c.new-2.ensures.items i)) (join (trails_told root others.items) (trail_told root (c.in_ok-last.ensures.ok i))))
+    ∙ ((λ i. below_links (heads_in root (c.new-2.ensures.items i)) (joined_forests (trails_told root others.items) (trail_told root (c.in_ok-last.ensures.ok i))))
     ∙ (sym (told_with_trail root others.items c.in-Some.last) ∙ ap (trails_told root) (sym c.in-Some.ensures.items)))
 
 pub returns-clause-stored : goal.returns-clause-stored

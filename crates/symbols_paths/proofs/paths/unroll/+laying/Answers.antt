@@ -1,8 +1,9 @@
 use Rattle.std.proofs.Common.{Some, Result, Ok, Err, IfOk, ap, sym, subst, ◌∙◌, arith}
 use Rattle.std.proofs.lemmas.List.{nil_from_length}
 use Rattle.symbols_paths.specs.Trees.{link_to}
-use Rattle.symbols_paths.specs.Views.{named, decl_told, forest_told, AreStored}
-use Rattle.symbols_paths.specs.Trails.{parts_told, heads_of, heads_in, heads_under, linked, modules_of_stretch}
+use Rattle.symbols_paths.specs.Views.{decl_told, forest_told, AreStored}
+use Rattle.symbols_paths.specs.inner.Views.{symbol_told}
+use Rattle.symbols_paths.specs.inner.Trails.{parts_told, heads_of, heads_in, heads_under, below_links, modules_of_stretch}
 use Rattle.symbols_paths.proofs.Trailing.{heads_of_step, heads_of_under, under_twice, modules_of_one_step, modules_of_under}
 use Rattle.symbols_paths.proofs.Unrolling.{AreLaid, laid_first, laid_next, laid_last}
 use Rattle.symbols_paths.proofs.paths.unroll.+laying.Goals as goal
@@ -39,8 +40,8 @@ lay_one_under-returns-in-Step-clause-told t c =
     on_answer c.link_before.result c.link_before.ensures.told (λ paths told root.
     let next = forest_told root c.args.next.items in
     told root
-    ∙ ((λ i. link_to (record { symbol = named root step.symbol; decl = decl_told root step.symbol.module_id step.symbol_decl; parts = c.in_ok-same-in-Step.ensures i }) next)
-    ∙ ap (λ heads. linked (heads_under ps heads) next) (sym (ap (heads_of root) c.in-Step.is ∙ heads_of_step root step))))
+    ∙ ((λ i. link_to (record { symbol = symbol_told root step.symbol; decl = decl_told root step.symbol.module_id step.symbol_decl; parts = c.in_ok-same-in-Step.ensures i }) next)
+    ∙ ap (λ heads. below_links (heads_under ps heads) next) (sym (ap (heads_of root) c.in-Step.is ∙ heads_of_step root step))))
 
 pub lay_one_under-returns-in-Step-clause-stored : goal.lay_one_under-returns-in-Step-clause-stored
 lay_one_under-returns-in-Step-clause-stored t c =
@@ -53,7 +54,7 @@ lay_one_under-returns-clause-told t c =
     let x = c.in-Under in
     on_answer c.lay_under.result c.lay_under.ensures.told (λ paths told root.
     told root
-    ∙ ap (λ heads. linked heads (forest_told root c.args.next.items)) (sym (ap (λ stretch. heads_under ps (heads_of root stretch)) x.is ∙ (ap (heads_under ps) (heads_of_under root x.field-0 x.inner) ∙ under_twice ps (parts_told x.field-0) (heads_in root x.inner.items)))))
+    ∙ ap (λ heads. below_links heads (forest_told root c.args.next.items)) (sym (ap (λ stretch. heads_under ps (heads_of root stretch)) x.is ∙ (ap (heads_under ps) (heads_of_under root x.field-0 x.inner) ∙ under_twice ps (parts_told x.field-0) (heads_in root x.inner.items)))))
 
 pub lay_one_under-returns-clause-stored : goal.lay_one_under-returns-clause-stored
 lay_one_under-returns-clause-stored t c =

@@ -1,5 +1,5 @@
 use Rattle.std.proofs.Common.{Some}
-use Rattle.symbols_paths.specs.Trails.{parts_told}
+use Rattle.symbols_paths.specs.inner.Trails.{parts_told}
 use Rattle.symbols_paths.proofs.Unrolling.{AreLaid}
 use Rattle.symbols_paths.proofs.paths.unroll.+laying.Given as goal
 

@@ -1,8 +1,8 @@
 use Rattle.std.proofs.Common.{◌++◌, ◌∷◌, [], Result, Ok, Err, IfOk, ap, sym, subst, ◌∙◌, arith}
 use Rattle.std.proofs.lemmas.List.{nil_from_length}
-use Rattle.symbols_paths.specs.Trees.{join}
+use Rattle.symbols_paths.specs.Trees.{joined_forests}
 use Rattle.symbols_paths.specs.Views.{module_of_end, forest_told, modules_in, AreStored}
-use Rattle.symbols_paths.specs.Trails.{heads_in, linked, trail_told, modules_of_stretches, modules_of_trail, modules_of_trails}
+use Rattle.symbols_paths.specs.inner.Trails.{heads_in, below_links, trail_told, modules_of_stretches, modules_of_trail, modules_of_trails}
 use Rattle.symbols_paths.proofs.Trailing.{told_to, told_fork, modules_to, modules_fork, stored_apart}
 use Rattle.symbols_paths.proofs.Unrolling.{AreUnrolled, unrolled_first, unrolled_next, unrolled_last, forest_on, paths_stored}
 use Rattle.symbols_paths.proofs.paths.unroll.+unrolling.Goals as goal
@@ -33,7 +33,7 @@ nodes_of_one-returns-in_ok-next-in-To-clause-told t c =
     let x = c.in-To in
     on_answer c.lay.result c.lay.ensures.told (λ paths told root.
     told root
-    ∙ (ap (linked (heads_in root x.stretches.items)) (c.in_ok-next-in-To.ensures.told root)
+    ∙ (ap (below_links (heads_in root x.stretches.items)) (c.in_ok-next-in-To.ensures.told root)
     ∙ (sym (told_to root x.stretches x.end) ∙ ap (trail_told root) (sym x.is))))
 
 pub nodes_of_one-returns-in_ok-next-in-To-clause-stored : goal.nodes_of_one-returns-in_ok-next-in-To-clause-stored
@@ -48,10 +48,10 @@ nodes_of_one-returns-in_ok-append-in-Fork-clause-told t c =
     let x = c.in-Fork in
     on_answer c.lay-in-Fork.result c.lay-in-Fork.ensures.told (λ paths told root.
     told root
-    ∙ (ap (linked (heads_in root x.stretches.items))
+    ∙ (ap (below_links (heads_in root x.stretches.items))
     (ap (forest_told root) c.in_ok-append-in-Fork.ensures.items
     ∙ (forest_on root c.in_ok-next-in-Fork.next.items c.in_ok-more-in-Fork.more.items
-    ∙ (λ i. join (c.in_ok-next-in-Fork.ensures.told root i) ((c.in_ok-more-in-Fork.ensures.told root ∙ ap (trail_told root) c.into_inner.ensures) i))))
+    ∙ (λ i. joined_forests (c.in_ok-next-in-Fork.ensures.told root i) ((c.in_ok-more-in-Fork.ensures.told root ∙ ap (trail_told root) c.into_inner.ensures) i))))
     ∙ (sym (told_fork root x.stretches x.others x.last) ∙ ap (trail_told root) (sym x.is))))
 
 pub nodes_of_one-returns-in_ok-append-in-Fork-clause-stored : goal.nodes_of_one-returns-in_ok-append-in-Fork-clause-stored

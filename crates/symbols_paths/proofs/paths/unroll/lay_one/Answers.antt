@@ -1,6 +1,6 @@
 use Rattle.std.proofs.Common.{Result, Ok, Err, IfOk, ap, sym, subst, ◌∙◌, arith}
 use Rattle.symbols_paths.specs.Views.{forest_told, AreStored}
-use Rattle.symbols_paths.specs.Trails.{heads_of, linked, modules_of_stretch}
+use Rattle.symbols_paths.specs.inner.Trails.{heads_of, below_links, modules_of_stretch}
 use Rattle.symbols_paths.proofs.Trailing.{heads_of_step, heads_of_under, modules_of_one_step, modules_of_under}
 use Rattle.symbols_paths.proofs.paths.unroll.lay_one.Goals as goal
 
@@ -11,7 +11,7 @@ on_answer (Err e) h f = tt
 pub returns-in-Step-clause-told : goal.returns-in-Step-clause-told
 returns-in-Step-clause-told c =
     on_answer c.link_before.result c.link_before.ensures.told (λ paths told root.
-    told root ∙ ap (λ heads. linked heads (forest_told root c.args.next.items)) (sym (ap (heads_of root) c.in-Step.is ∙ heads_of_step root c.in-Step.step)))
+    told root ∙ ap (λ heads. below_links heads (forest_told root c.args.next.items)) (sym (ap (heads_of root) c.in-Step.is ∙ heads_of_step root c.in-Step.step)))
 
 pub returns-in-Step-clause-stored : goal.returns-in-Step-clause-stored
 returns-in-Step-clause-stored c =
@@ -23,7 +23,7 @@ returns-in-Under-clause-told c =
     let x = c.in-Under in
     on_answer c.lay_under.result c.lay_under.ensures.told (λ paths told root.
     told root
-    ∙ ap (λ heads. linked heads (forest_told root c.args.next.items)) (sym (ap (heads_of root) x.is ∙ heads_of_under root x.parts x.inner)))
+    ∙ ap (λ heads. below_links heads (forest_told root c.args.next.items)) (sym (ap (heads_of root) x.is ∙ heads_of_under root x.parts x.inner)))
 
 pub returns-in-Under-clause-stored : goal.returns-in-Under-clause-stored
 returns-in-Under-clause-stored c =

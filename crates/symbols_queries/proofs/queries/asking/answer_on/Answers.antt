@@ -11,26 +11,30 @@ on_fault : {A : Type 0} {P Q : SymbolsFault → Type 0} (r : Result A SymbolsFau
 on_fault (Ok x) h f = tt
 on_fault (Err e) h f = f e h
 
-pub returns-in-Module-clause-kept : goal.returns-in-Module-clause-kept
-returns-in-Module-clause-kept c = grown_not c.args.root.now
+pub returns-in-Module-clause-keeps : goal.returns-in-Module-clause-keeps
+returns-in-Module-clause-keeps c = record { grown = grown_not c.args.root.now; refused = tt; enough = λ wide. tt }
 
 pub returns-in-Module-clause-given : goal.returns-in-Module-clause-given
 returns-in-Module-clause-given c = rw c.in-Module.is (module_given c.args.root.now c.args.module_id c.specifier_of.result.now c.requires c.specifier_of.ensures)
 
-pub returns-in-Symbol-clause-kept : goal.returns-in-Symbol-clause-kept
-returns-in-Symbol-clause-kept c = grown_not c.args.root.now
+pub returns-in-Symbol-clause-keeps : goal.returns-in-Symbol-clause-keeps
+returns-in-Symbol-clause-keeps c = record { grown = grown_not c.args.root.now; refused = tt; enough = λ wide. tt }
 
 pub returns-in-Symbol-clause-given : goal.returns-in-Symbol-clause-given
 returns-in-Symbol-clause-given c = rw c.in-Symbol.is (symbol_given c.args.root.now c.args.module_id (id_view c.in-Symbol.id) c.mapped_symbol.result c.requires c.mapped_symbol.ensures)
 
-pub returns-in-Name-clause-kept : goal.returns-in-Name-clause-kept
-returns-in-Name-clause-kept c = grown_not c.args.root.now
+pub returns-in-Name-clause-keeps : goal.returns-in-Name-clause-keeps
+returns-in-Name-clause-keeps c =
+    record {
+      grown = grown_not c.args.root.now;
+      refused = rw c.in-Name.is c.name_answer.ensures.faults;
+      enough = λ wide. on_fault c.name_answer.result c.name_answer.ensures.faults (λ f is. no_refusal c.args.root.now (specifier_in c.args.root.now c.args.module_id) (asks_name c.in-Name.symbol) f (λ v w. w) is);
+    }
 
-pub returns-in-Deps-clause-kept : goal.returns-in-Deps-clause-kept
-returns-in-Deps-clause-kept c = grown_not c.args.root.now
-
-pub returns-in-Name-clause-enough : goal.returns-in-Name-clause-enough
-returns-in-Name-clause-enough c = λ wide. on_fault c.name_answer.result c.name_answer.ensures.faults (λ f is. no_refusal c.args.root.now (specifier_in c.args.root.now c.args.module_id) (asks_name c.in-Name.symbol) f (λ v w. w) is)
-
-pub returns-in-Deps-clause-enough : goal.returns-in-Deps-clause-enough
-returns-in-Deps-clause-enough c = λ wide. on_fault c.deps_answer.result c.deps_answer.ensures.faults (λ f is. no_refusal c.args.root.now (specifier_in c.args.root.now c.args.module_id) (asks_deps c.in-Deps.symbol c.in-Deps.mode) f (λ v w. w) is)
+pub returns-in-Deps-clause-keeps : goal.returns-in-Deps-clause-keeps
+returns-in-Deps-clause-keeps c =
+    record {
+      grown = grown_not c.args.root.now;
+      refused = rw c.in-Deps.is c.deps_answer.ensures.faults;
+      enough = λ wide. on_fault c.deps_answer.result c.deps_answer.ensures.faults (λ f is. no_refusal c.args.root.now (specifier_in c.args.root.now c.args.module_id) (asks_deps c.in-Deps.symbol c.in-Deps.mode) f (λ v w. w) is);
+    }

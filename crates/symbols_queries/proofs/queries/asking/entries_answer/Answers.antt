@@ -1,4 +1,4 @@
-use Rattle.std.proofs.Common.{map, sym, subst, ◌∙◌}
+use Rattle.std.proofs.Common.{map, sym, subst, ◌∙◌, rules}
 use Rattle.std.specs.Prelude.{All, Contains, flat_map}
 use Rattle.symbols_nodes.specs.References.{reference_view}
 use Rattle.symbols_root.specs.Roots.{specifier_in}
@@ -10,12 +10,21 @@ use Rattle.symbols_queries.proofs.Asking.{memory_refused, entries_given, entries
 use Rattle.symbols_queries.proofs.PathModules.{entries_there}
 use Rattle.symbols_queries.proofs.queries.asking.entries_answer.Goals as goal
 
-pub returns-in-Err-clause-faults : goal.returns-in-Err-clause-faults
-returns-in-Err-clause-faults c = entries_refused c.args.root.now c.resolve_symbol_dep.new.self c.args.module_id (reference_view c.args.dep.now) c.in-Err.fault c.in-Err.ensures.kept c.requires c.in-Err.ensures.faults
+pub returns-in-Err-clause-keeps : goal.returns-in-Err-clause-keeps
+returns-in-Err-clause-keeps c =
+    record {
+      grown = c.in-Err.ensures.kept;
+      refused = entries_refused c.args.root.now c.resolve_symbol_dep.new.self c.args.module_id (reference_view c.args.dep.now) c.in-Err.fault c.in-Err.ensures.kept c.requires c.in-Err.ensures.faults;
+      enough = c.in-Err.ensures.enough c.requires;
+    }
 
-pub returns-in_err-named_entries-in-Ok-clause-faults : goal.returns-in_err-named_entries-in-Ok-clause-faults
-returns-in_err-named_entries-in-Ok-clause-faults c =
-    memory_refused c.from_residual.result c.args.root.now c.resolve_symbol_dep.new.self (specifier_in c.args.root.now c.args.module_id) (asks_entries (reference_view c.args.dep.now)) (entries_answered c.args.root.now.rules c.args.root.now.graph (specifier_in c.args.root.now c.args.module_id) (reference_view c.args.dep.now)) c.from_residual.ensures.1
+pub returns-in_err-named_entries-in-Ok-clause-keeps : goal.returns-in_err-named_entries-in-Ok-clause-keeps
+returns-in_err-named_entries-in-Ok-clause-keeps c =
+    record {
+      grown = c.in-Ok.ensures.kept;
+      refused = memory_refused c.from_residual.result c.args.root.now c.resolve_symbol_dep.new.self (specifier_in c.args.root.now c.args.module_id) (asks_entries (reference_view c.args.dep.now)) (entries_answered c.args.root.now.rules c.args.root.now.graph (specifier_in c.args.root.now c.args.module_id) (reference_view c.args.dep.now)) c.from_residual.ensures.1;
+      enough = search rules;
+    }
 
 pub returns-in_ok-named_entries-in-Ok-clause-given : goal.returns-in_ok-named_entries-in-Ok-clause-given
 returns-in_ok-named_entries-in-Ok-clause-given c =

@@ -1,4 +1,4 @@
-use Rattle.std.proofs.Common.{map, option_map}
+use Rattle.std.proofs.Common.{map, option_map, rules}
 use Rattle.symbols_root.specs.Roots.{specifier_in}
 use Rattle.symbols_exports.specs.Taking.{names_view, shared_views, unresolved_told}
 use Rattle.symbols_answers.specs.Questions.{asks_exports}
@@ -6,11 +6,21 @@ use Rattle.symbols_queries.specs.AnswerViews.{statement_view, export_view, shari
 use Rattle.symbols_queries.proofs.Asking.{memory_refused, exports_given, exports_answered, exports_refused}
 use Rattle.symbols_queries.proofs.queries.asking.exports_answer.Goals as goal
 
-pub returns-in-Err-clause-faults : goal.returns-in-Err-clause-faults
-returns-in-Err-clause-faults c = exports_refused c.args.root.now c.exports.new.root c.args.module_id c.in-Err.fault c.in-Err.ensures.faults.0 c.requires c.in-Err.ensures.faults.1
+pub returns-in-Err-clause-keeps : goal.returns-in-Err-clause-keeps
+returns-in-Err-clause-keeps c =
+    record {
+      grown = c.in-Err.ensures.kept;
+      refused = exports_refused c.args.root.now c.exports.new.root c.args.module_id c.in-Err.fault c.in-Err.ensures.faults.0 c.requires c.in-Err.ensures.faults.1;
+      enough = c.in-Err.ensures.enough c.requires;
+    }
 
-pub returns-in_err-named_exports-in-Ok-clause-faults : goal.returns-in_err-named_exports-in-Ok-clause-faults
-returns-in_err-named_exports-in-Ok-clause-faults c = memory_refused c.from_residual.result c.args.root.now c.exports.new.root (specifier_in c.args.root.now c.args.module_id) asks_exports (exports_answered c.args.root.now.rules c.args.root.now.graph (specifier_in c.args.root.now c.args.module_id)) c.from_residual.ensures.1
+pub returns-in_err-named_exports-in-Ok-clause-keeps : goal.returns-in_err-named_exports-in-Ok-clause-keeps
+returns-in_err-named_exports-in-Ok-clause-keeps c =
+    record {
+      grown = c.in-Ok.ensures.kept;
+      refused = memory_refused c.from_residual.result c.args.root.now c.exports.new.root (specifier_in c.args.root.now c.args.module_id) asks_exports (exports_answered c.args.root.now.rules c.args.root.now.graph (specifier_in c.args.root.now c.args.module_id)) c.from_residual.ensures.1;
+      enough = search rules;
+    }
 
 pub returns-in_ok-named_exports-in-Ok-clause-given : goal.returns-in_ok-named_exports-in-Ok-clause-given
 returns-in_ok-named_exports-in-Ok-clause-given c =

@@ -1,4 +1,4 @@
-use Rattle.std.proofs.Common.{ℕ, List, map, refl, sym, ap, subst, ◌∙◌}
+use Rattle.std.proofs.Common.{ℕ, List, map, refl, sym, ap, subst, ◌∙◌, rules}
 use Rattle.std.specs.Prelude.{All, Contains}
 use Rattle.symbols_syntax.specs.Graph.{GraphView}
 use Rattle.symbols_root.specs.Roots.{specifier_in}
@@ -12,19 +12,24 @@ use Rattle.symbols_queries.proofs.Asking.{memory_refused, paths_given, paths_ans
 use Rattle.symbols_queries.proofs.PathModules.{ends_there}
 use Rattle.symbols_queries.proofs.queries.asking.leaves_answer.Goals as goal
 
-pub returns-in-Err-clause-faults : goal.returns-in-Err-clause-faults
-returns-in-Err-clause-faults c =
+pub returns-in-Err-clause-keeps : goal.returns-in-Err-clause-keeps
+returns-in-Err-clause-keeps c =
     let s = c.args.symbol in
-    paths_refused (asks_leaves s) s (λ (paths : Forest). tells_leaves (leaves_in paths)) (λ rules graph specifier. refl) (λ rules graph specifier given is. is) (λ graph specifier v is. is) (λ is. is) c.args.root.now c.go_to_definitions_or_unresolveds.new.self c.args.module_id c.in-Err.fault c.in-Err.ensures.kept c.requires c.in-Err.ensures.faults
+    record {
+      grown = c.in-Err.ensures.kept;
+      refused = paths_refused (asks_leaves s) s (λ (paths : Forest). tells_leaves (leaves_in paths)) (λ rules graph specifier. refl) (λ rules graph specifier given is. is) (λ graph specifier v is. is) (λ is. is) c.args.root.now c.go_to_definitions_or_unresolveds.new.self c.args.module_id c.in-Err.fault c.in-Err.ensures.kept c.requires c.in-Err.ensures.faults;
+      enough = λ wide. paths_enough c.args.root.now c.go_to_definitions_or_unresolveds.new.self c.args.module_id c.args.symbol c.in-Err.fault c.requires c.in-Err.ensures.faults (λ has. c.in-Err.ensures.enough (c.requires, has) wide);
+    }
 
-pub returns-in-Err-clause-enough : goal.returns-in-Err-clause-enough
-returns-in-Err-clause-enough c = λ wide. paths_enough c.args.root.now c.go_to_definitions_or_unresolveds.new.self c.args.module_id c.args.symbol c.in-Err.fault c.requires c.in-Err.ensures.faults (c.in-Err.ensures.enough wide c.requires)
-
-pub returns-in_err-named_ends-in-Ok-clause-faults : goal.returns-in_err-named_ends-in-Ok-clause-faults
-returns-in_err-named_ends-in-Ok-clause-faults c =
+pub returns-in_err-named_ends-in-Ok-clause-keeps : goal.returns-in_err-named_ends-in-Ok-clause-keeps
+returns-in_err-named_ends-in-Ok-clause-keeps c =
     let s = c.args.symbol in
     let has = paths_answered (asks_leaves s) s (λ (paths : Forest). tells_leaves (leaves_in paths)) (λ rules graph specifier. refl) (λ rules graph specifier given is. is) (λ graph specifier v is. is) (λ is. is) c.args.root.now c.args.module_id c.in-Ok.ensures.known.1 in
-    memory_refused c.from_residual.result c.args.root.now c.go_to_definitions_or_unresolveds.new.self (specifier_in c.args.root.now c.args.module_id) (asks_leaves c.args.symbol) has c.from_residual.ensures.1
+    record {
+      grown = c.in-Ok.ensures.kept;
+      refused = memory_refused c.from_residual.result c.args.root.now c.go_to_definitions_or_unresolveds.new.self (specifier_in c.args.root.now c.args.module_id) (asks_leaves c.args.symbol) has c.from_residual.ensures.1;
+      enough = search rules;
+    }
 
 pub returns-in_ok-named_ends-in-Ok-clause-given : goal.returns-in_ok-named_ends-in-Ok-clause-given
 returns-in_ok-named_ends-in-Ok-clause-given c =

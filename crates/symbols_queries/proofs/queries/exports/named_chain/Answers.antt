@@ -11,8 +11,8 @@ use Rattle.symbols_queries.proofs.queries.exports.named_chain.Goals as goal
 pub named_statement-requires : goal.named_statement-requires
 named_statement-requires c = way_first c.args.root.now (rests_left c.loop-rest.rest-iterator) c.in-Some.rest.now (rests_left c.next.new.self) c.in-ReExportAllPath.re_export c.in-Some.ensures.steps c.in-ReExportAllPath.is c.loop-rest.invariant.known
 
-pub loop-rest-preserved-in-Continue-1 : goal.loop-rest-preserved-in-Continue-1
-loop-rest-preserved-in-Continue-1 c =
+pub loop-rest-preserved-in-Continue-branch-2 : goal.loop-rest-preserved-in-Continue-branch-2
+loop-rest-preserved-in-Continue-branch-2 c =
     let root = c.args.root.now in
     let at = c.in-ReExportAllPath.re_export in
     let left = rests_left c.loop-rest.rest-iterator in

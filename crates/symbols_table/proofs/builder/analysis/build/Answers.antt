@@ -6,8 +6,8 @@ use Rattle.symbols_table.specs.DeclViews.{decl_view}
 use Rattle.symbols_table.specs.Events.{changes_of}
 use Rattle.symbols_table.specs.TreeEvents.{root_of, root_decl}
 use Rattle.symbols_table.specs.Analysis.{tree_changes}
-use Rattle.symbols_table.specs.Levels.{AreAbove}
-use Rattle.symbols_table.specs.Tables.{IsTableOf}
+use Rattle.symbols_table.specs.inner.Levels.{AreAbove}
+use Rattle.symbols_table.specs.inner.Tables.{IsTableOf}
 use Rattle.symbols_table.specs.Laws.{AreLawful}
 use Rattle.symbols_table.proofs.Walks.{first_row}
 use Rattle.symbols_table.proofs.ItemWalks.{list_above}
@@ -37,7 +37,7 @@ returns-clause-table c =
     let built = c.walk_items.new.self in
     let is : IsTableOf built (tree_changes tree) = tree_read tree c.body.result.now built c.body.ensures read in
     let kept : built.setting ≡ c.args.setting = c.in_ok-walk_items.ensures.keeps.setting ∙ c.in_ok-builder.ensures.setting in
-    record {
+    rw c.without_room.ensures record {
       number = refl;
       specifier = refl;
       source = refl;
@@ -75,10 +75,10 @@ invariant_of-result c =
     record {
       well_formed = c.requires.well_formed;
       faultless = c.requires.faultless;
-      has_module = omega (arith, c.in_ok-walk_items.ensures.keeps.longer, c.in_ok-builder.ensures.module);
-      lawful = subst (λ (s : Setting). AreLawful s.module_id built.symbols.items) kept (are_lawful built (tree_changes tree) is);
-      few = are_few_of tree built is c.args.text.now c.requires.faultless c.requires.well_formed;
-      named = are_names built (tree_changes tree) is;
-      declared = are_declared tree built is first;
+      has_module = rw c.without_room.ensures (omega (arith, c.in_ok-walk_items.ensures.keeps.longer, c.in_ok-builder.ensures.module));
+      lawful = rw c.without_room.ensures (subst (λ (s : Setting). AreLawful s.module_id built.symbols.items) kept (are_lawful built (tree_changes tree) is));
+      few = rw c.without_room.ensures (are_few_of tree built is c.args.text.now c.requires.faultless c.requires.well_formed);
+      named = rw c.without_room.ensures (are_names built (tree_changes tree) is);
+      declared = rw c.without_room.ensures (are_declared tree built is first);
       starred = are_stars tree built is first;
     }

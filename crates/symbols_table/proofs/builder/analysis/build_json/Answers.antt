@@ -5,7 +5,7 @@ use Rattle.symbols_table.specs.DeclViews.{decl_view, definition, declaration_at}
 use Rattle.symbols_table.specs.Events.{changes_of}
 use Rattle.symbols_table.specs.JsonEvents.{json_decl}
 use Rattle.symbols_table.specs.Analysis.{json_changes}
-use Rattle.symbols_table.specs.Tables.{IsTableOf}
+use Rattle.symbols_table.specs.inner.Tables.{IsTableOf}
 use Rattle.symbols_table.specs.Laws.{AreLawful}
 use Rattle.symbols_table.proofs.Walks.{first_row}
 use Rattle.symbols_table.proofs.ExportLaws.{are_exports}

@@ -1,4 +1,4 @@
-use Rattle.symbols_table.specs.Tables.{symbol_named}
+use Rattle.symbols_table.specs.inner.Tables.{symbol_named}
 use Rattle.symbols_table.proofs.LocalNames.{no_entry}
 use Rattle.symbols_table.proofs.builder.table.add_name.Goals as goal
 

@@ -1,5 +1,5 @@
 use Rattle.std.proofs.Common.{◌++◌, string_bytes, ap, ◌∙◌}
-use Rattle.symbols_table.specs.NamePaths.{text_told}
+use Rattle.symbols_table.specs.inner.NamePaths.{text_told}
 use Rattle.symbols_table.proofs.NamePaths.{one_taken}
 use Rattle.symbols_table.proofs.info.qualified_name.text_of.Goals as goal
 

@@ -1,5 +1,5 @@
 use Rattle.std.proofs.Common.{◌≡◌, ◌++◌, length, string_bytes}
-use Rattle.symbols_table.specs.NamePaths.{text_told}
+use Rattle.symbols_table.specs.inner.NamePaths.{text_told}
 use Rattle.symbols_table.proofs.info.qualified_name.text_of.Given as goal
 
 abbrev pub invariant-loop-piece : goal.invariant-loop-piece

@@ -1,5 +1,5 @@
 use Rattle.std.proofs.Common.{ap, ◌∙◌}
-use Rattle.symbols_table.specs.NamePaths.{text_told}
+use Rattle.symbols_table.specs.inner.NamePaths.{text_told}
 use Rattle.symbols_table.proofs.NamePaths.{piece_first}
 use Rattle.symbols_table.proofs.info.qualified_name.with_piece.Goals as goal
 

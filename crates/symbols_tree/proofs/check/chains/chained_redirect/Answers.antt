@@ -2,7 +2,7 @@ use Rattle.std.proofs.Common.{◌||◌, Bool, ◌∙◌, sym, ap, subst, take, m
 use Rattle.std.specs.List.{list_any}
 use Rattle.std.specs.Str.{bytes_eq}
 use Rattle.symbols_syntax.specs.Graph.{redirect_view}
-use Rattle.symbols_tree.specs.GraphFaults.{sources, IsChained}
+use Rattle.symbols_tree.specs.GraphFaults.{redirect_sources, IsChained}
 use Rattle.symbols_tree.proofs.ChainLemmas.{source_more, target_told, chained_at, unchained_more, unchained_all, gained}
 use Rattle.symbols_tree.proofs.check.chains.chained_redirect.Goals as goal
 
@@ -11,7 +11,7 @@ loop-source-preserved c = λ q.
     let test : List ℕ → Bool = λ y. bytes_eq y q.now in
     let more = source_more c.args.redirects.now test c.loop-source.source-index c.loop-source-item.result c.loop-source-test.true c.loop-source-item.is in
     gained (bytes_eq c.as_str.result.now q.now) _ _ _ (c.in_ok-insert.ensures.updates.0 q) (c.loop-source.invariant q)
-    (more ∙ ap (λ t. list_any test (take c.loop-source.source-index (sources (map redirect_view c.args.redirects.now))) || test t) (sym c.as_str.ensures.value))
+    (more ∙ ap (λ t. list_any test (take c.loop-source.source-index (redirect_sources (map redirect_view c.args.redirects.now))) || test t) (sym c.as_str.ensures.value))
 
 pub returns-then-contains : goal.returns-then-contains
 returns-then-contains c =

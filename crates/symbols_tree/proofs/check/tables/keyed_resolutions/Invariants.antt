@@ -2,7 +2,7 @@ use Rattle.std.proofs.Common.{◌≡◌, ℕ, List, length, map, take}
 use Rattle.std.specs.String.{string_eq}
 use Rattle.indexmap.specs.IndexMap.{IsUnique}
 use Rattle.symbols_syntax.specs.Graph.{resolution_view, found_resolution}
-use Rattle.symbols_tree.specs.CheckSteps.{found_in_maps}
+use Rattle.symbols_tree.specs.inner.CheckSteps.{found_in_maps}
 use Rattle.symbols_tree.proofs.check.tables.keyed_resolutions.Given as goal
 
 abbrev pub invariant-loop-row : goal.invariant-loop-row

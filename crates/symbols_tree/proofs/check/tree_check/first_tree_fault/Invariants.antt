@@ -1,5 +1,5 @@
 use Rattle.std.proofs.Common.{◌+◌, ◌*◌, ◌^◌, ◌<◌, length}
-use Rattle.symbols_tree.specs.Depths.{HasDepths}
+use Rattle.symbols_tree.specs.inner.Depths.{HasDepths}
 use Rattle.symbols_syntax.specs.TreeFaults.{NoneBelow}
 use Rattle.symbols_tree.proofs.check.tree_check.first_tree_fault.Given as goal
 

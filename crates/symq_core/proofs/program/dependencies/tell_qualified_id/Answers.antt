@@ -7,4 +7,4 @@ returns c =
     let name = written (rw c.as_str.ensures.value at c.in_ok-string-2.ensures) in
     let scope = written (rw c.from.ensures at c.in_ok-u64.ensures) in
     let front = then (then (written c.in_ok-begin_array.ensures) (written c.in_ok-string.ensures)) (then name scope) in
-    on_ok_weaker c.end_array.result (λ e. then front (then c.in_ok-tell_parts.ensures (record { before = c.end_array.ensures.room.0; tokens = e }))) c.end_array.ensures.ok
+    on_ok_weaker c.end_array.result (λ e. then front (then c.in_ok-tell_items.ensures (record { before = c.end_array.ensures.room.0; tokens = e }))) c.end_array.ensures.ok

@@ -4,5 +4,6 @@ use Rattle.symq_core.proofs.program.exporting.tell_exports.Goals as goal
 
 pub returns : goal.returns
 returns c =
-    let front = then (then (written c.in_ok-begin_object.ensures) (written c.in_ok-key.ensures)) (written c.in_ok-begin_array.ensures) in
-    on_ok_weaker c.end_exports.result (λ e. then front (then c.in_ok-tell_names.ensures e)) c.end_exports.ensures
+    let exports = rw c.deref.ensures.value at c.in_ok-tell_items.ensures in
+    let front = then (then (written c.in_ok-begin_object.ensures) (written c.in_ok-key.ensures)) exports in
+    on_ok_weaker c.end_exports.result (λ e. then front e) c.end_exports.ensures

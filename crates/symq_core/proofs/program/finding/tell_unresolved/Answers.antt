@@ -5,8 +5,7 @@ use Rattle.symq_core.proofs.program.finding.tell_unresolved.Goals as goal
 pub returns : goal.returns
 returns c =
     let kind = rw c.reason_word.ensures at c.in_ok-add_text.ensures in
-    let named = rw c.specifier_of.ensures at c.in_ok-add_text-2.ensures in
     let name = rw c.reason_name.ensures at c.in_ok-add_text-3.ensures in
-    let front = then (then (written c.in_ok-begin_object.ensures) kind) (then named name) in
-    let parts = then (written c.in_ok-key.ensures) (rw c.as_slice.ensures.value at c.in_ok-tell_texts.ensures) in
+    let front = then (then (written c.in_ok-begin_object.ensures) kind) (then c.in_ok-add_text-2.ensures name) in
+    let parts = then (written c.in_ok-key.ensures) (rw c.as_slice.ensures.value at c.in_ok-tell_items.ensures) in
     on_ok_weaker c.end_unresolved.result (λ e. then front (then parts e)) c.end_unresolved.ensures

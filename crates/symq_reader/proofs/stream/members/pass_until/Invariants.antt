@@ -2,8 +2,8 @@ use Rattle.std.proofs.Common.{◌≡◌, length, true, None}
 use Rattle.json.specs.Json as json
 use Rattle.json.specs.Find.{get_member}
 use Rattle.json.specs.Value.{members_view}
-use Rattle.symq_reader.specs.Plain.{members_fit}
-use Rattle.symq_reader.specs.Streams.{Took, joined}
+use Rattle.symq_reader.specs.inner.JsonData.{members_fit}
+use Rattle.symq_reader.specs.inner.Streams.{Took, members_joined}
 use Rattle.symq_reader.proofs.stream.members.pass_until.Given as goal
 
 -- the members that were taken, each kept, stand before those to come
@@ -12,7 +12,7 @@ invariant-members l =
     (done : json.Members) × Took l.depth l.initial.reader done l.reader
     × (members_fit done ≡ true)
     × (get_member l.key done ≡ None)
-    × (members_view l.kept.items ≡ joined (members_view l.initial.kept.items) done)
+    × (members_view l.kept.items ≡ members_joined (members_view l.initial.kept.items) done)
 
 abbrev pub decreases-members : goal.decreases-members
 decreases-members l = length l.reader

@@ -1,28 +1,11 @@
-use Rattle.std.proofs.Common.{◌≡◌, ◌<◌, length, map, Some, None, refl, sym, ap, arith, rules}
-use Rattle.json.specs.Json.{after_end_array, no_items}
-use Rattle.symq_reader.specs.GraphText.{as_module, module_shape}
-use Rattle.symq_reader.proofs.Taking.{took_no_items}
-use Rattle.symq_reader.proofs.Streamed.{reads_shorter, items_turn, items_done}
+use Rattle.std.proofs.Common.{List, [], sym, subst, rules}
+use Rattle.symbols_syntax.specs.declared.graph.raw.RawModule.{RawModule}
+use Rattle.symq_reader.specs.inner.Pieces.{ReadsMore}
+use Rattle.symq_reader.proofs.Pieces.{more_items}
 use Rattle.symq_reader.proofs.stream.modules.module_items.Goals as goal
-
-pub items-init : goal.items-init
-items-init c = (no_items, took_no_items 125 c.args.reader.now, refl, ap (λ xs. Some (map module_shape xs)) (sym c.new-found.ensures.items))
-
-pub items-smaller : goal.items-smaller
-items-smaller c =
-    let stays : (after_end_array c.items.reader ≡ None) × (c.take_end_array.new.self ≡ c.items.reader) = grind arith in
-    let less : length c.module.new.reader < length c.take_end_array.new.self = reads_shorter 125 _ _ as_module _ c.in_ok-module.ensures in
-    let same : length c.take_end_array.new.self ≡ length c.items.reader = ap length stays.1 in
-    omega arith
-
-pub items-preserved : goal.items-preserved
-items-preserved c =
-    let l = c.items in
-    let stays : (after_end_array l.reader ≡ None) × (c.take_end_array.new.self ≡ l.reader) = grind arith in
-    items_turn as_module module_shape 125 c.args.reader.now l.reader c.take_end_array.new.self c.module.new.reader l.invariant.0 l.found.items c.push.new.self.items c.in_ok-module.field-0 l.invariant.1 l.invariant.2 l.invariant.3 stays.0 stays.1
-    c.in_ok-module.ensures (search rules)
 
 pub returns : goal.returns
 returns c =
-    let l = c.items in
-    items_done as_module 125 c.args.reader.now l.reader c.take_end_array.new.self l.invariant.0 (map module_shape l.found.items) l.invariant.1 l.invariant.2 l.invariant.3 (grind arith)
+    let reads : ReadsMore c.args.reader.now c.more_modules.new.reader [] c.more_modules.new.found.items = search rules in
+    let kept : List RawModule = c.shrink_to_fit.new.self.items in
+    more_items c.args.reader.now c.more_modules.new.reader kept (subst (ReadsMore c.args.reader.now c.more_modules.new.reader []) (sym c.shrink_to_fit.ensures.items) reads)

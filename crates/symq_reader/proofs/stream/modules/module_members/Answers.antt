@@ -3,7 +3,7 @@ use Rattle.json.proofs.Trees.{view-Object}
 use Rattle.json.specs.Json.{object}
 use Rattle.json.specs.Value.{members_view}
 use Rattle.symq_reader.specs.GraphText.{as_module, module_shape, tree_shape}
-use Rattle.symq_reader.specs.Plain.{plain}
+use Rattle.symq_reader.specs.JsonData.{json_data}
 use Rattle.symq_reader.proofs.Parts.{module_whole}
 use Rattle.symq_reader.proofs.stream.modules.module_members.Goals as goal
 
@@ -13,7 +13,7 @@ returns c =
     let kept = members_view c.tree_among.new.kept.items in
     let read = module_shape c.in_ok-found.found in
     let tree = option_map tree_shape c.in_ok-tree.tree in
-    let around : as_module (plain (object kept)) ≡ Some read = ap (λ j. as_module (plain j)) (sym (view-Object c.tree_among.new.kept)) ∙ c.in_ok-found.ensures in
+    let around : as_module (json_data (object kept)) ≡ Some read = ap (λ j. as_module (json_data j)) (sym (view-Object c.tree_among.new.kept)) ∙ c.in_ok-found.ensures in
     record {
       all = h.1.all;
       read = h.1.read;

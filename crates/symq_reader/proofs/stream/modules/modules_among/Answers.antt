@@ -1,7 +1,7 @@
 use Rattle.std.proofs.Common.{map, codes, Some, sym, ap, rules}
 use Rattle.json.specs.Value.{members_view}
 use Rattle.symq_reader.specs.GraphText.{as_module, module_shape}
-use Rattle.symq_reader.specs.Streams.{list_at}
+use Rattle.symq_reader.specs.inner.Streams.{list_at}
 use Rattle.symq_reader.proofs.Streamed.{among_none, among_one}
 use Rattle.symq_reader.proofs.stream.modules.modules_among.Goals as goal
 

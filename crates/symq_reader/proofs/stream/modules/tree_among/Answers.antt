@@ -1,7 +1,7 @@
 use Rattle.std.proofs.Common.{option_map, codes, None, refl, ap, rules}
 use Rattle.json.specs.Value.{members_view}
 use Rattle.symq_reader.specs.GraphText.{as_tree, tree_shape}
-use Rattle.symq_reader.specs.Streams.{optional_at}
+use Rattle.symq_reader.specs.inner.Streams.{optional_at}
 use Rattle.symq_reader.proofs.Streamed.{among_none, among_one}
 use Rattle.symq_reader.proofs.stream.modules.tree_among.Goals as goal
 

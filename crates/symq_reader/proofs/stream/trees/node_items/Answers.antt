@@ -1,4 +1,4 @@
-use Rattle.std.proofs.Common.{◌≡◌, ◌<◌, length, map, Some, None, refl, sym, ap, arith, rules}
+use Rattle.std.proofs.Common.{◌≡◌, ◌<◌, length, map, Some, None, refl, sym, ap, ◌∙◌, arith, rules}
 use Rattle.json.specs.Json.{after_end_array, no_items}
 use Rattle.symq_reader.specs.GraphText.{as_node, node_shape}
 use Rattle.symq_reader.proofs.Taking.{took_no_items}
@@ -25,4 +25,6 @@ items-preserved c =
 pub returns : goal.returns
 returns c =
     let l = c.items in
-    items_done as_node 122 c.args.reader.now l.reader c.take_end_array.new.self l.invariant.0 (map node_shape l.found.items) l.invariant.1 l.invariant.2 l.invariant.3 (grind arith)
+    let kept = c.shrink_to_fit.new.self.items in
+    let are = l.invariant.3 ∙ ap (λ xs. Some (map node_shape xs)) (sym c.shrink_to_fit.ensures.items) in
+    items_done as_node 122 c.args.reader.now l.reader c.take_end_array.new.self l.invariant.0 (map node_shape kept) l.invariant.1 l.invariant.2 are (grind arith)

@@ -1,7 +1,7 @@
 use Rattle.std.proofs.Common.{◌≡◌, ◌∷◌, None, refl, lit<, arith}
 use Rattle.json.specs.Token.{Token}
 use Rattle.symq_reader.specs.GraphText.{as_tree, tree_shape}
-use Rattle.symq_reader.specs.Streams.{optional_at}
+use Rattle.symq_reader.specs.inner.Streams.{optional_at}
 use Rattle.symq_reader.proofs.Streamed.{optional_read, null_read}
 use Rattle.symq_reader.proofs.stream.trees.optional_tree.Goals as goal
 

@@ -3,7 +3,7 @@ use Rattle.json.proofs.Trees.{view-Object}
 use Rattle.json.specs.Json.{object}
 use Rattle.json.specs.Value.{members_view}
 use Rattle.symq_reader.specs.GraphText.{as_tree, node_shape, tree_shape}
-use Rattle.symq_reader.specs.Plain.{plain}
+use Rattle.symq_reader.specs.JsonData.{json_data}
 use Rattle.symq_reader.proofs.Parts.{tree_whole}
 use Rattle.symq_reader.proofs.stream.trees.tree_members.Goals as goal
 
@@ -11,7 +11,7 @@ pub returns : goal.returns
 returns c =
     let h = c.in_ok-found.ensures in
     let kept = members_view c.nodes_among.new.kept.items in
-    let around : as_tree (plain (object kept)) ≡ Some (tree_shape c.in_ok-tree.tree) = ap (λ j. as_tree (plain j)) (sym (view-Object c.nodes_among.new.kept)) ∙ c.in_ok-tree.ensures in
+    let around : as_tree (json_data (object kept)) ≡ Some (tree_shape c.in_ok-tree.tree) = ap (λ j. as_tree (json_data j)) (sym (view-Object c.nodes_among.new.kept)) ∙ c.in_ok-tree.ensures in
     record {
       all = h.1.all;
       read = h.1.read;

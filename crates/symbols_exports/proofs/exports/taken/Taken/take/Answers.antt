@@ -1,7 +1,7 @@
 use Rattle.std.proofs.Common.{◌≡◌, OnOk, map, sym, subst, ap, ◌∙◌}
 use Rattle.symbols_root.specs.Roots.{specifier_in}
 use Rattle.symbols_exports.specs.StarStatements.{owned_of}
-use Rattle.symbols_exports.specs.Taking.{turn_told, with_owned}
+use Rattle.symbols_exports.specs.inner.Taking.{turn_told, with_owned}
 use Rattle.symbols_exports.proofs.Offering.{nothing_owned}
 use Rattle.symbols_exports.proofs.WantedNames.{one_own, none_own}
 use Rattle.symbols_exports.proofs.exports.taken.Taken.take.Goals as goal

@@ -1,6 +1,6 @@
 use Rattle.std.proofs.Common.{◌≡◌, map}
 use Rattle.symbols_table.specs.DeclViews.{exports_view}
-use Rattle.symbols_exports.specs.Taking.{turn_told, with_owned}
+use Rattle.symbols_exports.specs.inner.Taking.{turn_told, with_owned}
 use Rattle.symbols_exports.proofs.exports.taken.Taken.take_all.Given as goal
 
 abbrev pub invariant-loop-name : goal.invariant-loop-name

@@ -10,10 +10,10 @@ use Rattle.symbols_nodes.specs.declared.deps.rules.Form.{Form}
 use Rattle.symbols_nodes.specs.EdgeRules.{EdgeView, open_rules, to_each}
 use Rattle.symbols_nodes.specs.Annotations.{has_annotation}
 use Rattle.symbols_nodes.specs.EdgeTable.{expr_edges, form_edges}
-use Rattle.symbols_nodes.specs.KnownFacts.{may_refer}
-use Rattle.symbols_nodes.specs.TableParts.{plain_rules}
+use Rattle.symbols_nodes.specs.inner.KnownFacts.{may_refer}
+use Rattle.symbols_nodes.specs.inner.TableParts.{plain_rules}
 use Rattle.symbols_nodes.specs.References.{Dependency, dependency_view, visits_expressions}
-use Rattle.symbols_nodes.specs.Visits.{along_edges}
+use Rattle.symbols_nodes.specs.inner.Visits.{along_edges}
 use Rattle.symbols_nodes.proofs.KnownLemmas.{left_annotated}
 use Rattle.symbols_nodes.proofs.VisitLists.{no_children, no_child, open_child, node_and_below, alone_and_below, parts_and_below, at_binding, at_annotation, at_bare, each_take_more}
 use Rattle.symbols_nodes.proofs.deps.visit.Visit.+walk.Goals as goal

@@ -1,7 +1,7 @@
 use Rattle.std.proofs.Common.{◌≡◌, ◌++◌, ◌+◌, ◌-◌, ◌*◌, map, take, length}
 use Rattle.symbols_nodes.specs.EdgeRules.{to_each}
 use Rattle.symbols_nodes.specs.References.{dependency_view}
-use Rattle.symbols_nodes.specs.Visits.{along_edge}
+use Rattle.symbols_nodes.specs.inner.Visits.{along_edge}
 use Rattle.symbols_nodes.proofs.deps.visit.Visit.+walk.Given as goal
 
 abbrev pub decreases-visit_at : goal.decreases-visit_at

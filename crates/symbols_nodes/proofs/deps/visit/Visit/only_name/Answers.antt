@@ -3,8 +3,8 @@ use Rattle.symbols_syntax.specs.declared.tree.kinds.Kind.{Kind}
 use Rattle.symbols_syntax.specs.declared.tree.kinds.Expr.{Expr}
 use Rattle.symbols_syntax.specs.NodeRefs.{node_view, kind_of}
 use Rattle.symbols_nodes.specs.EdgeRules.{to_each}
-use Rattle.symbols_nodes.specs.TableParts.{plain_rules}
-use Rattle.symbols_nodes.specs.Visits.{along_edge}
+use Rattle.symbols_nodes.specs.inner.TableParts.{plain_rules}
+use Rattle.symbols_nodes.specs.inner.Visits.{along_edge}
 use Rattle.symbols_nodes.proofs.VisitLists.{at_name}
 use Rattle.symbols_nodes.proofs.deps.visit.Visit.only_name.Goals as goal
 

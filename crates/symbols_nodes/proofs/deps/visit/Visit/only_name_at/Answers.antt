@@ -6,7 +6,7 @@ use Rattle.symbols_syntax.specs.NodeRefs.{node_view, kind_of}
 use Rattle.symbols_nodes.specs.Annotations.{has_annotation}
 use Rattle.symbols_nodes.specs.EdgeRules.{to_each}
 use Rattle.symbols_nodes.specs.EdgeTable.{form_edges}
-use Rattle.symbols_nodes.specs.TableParts.{plain_rules}
+use Rattle.symbols_nodes.specs.inner.TableParts.{plain_rules}
 use Rattle.symbols_nodes.proofs.VisitLists.{at_name, at_parts}
 use Rattle.symbols_nodes.proofs.deps.visit.Visit.only_name_at.Goals as goal
 

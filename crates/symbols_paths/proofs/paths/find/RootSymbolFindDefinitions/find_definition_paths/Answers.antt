@@ -2,7 +2,7 @@ use Rattle.std.proofs.Common.{◌≡◌, [], sym, subst, ◌∙◌, Result, Ok, 
 use Rattle.std.specs.Prelude.{IsErrAnd}
 use Rattle.symbols_table.specs.declared.info.fault.SymbolsFault.{SymbolsFault}
 use Rattle.symbols_table.specs.declared.info.fault.SymbolsFault.TheVariants.{OutOfMemory}
-use Rattle.symbols_paths.specs.PartWays.{links_in}
+use Rattle.symbols_paths.specs.PartLeads.{routes_in}
 use Rattle.symbols_paths.specs.Answers.{ArePaths, IsPathsFault}
 use Rattle.symbols_paths.specs.Views.{named_in}
 use Rattle.symbols_paths.proofs.Answering.{memory_refused}
@@ -15,16 +15,16 @@ on_memory P (Ok x) is held = tt
 on_memory P (Err fault) is held = subst P (sym is) held
 
 pub returns-in-Err-clause-only : goal.returns-in-Err-clause-only
-returns-in-Err-clause-only c = chosen_once (links_in c.args.self.now) (named_in c.args.self.now c.args.module_id c.args.symbol_id) []
+returns-in-Err-clause-only c = chosen_once (routes_in c.args.self.now) (named_in c.args.self.now c.args.module_id c.args.symbol_id) []
 
 pub returns-in_err-nodes_of-in-Ok-clause-only : goal.returns-in_err-nodes_of-in-Ok-clause-only
-returns-in_err-nodes_of-in-Ok-clause-only c = chosen_once (links_in c.args.self.now) (named_in c.args.self.now c.args.module_id c.args.symbol_id) []
+returns-in_err-nodes_of-in-Ok-clause-only c = chosen_once (routes_in c.args.self.now) (named_in c.args.self.now c.args.module_id c.args.symbol_id) []
 
 pub returns-in_err-nodes_of-in-Ok-clause-faults : goal.returns-in_err-nodes_of-in-Ok-clause-faults
 returns-in_err-nodes_of-in-Ok-clause-faults c = on_memory (IsPathsFault c.args.self.now c.trails_of.new.root c.args.module_id c.args.symbol_id) c.from_residual.result c.from_residual.ensures.1 (memory_refused c.in-Ok.ensures.known)
 
 pub returns-in_ok-nodes_of-in-Ok-clause-only : goal.returns-in_ok-nodes_of-in-Ok-clause-only
-returns-in_ok-nodes_of-in-Ok-clause-only c = chosen_once (links_in c.args.self.now) (named_in c.args.self.now c.args.module_id c.args.symbol_id) []
+returns-in_ok-nodes_of-in-Ok-clause-only c = chosen_once (routes_in c.args.self.now) (named_in c.args.self.now c.args.module_id c.args.symbol_id) []
 
 pub returns-in_ok-nodes_of-in-Ok-clause-answers : goal.returns-in_ok-nodes_of-in-Ok-clause-answers
 returns-in_ok-nodes_of-in-Ok-clause-answers c =

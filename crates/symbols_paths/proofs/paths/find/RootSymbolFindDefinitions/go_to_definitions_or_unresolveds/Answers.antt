@@ -4,7 +4,7 @@ use Rattle.symbols_table.specs.declared.info.fault.SymbolsFault.{SymbolsFault}
 use Rattle.symbols_table.specs.declared.info.fault.SymbolsFault.TheVariants.{OutOfMemory}
 use Rattle.symbols_paths.specs.Trees.{leaves_in}
 use Rattle.symbols_paths.specs.Answers.{IsPathsFault}
-use Rattle.symbols_paths.specs.Trails.{trails_told}
+use Rattle.symbols_paths.specs.inner.Trails.{trails_told}
 use Rattle.symbols_paths.proofs.Answering.{memory_refused}
 use Rattle.symbols_paths.proofs.paths.find.RootSymbolFindDefinitions.go_to_definitions_or_unresolveds.Goals as goal
 

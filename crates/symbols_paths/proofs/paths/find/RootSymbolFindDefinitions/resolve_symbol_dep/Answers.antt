@@ -4,8 +4,8 @@ use Rattle.symbols_syntax.specs.Ids.{id_view}
 use Rattle.symbols_nodes.specs.References.{Reference, qualified_id, import_type, reference_view}
 use Rattle.symbols_table.specs.declared.info.fault.SymbolsFault.{SymbolsFault}
 use Rattle.symbols_root.specs.Roots.{specifier_in}
-use Rattle.symbols_paths.specs.PartWays.{links_in}
-use Rattle.symbols_paths.specs.Trails.{parts_told}
+use Rattle.symbols_paths.specs.PartLeads.{routes_in}
+use Rattle.symbols_paths.specs.inner.Trails.{parts_told}
 use Rattle.symbols_paths.specs.DepAnswers.{entry_told, entries_of, IsDepAnswer, IsDepRefused}
 use Rattle.symbols_paths.proofs.DepEntries.{dep_refused}
 use Rattle.symbols_paths.proofs.Once.{chosen_once}
@@ -40,26 +40,26 @@ returns-in_ok-parts-in-ImportType-clause-faults c =
     let texts = parts_told c.in_ok-parts-in-ImportType.parts in
     let parts = c.in_ok-parts-in-ImportType.ensures ∙ ap (map cow_str_bytes) c.deref-in-ImportType.ensures.value in
     let is : import_type c.in-ImportType.text.now texts ≡ reference_view c.args.dep.now = ap (import_type c.in-ImportType.text.now) parts ∙ sym (ap reference_view c.in-ImportType.is) in
-    on_fault c.entries_of_import.result c.entries_of_import.ensures.refused (λ fault refused.
-    inr (known, subst (λ (r : Reference). IsDepRefused c.entries_of_import.new.root m r fault) is (dep_refused c.args.self.now c.entries_of_import.new.root m c.in-ImportType.text.now texts fault c.entries_of_import.ensures.kept refused)))
+    on_fault c.entries_of_import.result c.entries_of_import.ensures.keeps.refused (λ fault refused.
+    inr (known, subst (λ (r : Reference). IsDepRefused c.entries_of_import.new.root m r fault) is (dep_refused c.args.self.now c.entries_of_import.new.root m c.in-ImportType.text.now texts fault c.entries_of_import.ensures.keeps.grown refused)))
 
 pub returns-then-is_none-clause-only : goal.returns-then-is_none-clause-only
-returns-then-is_none-clause-only c = chosen_once (links_in c.args.self.now)
+returns-then-is_none-clause-only c = chosen_once (routes_in c.args.self.now)
 
 pub returns-in_err-parts-in-Id-clause-only : goal.returns-in_err-parts-in-Id-clause-only
-returns-in_err-parts-in-Id-clause-only c = chosen_once (links_in c.args.self.now)
+returns-in_err-parts-in-Id-clause-only c = chosen_once (routes_in c.args.self.now)
 
 pub returns-in_err-parts-in-QualifiedId-clause-only : goal.returns-in_err-parts-in-QualifiedId-clause-only
-returns-in_err-parts-in-QualifiedId-clause-only c = chosen_once (links_in c.args.self.now)
+returns-in_err-parts-in-QualifiedId-clause-only c = chosen_once (routes_in c.args.self.now)
 
 pub returns-in_err-parts-in-ImportType-clause-only : goal.returns-in_err-parts-in-ImportType-clause-only
-returns-in_err-parts-in-ImportType-clause-only c = chosen_once (links_in c.args.self.now)
+returns-in_err-parts-in-ImportType-clause-only c = chosen_once (routes_in c.args.self.now)
 
 pub returns-in_ok-parts-in-Id-clause-only : goal.returns-in_ok-parts-in-Id-clause-only
-returns-in_ok-parts-in-Id-clause-only c = chosen_once (links_in c.args.self.now)
+returns-in_ok-parts-in-Id-clause-only c = chosen_once (routes_in c.args.self.now)
 
 pub returns-in_ok-parts-in-QualifiedId-clause-only : goal.returns-in_ok-parts-in-QualifiedId-clause-only
-returns-in_ok-parts-in-QualifiedId-clause-only c = chosen_once (links_in c.args.self.now)
+returns-in_ok-parts-in-QualifiedId-clause-only c = chosen_once (routes_in c.args.self.now)
 
 pub returns-in_ok-parts-in-ImportType-clause-only : goal.returns-in_ok-parts-in-ImportType-clause-only
-returns-in_ok-parts-in-ImportType-clause-only c = chosen_once (links_in c.args.self.now)
+returns-in_ok-parts-in-ImportType-clause-only c = chosen_once (routes_in c.args.self.now)

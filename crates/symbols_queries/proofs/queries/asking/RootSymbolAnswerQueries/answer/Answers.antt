@@ -16,42 +16,42 @@ on_fault (Ok x) h f = tt
 on_fault (Err e) h f = f e h
 
 pub returns-in-Err-clause-faults : goal.returns-in-Err-clause-faults
-returns-in-Err-clause-faults c = module_refused c.args.self.now c.module_from_specifier.new.self c.specifier.result.now (query_view c.args.query.now) c.in-Err.fault c.specifier.ensures c.in-Err.ensures.unchanged c.in-Err.ensures.refused
+returns-in-Err-clause-faults c = module_refused c.args.self.now c.module_from_specifier.new.self c.specifier.result.now (query_view c.args.query.now) c.in-Err.fault c.specifier.ensures c.in-Err.ensures.unchanged c.in-Err.ensures.keeps.refused
 
 pub returns-in-Ok-None-clause-answers : goal.returns-in-Ok-None-clause-answers
-returns-in-Ok-None-clause-answers c = (none_given c.args.self.now c.module_from_specifier.new.self c.specifier.result.now (query_view c.args.query.now) c.specifier.ensures c.in-Ok-None.ensures.kept (rw c.in-Ok-None.field-0-is at c.in-Ok-None.ensures.gives)).answers
+returns-in-Ok-None-clause-answers c = (none_given c.args.self.now c.module_from_specifier.new.self c.specifier.result.now (query_view c.args.query.now) c.specifier.ensures c.in-Ok-None.ensures.keeps.grown (rw c.in-Ok-None.field-0-is at c.in-Ok-None.ensures.gives)).answers
 
 pub returns-in-Ok-None-clause-means : goal.returns-in-Ok-None-clause-means
-returns-in-Ok-None-clause-means c = (none_given c.args.self.now c.module_from_specifier.new.self c.specifier.result.now (query_view c.args.query.now) c.specifier.ensures c.in-Ok-None.ensures.kept (rw c.in-Ok-None.field-0-is at c.in-Ok-None.ensures.gives)).means
+returns-in-Ok-None-clause-means c = (none_given c.args.self.now c.module_from_specifier.new.self c.specifier.result.now (query_view c.args.query.now) c.specifier.ensures c.in-Ok-None.ensures.keeps.grown (rw c.in-Ok-None.field-0-is at c.in-Ok-None.ensures.gives)).means
 
 pub returns-in-Ok-None-clause-stored : goal.returns-in-Ok-None-clause-stored
-returns-in-Ok-None-clause-stored c = (none_given c.args.self.now c.module_from_specifier.new.self c.specifier.result.now (query_view c.args.query.now) c.specifier.ensures c.in-Ok-None.ensures.kept (rw c.in-Ok-None.field-0-is at c.in-Ok-None.ensures.gives)).stored
+returns-in-Ok-None-clause-stored c = (none_given c.args.self.now c.module_from_specifier.new.self c.specifier.result.now (query_view c.args.query.now) c.specifier.ensures c.in-Ok-None.ensures.keeps.grown (rw c.in-Ok-None.field-0-is at c.in-Ok-None.ensures.gives)).stored
 
 pub answer_on-requires : goal.answer_on-requires
 answer_on-requires c = (asked_first c.args.self.now c.module_from_specifier.new.self c.in-Ok-Some.module_id c.specifier.result.now (query_view c.args.query.now) c.specifier.ensures c.in-Ok-Some.ensures.stored (rw c.in-Ok-Some.field-0-is at c.in-Ok-Some.ensures.gives)).within
 
 pub returns-in-Ok-Some-clause-kept : goal.returns-in-Ok-Some-clause-kept
-returns-in-Ok-Some-clause-kept c = grown_on c.in-Ok-Some.ensures.kept c.answer_on.ensures.kept
+returns-in-Ok-Some-clause-kept c = grown_on c.in-Ok-Some.ensures.keeps.grown c.answer_on.ensures.keeps.grown
 
 pub returns-in-Ok-Some-clause-answers : goal.returns-in-Ok-Some-clause-answers
 returns-in-Ok-Some-clause-answers c =
     let asked = asked_first c.args.self.now c.module_from_specifier.new.self c.in-Ok-Some.module_id c.specifier.result.now (query_view c.args.query.now) c.specifier.ensures c.in-Ok-Some.ensures.stored (rw c.in-Ok-Some.field-0-is at c.in-Ok-Some.ensures.gives) in
-    on_answer c.answer_on.result c.answer_on.ensures.given (λ (given : Answer) is. (query_given c.args.self.now c.module_from_specifier.new.self c.answer_on.new.root c.in-Ok-Some.module_id (query_view c.args.query.now) (answer_view given) asked c.answer_on.ensures.kept is).answers)
+    on_answer c.answer_on.result c.answer_on.ensures.given (λ (given : Answer) is. (query_given c.args.self.now c.module_from_specifier.new.self c.answer_on.new.root c.in-Ok-Some.module_id (query_view c.args.query.now) (answer_view given) asked c.answer_on.ensures.keeps.grown is).answers)
 
 pub returns-in-Ok-Some-clause-means : goal.returns-in-Ok-Some-clause-means
 returns-in-Ok-Some-clause-means c =
     let asked = asked_first c.args.self.now c.module_from_specifier.new.self c.in-Ok-Some.module_id c.specifier.result.now (query_view c.args.query.now) c.specifier.ensures c.in-Ok-Some.ensures.stored (rw c.in-Ok-Some.field-0-is at c.in-Ok-Some.ensures.gives) in
-    on_answer c.answer_on.result c.answer_on.ensures.given (λ (given : Answer) is. (query_given c.args.self.now c.module_from_specifier.new.self c.answer_on.new.root c.in-Ok-Some.module_id (query_view c.args.query.now) (answer_view given) asked c.answer_on.ensures.kept is).means)
+    on_answer c.answer_on.result c.answer_on.ensures.given (λ (given : Answer) is. (query_given c.args.self.now c.module_from_specifier.new.self c.answer_on.new.root c.in-Ok-Some.module_id (query_view c.args.query.now) (answer_view given) asked c.answer_on.ensures.keeps.grown is).means)
 
 pub returns-in-Ok-Some-clause-stored : goal.returns-in-Ok-Some-clause-stored
 returns-in-Ok-Some-clause-stored c =
     let asked = asked_first c.args.self.now c.module_from_specifier.new.self c.in-Ok-Some.module_id c.specifier.result.now (query_view c.args.query.now) c.specifier.ensures c.in-Ok-Some.ensures.stored (rw c.in-Ok-Some.field-0-is at c.in-Ok-Some.ensures.gives) in
-    on_answer c.answer_on.result c.answer_on.ensures.given (λ (given : Answer) is. (query_given c.args.self.now c.module_from_specifier.new.self c.answer_on.new.root c.in-Ok-Some.module_id (query_view c.args.query.now) (answer_view given) asked c.answer_on.ensures.kept is).stored)
+    on_answer c.answer_on.result c.answer_on.ensures.given (λ (given : Answer) is. (query_given c.args.self.now c.module_from_specifier.new.self c.answer_on.new.root c.in-Ok-Some.module_id (query_view c.args.query.now) (answer_view given) asked c.answer_on.ensures.keeps.grown is).stored)
 
 pub returns-in-Ok-Some-clause-faults : goal.returns-in-Ok-Some-clause-faults
 returns-in-Ok-Some-clause-faults c =
     let asked = asked_first c.args.self.now c.module_from_specifier.new.self c.in-Ok-Some.module_id c.specifier.result.now (query_view c.args.query.now) c.specifier.ensures c.in-Ok-Some.ensures.stored (rw c.in-Ok-Some.field-0-is at c.in-Ok-Some.ensures.gives) in
-    on_fault c.answer_on.result c.answer_on.ensures.faults (λ fault is. query_refused c.args.self.now c.module_from_specifier.new.self c.answer_on.new.root c.in-Ok-Some.module_id (query_view c.args.query.now) fault asked c.answer_on.ensures.kept is)
+    on_fault c.answer_on.result c.answer_on.ensures.keeps.refused (λ fault is. query_refused c.args.self.now c.module_from_specifier.new.self c.answer_on.new.root c.in-Ok-Some.module_id (query_view c.args.query.now) fault asked c.answer_on.ensures.keeps.grown is)
 
 pub returns-in-Ok-Some-clause-enough : goal.returns-in-Ok-Some-clause-enough
-returns-in-Ok-Some-clause-enough c = λ wide. c.answer_on.ensures.enough (c.in-Ok-Some.ensures.kept.limits ∙ wide)
+returns-in-Ok-Some-clause-enough c = λ wide. c.answer_on.ensures.keeps.enough (c.in-Ok-Some.ensures.keeps.grown.limits ∙ wide)

@@ -1,4 +1,5 @@
 use Rattle.std.proofs.Common.{◌≡◌, ℕ, ◌<◌, ◌≤◌, Some, false, true, is_some, List, [], ◌∷◌, ◌++◌, slice_get, length, refl, sym, ap, ◌∙◌, subst, arith}
+use Rattle.std.specs.Prelude.{IfSome}
 use Rattle.std.specs.Borrow.{Bor}
 use Rattle.std.specs.List.{IsDistinct}
 use Rattle.std.specs.Str.{bytes_eq}
@@ -9,12 +10,13 @@ use Rattle.symbols_table.specs.Analysis.{IsAnalysis}
 use Rattle.symbols_table.specs.declared.info.module_info.ModuleInfo.{ModuleInfo}
 use Rattle.symbols_root.specs.Specifiers.{module_under, is_among}
 use Rattle.symbols_root.specs.declared.root.limits.Limits.{Limits}
-use Rattle.symbols_root.specs.Roots.{RootView, widest, with_stored, IsMissing, IsRefusal}
+use Rattle.symbols_root.specs.Roots.{RootView, widest_limits, with_stored, IsNotStored, IsRefusal}
 use Rattle.symbols_root.specs.StoredModules.{StoredModule, stored_specifiers}
+use Rattle.symbols_root.specs.inner.StoredModules.{StandsUnder}
 use Rattle.symbols_root.specs.Growing.{HasGrown}
 use Rattle.symbols_root.specs.laws.Growing.{grown_not, grown_by_one}
 use Rattle.symbols_root.proofs.Among.{laws, place_among}
-use Rattle.symbols_root.proofs.Storing.{stored_is, place_stored, length-stored, stored_push, insert_last, get_last, whole_push, with_old, with_new, none_missing, refused_analysis, table_under}
+use Rattle.symbols_root.proofs.Storing.{stored_is, place_stored, length-stored, stored_push, insert_last, get_last, whole_push, with_old, with_new, none_missing, refused_analysis, table_under, last_kept}
 use Rattle.symbols_root.proofs.Enough.{room_within}
 use Rattle.symbols_root.proofs.root.root_symbol.RootSymbol.store.Goals as goal
 
@@ -47,7 +49,7 @@ returns-then-count-modules-clause-refused c =
     let q = c.args.graph_module.now.specifier in
     let new = stored_is entries c.specifier-specifier.result.now q false (sym c.get_index_of.ensures.found ∙ ap is_some c.in_default.is) c.specifier-specifier.ensures in
     let full : c.self.inside.limits.modules ≤ length (stored_specifiers entries) = omega (arith, length-stored entries, c.len-count.ensures.len, c.if-count-modules.true) in
-    subst (λ (r : RootView). (x : List ℕ) × IsMissing r (Some q) x × (r.limits.modules ≤ length r.stored)) c.self.view_is (q, (refl, new), full)
+    subst (λ (r : RootView). (x : List ℕ) × IsNotStored r (Some q) x × (r.limits.modules ≤ length r.stored)) c.self.view_is (q, (refl, new), full)
 
 pub returns-in-Err-clause-refused : goal.returns-in-Err-clause-refused
 returns-in-Err-clause-refused c =
@@ -77,7 +79,8 @@ invariant_of-self-2 c =
     let all = whole_push c.self.inside.graph.now c.self.inside.limits.symbols entries (s, info) c.self.invariant.0 whole in
     let within : length (entries ++ (s, info) ∷ []) ≤ c.self.inside.limits.modules = omega (arith, length_push entries (s, info), count, c.if-count-modules.false) in
     let once : IsDistinct bytes_eq (stored_specifiers (entries ++ (s, info) ∷ [])) = subst (IsDistinct bytes_eq) (sym (stored_push entries (s, info))) (IsDistinct-push laws (stored_specifiers entries) s.now c.self.invariant.2 new) in
-    rw pushed (all, within, once)
+    let last = subst (λ (xs : List (List ℕ)). IfSome c.self.inside.last (λ l. StandsUnder c.self.inside.graph.now xs l.1 l.0.now)) (sym (stored_push entries (s, info))) (last_kept c.self.inside.graph.now (stored_specifiers entries) s.now c.self.inside.last c.self.invariant.3) in
+    rw pushed (all, within, once, last)
 
 stored_after : (entries more : List StoredModule) (s : Bor (List ℕ)) (q : List ℕ) (info : ModuleInfo) → more ≡ entries ++ (s, info) ∷ [] → s.now ≡ q → stored_specifiers more ≡ stored_specifiers entries ++ q ∷ []
 stored_after entries more s q info is same = ap stored_specifiers is ∙ (stored_push entries (s, info) ∙ ap (λ x. stored_specifiers entries ++ x ∷ []) same)
@@ -114,11 +117,11 @@ returns-then-count-modules-clause-enough c =
     let m = c.args.graph_module.now in
     let new = stored_is entries c.specifier-specifier.result.now m.specifier false (sym c.get_index_of.ensures.found ∙ ap is_some c.in_default.is) c.specifier-specifier.ensures in
     let full : c.self.inside.limits.modules ≤ length (stored_specifiers entries) = omega (arith, length-stored entries, c.len-count.ensures.len, c.if-count-modules.true) in
-    λ wide few. absurd (room_within c.self.inside.graph.now c.self.inside.rules c.self.inside.limits entries c.args.self.now m c.self.view_is c.self.invariant.0 c.self.invariant.2 wide few c.requires.under new full)
+    λ few wide. absurd (room_within c.self.inside.graph.now c.self.inside.rules c.self.inside.limits entries c.args.self.now m c.self.view_is c.self.invariant.0 c.self.invariant.2 wide few c.requires.under new full)
 
 pub returns-in-Err-clause-enough : goal.returns-in-Err-clause-enough
-returns-in-Err-clause-enough c = λ wide few.
-    let limits : c.self.inside.limits ≡ widest = ap (λ (r : RootView). r.limits) c.self.view_is ∙ wide in
+returns-in-Err-clause-enough c = λ few wide.
+    let limits : c.self.inside.limits ≡ widest_limits = ap (λ (r : RootView). r.limits) c.self.view_is ∙ wide in
     c.in-Err.ensures.enough (ap (λ (l : Limits). l.symbols) limits)
 
 -- ---- it grows by the module alone

@@ -7,14 +7,14 @@ use Rattle.symbols_syntax.specs.ChildFields.{id_of, body_node_of}
 use Rattle.symbols_syntax.specs.Ids.{id_view}
 use Rattle.symbols_syntax.specs.WellFormed.{IsWellFormed}
 use Rattle.symbols_table.specs.declared.builder.table.Setting.{Setting}
-use Rattle.symbols_table.specs.NamespaceViews.{namespace_view}
+use Rattle.symbols_table.specs.inner.NamespaceViews.{namespace_view}
 use Rattle.symbols_table.specs.DeclViews.{Declaration, decl_view}
-use Rattle.symbols_table.specs.DeclarationEvents.{is_exported, declared}
-use Rattle.symbols_table.specs.Walks.{each, sym_in}
-use Rattle.symbols_table.specs.Levels.{AreAbove}
+use Rattle.symbols_table.specs.DeclarationEvents.{is_exported, declaring_events}
+use Rattle.symbols_table.specs.Walks.{walk_of_each, sym_in}
+use Rattle.symbols_table.specs.inner.Levels.{AreAbove}
 use Rattle.symbols_table.specs.Events.{rows_after, changes_of}
 use Rattle.symbols_table.specs.TreeEvents.{part_events, body_events, body_within, body_at, item_within, block_within}
-use Rattle.symbols_table.specs.Tables.{ReadsAll, ReadsWalk}
+use Rattle.symbols_table.specs.inner.Tables.{ReadsAll, ReadsWalk}
 use Rattle.symbols_table.proofs.Keeping.{keeps_same}
 use Rattle.symbols_table.proofs.Walks.{take_item, split_item, each_none, each_next, each_fault, none_read, on_none, on_reads}
 use Rattle.symbols_table.proofs.PatternLemmas.{is_found}
@@ -216,7 +216,7 @@ walk_items-returns-in_err-walk_item-clause-table t c = λ levels enough.
     let n = c.n-item.result in
     let walk = item_within c.args.parent.tree.now levels c.args.scope in
     let above = c.requires.above c.loop-n.n-index n c.loop-n-test.true in
-    let P : List ℕ → Type 0 = λ ms. ReadsWalk c.from_residual.result c.args.self.now c.walk_item.new.self (each walk ms) c.args.holder in
+    let P : List ℕ → Type 0 = λ ms. ReadsWalk c.from_residual.result c.args.self.now c.walk_item.new.self (walk_of_each walk ms) c.args.holder in
     subst P (split_item items c.loop-n.n-index n c.loop-n-test.true c.n-item.is)
     (each_fault ℕ walk (take c.loop-n.n-index items) (c.loop-n.invariant levels enough) c.walk_item.new.self c.walk_item.new.self n (drop (suc c.loop-n.n-index) items) c.in_err-walk_item.field-0.0 c.from_residual.result c.from_residual.ensures.1 (c.in_err-walk_item.ensures.table levels (omega (arith, above.0, c.n-item.is))))
 
@@ -249,7 +249,7 @@ walk_namespace-returns-in_err-symbol-clause-table t c = λ levels enough rows h 
     let inner = namespace_inner block c.args.scope namespace kind in
     let test = is_exported c.args.scope namespace.exported in
     let decl : decl_view c.definition-definition.result ≡ namespace_decl namespace = c.definition-definition.ensures ∙ (rw (c.declared_as-form.ensures, c.whole_range.ensures) refl) in
-    let P : Declaration → Type 0 = λ d. ReadsAll r limit c.declare.new.self (rows_after rows (declared test (id_view id) d inner h (length rows))) in
+    let P : Declaration → Type 0 = λ d. ReadsAll r limit c.declare.new.self (rows_after rows (declaring_events test (id_view id) d inner h (length rows))) in
     namespace_read r limit c.declare.new.self rows h block c.args.scope namespace kind id c.kind-kind.ensures (sym c.in-Some.ensures)
     (subst P decl (declared_fault r test (id_view id) (decl_view c.definition-definition.result) inner rows h c.args.holder limit c.declare.new.self c.in_err-symbol.field-0.0 at c.from_residual.ensures.1 (c.in_err-symbol.ensures.table (changes_of rows) is)))
 
@@ -264,7 +264,7 @@ walk_namespace-returns-in_err-walk_inside-clause-table t c = λ levels enough ro
     let inner = namespace_inner block c.args.scope namespace kind in
     let test = is_exported c.args.scope namespace.exported in
     let decl : decl_view c.definition-definition.result ≡ namespace_decl namespace = c.definition-definition.ensures ∙ (rw (c.declared_as-form.ensures, c.whole_range.ensures) refl) in
-    let P : Declaration → Type 0 = λ d. ReadsAll r limit c.walk_inside.new.self (rows_after rows (declared test (id_view id) d inner h (length rows))) in
+    let P : Declaration → Type 0 = λ d. ReadsAll r limit c.walk_inside.new.self (rows_after rows (declaring_events test (id_view id) d inner h (length rows))) in
     let read = rw c.inner_ambient.ensures at (c.in_err-walk_inside.ensures.table levels enough) in
     namespace_read r limit c.walk_inside.new.self rows h block c.args.scope namespace kind id c.kind-kind.ensures (sym c.in-Some.ensures)
     (subst P decl (declared_inner_fault ℕ r test (id_view id) (decl_view c.definition-definition.result) inner rows h c.args.holder c.in_ok-symbol.symbol limit c.declare.new.self c.walk_inside.new.self c.walk_inside.new.self c.in_err-walk_inside.field-0.0 (ap (λ (s : Setting). s.limit) c.in_ok-symbol.ensures.keeps.setting) at (c.in_ok-symbol.ensures.table (changes_of rows) is) c.from_residual-in_err-walk_inside.ensures.1 read))
@@ -280,7 +280,7 @@ walk_namespace-returns-clause-table t c = λ levels enough rows h is at.
     let inner = namespace_inner block c.args.scope namespace kind in
     let test = is_exported c.args.scope namespace.exported in
     let decl : decl_view c.definition-definition.result ≡ namespace_decl namespace = c.definition-definition.ensures ∙ (rw (c.declared_as-form.ensures, c.whole_range.ensures) refl) in
-    let P : Declaration → Type 0 = λ d. ReadsAll r limit c.add_to_holder.new.self (rows_after rows (declared test (id_view id) d inner h (length rows))) in
+    let P : Declaration → Type 0 = λ d. ReadsAll r limit c.add_to_holder.new.self (rows_after rows (declaring_events test (id_view id) d inner h (length rows))) in
     let read = rw c.inner_ambient.ensures at (c.in_ok-walk_inside.ensures.table levels enough) in
     let put = rw (c.is_exported.ensures, c.as_str.ensures.value) at c.add_to_holder.ensures.table in
     namespace_read r limit c.add_to_holder.new.self rows h block c.args.scope namespace kind id c.kind-kind.ensures (sym c.in-Some.ensures)

@@ -4,7 +4,7 @@ use Rattle.std.specs.Cow.{cow_str_bytes}
 use Rattle.std.proofs.lemmas.Result.{on_ok_weaker}
 use Rattle.symbols_syntax.specs.declared.ids.SymbolId.{SymbolId}
 use Rattle.symbols_table.specs.Changes.{local_name}
-use Rattle.symbols_table.specs.Tables.{symbol_named}
+use Rattle.symbols_table.specs.inner.Tables.{symbol_named}
 use Rattle.symbols_table.proofs.LocalNames.{name_is, own_entry}
 use Rattle.symbols_table.proofs.OneChange.{only_child}
 use Rattle.symbols_table.proofs.builder.table.Builder.add_child.Goals as goal

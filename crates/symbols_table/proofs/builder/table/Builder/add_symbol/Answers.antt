@@ -1,11 +1,15 @@
-use Rattle.std.proofs.Common.{refl, ◌∙◌, [], arith}
+use Rattle.std.proofs.Common.{◌≡◌, List, refl, ap, ◌∙◌, ◌++◌, [], ◌∷◌, arith}
 use Rattle.symbols_table.specs.DeclViews.{decl_view}
 use Rattle.symbols_table.proofs.OneChange.{made}
 use Rattle.symbols_table.proofs.Views.{pushed_decl}
 use Rattle.symbols_table.proofs.builder.table.Builder.add_symbol.Goals as goal
 
+-- what stands behind the same
+behind_same : {A : Type 0} {old same new : List A} (x : A) → new ≡ same ++ x ∷ [] → same ≡ old → new ≡ old ++ x ∷ []
+behind_same {A} {old} {same} {new} x pushed is = pushed ∙ ap (λ (xs : List A). xs ++ x ∷ []) is
+
 pub returns-clause-table : goal.returns-clause-table
 returns-clause-table c = λ changes is.
     let number = c.len-2.ensures ∙ c.args.self.now.symbols.ok.0 in
-    made c.args.self.now _ changes c.args.parent (decl_view c.args.decl) (record { 0 = c.len-2.result }) _ is c.in_ok-push.ensures.items number refl refl refl refl refl (omega arith) (rw number c.requires) refl refl refl
+    made c.args.self.now _ changes c.args.parent (decl_view c.args.decl) (record { 0 = c.len-2.result }) _ is (behind_same _ c.push_reserved.ensures.items c.in_ok-reserve.ensures.items) number refl refl refl refl refl (omega arith) (rw number c.requires) refl refl refl
     (pushed_decl [] _ c.args.decl c.with_overloads.result _ c.in_ok-decls.ensures.ok c.with_overloads.ensures refl) c.new.ensures.empty c.new-2.ensures.empty c.new-3.ensures.empty

@@ -3,13 +3,13 @@ use Rattle.std.specs.Prelude.{if◌then◌else◌}
 use Rattle.symbols_syntax.specs.declared.ids.SymbolId.{SymbolId}
 use Rattle.symbols_table.specs.DeclViews.{decl_view, is_definition}
 use Rattle.symbols_table.specs.Changes.{Change, makes, declares, exports, has_child}
-use Rattle.symbols_table.specs.Events.{new_row, default_text}
-use Rattle.symbols_table.specs.Tables.{IsTableOf}
+use Rattle.symbols_table.specs.Events.{new_row, default_name}
+use Rattle.symbols_table.specs.inner.Tables.{IsTableOf}
 use Rattle.symbols_table.proofs.Rows.{new_reads, past_limit, err_reads}
 use Rattle.symbols_table.proofs.builder.table.Builder.declare_new_default.Goals as goal
 
 abbrev more : SymbolId → Bool → SymbolId → List Change
-more holder test s = exports holder default_text s ∷ (if test then has_child holder s ∷ [] else [])
+more holder test s = exports holder default_name s ∷ (if test then has_child holder s ∷ [] else [])
 
 pub returns-in_ok-add_child-clause-table : goal.returns-in_ok-add_child-clause-table
 returns-in_ok-add_child-clause-table c = λ changes is.
@@ -19,7 +19,7 @@ returns-in_ok-add_child-clause-table c = λ changes is.
     let both = c.in_ok-add_child.ensures.table _ (c.in_ok-add_export.ensures.table _ (c.in_ok-symbol.ensures.table changes is)) in
     rw test
     (new_reads c.add_child.new.self changes (Some c.args.holder) (decl_view c.args.decl) (more c.args.holder true) symbol (c.in_ok-symbol.ensures.numbered ∙ is.count)
-    (subst (IsTableOf c.add_child.new.self) (append_assoc before (exports c.args.holder default_text symbol ∷ []) (has_child c.args.holder symbol ∷ [])) both))
+    (subst (IsTableOf c.add_child.new.self) (append_assoc before (exports c.args.holder default_name symbol ∷ []) (has_child c.args.holder symbol ∷ [])) both))
 
 pub returns-else-is_definition-clause-table : goal.returns-else-is_definition-clause-table
 returns-else-is_definition-clause-table c = λ changes is.

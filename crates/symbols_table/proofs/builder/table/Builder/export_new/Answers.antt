@@ -1,7 +1,7 @@
 use Rattle.std.proofs.Common.{◌≡◌, Some, [], ◌∷◌, ◌++◌, length, refl, ◌∙◌}
 use Rattle.symbols_table.specs.DeclViews.{decl_view}
 use Rattle.symbols_table.specs.Changes.{exports}
-use Rattle.symbols_table.specs.Events.{fresh, export, only, row_of, changes_of, symbol_at}
+use Rattle.symbols_table.specs.Events.{fresh, export, row_of_changes, row_of, changes_of, symbol_at}
 use Rattle.symbols_table.proofs.Rows.{past_limit, rows_after-step, symbol_at_kept}
 use Rattle.symbols_table.proofs.Walks.{err_all}
 use Rattle.symbols_table.proofs.ModuleWalks.{event_read, fresh_row, fresh_read}
@@ -15,7 +15,7 @@ returns-clause-table c = λ rows h is at.
     let more = rows ++ row ∷ [] in
     let read = fresh_read c.add_symbol.new.self rows c.args.holder decl s (c.in_ok-symbol.ensures.numbered ∙ is.count) (c.in_ok-symbol.ensures.table (changes_of rows) is) in
     let begun : row_of (changes_of rows) (symbol_at rows) (fresh h decl) ≡ row = rw at refl in
-    let last = only (exports c.args.holder c.args.name.now s ∷ []) in
+    let last = row_of_changes (exports c.args.holder c.args.name.now s ∷ []) in
     let reads : row_of (changes_of more) (symbol_at more) (export h c.args.name.now (length rows)) ≡ last = rw (symbol_at_kept rows row h c.args.holder at) (rw read.0 refl) in
     rw (rows_after-step rows (fresh h decl) (export h c.args.name.now (length rows) ∷ []) row begun)
     (event_read c.add_export.new.self more (export h c.args.name.now (length rows)) last reads (c.in_ok-add_export.ensures.table (changes_of more) read.1))

@@ -7,9 +7,9 @@ use Rattle.symbols_syntax.specs.ChildFields.{id_of}
 use Rattle.symbols_table.specs.declared.builder.table.Setting.{Setting}
 use Rattle.symbols_table.specs.DeclViews.{decl_view, decl_kind_view}
 use Rattle.symbols_table.specs.DeclarationEvents.{export_if}
-use Rattle.symbols_table.specs.Events.{Event, alias, alias_row, row_of, changes_of, symbol_at, rows_after}
+use Rattle.symbols_table.specs.Events.{Event, declare_alias, alias_row, row_of, changes_of, symbol_at, rows_after}
 use Rattle.symbols_table.specs.ModuleEvents.{alias_kind}
-use Rattle.symbols_table.specs.Tables.{ReadsAll}
+use Rattle.symbols_table.specs.inner.Tables.{ReadsAll}
 use Rattle.symbols_table.specs.Walks.{sym_in}
 use Rattle.symbols_table.proofs.Rows.{rows_after-step, symbol_at-push, symbol_at_kept}
 use Rattle.symbols_table.proofs.Walks.{on_none, one_read, reads_from}
@@ -43,12 +43,12 @@ returns-clause-table c = λ rows h is at.
     let is_named : sym_in id_of node ≡ Some id = rw (sym c.in-Some.ensures) (sym c.in-Some-sym.ensures) in
     let is_kind : alias_kind node c.args.entity c.args.external.now ≡ Some kind = sym c.in_ok-kind.ensures ∙ ap (λ k. option_map decl_kind_view k) c.in-Some-2.is in
     let last = export_if c.args.is_export h (string_bytes id.name) (length rows) in
-    let reads : row_of (changes_of rows) (symbol_at rows) (alias h (id_view id) decl) ≡ row = rw at refl in
+    let reads : row_of (changes_of rows) (symbol_at rows) (declare_alias h (id_view id) decl) ≡ row = rw at refl in
     let read = c.in_ok-symbol.ensures.table (changes_of rows) is in
     let rest = c.export_if.ensures.table (rows ++ row ∷ []) h (length rows) (one_read c.declare_alias.new.self rows row read.1) (symbol_at_kept rows row h c.args.holder at) (symbol_at-push rows row ∙ read.0) in
     let P : List ℕ → Type 0 = λ name. ReadsAll c.export_if.result c.declare_alias.new.self.setting.limit c.export_if.new.self (rows_after (rows ++ row ∷ []) (export_if c.args.is_export h name (length rows))) in
     reads_from _ _ _ _ _ _ (ap (λ (s : Setting). s.limit) c.in_ok-symbol.ensures.keeps.setting)
-    (ap (λ (events : List Event). rows_after rows events) (alias_one node c.args.is_export c.args.entity c.args.external.now id kind c.range.result decl h (length rows) is_named is_kind c.range.ensures c.new.ensures) ∙ rows_after-step rows (alias h (id_view id) decl) last row reads)
+    (ap (λ (events : List Event). rows_after rows events) (alias_one node c.args.is_export c.args.entity c.args.external.now id kind c.range.result decl h (length rows) is_named is_kind c.range.ensures c.new.ensures) ∙ rows_after-step rows (declare_alias h (id_view id) decl) last row reads)
     (subst P c.as_str.ensures.value rest)
 
 pub returns-in_err-symbol-clause-table : goal.returns-in_err-symbol-clause-table
@@ -60,6 +60,6 @@ returns-in_err-symbol-clause-table c = λ rows h is at.
     let row = alias_row (changes_of rows) c.args.holder (id_view id) decl in
     let is_named : sym_in id_of node ≡ Some id = rw (sym c.in-Some.ensures) (sym c.in-Some-sym.ensures) in
     let is_kind : alias_kind node c.args.entity c.args.external.now ≡ Some kind = sym c.in_ok-kind.ensures ∙ ap (λ k. option_map decl_kind_view k) c.in-Some-2.is in
-    let reads : row_of (changes_of rows) (symbol_at rows) (alias h (id_view id) decl) ≡ row = rw at refl in
-    err_as _ _ _ rows _ (alias h (id_view id) decl) row (export_if c.args.is_export h (string_bytes id.name) (length rows)) c.in_err-symbol.field-0.0
+    let reads : row_of (changes_of rows) (symbol_at rows) (declare_alias h (id_view id) decl) ≡ row = rw at refl in
+    err_as _ _ _ rows _ (declare_alias h (id_view id) decl) row (export_if c.args.is_export h (string_bytes id.name) (length rows)) c.in_err-symbol.field-0.0
     (alias_one node c.args.is_export c.args.entity c.args.external.now id kind c.range.result decl h (length rows) is_named is_kind c.range.ensures c.new.ensures) reads c.from_residual-in_err-symbol.ensures.1 (c.in_err-symbol.ensures.table (changes_of rows) is)

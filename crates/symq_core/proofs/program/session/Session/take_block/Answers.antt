@@ -1,7 +1,7 @@
 use Rattle.std.proofs.Common.{ℕ, List, [], ◌∷◌, ◌++◌, ap, sym, subst, ◌∙◌}
 use Rattle.std.proofs.lemmas.Result.{err_from_is_err_and, on_ok_weaker}
 use Rattle.symq_core.specs.Lines.{answers_to}
-use Rattle.symq_core.specs.Sessions.{Sends, IsAnswerFault, parts_after, answering}
+use Rattle.symq_core.specs.inner.Sessions.{Sends, IsAnswerFault, parts_after, line_answer}
 use Rattle.symq_core.proofs.Parts.{answers_to-append}
 use Rattle.symq_core.proofs.Beginnings.{sends_then, sends_all, sends_beginning_of_waiting, begins_nothing}
 use Rattle.symq_core.proofs.Blocks.{one_more_line, one_more_begun, all_lines, flush_failed}
@@ -16,7 +16,7 @@ returns-in_err-take_line-clause-err g c =
     let old = c.args.self.now in
     rw (p.1, p.2) (
       subst (λ n. IsAnswerFault c.in_err-take_line.field-0.0 n (g.W.Output.failures c.take_line.new.writer)) v.3 e.0,
-      one_more_begun (answering old.root) _ _ _ old.answers.items l.self.answers.items old.line.items c.args.block.now l.self.line.items l.rest.now c.in-Some.line.now c.in-Some.more.now v.0 v.1 c.in-Some.ensures.split v.2 e.1,
+      one_more_begun (line_answer old.root) _ _ _ old.answers.items l.self.answers.items old.line.items c.args.block.now l.self.line.items l.rest.now c.in-Some.line.now c.in-Some.more.now v.0 v.1 c.in-Some.ensures.split v.2 e.1,
     )
 
 pub lines-preserved : goal.lines-preserved
@@ -24,7 +24,7 @@ lines-preserved g c =
     let l = c.lines in
     let v = l.invariant in
     let old = c.args.self.now in
-    let answer = answering old.root in
+    let answer = line_answer old.root in
     let done = rw v.4 at c.in_ok-take_line.ensures.ok in
     let line = l.self.line.items ++ c.in-Some.line.now in (
       v.0 ++ line ∷ [],
@@ -42,7 +42,7 @@ returns-in_err-extend_from_slice-clause-err g c =
     let l = c.lines in
     let v = l.invariant in
     let old = c.args.self.now in
-    let answer = answering old.root in
+    let answer = line_answer old.root in
     let all = all_lines old.line.items c.args.block.now l.self.line.items l.rest.now v.0 v.1 c.in_default.ensures.split in
     rw (p.1, p.2, all.0) (
       v.3,
@@ -54,7 +54,7 @@ returns-clause-ok g c =
     let l = c.lines in
     let v = l.invariant in
     let old = c.args.self.now in
-    let answer = answering old.root in
+    let answer = line_answer old.root in
     let all = all_lines old.line.items c.args.block.now l.self.line.items l.rest.now v.0 v.1 c.in_default.ensures.split in
     let line = ap (λ l. l.items) c.flush.ensures.kept.1 ∙ c.in_ok-extend_from_slice.ensures.items in
     rw (all.0, all.1) (on_ok_weaker c.flush.result
@@ -65,6 +65,6 @@ returns-clause-err g c =
     let l = c.lines in
     let v = l.invariant in
     let old = c.args.self.now in
-    let answer = answering old.root in
+    let answer = line_answer old.root in
     let all = all_lines old.line.items c.args.block.now l.self.line.items l.rest.now v.0 v.1 c.in_default.ensures.split in
     rw all.0 (flush_failed c.flush.result _ _ _ old.answers.items l.self.answers.items (answers_to answer v.0) _ _ _ c.flush.ensures.err v.2 v.3)

@@ -1,0 +1,2 @@
+-- For inner functions and proofs alone: nothing in this folder has to be trusted.
+pub mod GraphTexts

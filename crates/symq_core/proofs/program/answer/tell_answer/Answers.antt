@@ -1,0 +1,11 @@
+use Rattle.std.proofs.Common.{sym, subst}
+use Rattle.symbols_queries.specs.declared.queries.answers.Answer.{Answer}
+use Rattle.symbols_queries.specs.AnswerViews.{answer_view}
+use Rattle.symq_core.specs.AnswerData.{answer_data}
+use Rattle.symq_core.specs.inner.Telling.{Tells}
+use Rattle.symq_core.proofs.program.answer.tell_answer.Goals as goal
+
+pub returns-in-Definitions : goal.returns-in-Definitions
+returns-in-Definitions c =
+    let told = rw c.deref-in-Definitions.ensures.value at c.tell_list-in-Definitions.ensures in
+    subst (λ (x : Answer). Tells c.tell_list-in-Definitions.result c.args.out.now c.tell_list-in-Definitions.new.out (answer_data (answer_view x))) (sym c.in-Definitions.is) told

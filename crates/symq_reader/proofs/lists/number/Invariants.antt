@@ -1,0 +1,8 @@
+use Rattle.std.proofs.Common.{◌≡◌, ◌-◌, ◌<◌, ◌≤◌, length, take, decimal}
+use Rattle.symq_reader.proofs.lists.number.Given as goal
+
+abbrev pub invariant-digits : goal.invariant-digits
+invariant-digits l = (0 < l.found) × (l.place ≤ length l.bytes) × (take l.place l.bytes ≡ decimal l.found)
+
+abbrev pub decreases-digits : goal.decreases-digits
+decreases-digits l = length l.bytes - l.place

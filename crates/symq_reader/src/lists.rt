@@ -1,0 +1,150 @@
+//! Lists of the plain form, as most queries are, read from their bytes with no value made.
+//!
+//! A list is given only where `serde_json`'s value of the bytes is that list. At anything odd the
+//! reader gives up: where there is more than one space behind a comma, or space elsewhere, at a text in
+//! which something is escaped, at a number of more than nine digits, and at items of another sort.
+
+ghost use Rattle.std.specs.Prelude.{◌≡◌, ◌+◌, ◌^◌, ◌<◌, ◌++◌, ◌∷◌, [], decimal, length, get_or, IfSome, Some};
+ghost use Rattle.std.specs.Bool.{OnTrue};
+ghost use Rattle.std.specs.Str.{IsUtf8};
+ghost use Rattle.json.specs.Print.{quoted};
+ghost use Rattle.symq_reader.specs.GraphText.{json_of};
+ghost use Rattle.symq_reader.specs.PlainLists.{list_data};
+ghost use Rattle.symq_reader.specs.inner.ListTexts.{IsAfterComma, IsBehindText, IsListText, IsBehind};
+
+use crate::ends::after;
+use crate::escapes::is_plain;
+use memchr::memchr;
+
+/// What stands in a list behind two texts.
+#[derive(Clone, Copy, Drop)]
+pub enum Behind<'a> {
+    /// Nothing.
+    Nothing,
+    /// A number.
+    Number(u32),
+    /// A number and a text.
+    NumberAndText(u32, &'a str),
+}
+
+/// A list that begins with two texts.
+#[derive(Clone, Copy, Drop)]
+pub struct PlainList<'a> {
+    pub first: &'a str,
+    pub second: &'a str,
+    pub behind: Behind<'a>,
+}
+
+/// What follows a comma and the space behind it, if there is one.
+fn after_comma(bytes: &[u8]) -> Option<&[u8]>
+    ensures { IfSome result (λ rest. IsAfterComma bytes.now rest.now) }
+{
+    let rest = after(bytes, b',')?;
+    match after(rest, b' ') {
+        Some(rest) => Some(rest),
+        None => Some(rest),
+    }
+}
+
+/// Whether bytes are the bracket that ends a list.
+fn is_end(bytes: &[u8]) -> bool
+    ensures { OnTrue result (bytes.now ≡ 93 ∷ []) }
+{
+    bytes.len() == 1 && bytes[0] == b']'
+}
+
+/// The text in quotes that bytes begin with, in which nothing is escaped, and what follows it.
+fn quoted(bytes: &[u8]) -> Option<(&str, &[u8])>
+    ensures text { IfSome result (λ parts. bytes.now ≡ quoted parts.0.now ++ parts.1.now) }
+    ensures utf8 { IfSome result (λ parts. IsUtf8 parts.0.now) }
+{
+    let inner = after(bytes, b'"')?;
+    let end = memchr(b'"', inner)?;
+    let (text, rest) = inner.split_at(end);
+    if !is_plain(text) {
+        return None;
+    }
+    let Ok(text) = std::str::from_utf8(text) else {
+        return None;
+    };
+    Some((text, after(rest, b'"')?))
+}
+
+/// The digit at a place.
+fn digit(bytes: &[u8], place: usize) -> Option<u32>
+    ensures found { IfSome result (λ d. get_or bytes.now place 0 ≡ 48 + d) }
+    ensures small { IfSome result (λ d. d < 10) }
+    ensures within { IfSome result (λ _. place < length bytes.now) }
+{
+    if place < bytes.len() && b'0' <= bytes[place] && bytes[place] <= b'9' {
+        Some(u32::from(bytes[place] - b'0'))
+    } else {
+        None
+    }
+}
+
+/// The number that bytes begin with, and what follows it.
+fn number(bytes: &[u8]) -> Option<(u32, &[u8])>
+    ensures text { IfSome result (λ parts. bytes.now ≡ decimal parts.0 ++ parts.1.now) }
+    ensures fits { IfSome result (λ parts. parts.0 < 2 ^ 64) }
+{
+    let mut found = digit(bytes, 0)?;
+    let mut place = 1;
+    if found == 0 {
+        let (_, rest) = bytes.split_at(1);
+        return Some((0, rest));
+    }
+    'digits: while let Some(next) = digit(bytes, place) {
+        if 100_000_000 <= found {
+            return None;
+        }
+        found = found * 10 + next;
+        place += 1;
+    }
+    let (_, rest) = bytes.split_at(place);
+    Some((found, rest))
+}
+
+/// What stands behind two texts, up to the end of the list.
+fn items_behind(bytes: &[u8]) -> Option<Behind<'_>>
+    ensures text { IfSome result (IsBehindText bytes.now) }
+    ensures sound { IfSome result IsBehind }
+{
+    if is_end(bytes) {
+        return Some(Behind::Nothing);
+    }
+    let (n, rest) = number(after_comma(bytes)?)?;
+    if is_end(rest) {
+        return Some(Behind::Number(n));
+    }
+    let (text, rest) = quoted(after_comma(rest)?)?;
+    if is_end(rest) {
+        Some(Behind::NumberAndText(n, text))
+    } else {
+        None
+    }
+}
+
+/// The list that bytes are.
+fn list_in(bytes: &[u8]) -> Option<PlainList<'_>>
+    ensures text { IfSome result (IsListText bytes.now) }
+    ensures sound { IfSome result (λ found. IsUtf8 found.first.now × IsUtf8 found.second.now × IsBehind found.behind) }
+{
+    let (first, rest) = quoted(after(bytes, b'[')?)?;
+    let (second, rest) = quoted(after_comma(rest)?)?;
+    let behind = items_behind(rest)?;
+    Some(PlainList {
+        first,
+        second,
+        behind,
+    })
+}
+
+/// The list that bytes are, if they are one of the plain form (own rule): two texts, and behind them
+/// nothing, a number of at most nine digits, or such a number and a text. A space may stand behind each
+/// comma and nowhere else but within texts, and nothing in a text is escaped.
+pub fn read_plain_list(bytes: &[u8]) -> Option<PlainList<'_>>
+    ensures { IfSome result (λ found. json_of bytes.now ≡ Some (list_data found)) }
+{
+    list_in(bytes)
+}

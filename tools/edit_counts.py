@@ -1,0 +1,69 @@
+#!/usr/bin/env python3
+"""Holds what the docs say of how many wrong bodies there are to those that are there.
+
+    python3 tools/edit_counts.py
+
+A line for each number that isn't so; the last line is 'N passed, M failed'.
+"""
+import os
+import re
+import sys
+
+from tested import told
+from wrong.crates import TOP, Crate, libraries_of, read
+
+# how docs/WRONG_BODIES.md calls what the edits of a crate are of
+OF_CRATES = {
+    'of trees and of modules': 'symbols_syntax',
+    'of the checker': 'symbols_tree',
+    'of nodes': 'symbols_nodes',
+    'of the table': 'symbols_table',
+    'of stored modules': 'symbols_root',
+    'of exports': 'symbols_exports',
+    'of definitions': 'symbols_paths',
+    'of answers to queries': 'symbols_queries',
+    'of the reader': 'symq_reader',
+    'of the engine': 'symq_core',
+    'of the calls of the static library': 'symq_c',
+}
+
+# the sentences, each with what its numbers are
+SENTENCES = (
+    ('docs/WRONG_BODIES.md', r'There are (\d+): ', 'all'),
+    ('docs/WRONG_BODIES.md', r'Of the (\d+) edits (\d+) name a case or test', 'all', 'named'),
+    ('docs/WRONG_BODIES.md', r'The (\d+) that name nothing', 'nameless'),
+    ('README.md', r'tried with wrong bodies, (\d+) edits', 'all'),
+    ('README.md', r'(\d+) have to leave a goal of a clause open; of the other (\d+) most', 'nameless', 'named'),
+)
+
+
+def counted(top):
+    """How many edits there are: all, those that name what shows them wrong, the others, and by crates."""
+    libraries = libraries_of(top)
+    texts = {name: [read(os.path.join(top, 'crates', name, 'wrong', it + '.edit')) for it in Crate(top, name, libraries).names()] for name in libraries}
+    named = sum('\nshown: ' in text for own in texts.values() for text in own)
+    count = sum(len(own) for own in texts.values())
+    return {'all': count, 'named': named, 'nameless': count - named, **{name: len(own) for name, own in texts.items() if own}}
+
+
+def numbers_in(text, pattern):
+    """The numbers of the one sentence of this form, on one line or more; none where there isn't one."""
+    found = re.findall(pattern, ' '.join(text.split()))
+    return [int(it) for it in re.findall(r'\d+', str(found))] if len(found) == 1 else []
+
+
+def checks(top):
+    """Each sentence with its numbers and what they have to be, and each crate that has edits with its own."""
+    counts = counted(top)
+    for page, pattern, *names in SENTENCES:
+        yield '%s: %s' % (page, pattern), numbers_in(read(os.path.join(top, page)), pattern), [counts[it] for it in names]
+    told_of = re.search(r'There are \d+: (.*?)\. ', ' '.join(read(os.path.join(top, 'docs/WRONG_BODIES.md')).split()) + ' ')
+    by_crates = dict((words, int(n)) for n, words in re.findall(r'(\d+) ([^,]+)', told_of[1] if told_of else ''))
+    for words, name in OF_CRATES.items():
+        yield name, by_crates.pop(words, 0), counts.pop(name, 0)
+    yield 'no other crate is told of', by_crates, {}
+    yield 'each crate with edits is told of', sorted(set(counts) - {'all', 'named', 'nameless'}), []
+
+
+if __name__ == '__main__':
+    sys.exit(told(checks(TOP)))
