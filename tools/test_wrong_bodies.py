@@ -345,9 +345,19 @@ def tests_of_the_record(folder):
     yield 'a record that is false is found by its sum', ['one_more' in {it.name for it in record.due(crate, edits, turn)} for turn in range(record.TURNS)], [True] * record.TURNS
     write(path, lines)
     yield 'a contract that changes makes all due', changed_sums(folder, 'ensures { result ≡ x + 2 }', 'ensures { result ≡ 2 + x }', passed), passed
+    yield 'a line that is broken makes none due', changed_sums(folder, 'ensures { result ≡ x + 2 }', 'ensures {\n        result ≡ x\n        + 2 }', passed), set()
     of_doubled = {name for name in passed if name.startswith('twice_')}
     yield 'a body that changes makes no edit of another function due', changed_sums(folder, '    x + x\n', '    x + x + 0\n', passed), of_doubled
     yield from tests_of_kits(crate, edits, passed)
+
+
+def tests_of_breaks():
+    """Where lines are broken isn't in a sum, where that isn't read."""
+    places = {'in a source': ('src/a.rt', 'a\n    b', 'a b'), 'behind a comment': ('src/a.rt', 'a // c\n    b', 'a // c b')}
+    places |= {'in a text': ('src/a.rt', '"a\n    b"', '"a b"'), 'in a proof': ('proofs/a.antt', 'a\n    b', 'a b')}
+    places['beside a quote'] = ('src/a.rt', '\'"\' a\n    b "\\""', '\'"\' a b "\\""')
+    same = {name for name, (path, one, other) in places.items() if record.without_breaks(path, one) == record.without_breaks(path, other)}
+    yield 'a break counts behind a comment, in a text and in a proof, and nowhere else', same, {'in a source', 'beside a quote'}
 
 
 def tests_of_kits(crate, edits, passed):
@@ -417,6 +427,7 @@ def tests():
         yield from tests_of_contracts(folder)
     with tempfile.TemporaryDirectory() as folder:
         yield from tests_of_what_names_nothing(folder)
+    yield from tests_of_breaks()
     yield 'a test that ran out of its time tells nothing', shown.told_of_tests(SAID), {'numbers::adds': False, 'numbers::counts': True}
 
 

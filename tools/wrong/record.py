@@ -1,22 +1,40 @@
 """The record: which edits ended well, each with a sum of all that its verdict rests on, and which are due."""
 import hashlib
 import os
+import re
 
 from .crates import Crate, files_below, kit, libraries_below, read, write
 from .rooms import OF_FUNCTIONS, Room
 
 # the rest of the edits is tried in so many turns
 TURNS = 6
+# what stands for a character, so that a quote in it opens no text
+QUOTED = re.compile(r"""'"'|\\.""")
 
 
 def digest(of):
     return hashlib.sha256(repr(of).encode()).hexdigest()
 
 
+def without_breaks(path, text):
+    """The text of a source without where its lines are broken, which a check doesn't read; behind a comment a break stays, since there it is
+    read. A source with texts over more than one line stays as it is."""
+    lines = [it.strip() for it in text.split('\n')]
+    quotes = [QUOTED.sub('', it).count('"') for it in lines if not it.startswith('//')]
+    if not path.endswith('.rt') or 'r"' in text or 'r#' in text or any(it % 2 for it in quotes):
+        return text
+    return ''.join(it + ('\n' if '//' in it else ' ') for it in lines if it)
+
+
+def read_of(laid):
+    """What a check reads of the files of a crate, in their order."""
+    return sorted((path, without_breaks(path, text)) for path, text in laid.items())
+
+
 def face_of(crate):
     """The sum of what a crate above can read of the crate: its text without bodies, its definitions and its lemmas."""
     laid = Room(crate, [], '', None).laid([], [])
-    return digest(sorted(it for it in laid.items() if not it[0].endswith(OF_FUNCTIONS)))
+    return digest(read_of({path: text for path, text in laid.items() if not path.endswith(OF_FUNCTIONS)}))
 
 
 def tool_texts():
@@ -32,14 +50,14 @@ def kit_here():
 
 def sums_of(crate, edits, kit_line=None):
     """By the name of each edit the sum of all that a check of it alone would read, by a kit, this one if none is named: the kit, these programs,
-    what can be read of the libraries below, and the crate as it is laid."""
+    what can be read of the libraries below, and the crate as it is laid, all without where lines are broken."""
     libraries = [Crate(crate.top, it, crate.libraries) for it in libraries_below(crate.name, crate.libraries)]
     basis = digest([kit_line or kit_here(), tool_texts(), [face_of(it) for it in libraries]])
     room = Room(crate, [], '', None)
 
     def sum_of(edit):
         laid = room.laid([edit], [edit.function])
-        return digest([basis, sorted(laid.items())])[:16]
+        return digest([basis, read_of(laid)])[:16]
 
     return {it.name: sum_of(it) for it in edits}
 

@@ -21,7 +21,8 @@ pub(crate) type Others<'a> = Vec<Vec<ResolvedExportOrReExportAllPath<'a>>>;
 fn make_room(alloc: Global, place: usize, others: &mut Others<'_>) -> Result<(), AllocError>
     ensures room { OnOk result (place < length others.new.items) }
     ensures few { (count : ℕ) → length others.old.items ≤ count → place < count → length others.new.items ≤ count }
-    ensures same { OnOk result ((way : ResolvedExportOrReExportAllPath) → with_other place way (lists_in others.new.items) ≡ with_other place way (lists_in others.old.items)) }
+    ensures same { OnOk result ((way : ResolvedExportOrReExportAllPath) → with_other place way (lists_in others.new.items)
+        ≡ with_other place way (lists_in others.old.items)) }
 {
     'room: while others.len() <= place {
         others.push(Vec::new(alloc))?;
@@ -86,7 +87,8 @@ fn shared_name<'a>(
     others: Vec<ResolvedExportOrReExportAllPath<'a>>,
 ) -> Result<SharedName<'a>, AllocError>
     ensures name { IfOk result (λ shared. string_bytes shared.name ≡ name.now) }
-    ensures owners { IfOk result (λ shared. map (path_view name.now) shared.owners.items ≡ path_view name.now first.now ∷ map (path_view name.now) others.entry.items) }
+    ensures owners { IfOk result (λ shared. map (path_view name.now) shared.owners.items
+        ≡ path_view name.now first.now ∷ map (path_view name.now) others.entry.items) }
 {
     let mut owners = others;
     owners.insert(0, copied(alloc, first)?)?;

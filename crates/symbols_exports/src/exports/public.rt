@@ -59,7 +59,9 @@ fn add_member(
     member: &str,
     names: &mut Vec<PublicName>,
 ) -> Result<(), AllocError>
-    ensures { OnOk result (map name_item names.new.items ≡ (if is_nameless member.now then map name_item names.old.items else map name_item names.old.items ++ record { name = name.now; member = Some member.now } ∷ [])) }
+    ensures { OnOk result (map name_item names.new.items ≡ (if is_nameless member.now
+        then map name_item names.old.items
+        else map name_item names.old.items ++ record { name = name.now; member = Some member.now } ∷ [])) }
 {
     if !is_nameless(member) {
         names.push(PublicName {
@@ -93,7 +95,8 @@ fn add_name(
     names: &mut Vec<PublicName>,
 ) -> Result<(), AllocError>
     requires { IsOwned root.now export.now }
-    ensures { OnOk result (map name_item names.new.items ≡ map name_item names.old.items ++ items_under name.now (exported_by root.now.graph (specifier_in root.now export.now.«module») export.now.symbol_id)) }
+    ensures { OnOk result (map name_item names.new.items ≡ map name_item names.old.items
+        ++ items_under name.now (exported_by root.now.graph (specifier_in root.now export.now.«module») export.now.symbol_id)) }
 {
     names.push(PublicName {
         name: String::from_str(root.alloc(), name)?,

@@ -71,10 +71,12 @@ pub(crate) fn text_target(
     requires known { IsStored root.old referrer }
     requires room { steps.old.count + 1 < 2 ^ 128 }
     ensures keeps { Keeps root.old root.new (IsRefusal root.old (text_target root.old.graph (specifier_in root.old referrer) text.now)) result }
-    ensures gives { IfOk result (λ id. option_map (specifier_under root.new) id ≡ option_map (λ s. Some s) (text_target root.old.graph (specifier_in root.old referrer) text.now)) }
+    ensures gives { IfOk result (λ id. option_map (specifier_under root.new) id
+        ≡ option_map (λ s. Some s) (text_target root.old.graph (specifier_in root.old referrer) text.now)) }
     ensures stored { OnOk result (root.new ≡ with_stored root.old (text_target root.old.graph (specifier_in root.old referrer) text.now)) }
     ensures unchanged { OnErr result (root.new ≡ root.old) }
-    ensures there { OnOk result ((v : List ℕ) → text_target root.old.graph (specifier_in root.old referrer) text.now ≡ Some v → (m : ModuleView) × (module_under root.old.graph v ≡ Some m)) }
+    ensures there { OnOk result ((v : List ℕ) → text_target root.old.graph (specifier_in root.old referrer) text.now ≡ Some v
+        → (m : ModuleView) × (module_under root.old.graph v ≡ Some m)) }
     ensures counted { steps.new.count ≡ steps.old.count + 1 }
 {
     let specifier = specifier_of(root, referrer);

@@ -139,7 +139,8 @@ impl<'a> Taken<'a> {
         wanted: Wanted<'_>,
     ) -> Result<(), AllocError>
         requires { owner.0 < length root.now.stored }
-        ensures { OnOk result (self.new ≡ with_owned (map turn_told above.now) owner (owned_for wanted.entry root.now.graph (specifier_in root.now owner)) self.old) }
+        ensures { OnOk result (self.new ≡ with_owned (map turn_told above.now) owner
+            (owned_for wanted.entry root.now.graph (specifier_in root.now owner)) self.old) }
     {
         let own = own_names(root, owner);
         match wanted {

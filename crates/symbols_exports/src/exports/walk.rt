@@ -44,7 +44,10 @@ fn enter<'a>(
     ensures met { OnOk result (met.new.keys ≡ insert_key is_number met.old.keys target) }
     ensures few { IfOk result (λ is_new. is_new ≡ true → length met.old.keys < 2 ^ 64) }
     ensures above { IfOk result (λ is_new. above.new.items ≡ (if is_new then above.old.items ++ turn.entry ∷ [] else above.old.items)) }
-    ensures taken { IfOk result (λ is_new. taken.new ≡ (if is_new then with_owned (map turn_told (above.old.items ++ turn.entry ∷ [])) target (owned_for wanted.entry root.now.graph (specifier_in root.now target)) taken.old else taken.old)) }
+    ensures taken { IfOk result (λ is_new. taken.new ≡ (if is_new
+        then with_owned (map turn_told (above.old.items ++ turn.entry ∷ [])) target
+        (owned_for wanted.entry root.now.graph (specifier_in root.now target)) taken.old
+        else taken.old)) }
 {
     let (_, is_new) = met.insert_full(target)?;
     if is_new {
@@ -63,7 +66,8 @@ fn take_alone<'a>(
     requires known { IsStored root.now module_id }
     requires alone { slice_get (star_texts root.now.graph (specifier_in root.now module_id)) 0 ≡ None }
     requires few { length (star_texts root.now.graph (specifier_in root.now module_id)) < 2 ^ 63 }
-    ensures { IfOk result (λ answer. IsWalked wanted.entry root.now root.now module_id (names_view answer.resolved.entries) (shared_views answer.shared.items) (map unresolved_told answer.unresolved_specifiers.items) 0) }
+    ensures { IfOk result (λ answer. IsWalked wanted.entry root.now root.now module_id (names_view answer.resolved.entries) (shared_views answer.shared.items)
+        (map unresolved_told answer.unresolved_specifiers.items) 0) }
 {
     let none_above: Vec<Turn<'a>> = Vec::new(root.alloc());
     let mut taken = Taken::new(root.alloc(), wanted.keeps_offers(root.rules()));
@@ -81,8 +85,11 @@ fn walk_along<'a>(
 ) -> Result<ModuleExports<'a>, SymbolsFault>
     requires known { IsStored root.old module_id }
     requires room { steps.old.count < 2 ^ 64 }
-    ensures answers { IfOk result (λ answer. (asked : ℕ) × (steps.new.count ≡ steps.old.count + asked) × IsWalked wanted.entry root.old root.new module_id (names_view answer.resolved.entries) (shared_views answer.shared.items) (map unresolved_told answer.unresolved_specifiers.items) asked) }
-    ensures faults { IfErr result (λ fault. (asked : ℕ) × (steps.new.count ≡ steps.old.count + asked) × IsWalkFault wanted.entry root.old root.new module_id fault asked) }
+    ensures answers { IfOk result (λ answer. (asked : ℕ) × (steps.new.count ≡ steps.old.count + asked)
+        × IsWalked wanted.entry root.old root.new module_id (names_view answer.resolved.entries) (shared_views answer.shared.items)
+        (map unresolved_told answer.unresolved_specifiers.items) asked) }
+    ensures faults { IfErr result (λ fault. (asked : ℕ) × (steps.new.count ≡ steps.old.count + asked)
+        × IsWalkFault wanted.entry root.old root.new module_id fault asked) }
     ensures enough { WidestIsEnough root.old result }
 {
     let mut met = IndexSet::new(root.alloc());
@@ -129,8 +136,11 @@ fn walk<'a>(
     steps: &mut Steps,
 ) -> Result<ModuleExports<'a>, SymbolsFault>
     requires room { steps.old.count < 2 ^ 64 }
-    ensures answers { IfOk result (λ answer. (asked : ℕ) × (steps.new.count ≡ steps.old.count + asked) × IsWalked wanted.entry root.old root.new module_id (names_view answer.resolved.entries) (shared_views answer.shared.items) (map unresolved_told answer.unresolved_specifiers.items) asked) }
-    ensures faults { IfErr result (λ fault. (asked : ℕ) × (steps.new.count ≡ steps.old.count + asked) × IsWalkFault wanted.entry root.old root.new module_id fault asked) }
+    ensures answers { IfOk result (λ answer. (asked : ℕ) × (steps.new.count ≡ steps.old.count + asked)
+        × IsWalked wanted.entry root.old root.new module_id (names_view answer.resolved.entries) (shared_views answer.shared.items)
+        (map unresolved_told answer.unresolved_specifiers.items) asked) }
+    ensures faults { IfErr result (λ fault. (asked : ℕ) × (steps.new.count ≡ steps.old.count + asked)
+        × IsWalkFault wanted.entry root.old root.new module_id fault asked) }
     ensures enough { IsStored root.old module_id → WidestIsEnough root.old result }
 {
     if root.module_from_id(module_id).is_none() {
@@ -156,7 +166,9 @@ pub fn exports_counted<'a>(
     steps: &mut Steps,
 ) -> Result<ModuleExports<'a>, SymbolsFault>
     requires room { steps.old.count < 2 ^ 64 }
-    ensures answers { IfOk result (λ answer. (asked : ℕ) × (steps.new.count ≡ steps.old.count + asked) × IsAnswer root.old root.new module_id (names_view answer.resolved.entries) (shared_views answer.shared.items) (map unresolved_told answer.unresolved_specifiers.items) asked) }
+    ensures answers { IfOk result (λ answer. (asked : ℕ) × (steps.new.count ≡ steps.old.count + asked)
+        × IsAnswer root.old root.new module_id (names_view answer.resolved.entries) (shared_views answer.shared.items)
+        (map unresolved_told answer.unresolved_specifiers.items) asked) }
     ensures faults { IfErr result (λ fault. (asked : ℕ) × (steps.new.count ≡ steps.old.count + asked) × IsFault root.old root.new module_id fault asked) }
     ensures listed { (start : List ℕ) → AreListed root.old.graph start }
     ensures kept { HasGrown root.old root.new }
@@ -176,7 +188,8 @@ pub fn exports<'a>(
     root: &mut RootSymbol<'a>,
     module_id: ModuleId,
 ) -> Result<ModuleExports<'a>, SymbolsFault>
-    ensures answers { IfOk result (λ answer. (asked : ℕ) × IsAnswer root.old root.new module_id (names_view answer.resolved.entries) (shared_views answer.shared.items) (map unresolved_told answer.unresolved_specifiers.items) asked) }
+    ensures answers { IfOk result (λ answer. (asked : ℕ) × IsAnswer root.old root.new module_id (names_view answer.resolved.entries)
+        (shared_views answer.shared.items) (map unresolved_told answer.unresolved_specifiers.items) asked) }
     ensures faults { IfErr result (λ fault. (asked : ℕ) × IsFault root.old root.new module_id fault asked) }
     ensures listed { (start : List ℕ) → AreListed root.old.graph start }
     ensures kept { HasGrown root.old root.new }
@@ -201,8 +214,10 @@ pub fn export_of_counted<'a>(
     steps: &mut Steps,
 ) -> Result<Option<ResolvedExportOrReExportAllPath<'a>>, SymbolsFault>
     requires room { steps.old.count < 2 ^ 64 }
-    ensures answers { IfOk result (λ path. (asked : ℕ) × (steps.new.count ≡ steps.old.count + asked) × IsNameAnswer root.old root.new module_id name.now (option_to_list (option_map (path_view name.now) path)) asked) }
-    ensures faults { IfErr result (λ fault. (asked : ℕ) × (steps.new.count ≡ steps.old.count + asked) × IsOneNameFault root.old root.new module_id name.now fault asked) }
+    ensures answers { IfOk result (λ path. (asked : ℕ) × (steps.new.count ≡ steps.old.count + asked)
+        × IsNameAnswer root.old root.new module_id name.now (option_to_list (option_map (path_view name.now) path)) asked) }
+    ensures faults { IfErr result (λ fault. (asked : ℕ) × (steps.new.count ≡ steps.old.count + asked)
+        × IsOneNameFault root.old root.new module_id name.now fault asked) }
     ensures listed { (start : List ℕ) → AreListed root.old.graph start }
     ensures kept { HasGrown root.old root.new }
     ensures enough { IsStored root.old module_id → WidestIsEnough root.old result }
@@ -226,7 +241,8 @@ pub fn export_of<'a>(
     module_id: ModuleId,
     name: &str,
 ) -> Result<Option<ResolvedExportOrReExportAllPath<'a>>, SymbolsFault>
-    ensures answers { IfOk result (λ path. (asked : ℕ) × IsNameAnswer root.old root.new module_id name.now (option_to_list (option_map (path_view name.now) path)) asked) }
+    ensures answers { IfOk result (λ path. (asked : ℕ) × IsNameAnswer root.old root.new module_id name.now
+        (option_to_list (option_map (path_view name.now) path)) asked) }
     ensures faults { IfErr result (λ fault. (asked : ℕ) × IsOneNameFault root.old root.new module_id name.now fault asked) }
     ensures listed { (start : List ℕ) → AreListed root.old.graph start }
     ensures kept { HasGrown root.old root.new }

@@ -21,7 +21,8 @@ pub(crate) fn node_below<'a>(node: NodeRef<'a>, id: NodeId) -> Option<NodeRef<'a
     ensures found { option_map node_view result ≡ node_below (node_view node.entry) id }
     ensures below { IfSome result (λ child. node.entry.number < child.number) }
     ensures same_tree { IfSome result (λ child. child.tree.now ≡ node.entry.tree.now) }
-    ensures checked { IsWellFormed node.entry.tree.now.nodes.items → Contains (children node.entry.tree.now.nodes.items node.entry.number) id → option_map node_view result ≡ node_in node.entry.tree.now (Some id) }
+    ensures checked { IsWellFormed node.entry.tree.now.nodes.items → Contains (children node.entry.tree.now.nodes.items node.entry.number) id
+        → option_map node_view result ≡ node_in node.entry.tree.now (Some id) }
 {
     if node.number < id.0 {
         node.node(id)

@@ -64,7 +64,8 @@ impl<'a> Visit<'a> {
     #[cycle(walk)]
     #[inline(never)]
     fn visit_statement(self, decl: &Decl, found: &mut Found<'a>) -> Result<(), AllocError>
-        ensures { OnOk result (map dependency_view found.new.items ≡ map dependency_view found.old.items ++ along_edges self.entry (statement_edges (node_view self.entry.node) decl.now)) }
+        ensures { OnOk result (map dependency_view found.new.items
+            ≡ map dependency_view found.old.items ++ along_edges self.entry (statement_edges (node_view self.entry.node) decl.now)) }
     {
         let open = Rules::open();
         match decl {
@@ -102,7 +103,8 @@ impl<'a> Visit<'a> {
     #[cycle(walk)]
     #[inline(never)]
     fn visit_function(self, decl: &Decl, found: &mut Found<'a>) -> Result<(), AllocError>
-        ensures { OnOk result (map dependency_view found.new.items ≡ map dependency_view found.old.items ++ along_edges self.entry (function_edges (node_view self.entry.node) decl.now)) }
+        ensures { OnOk result (map dependency_view found.new.items
+            ≡ map dependency_view found.old.items ++ along_edges self.entry (function_edges (node_view self.entry.node) decl.now)) }
     {
         let open = Rules::open();
         match decl {
@@ -132,7 +134,8 @@ impl<'a> Visit<'a> {
     #[cycle(walk)]
     #[inline(never)]
     fn visit_class(self, decl: &Decl, found: &mut Found<'a>) -> Result<(), AllocError>
-        ensures { OnOk result (map dependency_view found.new.items ≡ map dependency_view found.old.items ++ along_edges self.entry (class_edges (node_view self.entry.node) decl.now)) }
+        ensures { OnOk result (map dependency_view found.new.items
+            ≡ map dependency_view found.old.items ++ along_edges self.entry (class_edges (node_view self.entry.node) decl.now)) }
     {
         let open = Rules::open();
         match decl {
@@ -164,7 +167,8 @@ impl<'a> Visit<'a> {
     #[cycle(walk)]
     #[inline(always)]
     pub(crate) fn visit_decl(self, decl: &Decl, found: &mut Found<'a>) -> Result<(), AllocError>
-        ensures { OnOk result (map dependency_view found.new.items ≡ map dependency_view found.old.items ++ along_edges self.entry (decl_edges (node_view self.entry.node) decl.now)) }
+        ensures { OnOk result (map dependency_view found.new.items
+            ≡ map dependency_view found.old.items ++ along_edges self.entry (decl_edges (node_view self.entry.node) decl.now)) }
     {
         match decl {
             Decl::ClassDecl { .. } | Decl::ClassExpr { .. } | Decl::Class { .. } => {
@@ -323,7 +327,8 @@ impl<'a> Visit<'a> {
     fn visit_expr(self, refers: bool, expr: &Expr, found: &mut Found<'a>) -> Result<(), AllocError>
         requires kind { IsExpr (node_view self.node) expr.now }
         requires refers { refers ≡ is_some (reference_at (node_view self.node)) }
-        ensures { OnOk result (map dependency_view found.new.items ≡ map dependency_view found.old.items ++ along_edges self.entry (expr_edges refers expr.now)) }
+        ensures { OnOk result (map dependency_view found.new.items
+            ≡ map dependency_view found.old.items ++ along_edges self.entry (expr_edges refers expr.now)) }
     {
         let open = Rules::open();
         match expr {
@@ -361,7 +366,8 @@ impl<'a> Visit<'a> {
     fn visit_pat(self, known: Known, pat: &Pat, found: &mut Found<'a>) -> Result<(), AllocError>
         requires kind { IsPat (node_view self.node) pat.now }
         requires known { is_known known (node_view self.node) }
-        ensures { OnOk result (map dependency_view found.new.items ≡ map dependency_view found.old.items ++ along_edges self.entry (pat_edges (has_annotation (node_view self.entry.node)) pat.now)) }
+        ensures { OnOk result (map dependency_view found.new.items
+            ≡ map dependency_view found.old.items ++ along_edges self.entry (pat_edges (has_annotation (node_view self.entry.node)) pat.now)) }
     {
         let open = Rules::open();
         let by_kind = open.with_mark(MarkRule::ByKind);
@@ -402,7 +408,8 @@ impl<'a> Visit<'a> {
     ) -> Result<(), AllocError>
         requires kind { IsPat (node_view self.node) pat.now }
         requires known { is_known known (node_view self.node) }
-        ensures { OnOk result (map dependency_view found.new.items ≡ map dependency_view found.old.items ++ along_edges self.entry (signature_edges (has_annotation (node_view self.entry.node)) pat.now)) }
+        ensures { OnOk result (map dependency_view found.new.items
+            ≡ map dependency_view found.old.items ++ along_edges self.entry (signature_edges (has_annotation (node_view self.entry.node)) pat.now)) }
     {
         let open = Rules::open();
         match pat {
@@ -434,7 +441,9 @@ impl<'a> Visit<'a> {
     ) -> Result<(), AllocError>
         requires kind { IsPat (node_view self.node) pat.now }
         requires known { is_known known (node_view self.node) }
-        ensures { OnOk result (map dependency_view found.new.items ≡ map dependency_view found.old.items ++ along_edges self.entry (property_edges (node_view self.entry.node) (has_annotation (node_view self.entry.node)) pat.now)) }
+        ensures { OnOk result (map dependency_view found.new.items
+            ≡ map dependency_view found.old.items ++ along_edges self.entry
+            (property_edges (node_view self.entry.node) (has_annotation (node_view self.entry.node)) pat.now)) }
     {
         let open = Rules::open();
         match pat {
@@ -464,7 +473,9 @@ impl<'a> Visit<'a> {
         requires kind { kind_of (node_view self.node) ≡ Some kind.now }
         requires refers { refers ≡ is_some (reference_at (node_view self.node)) }
         requires known { is_known known (node_view self.node) }
-        ensures { OnOk result (map dependency_view found.new.items ≡ map dependency_view found.old.items ++ along_edges self.entry (edges (node_view self.entry.node) form refers (has_annotation (node_view self.entry.node)) kind.now)) }
+        ensures { OnOk result (map dependency_view found.new.items
+            ≡ map dependency_view found.old.items ++ along_edges self.entry
+            (edges (node_view self.entry.node) form refers (has_annotation (node_view self.entry.node)) kind.now)) }
     {
         match kind {
             Kind::Item(item) => match item {

@@ -44,7 +44,8 @@ impl<'a> ExportDeclRef<'a> {
     ) -> Result<Vec<(SymbolNodeDep<'a>, ReferenceNamespace)>, AllocError>
         ensures list { IfOk result (λ list. IsListOf mode (exported_steps (export_decl_view self.entry)) (map dependency_view list.items)) }
         ensures value { IfOk result (λ list. map dependency_view list.items ≡ exported_dependencies mode (export_decl_view self.entry)) }
-        ensures subsequence { IsSubsequence (exported_dependencies mode (export_decl_view self.entry)) (exported_dependencies TypesAndExpressions (export_decl_view self.entry)) }
+        ensures subsequence { IsSubsequence (exported_dependencies mode (export_decl_view self.entry))
+            (exported_dependencies TypesAndExpressions (export_decl_view self.entry)) }
     {
         let mut found = Vec::new(alloc);
         push_exported(alloc, mode, self, &mut found)?;
@@ -61,7 +62,8 @@ impl<'a> ExportDeclRef<'a> {
         alloc: Global,
         mode: ResolveDepsMode,
     ) -> Result<Vec<SymbolNodeDep<'a>>, AllocError>
-        ensures { IfOk result (λ list. map reference_view list.items ≡ map (λ (d : Dependency). d.reference) (exported_dependencies mode (export_decl_view self.entry))) }
+        ensures { IfOk result (λ list. map reference_view list.items
+            ≡ map (λ (d : Dependency). d.reference) (exported_dependencies mode (export_decl_view self.entry))) }
     {
         let all = self.deps_with_namespace(alloc, mode)?;
         let list = first_parts(alloc, all)?;
@@ -103,7 +105,8 @@ impl<'a> SymbolNodeRef<'a> {
         alloc: Global,
         mode: ResolveDepsMode,
     ) -> Result<Vec<SymbolNodeDep<'a>>, AllocError>
-        ensures { IfOk result (λ list. map reference_view list.items ≡ map (λ (d : Dependency). d.reference) (dependencies mode (symbol_node_view self.entry))) }
+        ensures { IfOk result (λ list. map reference_view list.items
+            ≡ map (λ (d : Dependency). d.reference) (dependencies mode (symbol_node_view self.entry))) }
     {
         let all = self.deps_with_namespace(alloc, mode)?;
         let list = first_parts(alloc, all)?;

@@ -59,7 +59,8 @@ fn imported<'a>(
     text: &'a str,
     qualifier: NodeId,
 ) -> Result<Option<SymbolNodeDep<'a>>, AllocError>
-    ensures { IfOk result (λ reference. option_map reference_view reference ≡ option_map (of_module text.now) (read_below entity_name (node_view node.entry) qualifier)) }
+    ensures { IfOk result (λ reference. option_map reference_view reference
+        ≡ option_map (of_module text.now) (read_below entity_name (node_view node.entry) qualifier)) }
 {
     let Some(qualifier) = node_below(node, qualifier) else {
         return Ok(None);
@@ -143,7 +144,8 @@ fn push_any<'a>(
 ) -> Result<bool, AllocError>
     requires { is_known known (node_view node) }
     ensures refers { IfOk result (λ refers. refers ≡ is_some (reference_at (node_view node.entry))) }
-    ensures added { IfOk result (λ _. map dependency_view found.new.items ≡ map dependency_view found.old.items ++ option_to_list (option_map (in_namespace namespace) (reference_at (node_view node.entry)))) }
+    ensures added { IfOk result (λ _. map dependency_view found.new.items
+        ≡ map dependency_view found.old.items ++ option_to_list (option_map (in_namespace namespace) (reference_at (node_view node.entry)))) }
 {
     match reference_at(alloc, node, known)? {
         Some(reference) => {
@@ -166,7 +168,8 @@ pub(crate) fn push_reference<'a>(
     requires kind { kind_of (node_view node) ≡ Some kind.now }
     requires known { is_known known (node_view node) }
     ensures refers { IfOk result (λ refers. refers ≡ is_some (reference_at (node_view node.entry))) }
-    ensures added { IfOk result (λ _. map dependency_view found.new.items ≡ map dependency_view found.old.items ++ option_to_list (option_map (in_namespace namespace) (reference_at (node_view node.entry)))) }
+    ensures added { IfOk result (λ _. map dependency_view found.new.items
+        ≡ map dependency_view found.old.items ++ option_to_list (option_map (in_namespace namespace) (reference_at (node_view node.entry)))) }
 {
     if !may_refer(kind) {
         return Ok(false);

@@ -24,7 +24,8 @@ fn push_first<'a>(
     node: NodeRef<'a>,
     found: &mut Found<'a>,
 ) -> Result<(), AllocError>
-    ensures { OnOk result (map dependency_view found.new.items ≡ map dependency_view found.old.items ++ dependencies_by mode (first_steps (node_view node.entry))) }
+    ensures { OnOk result (map dependency_view found.new.items
+        ≡ map dependency_view found.old.items ++ dependencies_by mode (first_steps (node_view node.entry))) }
 {
     let namespace = ReferenceNamespace::Value;
     let visit = Visit {
@@ -45,7 +46,8 @@ fn push_edges<'a>(
     node: NodeRef<'a>,
     found: &mut Found<'a>,
 ) -> Result<(), AllocError>
-    ensures { OnOk result (map dependency_view found.new.items ≡ map dependency_view found.old.items ++ dependencies_by mode (node_steps (node_view node.entry))) }
+    ensures { OnOk result (map dependency_view found.new.items
+        ≡ map dependency_view found.old.items ++ dependencies_by mode (node_steps (node_view node.entry))) }
 {
     let kind = node.kind();
     let refers = reference_at(alloc, node, Known::Nothing)?.is_some();
@@ -68,7 +70,8 @@ fn push_node<'a>(
     node: NodeRef<'a>,
     found: &mut Found<'a>,
 ) -> Result<(), AllocError>
-    ensures { OnOk result (map dependency_view found.new.items ≡ map dependency_view found.old.items ++ dependencies_by mode (node_steps (node_view node.entry))) }
+    ensures { OnOk result (map dependency_view found.new.items
+        ≡ map dependency_view found.old.items ++ dependencies_by mode (node_steps (node_view node.entry))) }
 {
     let namespace = ReferenceNamespace::Value;
     let visit = Visit {
@@ -93,7 +96,8 @@ fn push_child<'a>(
     child: Option<NodeRef<'a>>,
     found: &mut Found<'a>,
 ) -> Result<(), AllocError>
-    ensures { OnOk result (map dependency_view found.new.items ≡ map dependency_view found.old.items ++ dependencies_by mode (option_map_or node_steps (option_map node_view child.entry) [])) }
+    ensures { OnOk result (map dependency_view found.new.items
+        ≡ map dependency_view found.old.items ++ dependencies_by mode (option_map_or node_steps (option_map node_view child.entry) [])) }
 {
     match child {
         Some(child) => push_node(alloc, mode, child, found),
@@ -109,7 +113,8 @@ pub(crate) fn push_exported<'a>(
     decl: ExportDeclRef<'a>,
     found: &mut Found<'a>,
 ) -> Result<(), AllocError>
-    ensures { OnOk result (map dependency_view found.new.items ≡ map dependency_view found.old.items ++ dependencies_by mode (exported_steps (export_decl_view decl.entry))) }
+    ensures { OnOk result (map dependency_view found.new.items
+        ≡ map dependency_view found.old.items ++ dependencies_by mode (exported_steps (export_decl_view decl.entry))) }
 {
     match decl {
         ExportDeclRef::Class(node) => push_child(alloc, mode, node.class(), found),
@@ -130,7 +135,8 @@ fn push_default<'a>(
     decl: NodeRef<'a>,
     found: &mut Found<'a>,
 ) -> Result<(), AllocError>
-    ensures { OnOk result (map dependency_view found.new.items ≡ map dependency_view found.old.items ++ dependencies_by mode (default_steps (node_view decl.entry) (kind_of (node_view decl.entry)))) }
+    ensures { OnOk result (map dependency_view found.new.items
+        ≡ map dependency_view found.old.items ++ dependencies_by mode (default_steps (node_view decl.entry) (kind_of (node_view decl.entry)))) }
 {
     match decl.kind() {
         Kind::Decl(Decl::ClassExpr { .. }) => push_child(alloc, mode, decl.class(), found),
@@ -148,7 +154,9 @@ fn push_default_of<'a>(
     node: NodeRef<'a>,
     found: &mut Found<'a>,
 ) -> Result<(), AllocError>
-    ensures { OnOk result (map dependency_view found.new.items ≡ map dependency_view found.old.items ++ dependencies_by mode (option_map_or (λ (decl : TreeNode). default_steps decl (kind_of decl)) (child_of (node_view node.entry) decl_of) [])) }
+    ensures { OnOk result (map dependency_view found.new.items
+        ≡ map dependency_view found.old.items ++ dependencies_by mode
+        (option_map_or (λ (decl : TreeNode). default_steps decl (kind_of decl)) (child_of (node_view node.entry) decl_of) [])) }
 {
     match node.decl() {
         Some(decl) => push_default(alloc, mode, decl, found),
@@ -164,7 +172,8 @@ fn push_method<'a>(
     node: NodeRef<'a>,
     found: &mut Found<'a>,
 ) -> Result<(), AllocError>
-    ensures { OnOk result (map dependency_view found.new.items ≡ map dependency_view found.old.items ++ dependencies_by mode (first_steps (node_view node.entry) ++ function_steps (node_view node.entry))) }
+    ensures { OnOk result (map dependency_view found.new.items
+        ≡ map dependency_view found.old.items ++ dependencies_by mode (first_steps (node_view node.entry) ++ function_steps (node_view node.entry))) }
 {
     push_first(alloc, mode, node, found)?;
     push_child(alloc, mode, node.function(), found)
@@ -178,7 +187,8 @@ pub(crate) fn push_dependencies<'a>(
     node: SymbolNodeRef<'a>,
     found: &mut Found<'a>,
 ) -> Result<(), AllocError>
-    ensures { OnOk result (map dependency_view found.new.items ≡ map dependency_view found.old.items ++ dependencies_by mode (start_steps (symbol_node_view node.entry))) }
+    ensures { OnOk result (map dependency_view found.new.items
+        ≡ map dependency_view found.old.items ++ dependencies_by mode (start_steps (symbol_node_view node.entry))) }
 {
     match node {
         SymbolNodeRef::Module(_) | SymbolNodeRef::TsNamespace(_) => Ok(()),

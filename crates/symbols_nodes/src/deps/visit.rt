@@ -69,7 +69,8 @@ impl<'a> Visit<'a> {
         known: Known,
     ) -> Result<(), AllocError>
         requires { is_known known (node_view node) }
-        ensures { OnOk result (map dependency_view found.new.items ≡ map dependency_view found.old.items ++ dependencies_at mode namespace (place_of (node_view node.entry) form)) }
+        ensures { OnOk result (map dependency_view found.new.items
+            ≡ map dependency_view found.old.items ++ dependencies_at mode namespace (place_of (node_view node.entry) form)) }
     {
         let kind = node.kind();
         let refers = push_reference(alloc, node, kind, known, namespace, found)?;
@@ -94,7 +95,8 @@ impl<'a> Visit<'a> {
         form: Form,
         found: &mut Found<'a>,
     ) -> Result<(), AllocError>
-        ensures { OnOk result (map dependency_view found.new.items ≡ map dependency_view found.old.items ++ dependencies_at mode namespace (place_of (node_view node.entry) form)) }
+        ensures { OnOk result (map dependency_view found.new.items
+            ≡ map dependency_view found.old.items ++ dependencies_at mode namespace (place_of (node_view node.entry) form)) }
     {
         let visit = Visit {
             alloc,
@@ -162,7 +164,8 @@ impl<'a> Visit<'a> {
     /// itself, or the only part of the type that it is.
     #[inline(always)]
     fn only_name_at(self, form: Form) -> Option<(&'a Id, ReferenceNamespace)>
-        ensures { IfSome result (λ name. dependencies_at self.entry.mode self.entry.namespace (place_of (node_view self.entry.node) form) ≡ in_namespace name.1 (id (id_view name.0.now)) ∷ []) }
+        ensures { IfSome result (λ name. dependencies_at self.entry.mode self.entry.namespace (place_of (node_view self.entry.node) form)
+            ≡ in_namespace name.1 (id (id_view name.0.now)) ∷ []) }
     {
         match self.node.kind() {
             Kind::Expr(Expr::Ident { sym }) => Some((sym, self.namespace)),
@@ -245,7 +248,8 @@ impl<'a> Visit<'a> {
     #[cycle(walk)]
     #[inline(always)]
     pub(crate) fn visit_type(self, ty: NodeId, found: &mut Found<'a>) -> Result<(), AllocError>
-        ensures { OnOk result (map dependency_view found.new.items ≡ map dependency_view found.old.items ++ along_edge self.entry (to_child (marked_rules In.Type) ty)) }
+        ensures { OnOk result (map dependency_view found.new.items
+            ≡ map dependency_view found.old.items ++ along_edge self.entry (to_child (marked_rules In.Type) ty)) }
     {
         self.visit_child(Rules::marking(ReferenceNamespace::Type), ty, found)
     }

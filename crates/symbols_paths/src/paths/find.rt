@@ -37,8 +37,10 @@ fn trails_of<'a>(
     module_id: ModuleId,
     symbol_id: SymbolId,
 ) -> Result<Vec<Trail<'a>>, SymbolsFault>
-    ensures answers { IfOk result (λ trails. ArePaths root.old.rules root.old.graph (named_in root.old module_id symbol_id) (trails_told root.new trails.items)) }
-    ensures listed { IfOk result (λ trails. trails_told root.new trails.items ≡ paths_of root.old.rules root.old.graph (named_in root.old module_id symbol_id)) }
+    ensures answers { IfOk result (λ trails. ArePaths root.old.rules root.old.graph (named_in root.old module_id symbol_id)
+        (trails_told root.new trails.items)) }
+    ensures listed { IfOk result (λ trails. trails_told root.new trails.items
+        ≡ paths_of root.old.rules root.old.graph (named_in root.old module_id symbol_id)) }
     ensures known { IfOk result (λ trails. HasSymbol root.old module_id symbol_id) }
     ensures stored { IfOk result (λ trails. AreStored root.new (modules_of_trails trails.items)) }
     ensures faults { IfErr result (IsPathsFault root.old root.new module_id symbol_id) }
@@ -68,10 +70,12 @@ impl<'a> FindDefinitions<'a> for RootSymbol<'a> {
         symbol_id: SymbolId,
     ) -> Result<Vec<DefinitionPathNode<'a>>, SymbolsFault>
         ensures answers { IfOk result (λ paths. IsPathsAnswer self.old self.new module_id symbol_id paths.items) }
-        ensures listed { IfOk result (λ paths. forest_told self.new paths.items ≡ paths_of self.old.rules self.old.graph (named_in self.old module_id symbol_id)) }
+        ensures listed { IfOk result (λ paths. forest_told self.new paths.items
+            ≡ paths_of self.old.rules self.old.graph (named_in self.old module_id symbol_id)) }
         ensures faults { IfErr result (IsPathsFault self.old self.new module_id symbol_id) }
         ensures kept { HasGrown self.old self.new }
-        ensures only { (f g : Forest) → IsChosen (routes_in self.old) (named_in self.old module_id symbol_id) f → IsChosen (routes_in self.old) (named_in self.old module_id symbol_id) g → f ≡ g }
+        ensures only { (f g : Forest) → IsChosen (routes_in self.old) (named_in self.old module_id symbol_id) f
+            → IsChosen (routes_in self.old) (named_in self.old module_id symbol_id) g → f ≡ g }
         ensures exports_listed { (start : List ℕ) → AreListed self.old.graph start }
         ensures enough { HasSymbol self.old module_id symbol_id → WidestIsEnough self.old result }
     {
@@ -86,8 +90,10 @@ impl<'a> FindDefinitions<'a> for RootSymbol<'a> {
         module_id: ModuleId,
         symbol_id: SymbolId,
     ) -> Result<DefinitionsOrUnresolvedsIter<'a>, SymbolsFault>
-        ensures answers { IfOk result (λ ends. (paths : Forest) × ArePaths self.old.rules self.old.graph (named_in self.old module_id symbol_id) paths × (map (leaf_told self.new) (ends_left ends) ≡ leaves_in paths)) }
-        ensures listed { IfOk result (λ ends. map (leaf_told self.new) (ends_left ends) ≡ leaves_in (paths_of self.old.rules self.old.graph (named_in self.old module_id symbol_id))) }
+        ensures answers { IfOk result (λ ends. (paths : Forest) × ArePaths self.old.rules self.old.graph (named_in self.old module_id symbol_id) paths
+            × (map (leaf_told self.new) (ends_left ends) ≡ leaves_in paths)) }
+        ensures listed { IfOk result (λ ends. map (leaf_told self.new) (ends_left ends)
+            ≡ leaves_in (paths_of self.old.rules self.old.graph (named_in self.old module_id symbol_id))) }
         ensures known { IfOk result (λ ends. HasSymbol self.old module_id symbol_id) }
         ensures stored { IfOk result (λ ends. AreStored self.new (map module_of_end (ends_left ends))) }
         ensures faults { IfErr result (IsPathsFault self.old self.new module_id symbol_id) }
@@ -106,8 +112,10 @@ impl<'a> FindDefinitions<'a> for RootSymbol<'a> {
         module_id: ModuleId,
         symbol_id: SymbolId,
     ) -> Result<DefinitionsIter<'a>, SymbolsFault>
-        ensures answers { IfOk result (λ definitions. (paths : Forest) × ArePaths self.old.rules self.old.graph (named_in self.old module_id symbol_id) paths × (map (definition_told self.new) (definitions_left definitions) ≡ definitions_in (leaves_in paths))) }
-        ensures listed { IfOk result (λ definitions. map (definition_told self.new) (definitions_left definitions) ≡ definitions_in (leaves_in (paths_of self.old.rules self.old.graph (named_in self.old module_id symbol_id)))) }
+        ensures answers { IfOk result (λ definitions. (paths : Forest) × ArePaths self.old.rules self.old.graph (named_in self.old module_id symbol_id) paths
+            × (map (definition_told self.new) (definitions_left definitions) ≡ definitions_in (leaves_in paths))) }
+        ensures listed { IfOk result (λ definitions. map (definition_told self.new) (definitions_left definitions)
+            ≡ definitions_in (leaves_in (paths_of self.old.rules self.old.graph (named_in self.old module_id symbol_id)))) }
         ensures known { IfOk result (λ definitions. HasSymbol self.old module_id symbol_id) }
         ensures stored { IfOk result (λ definitions. AreStored self.new (map module_of_definition (definitions_left definitions))) }
         ensures faults { IfErr result (IsPathsFault self.old self.new module_id symbol_id) }
@@ -129,11 +137,13 @@ impl<'a> FindDefinitions<'a> for RootSymbol<'a> {
     ) -> Result<Vec<ResolvedSymbolDepEntry<'a>>, SymbolsFault>
         ensures answers { IfOk result (λ entries. IsStored self.old module_id
             × IsDepAnswer self.old.rules self.old.graph (specifier_in self.old module_id) (reference_view dep.now) (map (entry_told self.new) entries.items)) }
-        ensures listed { IfOk result (λ entries. map (entry_told self.new) entries.items ≡ entries_of self.old.rules self.old.graph (specifier_in self.old module_id) (reference_view dep.now)) }
+        ensures listed { IfOk result (λ entries. map (entry_told self.new) entries.items
+            ≡ entries_of self.old.rules self.old.graph (specifier_in self.old module_id) (reference_view dep.now)) }
         ensures stored { IfOk result (λ entries. AreStored self.new (modules_of_entries entries.items)) }
         ensures faults { IfErr result (IsDepFault self.old self.new module_id (reference_view dep.now)) }
         ensures kept { HasGrown self.old self.new }
-        ensures only { (s : NamedSymbol) (parts : Parts) (f g : Forest) → IsChosenUnder (routes_in self.old) s parts f → IsChosenUnder (routes_in self.old) s parts g → f ≡ g }
+        ensures only { (s : NamedSymbol) (parts : Parts) (f g : Forest) → IsChosenUnder (routes_in self.old) s parts f
+            → IsChosenUnder (routes_in self.old) s parts g → f ≡ g }
         ensures exports_listed { (start : List ℕ) → AreListed self.old.graph start }
         ensures enough { IsStored self.old module_id → WidestIsEnough self.old result }
     {

@@ -99,7 +99,8 @@ fn add_ends<'a>(
     paths: Vec<DefinitionPathNode<'a>>,
     left: &mut VecDeque<DefinitionOrUnresolved<'a>>,
 ) -> Result<(), AllocError>
-    ensures { OnOk result ((root : RootView) → map (leaf_told root) left.new.items ≡ map (leaf_told root) left.old.items ++ leaves_in (forest_told root paths.entry.items)) }
+    ensures { OnOk result ((root : RootView) → map (leaf_told root) left.new.items
+        ≡ map (leaf_told root) left.old.items ++ leaves_in (forest_told root paths.entry.items)) }
 {
     for path in paths {
         add_end(path, left)?;
@@ -113,7 +114,8 @@ fn add_end<'a>(
     path: DefinitionPathNode<'a>,
     left: &mut VecDeque<DefinitionOrUnresolved<'a>>,
 ) -> Result<(), AllocError>
-    ensures { OnOk result ((root : RootView) → map (leaf_told root) left.new.items ≡ map (leaf_told root) left.old.items ++ leaves_of (tree_told root path.entry)) }
+    ensures { OnOk result ((root : RootView) → map (leaf_told root) left.new.items
+        ≡ map (leaf_told root) left.old.items ++ leaves_of (tree_told root path.entry)) }
 {
     match path {
         DefinitionPathNode::Unresolved(unresolved) => {
@@ -136,8 +138,10 @@ fn add_trail_ends<'a>(
     trails: Vec<Trail<'a>>,
     left: &mut VecDeque<DefinitionOrUnresolved<'a>>,
 ) -> Result<(), AllocError>
-    ensures told { OnOk result ((root : RootView) → map (leaf_told root) left.new.items ≡ map (leaf_told root) left.old.items ++ leaves_in (trails_told root trails.entry.items)) }
-    ensures stored { OnOk result ((root : RootView) → AreStored root (map module_of_end left.old.items) → AreStored root (modules_of_trails trails.entry.items) → AreStored root (map module_of_end left.new.items)) }
+    ensures told { OnOk result ((root : RootView) → map (leaf_told root) left.new.items
+        ≡ map (leaf_told root) left.old.items ++ leaves_in (trails_told root trails.entry.items)) }
+    ensures stored { OnOk result ((root : RootView) → AreStored root (map module_of_end left.old.items) → AreStored root (modules_of_trails trails.entry.items)
+        → AreStored root (map module_of_end left.new.items)) }
 {
     for trail in trails {
         add_trail_end(trail, left)?;
@@ -151,8 +155,10 @@ fn add_trail_end<'a>(
     trail: Trail<'a>,
     left: &mut VecDeque<DefinitionOrUnresolved<'a>>,
 ) -> Result<(), AllocError>
-    ensures told { OnOk result ((root : RootView) → map (leaf_told root) left.new.items ≡ map (leaf_told root) left.old.items ++ leaves_in (trail_told root trail.entry)) }
-    ensures stored { OnOk result ((root : RootView) → AreStored root (map module_of_end left.old.items) → AreStored root (modules_of_trail trail.entry) → AreStored root (map module_of_end left.new.items)) }
+    ensures told { OnOk result ((root : RootView) → map (leaf_told root) left.new.items
+        ≡ map (leaf_told root) left.old.items ++ leaves_in (trail_told root trail.entry)) }
+    ensures stored { OnOk result ((root : RootView) → AreStored root (map module_of_end left.old.items) → AreStored root (modules_of_trail trail.entry)
+        → AreStored root (map module_of_end left.new.items)) }
 {
     match trail {
         Trail::To(_, end) => {
@@ -172,7 +178,8 @@ pub(crate) fn ends_of<'a>(
     trails: Vec<Trail<'a>>,
 ) -> Result<DefinitionsOrUnresolvedsIter<'a>, AllocError>
     ensures told { IfOk result (λ ends. (root : RootView) → map (leaf_told root) (ends_left ends) ≡ leaves_in (trails_told root trails.entry.items)) }
-    ensures stored { IfOk result (λ ends. (root : RootView) → AreStored root (modules_of_trails trails.entry.items) → AreStored root (map module_of_end (ends_left ends))) }
+    ensures stored { IfOk result (λ ends. (root : RootView) → AreStored root (modules_of_trails trails.entry.items)
+        → AreStored root (map module_of_end (ends_left ends))) }
 {
     let mut left = VecDeque::new(alloc);
     add_trail_ends(trails, &mut left)?;
@@ -184,8 +191,10 @@ fn add_definition<'a>(
     end: DefinitionOrUnresolved<'a>,
     left: &mut VecDeque<Definition<'a>>,
 ) -> Result<(), AllocError>
-    ensures told { OnOk result ((root : RootView) → map (definition_told root) left.new.items ≡ map (definition_told root) left.old.items ++ definitions_in (leaf_told root end.entry ∷ [])) }
-    ensures stored { OnOk result ((root : RootView) → AreStored root (map module_of_definition left.old.items) → AreStored root (module_of_end end.entry ∷ []) → AreStored root (map module_of_definition left.new.items)) }
+    ensures told { OnOk result ((root : RootView) → map (definition_told root) left.new.items
+        ≡ map (definition_told root) left.old.items ++ definitions_in (leaf_told root end.entry ∷ [])) }
+    ensures stored { OnOk result ((root : RootView) → AreStored root (map module_of_definition left.old.items) → AreStored root (module_of_end end.entry ∷ [])
+        → AreStored root (map module_of_definition left.new.items)) }
 {
     let DefinitionOrUnresolved::Definition(definition) = end else {
         return Ok(());
@@ -199,8 +208,10 @@ pub(crate) fn definitions_of<'a>(
     alloc: Global,
     ends: DefinitionsOrUnresolvedsIter<'a>,
 ) -> Result<DefinitionsIter<'a>, AllocError>
-    ensures told { IfOk result (λ definitions. (root : RootView) → map (definition_told root) (definitions_left definitions) ≡ definitions_in (map (leaf_told root) (ends_left ends.entry))) }
-    ensures stored { IfOk result (λ definitions. (root : RootView) → AreStored root (map module_of_end (ends_left ends.entry)) → AreStored root (map module_of_definition (definitions_left definitions))) }
+    ensures told { IfOk result (λ definitions. (root : RootView) → map (definition_told root) (definitions_left definitions)
+        ≡ definitions_in (map (leaf_told root) (ends_left ends.entry))) }
+    ensures stored { IfOk result (λ definitions. (root : RootView) → AreStored root (map module_of_end (ends_left ends.entry))
+        → AreStored root (map module_of_definition (definitions_left definitions))) }
 {
     let mut left = VecDeque::new(alloc);
     for end in ends.left {
@@ -234,7 +245,8 @@ impl<'a> DefinitionPathNode<'a> {
     ///
     /// Memory was refused, and the path is dropped.
     pub fn into_definitions(self, alloc: Global) -> Result<DefinitionsIter<'a>, AllocError>
-        ensures { IfOk result (λ definitions. (root : RootView) → map (definition_told root) (definitions_left definitions) ≡ definitions_in (leaves_of (tree_told root self.entry))) }
+        ensures { IfOk result (λ definitions. (root : RootView) → map (definition_told root) (definitions_left definitions)
+            ≡ definitions_in (leaves_of (tree_told root self.entry))) }
     {
         let ends = self.into_definitions_or_unresolveds(alloc)?;
         definitions_of(alloc, ends)

@@ -62,7 +62,9 @@ fn lead_of<'a>(
     info: ModuleInfoRef<'_, 'a>,
     decl: &SymbolDecl<'a>,
 ) -> Result<Lead<'a>, AllocError>
-    ensures leads { IfOk result (λ lead. (rules : Rules) (graph : GraphView) (s : NamedSymbol) → ((id : IdView) → mapped_in (lent_table info.entry) id ≡ symbol_of_id graph s.specifier id) → lead_told rules graph s lead ≡ lead_of rules graph s (decl_view decl.now).range (decl_view decl.now).kind) }
+    ensures leads { IfOk result (λ lead. (rules : Rules) (graph : GraphView) (s : NamedSymbol) →
+        ((id : IdView) → mapped_in (lent_table info.entry) id ≡ symbol_of_id graph s.specifier id)
+        → lead_told rules graph s lead ≡ lead_of rules graph s (decl_view decl.now).range (decl_view decl.now).kind) }
     ensures imports { IfOk result (λ lead. IsImportOf lead (decl_view decl.now)) }
 {
     match &decl.kind {
@@ -107,7 +109,8 @@ pub(crate) fn lead_at<'a>(
     index: u32,
 ) -> Result<Option<Lead<'a>>, AllocError>
     requires { IsStored root.now symbol.module_id }
-    ensures reads { IfOk result (λ lead. MatchOption lead (slice_get (declarations_of root.now.graph (symbol_told root.now symbol)) index ≡ None) (IsDeclarationRead root.now.rules root.now.graph (symbol_told root.now symbol) index)) }
+    ensures reads { IfOk result (λ lead. MatchOption lead (slice_get (declarations_of root.now.graph (symbol_told root.now symbol)) index ≡ None)
+        (IsDeclarationRead root.now.rules root.now.graph (symbol_told root.now symbol) index)) }
     ensures few { length (declarations_of root.now.graph (symbol_told root.now symbol)) < 2 ^ 32 }
 {
     let Some(info) = root.module_from_id(symbol.module_id) else {

@@ -27,7 +27,8 @@ pub(crate) fn defined<'a>(
     kind: DefinitionKind<'a>,
     range: SourceRange,
 ) -> Trail<'a>
-    ensures told { (root : RootView) → trail_told root result ≡ one_tree (leaf (definition (record { decl = decl_told root «module» symbol_decl; range = range; star = star_of kind.entry }))) }
+    ensures told { (root : RootView) → trail_told root result
+        ≡ one_tree (leaf (definition (record { decl = decl_told root «module» symbol_decl; range = range; star = star_of kind.entry }))) }
     ensures stored { (root : RootView) → «module».0 < length root.stored → AreStored root (modules_of_trail result) }
 {
     let definition = Definition {
@@ -47,7 +48,8 @@ fn link_by<'a>(
     next: Vec<Trail<'a>>,
 ) -> Result<Option<Trail<'a>>, AllocError>
     ensures told { IfOk result (λ trail. (root : RootView) → trails_of_option root trail ≡ link_to (step_head root step) (trails_told root next.entry.items)) }
-    ensures stored { IfOk result (λ trail. (root : RootView) → step.symbol.module_id.0 < length root.stored → AreStored root (modules_of_trails next.entry.items) → IfSome trail (λ t. AreStored root (modules_of_trail t))) }
+    ensures stored { IfOk result (λ trail. (root : RootView) → step.symbol.module_id.0 < length root.stored
+        → AreStored root (modules_of_trails next.entry.items) → IfSome trail (λ t. AreStored root (modules_of_trail t))) }
 {
     let whole = joined(alloc, next)?;
     match whole {
@@ -63,8 +65,11 @@ fn link<'a>(
     symbol_decl: DeclRef,
     next: Vec<Trail<'a>>,
 ) -> Result<Option<Trail<'a>>, AllocError>
-    ensures told { IfOk result (λ trail. (root : RootView) → trails_of_option root trail ≡ link_to (record { symbol = symbol_told root symbol; decl = decl_told root symbol.module_id symbol_decl; parts = [] }) (trails_told root next.entry.items)) }
-    ensures stored { IfOk result (λ trail. (root : RootView) → symbol.module_id.0 < length root.stored → AreStored root (modules_of_trails next.entry.items) → IfSome trail (λ t. AreStored root (modules_of_trail t))) }
+    ensures told { IfOk result (λ trail. (root : RootView) → trails_of_option root trail
+        ≡ link_to (record { symbol = symbol_told root symbol; decl = decl_told root symbol.module_id symbol_decl; parts = [] })
+        (trails_told root next.entry.items)) }
+    ensures stored { IfOk result (λ trail. (root : RootView) → symbol.module_id.0 < length root.stored → AreStored root (modules_of_trails next.entry.items)
+        → IfSome trail (λ t. AreStored root (modules_of_trail t))) }
 {
     let step = Step {
         symbol,
@@ -83,8 +88,11 @@ pub(crate) fn link_under<'a>(
     parts: &SharedParts,
     next: Vec<Trail<'a>>,
 ) -> Result<Option<Trail<'a>>, AllocError>
-    ensures told { IfOk result (λ trail. (root : RootView) → trails_of_option root trail ≡ link_to (record { symbol = symbol_told root symbol; decl = decl_told root symbol.module_id symbol_decl; parts = parts_told parts.now }) (trails_told root next.entry.items)) }
-    ensures stored { IfOk result (λ trail. (root : RootView) → symbol.module_id.0 < length root.stored → AreStored root (modules_of_trails next.entry.items) → IfSome trail (λ t. AreStored root (modules_of_trail t))) }
+    ensures told { IfOk result (λ trail. (root : RootView) → trails_of_option root trail
+        ≡ link_to (record { symbol = symbol_told root symbol; decl = decl_told root symbol.module_id symbol_decl; parts = parts_told parts.now })
+        (trails_told root next.entry.items)) }
+    ensures stored { IfOk result (λ trail. (root : RootView) → symbol.module_id.0 < length root.stored → AreStored root (modules_of_trails next.entry.items)
+        → IfSome trail (λ t. AreStored root (modules_of_trail t))) }
 {
     if next.is_empty() {
         return Ok(None);
@@ -130,7 +138,8 @@ pub(crate) fn unresolved<'a>(
     kind: DefinitionUnresolvedKind,
     parts: Vec<String>,
 ) -> Result<Vec<Trail<'a>>, AllocError>
-    ensures told { IfOk result (λ trails. (root : RootView) → trails_told root trails.items ≡ one_tree (leaf (unresolved (record { specifier = specifier_in root module_id; reason = reason_told kind; parts = texts_of parts.items })))) }
+    ensures told { IfOk result (λ trails. (root : RootView) → trails_told root trails.items
+        ≡ one_tree (leaf (unresolved (record { specifier = specifier_in root module_id; reason = reason_told kind; parts = texts_of parts.items })))) }
     ensures stored { IfOk result (λ trails. (root : RootView) → module_id.0 < length root.stored → AreStored root (modules_of_trails trails.items)) }
 {
     let missing = DefinitionUnresolved {
@@ -147,7 +156,8 @@ pub(crate) fn no_export<'a>(
     module_id: ModuleId,
     name: &str,
 ) -> Result<Vec<Trail<'a>>, AllocError>
-    ensures told { IfOk result (λ trails. (root : RootView) → trails_told root trails.items ≡ one_tree (leaf (unresolved (record { specifier = specifier_in root module_id; reason = no_part name.now; parts = [] })))) }
+    ensures told { IfOk result (λ trails. (root : RootView) → trails_told root trails.items
+        ≡ one_tree (leaf (unresolved (record { specifier = specifier_in root module_id; reason = no_part name.now; parts = [] })))) }
     ensures stored { IfOk result (λ trails. (root : RootView) → module_id.0 < length root.stored → AreStored root (modules_of_trails trails.items)) }
 {
     let kind = DefinitionUnresolvedKind::Part(String::from_str(alloc, name)?);
@@ -182,8 +192,12 @@ fn unmapped<'a>(
     id: &Id,
     parts: &SharedParts,
 ) -> Result<Option<Trail<'a>>, AllocError>
-    ensures told { IfOk result (λ trail. (root : RootView) → trails_of_option root trail ≡ one_tree (link (record { symbol = symbol_told root symbol; decl = decl_told root symbol.module_id symbol_decl; parts = parts_told parts.now }) (one_tree (leaf (unresolved (record { specifier = specifier_in root symbol.module_id; reason = no_symbol (id_view id.now); parts = parts_told parts.now })))))) }
-    ensures stored { IfOk result (λ trail. (root : RootView) → symbol.module_id.0 < length root.stored → IfSome trail (λ t. AreStored root (modules_of_trail t))) }
+    ensures told { IfOk result (λ trail. (root : RootView) → trails_of_option root trail
+        ≡ one_tree (link (record { symbol = symbol_told root symbol; decl = decl_told root symbol.module_id symbol_decl; parts = parts_told parts.now })
+        (one_tree (leaf (unresolved
+        (record { specifier = specifier_in root symbol.module_id; reason = no_symbol (id_view id.now); parts = parts_told parts.now })))))) }
+    ensures stored { IfOk result (λ trail. (root : RootView) → symbol.module_id.0 < length root.stored
+        → IfSome trail (λ t. AreStored root (modules_of_trail t))) }
 {
     let kind = DefinitionUnresolvedKind::Id(copied_id(alloc, id)?);
     let missing = copied_parts(alloc, parts.texts())?;
@@ -201,7 +215,10 @@ pub(crate) fn add_defined<'a>(
     range: SourceRange,
     trails: &mut Vec<Trail<'a>>,
 ) -> Result<(), AllocError>
-    ensures { OnOk result ((trail : Trail) × (trails.new.items ≡ trails.old.items ++ trail ∷ []) × ((root : RootView) → trail_told root trail ≡ one_tree (leaf (definition (record { decl = decl_told root «module» symbol_decl; range = range; star = star_of kind.entry })))) × ((root : RootView) → «module».0 < length root.stored → AreStored root (modules_of_trail trail))) }
+    ensures { OnOk result ((trail : Trail) × (trails.new.items ≡ trails.old.items ++ trail ∷ [])
+        × ((root : RootView) → trail_told root trail ≡ one_tree
+        (leaf (definition (record { decl = decl_told root «module» symbol_decl; range = range; star = star_of kind.entry }))))
+        × ((root : RootView) → «module».0 < length root.stored → AreStored root (modules_of_trail trail))) }
 {
     let trail = defined(alloc, module, symbol_decl, kind, range);
     trails.push(trail)?;
@@ -217,7 +234,11 @@ pub(crate) fn add_link<'a>(
     next: Vec<Trail<'a>>,
     trails: &mut Vec<Trail<'a>>,
 ) -> Result<(), AllocError>
-    ensures { OnOk result ((trail : Option Trail) × (trails.new.items ≡ trails.old.items ++ option_to_list trail) × ((root : RootView) → trails_of_option root trail ≡ link_to (record { symbol = symbol_told root symbol; decl = decl_told root symbol.module_id symbol_decl; parts = [] }) (trails_told root next.entry.items)) × ((root : RootView) → symbol.module_id.0 < length root.stored → AreStored root (modules_of_trails next.entry.items) → IfSome trail (λ t. AreStored root (modules_of_trail t)))) }
+    ensures { OnOk result ((trail : Option Trail) × (trails.new.items ≡ trails.old.items ++ option_to_list trail)
+        × ((root : RootView) → trails_of_option root trail ≡ link_to
+        (record { symbol = symbol_told root symbol; decl = decl_told root symbol.module_id symbol_decl; parts = [] }) (trails_told root next.entry.items))
+        × ((root : RootView) → symbol.module_id.0 < length root.stored → AreStored root (modules_of_trails next.entry.items)
+        → IfSome trail (λ t. AreStored root (modules_of_trail t)))) }
 {
     let trail = link(alloc, symbol, symbol_decl, next)?;
     add(trails, trail)
@@ -234,7 +255,11 @@ pub(crate) fn add_link_under<'a>(
     next: Vec<Trail<'a>>,
     trails: &mut Vec<Trail<'a>>,
 ) -> Result<(), AllocError>
-    ensures { OnOk result ((trail : Option Trail) × (trails.new.items ≡ trails.old.items ++ option_to_list trail) × ((root : RootView) → trails_of_option root trail ≡ link_to (record { symbol = symbol_told root symbol; decl = decl_told root symbol.module_id symbol_decl; parts = parts_told parts.now }) (trails_told root next.entry.items)) × ((root : RootView) → symbol.module_id.0 < length root.stored → AreStored root (modules_of_trails next.entry.items) → IfSome trail (λ t. AreStored root (modules_of_trail t)))) }
+    ensures { OnOk result ((trail : Option Trail) × (trails.new.items ≡ trails.old.items ++ option_to_list trail)
+        × ((root : RootView) → trails_of_option root trail ≡ link_to
+        (record { symbol = symbol_told root symbol; decl = decl_told root symbol.module_id symbol_decl; parts = parts_told parts.now })
+        (trails_told root next.entry.items)) × ((root : RootView) → symbol.module_id.0 < length root.stored
+        → AreStored root (modules_of_trails next.entry.items) → IfSome trail (λ t. AreStored root (modules_of_trail t)))) }
 {
     let trail = link_under(alloc, symbol, symbol_decl, parts, next)?;
     add(trails, trail)
@@ -250,7 +275,12 @@ pub(crate) fn add_unmapped<'a>(
     parts: &SharedParts,
     trails: &mut Vec<Trail<'a>>,
 ) -> Result<(), AllocError>
-    ensures { OnOk result ((trail : Option Trail) × (trails.new.items ≡ trails.old.items ++ option_to_list trail) × ((root : RootView) → trails_of_option root trail ≡ one_tree (link (record { symbol = symbol_told root symbol; decl = decl_told root symbol.module_id symbol_decl; parts = parts_told parts.now }) (one_tree (leaf (unresolved (record { specifier = specifier_in root symbol.module_id; reason = no_symbol (id_view id.now); parts = parts_told parts.now })))))) × ((root : RootView) → symbol.module_id.0 < length root.stored → IfSome trail (λ t. AreStored root (modules_of_trail t)))) }
+    ensures { OnOk result ((trail : Option Trail) × (trails.new.items ≡ trails.old.items ++ option_to_list trail)
+        × ((root : RootView) → trails_of_option root trail ≡ one_tree
+        (link (record { symbol = symbol_told root symbol; decl = decl_told root symbol.module_id symbol_decl; parts = parts_told parts.now })
+        (one_tree (leaf (unresolved
+        (record { specifier = specifier_in root symbol.module_id; reason = no_symbol (id_view id.now); parts = parts_told parts.now }))))))
+        × ((root : RootView) → symbol.module_id.0 < length root.stored → IfSome trail (λ t. AreStored root (modules_of_trail t)))) }
 {
     let trail = unmapped(alloc, symbol, symbol_decl, id, parts)?;
     add(trails, trail)

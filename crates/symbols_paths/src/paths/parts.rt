@@ -39,7 +39,8 @@ fn lacking(
     kind: DefinitionUnresolvedKind,
     parts: &[String],
 ) -> Result<PartWay, AllocError>
-    ensures told { IfOk result (λ way. (root : RootView) → part_told root way ≡ lacks (record { specifier = specifier_in root «module»; reason = reason_told kind; parts = texts_of parts.now })) }
+    ensures told { IfOk result (λ way. (root : RootView) → part_told root way
+        ≡ lacks (record { specifier = specifier_in root «module»; reason = reason_told kind; parts = texts_of parts.now })) }
     ensures stored { IfOk result (λ way. (root : RootView) → IsStored root «module» → IsPartStored root way) }
 {
     Ok(PartWay::Lacks(DefinitionUnresolved {
@@ -58,7 +59,9 @@ fn own_part(
 ) -> Result<PartWay, AllocError>
     requires known { IsStored root.now module_id }
     requires some { 0 < length parts.now }
-    ensures told { IfOk result (λ way. part_told root.now way ≡ own_part root.now.graph (decl_told root.now module_id decl) (first_part (texts_of parts.now)) (later_parts (texts_of parts.now)) (export_of_symbol root.now.graph (named_in root.now module_id decl.symbol) (first_part (texts_of parts.now)))) }
+    ensures told { IfOk result (λ way. part_told root.now way
+        ≡ own_part root.now.graph (decl_told root.now module_id decl) (first_part (texts_of parts.now)) (later_parts (texts_of parts.now))
+        (export_of_symbol root.now.graph (named_in root.now module_id decl.symbol) (first_part (texts_of parts.now)))) }
     ensures stored { IfOk result (IsPartStored root.now) }
 {
     let symbol = UniqueSymbolId::new(module_id, decl.symbol);
@@ -86,7 +89,9 @@ fn module_part(
     requires known { IsStored root.old module_id }
     requires some { 0 < length parts.now }
     ensures keeps { Keeps root.old root.new (IsRefused root.new (specifier_in root.old module_id)) result }
-    ensures told { IfOk result (λ way. part_told root.new way ≡ module_part (specifier_in root.old module_id) (first_part (texts_of parts.now)) (later_parts (texts_of parts.now)) (export_named root.old.graph (specifier_in root.old module_id) (first_part (texts_of parts.now)))) }
+    ensures told { IfOk result (λ way. part_told root.new way
+        ≡ module_part (specifier_in root.old module_id) (first_part (texts_of parts.now)) (later_parts (texts_of parts.now))
+        (export_named root.old.graph (specifier_in root.old module_id) (first_part (texts_of parts.now)))) }
     ensures stored { IfOk result (IsPartStored root.new) }
 {
     match export_of(root, module_id, parts[0].as_str()) {
@@ -113,7 +118,9 @@ pub(crate) fn text_part(
     requires known { IsStored root.old module_id }
     requires some { 0 < length parts.now }
     ensures keeps { Keeps root.old root.new (IsImportRefused root.old root.new module_id text.now) result }
-    ensures told { IfOk result (λ way. part_told root.new way ≡ text_part root.old.graph (specifier_in root.old module_id) text.now (first_part (texts_of parts.now)) (later_parts (texts_of parts.now)) (text_target root.old.graph (specifier_in root.old module_id) text.now)) }
+    ensures told { IfOk result (λ way. part_told root.new way
+        ≡ text_part root.old.graph (specifier_in root.old module_id) text.now (first_part (texts_of parts.now)) (later_parts (texts_of parts.now))
+        (text_target root.old.graph (specifier_in root.old module_id) text.now)) }
     ensures stored { IfOk result (IsPartStored root.new) }
 {
     match text_target(root, module_id, text) {
@@ -138,7 +145,8 @@ pub(crate) fn part_of(
     requires some { 0 < length parts.now }
     requires declared { IsStarDeclared root.old.graph (definition_told root.old definition.now) }
     ensures keeps { Keeps root.old root.new (IsRefused root.new (specifier_in root.old definition.now.«module»)) result }
-    ensures told { IfOk result (λ way. part_told root.new way ≡ part_of root.old.graph (definition_told root.old definition.now) (first_part (texts_of parts.now)) (later_parts (texts_of parts.now))) }
+    ensures told { IfOk result (λ way. part_told root.new way
+        ≡ part_of root.old.graph (definition_told root.old definition.now) (first_part (texts_of parts.now)) (later_parts (texts_of parts.now))) }
     ensures stored { IfOk result (IsPartStored root.new) }
 {
     match definition.kind {

@@ -22,8 +22,10 @@ fn list_definitions<'a>(
     trails: &[Trail<'a>],
     found: &mut Vec<Definition<'a>>,
 ) -> Result<(), AllocError>
-    ensures told { OnOk result ((root : RootView) → map (definition_told root) found.new.items ≡ map (definition_told root) found.old.items ++ defined_within (trails_told root trails.now)) }
-    ensures stored { OnOk result ((root : RootView) → AreStored root (map module_of_definition found.old.items) → AreStored root (modules_of_trails trails.now) → AreStored root (map module_of_definition found.new.items)) }
+    ensures told { OnOk result ((root : RootView) → map (definition_told root) found.new.items
+        ≡ map (definition_told root) found.old.items ++ defined_within (trails_told root trails.now)) }
+    ensures stored { OnOk result ((root : RootView) → AreStored root (map module_of_definition found.old.items) → AreStored root (modules_of_trails trails.now)
+        → AreStored root (map module_of_definition found.new.items)) }
 {
     for trail in trails {
         list_definition(trail, found)?;
@@ -34,8 +36,10 @@ fn list_definitions<'a>(
 /// Adds those of a trail.
 #[cycle(listing)]
 fn list_definition<'a>(trail: &Trail<'a>, found: &mut Vec<Definition<'a>>) -> Result<(), AllocError>
-    ensures told { OnOk result ((root : RootView) → map (definition_told root) found.new.items ≡ map (definition_told root) found.old.items ++ defined_within (trail_told root trail.now)) }
-    ensures stored { OnOk result ((root : RootView) → AreStored root (map module_of_definition found.old.items) → AreStored root (modules_of_trail trail.now) → AreStored root (map module_of_definition found.new.items)) }
+    ensures told { OnOk result ((root : RootView) → map (definition_told root) found.new.items
+        ≡ map (definition_told root) found.old.items ++ defined_within (trail_told root trail.now)) }
+    ensures stored { OnOk result ((root : RootView) → AreStored root (map module_of_definition found.old.items) → AreStored root (modules_of_trail trail.now)
+        → AreStored root (map module_of_definition found.new.items)) }
 {
     match trail {
         Trail::To(_, end) => list_end(end, found),
@@ -51,8 +55,10 @@ fn list_end<'a>(
     end: &DefinitionOrUnresolved<'a>,
     found: &mut Vec<Definition<'a>>,
 ) -> Result<(), AllocError>
-    ensures told { OnOk result ((root : RootView) → map (definition_told root) found.new.items ≡ map (definition_told root) found.old.items ++ defined_of (leaf (leaf_told root end.now))) }
-    ensures stored { OnOk result ((root : RootView) → AreStored root (map module_of_definition found.old.items) → AreStored root (module_of_end end.now ∷ []) → AreStored root (map module_of_definition found.new.items)) }
+    ensures told { OnOk result ((root : RootView) → map (definition_told root) found.new.items
+        ≡ map (definition_told root) found.old.items ++ defined_of (leaf (leaf_told root end.now))) }
+    ensures stored { OnOk result ((root : RootView) → AreStored root (map module_of_definition found.old.items) → AreStored root (module_of_end end.now ∷ [])
+        → AreStored root (map module_of_definition found.new.items)) }
 {
     if let DefinitionOrUnresolved::Definition(definition) = end {
         found.push(*definition)?;
@@ -66,7 +72,8 @@ pub(crate) fn definitions_in<'a>(
     trails: &[Trail<'a>],
 ) -> Result<Vec<Definition<'a>>, AllocError>
     ensures told { IfOk result (λ found. (root : RootView) → map (definition_told root) found.items ≡ defined_within (trails_told root trails.now)) }
-    ensures stored { IfOk result (λ found. (root : RootView) → AreStored root (modules_of_trails trails.now) → AreStored root (map module_of_definition found.items)) }
+    ensures stored { IfOk result (λ found. (root : RootView) → AreStored root (modules_of_trails trails.now)
+        → AreStored root (map module_of_definition found.items)) }
 {
     let mut found = Vec::new(alloc);
     list_definitions(trails, &mut found)?;
@@ -82,9 +89,13 @@ pub(crate) fn rebuild<'a>(
     parts: &SharedParts,
     changed: &mut VecDeque<Option<Trail<'a>>>,
 ) -> Result<Vec<Trail<'a>>, AllocError>
-    ensures found { IfOk result (λ found. (root : RootView) → trails_told root found.items ≡ (rebuilt (parts_told parts.now) (trails_told root trails.entry.items) (map (trails_of_option root) changed.old.items)).0) }
-    ensures left { OnOk result ((root : RootView) → map (trails_of_option root) changed.new.items ≡ (rebuilt (parts_told parts.now) (trails_told root trails.entry.items) (map (trails_of_option root) changed.old.items)).1) }
-    ensures stored { IfOk result (λ found. (root : RootView) → AreStored root (modules_of_trails trails.entry.items) → AreStored root (modules_of_trails (trails_among changed.old.items)) → AreStored root (modules_of_trails found.items) × AreStored root (modules_of_trails (trails_among changed.new.items))) }
+    ensures found { IfOk result (λ found. (root : RootView) → trails_told root found.items
+        ≡ (rebuilt (parts_told parts.now) (trails_told root trails.entry.items) (map (trails_of_option root) changed.old.items)).0) }
+    ensures left { OnOk result ((root : RootView) → map (trails_of_option root) changed.new.items
+        ≡ (rebuilt (parts_told parts.now) (trails_told root trails.entry.items) (map (trails_of_option root) changed.old.items)).1) }
+    ensures stored { IfOk result (λ found. (root : RootView) → AreStored root (modules_of_trails trails.entry.items)
+        → AreStored root (modules_of_trails (trails_among changed.old.items)) → AreStored root (modules_of_trails found.items)
+        × AreStored root (modules_of_trails (trails_among changed.new.items))) }
 {
     let mut found = Vec::new(alloc);
     for trail in trails {
@@ -102,9 +113,13 @@ fn rebuild_one<'a>(
     parts: &SharedParts,
     changed: &mut VecDeque<Option<Trail<'a>>>,
 ) -> Result<Option<Trail<'a>>, AllocError>
-    ensures found { IfOk result (λ found. (root : RootView) → trails_of_option root found ≡ (rebuilt (parts_told parts.now) (trail_told root trail.entry) (map (trails_of_option root) changed.old.items)).0) }
-    ensures left { OnOk result ((root : RootView) → map (trails_of_option root) changed.new.items ≡ (rebuilt (parts_told parts.now) (trail_told root trail.entry) (map (trails_of_option root) changed.old.items)).1) }
-    ensures stored { IfOk result (λ found. (root : RootView) → AreStored root (modules_of_trail trail.entry) → AreStored root (modules_of_trails (trails_among changed.old.items)) → AreStored root (modules_of_trails (option_to_list found)) × AreStored root (modules_of_trails (trails_among changed.new.items))) }
+    ensures found { IfOk result (λ found. (root : RootView) → trails_of_option root found
+        ≡ (rebuilt (parts_told parts.now) (trail_told root trail.entry) (map (trails_of_option root) changed.old.items)).0) }
+    ensures left { OnOk result ((root : RootView) → map (trails_of_option root) changed.new.items
+        ≡ (rebuilt (parts_told parts.now) (trail_told root trail.entry) (map (trails_of_option root) changed.old.items)).1) }
+    ensures stored { IfOk result (λ found. (root : RootView) → AreStored root (modules_of_trail trail.entry)
+        → AreStored root (modules_of_trails (trails_among changed.old.items)) → AreStored root (modules_of_trails (option_to_list found))
+        × AreStored root (modules_of_trails (trails_among changed.new.items))) }
 {
     match trail {
         Trail::To(stretches, end) => {
@@ -127,9 +142,12 @@ fn rebuild_end<'a>(
     end: DefinitionOrUnresolved<'a>,
     changed: &mut VecDeque<Option<Trail<'a>>>,
 ) -> Option<Trail<'a>>
-    ensures found { (root : RootView) (parts : Parts) → trails_of_option root result ≡ (rebuilt_tree parts (leaf (leaf_told root end.entry)) (map (trails_of_option root) changed.old.items)).0 }
-    ensures left { (root : RootView) (parts : Parts) → map (trails_of_option root) changed.new.items ≡ (rebuilt_tree parts (leaf (leaf_told root end.entry)) (map (trails_of_option root) changed.old.items)).1 }
-    ensures stored { (root : RootView) → AreStored root (module_of_end end.entry ∷ []) → AreStored root (modules_of_trails (trails_among changed.old.items)) → AreStored root (modules_of_trails (option_to_list result)) × AreStored root (modules_of_trails (trails_among changed.new.items)) }
+    ensures found { (root : RootView) (parts : Parts) → trails_of_option root result
+        ≡ (rebuilt_tree parts (leaf (leaf_told root end.entry)) (map (trails_of_option root) changed.old.items)).0 }
+    ensures left { (root : RootView) (parts : Parts) → map (trails_of_option root) changed.new.items
+        ≡ (rebuilt_tree parts (leaf (leaf_told root end.entry)) (map (trails_of_option root) changed.old.items)).1 }
+    ensures stored { (root : RootView) → AreStored root (module_of_end end.entry ∷ []) → AreStored root (modules_of_trails (trails_among changed.old.items))
+        → AreStored root (modules_of_trails (option_to_list result)) × AreStored root (modules_of_trails (trails_among changed.new.items)) }
 {
     match end {
         DefinitionOrUnresolved::Definition(_) => changed.pop_front().flatten(),
@@ -146,8 +164,10 @@ fn under<'a>(
     parts: &SharedParts,
     trail: Option<Trail<'a>>,
 ) -> Result<Option<Trail<'a>>, AllocError>
-    ensures told { IfOk result (λ found. (root : RootView) → trails_of_option root found ≡ below_links (heads_under (parts_told parts.now) (heads_in root stretches.items)) (trails_of_option root trail.entry)) }
-    ensures stored { IfOk result (λ found. (root : RootView) → AreStored root (modules_of_stretches stretches.items) → AreStored root (modules_of_trails (option_to_list trail.entry)) → AreStored root (modules_of_trails (option_to_list found))) }
+    ensures told { IfOk result (λ found. (root : RootView) → trails_of_option root found
+        ≡ below_links (heads_under (parts_told parts.now) (heads_in root stretches.items)) (trails_of_option root trail.entry)) }
+    ensures stored { IfOk result (λ found. (root : RootView) → AreStored root (modules_of_stretches stretches.items)
+        → AreStored root (modules_of_trails (option_to_list trail.entry)) → AreStored root (modules_of_trails (option_to_list found))) }
 {
     match trail {
         None => Ok(None),

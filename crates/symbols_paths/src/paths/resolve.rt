@@ -52,8 +52,10 @@ fn paths_under<'a>(
 ) -> Result<Vec<Trail<'a>>, SymbolsFault>
     requires known { IsStored root.old symbol.module_id }
     ensures keeps { Keeps root.old root.new (IsRefused root.new (specifier_in root.old symbol.module_id)) result }
-    ensures found { IfOk result (λ paths. ArePathsFor root.old.rules root.old.graph (symbol_told root.old symbol) (parts_told parts.now) (trails_told root.new paths.items)) }
-    ensures listed { IfOk result (λ paths. trails_told root.new paths.items ≡ paths_under root.old.rules root.old.graph (symbol_told root.old symbol) (parts_told parts.now)) }
+    ensures found { IfOk result (λ paths. ArePathsFor root.old.rules root.old.graph (symbol_told root.old symbol) (parts_told parts.now)
+        (trails_told root.new paths.items)) }
+    ensures listed { IfOk result (λ paths. trails_told root.new paths.items
+        ≡ paths_under root.old.rules root.old.graph (symbol_told root.old symbol) (parts_told parts.now)) }
     ensures stored { IfOk result (λ paths. AreStored root.new (modules_of_trails paths.items)) }
 {
     let mut resolving = IndexSet::new(root.alloc());
@@ -70,8 +72,10 @@ fn paths_behind_first<'a>(
     requires known { IsStored root.old symbol.module_id }
     requires some { 0 < length (parts_told parts.now) }
     ensures keeps { Keeps root.old root.new (IsRefused root.new (specifier_in root.old symbol.module_id)) result }
-    ensures found { IfOk result (λ paths. ArePathsFor root.old.rules root.old.graph (symbol_told root.old symbol) (later_parts (parts_told parts.now)) (trails_told root.new paths.items)) }
-    ensures listed { IfOk result (λ paths. trails_told root.new paths.items ≡ paths_under root.old.rules root.old.graph (symbol_told root.old symbol) (later_parts (parts_told parts.now))) }
+    ensures found { IfOk result (λ paths. ArePathsFor root.old.rules root.old.graph (symbol_told root.old symbol) (later_parts (parts_told parts.now))
+        (trails_told root.new paths.items)) }
+    ensures listed { IfOk result (λ paths. trails_told root.new paths.items
+        ≡ paths_under root.old.rules root.old.graph (symbol_told root.old symbol) (later_parts (parts_told parts.now))) }
     ensures stored { IfOk result (λ paths. AreStored root.new (modules_of_trails paths.items)) }
 {
     let rest = parts.behind_first()?;
@@ -107,7 +111,9 @@ fn paths_of_id<'a>(
 ) -> Result<Vec<Trail<'a>>, SymbolsFault>
     requires known { IsStored root.old module_id }
     ensures keeps { Keeps root.old root.new (IsRefused root.new (specifier_in root.old module_id)) result }
-    ensures found { IfOk result (λ paths. ArePathsOf root.old.rules root.old.graph (asked_by_id root.old.graph (specifier_in root.old module_id) (id_view id.now) (parts_told parts.now)) (missing_id (specifier_in root.old module_id) (id_view id.now) (parts_told parts.now)) (trails_told root.new paths.items)) }
+    ensures found { IfOk result (λ paths. ArePathsOf root.old.rules root.old.graph
+        (asked_by_id root.old.graph (specifier_in root.old module_id) (id_view id.now) (parts_told parts.now))
+        (missing_id (specifier_in root.old module_id) (id_view id.now) (parts_told parts.now)) (trails_told root.new paths.items)) }
     ensures stored { IfOk result (λ paths. AreStored root.new (modules_of_trails paths.items)) }
 {
     match symbol_of_id(root, module_id, id) {
@@ -130,7 +136,11 @@ fn paths_of_import<'a>(
     requires known { IsStored root.old module_id }
     requires some { 0 < length (parts_told parts.now) }
     ensures keeps { Keeps root.old root.new (IsImportRefused root.old root.new module_id text.now) result }
-    ensures found { IfOk result (λ paths. ArePathsOf root.old.rules root.old.graph (asked_by_part (later_parts (parts_told parts.now)) (text_part root.old.graph (specifier_in root.old module_id) text.now (first_part (parts_told parts.now)) (later_parts (parts_told parts.now)) (text_target root.old.graph (specifier_in root.old module_id) text.now))) (missing_part (text_part root.old.graph (specifier_in root.old module_id) text.now (first_part (parts_told parts.now)) (later_parts (parts_told parts.now)) (text_target root.old.graph (specifier_in root.old module_id) text.now))) (trails_told root.new paths.items)) }
+    ensures found { IfOk result (λ paths. ArePathsOf root.old.rules root.old.graph
+        (asked_by_part (later_parts (parts_told parts.now)) (text_part root.old.graph (specifier_in root.old module_id) text.now
+        (first_part (parts_told parts.now)) (later_parts (parts_told parts.now)) (text_target root.old.graph (specifier_in root.old module_id) text.now)))
+        (missing_part (text_part root.old.graph (specifier_in root.old module_id) text.now (first_part (parts_told parts.now))
+        (later_parts (parts_told parts.now)) (text_target root.old.graph (specifier_in root.old module_id) text.now))) (trails_told root.new paths.items)) }
     ensures stored { IfOk result (λ paths. AreStored root.new (modules_of_trails paths.items)) }
 {
     match text_part(root, module_id, text, parts.texts()) {
@@ -149,7 +159,8 @@ fn module_of_import<'a>(
 ) -> Result<Vec<ResolvedSymbolDepEntry<'a>>, SymbolsFault>
     requires known { IsStored root.old module_id }
     ensures keeps { Keeps root.old root.new (IsImportRefused root.old root.new module_id text.now) result }
-    ensures found { IfOk result (λ entries. map (entry_told root.new) entries.items ≡ other_entries root.old.graph (specifier_in root.old module_id) (import_type text.now [])) }
+    ensures found { IfOk result (λ entries. map (entry_told root.new) entries.items
+        ≡ other_entries root.old.graph (specifier_in root.old module_id) (import_type text.now [])) }
     ensures stored { IfOk result (λ entries. AreStored root.new (modules_of_entries entries.items)) }
 {
     match text_target(root, module_id, text) {
@@ -190,7 +201,8 @@ fn entries_of<'a>(
     trails: Vec<Trail<'a>>,
 ) -> Result<Vec<ResolvedSymbolDepEntry<'a>>, AllocError>
     ensures told { IfOk result (λ entries. (root : RootView) → map (entry_told root) entries.items ≡ entries_in (trails_told root trails.entry.items)) }
-    ensures stored { IfOk result (λ entries. (root : RootView) → AreStored root (modules_of_trails trails.entry.items) → AreStored root (modules_of_entries entries.items)) }
+    ensures stored { IfOk result (λ entries. (root : RootView) → AreStored root (modules_of_trails trails.entry.items)
+        → AreStored root (modules_of_entries entries.items)) }
 {
     let paths = nodes_of(alloc, trails)?;
     entries_along(alloc, paths)
@@ -205,8 +217,10 @@ pub(crate) fn entries_of_id<'a>(
 ) -> Result<Vec<ResolvedSymbolDepEntry<'a>>, SymbolsFault>
     requires known { IsStored root.old module_id }
     ensures keeps { Keeps root.old root.new (IsRefused root.new (specifier_in root.old module_id)) result }
-    ensures answers { IfOk result (λ entries. IsDepAnswer root.old.rules root.old.graph (specifier_in root.old module_id) (qualified_id (id_view id.now) (parts_told parts.now)) (map (entry_told root.new) entries.items)) }
-    ensures listed { IfOk result (λ entries. map (entry_told root.new) entries.items ≡ entries_of root.old.rules root.old.graph (specifier_in root.old module_id) (qualified_id (id_view id.now) (parts_told parts.now))) }
+    ensures answers { IfOk result (λ entries. IsDepAnswer root.old.rules root.old.graph (specifier_in root.old module_id)
+        (qualified_id (id_view id.now) (parts_told parts.now)) (map (entry_told root.new) entries.items)) }
+    ensures listed { IfOk result (λ entries. map (entry_told root.new) entries.items
+        ≡ entries_of root.old.rules root.old.graph (specifier_in root.old module_id) (qualified_id (id_view id.now) (parts_told parts.now))) }
     ensures stored { IfOk result (λ entries. AreStored root.new (modules_of_entries entries.items)) }
 {
     match paths_of_id(root, module_id, id, parts) {
@@ -224,8 +238,10 @@ pub(crate) fn entries_of_import<'a>(
 ) -> Result<Vec<ResolvedSymbolDepEntry<'a>>, SymbolsFault>
     requires known { IsStored root.old module_id }
     ensures keeps { Keeps root.old root.new (IsImportRefused root.old root.new module_id text.now) result }
-    ensures answers { IfOk result (λ entries. IsDepAnswer root.old.rules root.old.graph (specifier_in root.old module_id) (import_type text.now (parts_told parts.now)) (map (entry_told root.new) entries.items)) }
-    ensures listed { IfOk result (λ entries. map (entry_told root.new) entries.items ≡ entries_of root.old.rules root.old.graph (specifier_in root.old module_id) (import_type text.now (parts_told parts.now))) }
+    ensures answers { IfOk result (λ entries. IsDepAnswer root.old.rules root.old.graph (specifier_in root.old module_id)
+        (import_type text.now (parts_told parts.now)) (map (entry_told root.new) entries.items)) }
+    ensures listed { IfOk result (λ entries. map (entry_told root.new) entries.items
+        ≡ entries_of root.old.rules root.old.graph (specifier_in root.old module_id) (import_type text.now (parts_told parts.now))) }
     ensures stored { IfOk result (λ entries. AreStored root.new (modules_of_entries entries.items)) }
 {
     if parts.is_empty() {

@@ -79,7 +79,9 @@ fn follow<'a>(
     requires ready { IsReady root.old symbol.module_id met.old.keys resolving.old.keys }
     requires declared { (decl : Declaration) × Contains (declarations_of root.old.graph (symbol_told root.old symbol)) decl × IsImportOf lead.now decl }
     ensures behind { KeepsResolving root.old root.new symbol.module_id resolving.old.keys resolving.new.keys result }
-    ensures followed { OnOk result ((path : Option Trail) × (paths.new.items ≡ paths.old.items ++ option_to_list path) × IsFollowed root.new resolving.old.keys met.old.keys symbol index lead.now path met.new.keys × HasSearched root.new met.old.keys met.new.keys (modules_of_trails (option_to_list path))) }
+    ensures followed { OnOk result ((path : Option Trail) × (paths.new.items ≡ paths.old.items ++ option_to_list path)
+        × IsFollowed root.new resolving.old.keys met.old.keys symbol index lead.now path met.new.keys
+        × HasSearched root.new met.old.keys met.new.keys (modules_of_trails (option_to_list path))) }
 {
     let decl = DeclRef {
         symbol: symbol.symbol_id,
@@ -132,7 +134,8 @@ fn import<'a>(
     requires ready { IsReady root.old symbol.module_id met.old.keys resolving.old.keys }
     requires declared { IsImported root.old.graph (symbol_told root.old symbol) taken.now.name.now taken.now.text.now }
     ensures behind { KeepsResolving root.old root.new symbol.module_id resolving.old.keys resolving.new.keys result }
-    ensures tried { IfOk result (λ paths. IsTried root.new resolving.old.keys met.old.keys (forward_of_import symbol taken.now.name.now taken.now.text.now) paths.items met.new.keys) }
+    ensures tried { IfOk result (λ paths. IsTried root.new resolving.old.keys met.old.keys
+        (forward_of_import symbol taken.now.name.now taken.now.text.now) paths.items met.new.keys) }
     ensures searched { IfOk result (λ paths. HasSearched root.new met.old.keys met.new.keys (modules_of_trails paths.items)) }
 {
     let module_id = match text_target(root, symbol.module_id, taken.text) {
@@ -167,7 +170,8 @@ fn import_along<'a>(
 ) -> Result<Vec<Trail<'a>>, SymbolsFault>
     requires ready { IsReady root.old module_id met.old.keys resolving.old.keys }
     ensures behind { KeepsResolving root.old root.new module_id resolving.old.keys resolving.new.keys result }
-    ensures tried { IfOk result (λ paths. IsTried root.new resolving.old.keys met.old.keys (forward_along module_id taken.now.name.now) paths.items met.new.keys) }
+    ensures tried { IfOk result (λ paths. IsTried root.new resolving.old.keys met.old.keys
+        (forward_along module_id taken.now.name.now) paths.items met.new.keys) }
     ensures searched { IfOk result (λ paths. HasSearched root.new met.old.keys met.new.keys (modules_of_trails paths.items)) }
 {
     let mut position = 0;
@@ -284,7 +288,8 @@ fn walk_definitions<'a>(
     requires found { (before : List UniqueSymbolId) × IsFound root.old resolving.old.keys before symbol paths.items met.old.keys }
     requires stored { AreStored root.old (modules_of_trails paths.items) }
     ensures behind { KeepsResolving root.old root.new symbol.module_id resolving.old.keys resolving.new.keys result }
-    ensures walked { IfOk result (λ found. (before : List UniqueSymbolId) → IsFound root.old resolving.old.keys before symbol paths.entry.items met.old.keys → IsFoundUnder root.new resolving.old.keys before symbol (parts_told parts.now) found.items met.new.keys) }
+    ensures walked { IfOk result (λ found. (before : List UniqueSymbolId) → IsFound root.old resolving.old.keys before symbol paths.entry.items met.old.keys
+        → IsFoundUnder root.new resolving.old.keys before symbol (parts_told parts.now) found.items met.new.keys) }
     ensures searched { IfOk result (λ found. HasSearched root.new met.old.keys met.new.keys (modules_of_trails found.items)) }
 {
     let mut changed = VecDeque::new(root.alloc());
@@ -310,7 +315,8 @@ fn walk_on<'a>(
     requires ready { IsReady root.old symbol.module_id met.old.keys resolving.old.keys }
     requires some { 0 < length (parts_told parts.now) }
     ensures behind { KeepsResolving root.old root.new symbol.module_id resolving.old.keys resolving.new.keys result }
-    ensures walked { IfOk result (λ paths. IsFoundUnder root.new resolving.old.keys met.old.keys symbol (later_parts (parts_told parts.now)) paths.items met.new.keys) }
+    ensures walked { IfOk result (λ paths. IsFoundUnder root.new resolving.old.keys met.old.keys symbol
+        (later_parts (parts_told parts.now)) paths.items met.new.keys) }
     ensures searched { IfOk result (λ paths. HasSearched root.new met.old.keys met.new.keys (modules_of_trails paths.items)) }
 {
     let rest = parts.behind_first()?;

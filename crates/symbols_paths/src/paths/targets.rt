@@ -24,7 +24,8 @@ pub(crate) fn text_target(
 ) -> Result<Option<ModuleId>, SymbolsFault>
     requires { IsStored root.old referrer }
     ensures keeps { Keeps root.old root.new (IsRefusal root.old (text_target root.old.graph (specifier_in root.old referrer) text.now)) result }
-    ensures gives { IfOk result (λ id. option_map (specifier_under root.new) id ≡ option_map (λ s. Some s) (text_target root.old.graph (specifier_in root.old referrer) text.now)) }
+    ensures gives { IfOk result (λ id. option_map (specifier_under root.new) id
+        ≡ option_map (λ s. Some s) (text_target root.old.graph (specifier_in root.old referrer) text.now)) }
     ensures unchanged { OnErr result (root.new ≡ root.old) }
 {
     let specifier = specifier_of(root, referrer);
@@ -45,7 +46,8 @@ pub(crate) fn export_along(
     requires known { IsStored root.old module_id }
     requires stands { (position : ℕ) × (slice_get (star_texts root.old.graph (specifier_in root.old module_id)) position ≡ Some text.now) }
     ensures keeps { Keeps root.old root.new (IsRefused root.new (specifier_in root.old module_id)) result }
-    ensures gives { IfOk result (λ symbol. option_map (symbol_told root.new) symbol ≡ export_along root.old.graph name.now (text_target root.old.graph (specifier_in root.old module_id) text.now)) }
+    ensures gives { IfOk result (λ symbol. option_map (symbol_told root.new) symbol
+        ≡ export_along root.old.graph name.now (text_target root.old.graph (specifier_in root.old module_id) text.now)) }
     ensures stored { IfOk result (λ symbol. IfSome symbol (λ s. IsStored root.new s.module_id)) }
 {
     let target = match text_target(root, module_id, text) {

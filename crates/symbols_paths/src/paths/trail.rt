@@ -49,7 +49,8 @@ pub(crate) fn ended<'a>(alloc: Global, end: DefinitionOrUnresolved<'a>) -> Trail
 /// The trail with a stretch more in front.
 pub(crate) fn put_before<'a>(trail: Trail<'a>, stretch: Stretch) -> Result<Trail<'a>, AllocError>
     ensures told { IfOk result (λ longer. (root : RootView) → trail_told root longer ≡ below_links (heads_of root stretch) (trail_told root trail.entry)) }
-    ensures stored { IfOk result (λ longer. (root : RootView) → AreStored root (modules_of_stretch stretch) → AreStored root (modules_of_trail trail.entry) → AreStored root (modules_of_trail longer)) }
+    ensures stored { IfOk result (λ longer. (root : RootView) → AreStored root (modules_of_stretch stretch) → AreStored root (modules_of_trail trail.entry)
+        → AreStored root (modules_of_trail longer)) }
 {
     match trail {
         Trail::To(stretches, end) => {
@@ -71,7 +72,8 @@ pub(crate) fn joined<'a>(
     trails: Vec<Trail<'a>>,
 ) -> Result<Option<Trail<'a>>, AllocError>
     ensures told { IfOk result (λ trail. (root : RootView) → trails_of_option root trail ≡ trails_told root trails.entry.items) }
-    ensures stored { IfOk result (λ trail. (root : RootView) → AreStored root (modules_of_trails trails.entry.items) → AreStored root (modules_of_trails (option_to_list trail))) }
+    ensures stored { IfOk result (λ trail. (root : RootView) → AreStored root (modules_of_trails trails.entry.items)
+        → AreStored root (modules_of_trails (option_to_list trail))) }
 {
     let mut trails = trails;
     let Some(last) = trails.pop() else {
@@ -90,8 +92,10 @@ pub(crate) fn put_behind<'a>(
     parts: &SharedParts,
     trail: Trail<'a>,
 ) -> Result<Trail<'a>, AllocError>
-    ensures told { IfOk result (λ longer. (root : RootView) → trail_told root longer ≡ below_links (heads_under (parts_told parts.now) (heads_in root stretches.items)) (trail_told root trail.entry)) }
-    ensures stored { IfOk result (λ longer. (root : RootView) → AreStored root (modules_of_stretches stretches.items) → AreStored root (modules_of_trail trail.entry) → AreStored root (modules_of_trail longer)) }
+    ensures told { IfOk result (λ longer. (root : RootView) → trail_told root longer
+        ≡ below_links (heads_under (parts_told parts.now) (heads_in root stretches.items)) (trail_told root trail.entry)) }
+    ensures stored { IfOk result (λ longer. (root : RootView) → AreStored root (modules_of_stretches stretches.items)
+        → AreStored root (modules_of_trail trail.entry) → AreStored root (modules_of_trail longer)) }
 {
     if stretches.is_empty() {
         return Ok(trail);

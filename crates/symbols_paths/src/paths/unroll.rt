@@ -52,7 +52,8 @@ fn link_before<'a>(
     next: Vec<DefinitionPathNode<'a>>,
 ) -> Result<Vec<DefinitionPathNode<'a>>, AllocError>
     ensures told { IfOk result (λ paths. (root : RootView) → forest_told root paths.items ≡ link_to (step_head root step) (forest_told root next.entry.items)) }
-    ensures stored { IfOk result (λ paths. (root : RootView) → step.symbol.module_id.0 < length root.stored → AreStored root (modules_in next.entry.items) → AreStored root (modules_in paths.items)) }
+    ensures stored { IfOk result (λ paths. (root : RootView) → step.symbol.module_id.0 < length root.stored → AreStored root (modules_in next.entry.items)
+        → AreStored root (modules_in paths.items)) }
 {
     let mut paths = Vec::new(alloc);
     if next.is_empty() {
@@ -77,8 +78,10 @@ fn lay<'a>(
     stretches: Vec<Stretch>,
     next: Vec<DefinitionPathNode<'a>>,
 ) -> Result<Vec<DefinitionPathNode<'a>>, AllocError>
-    ensures told { IfOk result (λ paths. (root : RootView) → forest_told root paths.items ≡ below_links (heads_in root stretches.items) (forest_told root next.entry.items)) }
-    ensures stored { IfOk result (λ paths. (root : RootView) → AreStored root (modules_of_stretches stretches.items) → AreStored root (modules_in next.entry.items) → AreStored root (modules_in paths.items)) }
+    ensures told { IfOk result (λ paths. (root : RootView) → forest_told root paths.items
+        ≡ below_links (heads_in root stretches.items) (forest_told root next.entry.items)) }
+    ensures stored { IfOk result (λ paths. (root : RootView) → AreStored root (modules_of_stretches stretches.items)
+        → AreStored root (modules_in next.entry.items) → AreStored root (modules_in paths.items)) }
 {
     let mut paths = next;
     for stretch in stretches {
@@ -93,8 +96,10 @@ fn lay_one<'a>(
     stretch: Stretch,
     next: Vec<DefinitionPathNode<'a>>,
 ) -> Result<Vec<DefinitionPathNode<'a>>, AllocError>
-    ensures told { IfOk result (λ paths. (root : RootView) → forest_told root paths.items ≡ below_links (heads_of root stretch) (forest_told root next.entry.items)) }
-    ensures stored { IfOk result (λ paths. (root : RootView) → AreStored root (modules_of_stretch stretch) → AreStored root (modules_in next.entry.items) → AreStored root (modules_in paths.items)) }
+    ensures told { IfOk result (λ paths. (root : RootView) → forest_told root paths.items
+        ≡ below_links (heads_of root stretch) (forest_told root next.entry.items)) }
+    ensures stored { IfOk result (λ paths. (root : RootView) → AreStored root (modules_of_stretch stretch) → AreStored root (modules_in next.entry.items)
+        → AreStored root (modules_in paths.items)) }
 {
     match stretch {
         Stretch::Step(step) => link_before(alloc, step, next),
@@ -110,8 +115,10 @@ fn lay_under<'a>(
     parts: &SharedParts,
     next: Vec<DefinitionPathNode<'a>>,
 ) -> Result<Vec<DefinitionPathNode<'a>>, AllocError>
-    ensures told { IfOk result (λ paths. (root : RootView) → forest_told root paths.items ≡ below_links (heads_under (parts_told parts.now) (heads_in root stretches.items)) (forest_told root next.entry.items)) }
-    ensures stored { IfOk result (λ paths. (root : RootView) → AreStored root (modules_of_stretches stretches.items) → AreStored root (modules_in next.entry.items) → AreStored root (modules_in paths.items)) }
+    ensures told { IfOk result (λ paths. (root : RootView) → forest_told root paths.items
+        ≡ below_links (heads_under (parts_told parts.now) (heads_in root stretches.items)) (forest_told root next.entry.items)) }
+    ensures stored { IfOk result (λ paths. (root : RootView) → AreStored root (modules_of_stretches stretches.items)
+        → AreStored root (modules_in next.entry.items) → AreStored root (modules_in paths.items)) }
 {
     let mut paths = next;
     for stretch in stretches {
@@ -128,8 +135,10 @@ fn lay_one_under<'a>(
     parts: &SharedParts,
     next: Vec<DefinitionPathNode<'a>>,
 ) -> Result<Vec<DefinitionPathNode<'a>>, AllocError>
-    ensures told { IfOk result (λ paths. (root : RootView) → forest_told root paths.items ≡ below_links (heads_under (parts_told parts.now) (heads_of root stretch)) (forest_told root next.entry.items)) }
-    ensures stored { IfOk result (λ paths. (root : RootView) → AreStored root (modules_of_stretch stretch) → AreStored root (modules_in next.entry.items) → AreStored root (modules_in paths.items)) }
+    ensures told { IfOk result (λ paths. (root : RootView) → forest_told root paths.items
+        ≡ below_links (heads_under (parts_told parts.now) (heads_of root stretch)) (forest_told root next.entry.items)) }
+    ensures stored { IfOk result (λ paths. (root : RootView) → AreStored root (modules_of_stretch stretch) → AreStored root (modules_in next.entry.items)
+        → AreStored root (modules_in paths.items)) }
 {
     match stretch {
         Stretch::Step(step) => {
@@ -151,7 +160,8 @@ pub(crate) fn nodes_of<'a>(
     trails: Vec<Trail<'a>>,
 ) -> Result<Vec<DefinitionPathNode<'a>>, AllocError>
     ensures told { IfOk result (λ paths. (root : RootView) → forest_told root paths.items ≡ trails_told root trails.entry.items) }
-    ensures stored { IfOk result (λ paths. (root : RootView) → AreStored root (modules_of_trails trails.entry.items) → AreStored root (modules_in paths.items)) }
+    ensures stored { IfOk result (λ paths. (root : RootView) → AreStored root (modules_of_trails trails.entry.items)
+        → AreStored root (modules_in paths.items)) }
 {
     let mut paths = Vec::new(alloc);
     for trail in trails {

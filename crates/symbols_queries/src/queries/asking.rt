@@ -176,7 +176,8 @@ fn entries_answer<'a>(
     requires { IsStored root.old module_id }
     ensures keeps { Keeps root.old root.new
         (IsQuestionFault root.old root.new (specifier_in root.old module_id) (asks_entries (reference_view dep.now))) result }
-    ensures given { IfOk result (λ answer. IsGiven root.old root.new (specifier_in root.old module_id) (asks_entries (reference_view dep.now)) (answer_view answer)) }
+    ensures given { IfOk result (λ answer. IsGiven root.old root.new (specifier_in root.old module_id) (asks_entries (reference_view dep.now))
+        (answer_view answer)) }
 {
     match root.resolve_symbol_dep(module_id, dep) {
         Err(fault) => Err(fault),
@@ -249,9 +250,12 @@ impl<'a> AnswerQueries<'a> for RootSymbol<'a> {
 
     fn run(&mut self, queries: &[Query<'_>]) -> Result<Vec<Answer<'a>>, SymbolsFault>
         ensures kept { HasGrown self.old self.new }
-        ensures answers { IfOk result (λ answers. map (λ answer. Some (answer_view answer)) answers.items ≡ map (λ query. query_answer self.old.rules self.old.graph (query_view query)) queries.now) }
-        ensures means { IfOk result (λ answers. AllZip (λ query answer. IsAnswerTo self.old.rules self.old.graph (query_view query) (answer_view answer)) queries.now answers.items) }
-        ensures stored { IfOk result (λ answers. AllZip (λ query answer. HasStoredFor self.new (query_view query) (answer_view answer)) queries.now answers.items) }
+        ensures answers { IfOk result (λ answers. map (λ answer. Some (answer_view answer)) answers.items
+            ≡ map (λ query. query_answer self.old.rules self.old.graph (query_view query)) queries.now) }
+        ensures means { IfOk result (λ answers. AllZip (λ query answer. IsAnswerTo self.old.rules self.old.graph (query_view query)
+            (answer_view answer)) queries.now answers.items) }
+        ensures stored { IfOk result (λ answers. AllZip (λ query answer. HasStoredFor self.new (query_view query)
+            (answer_view answer)) queries.now answers.items) }
         ensures listed { (start : List ℕ) → AreListed self.old.graph start }
         ensures faults { IfErr result (IsRunFault self.old self.new (map query_view queries.now)) }
         ensures enough { self.old.limits ≡ widest_limits → IfErr result (λ fault. (fault ≡ OutOfMemory) ⊎ (fault ≡ UnknownSymbol)) }

@@ -113,7 +113,8 @@ fn named_export<'a>(
     path: &ResolvedExportOrReExportAllPath<'a>,
 ) -> Result<NamedExport<'a>, AllocError>
     requires { IsNumbered root.now (record { name = string_bytes name; statements = statements_on path.now; export = resolved_export path.now }) }
-    ensures { IfOk result (λ named. export_view named ≡ told_name root.now (record { name = string_bytes name; statements = statements_on path.now; export = resolved_export path.now })) }
+    ensures { IfOk result (λ named. export_view named ≡ told_name root.now
+        (record { name = string_bytes name; statements = statements_on path.now; export = resolved_export path.now })) }
 {
     let export = path.as_resolved_export();
     Ok(NamedExport {
@@ -166,8 +167,10 @@ pub(crate) fn named_exports<'a>(
     requires shared { AllShareNumbered root.now (shared_views exports.shared.items) }
     requires statements { AreNumbered root.now (map unresolved_told exports.unresolved_specifiers.items) }
     ensures names { IfOk result (λ named. map export_view named.exports.items ≡ map (told_name root.now) (names_view exports.entry.resolved.entries)) }
-    ensures shared { IfOk result (λ named. option_map sharing_view named.shared ≡ by_strict root.now.rules (map (told_sharing root.now) (shared_views exports.entry.shared.items))) }
-    ensures statements { IfOk result (λ named. map statement_view named.unresolved.items ≡ map (told_number root.now) (map unresolved_told exports.entry.unresolved_specifiers.items)) }
+    ensures shared { IfOk result (λ named. option_map sharing_view named.shared
+        ≡ by_strict root.now.rules (map (told_sharing root.now) (shared_views exports.entry.shared.items))) }
+    ensures statements { IfOk result (λ named. map statement_view named.unresolved.items
+        ≡ map (told_number root.now) (map unresolved_told exports.entry.unresolved_specifiers.items)) }
 {
     let unresolved = named_unresolved(alloc, root, &exports.unresolved_specifiers)?;
     let shared = named_by_rules(alloc, root, exports.shared)?;

@@ -52,7 +52,8 @@ impl<'a> Model for RootSymbol<'a> {
 
     ghost view = { λ r. record { graph = r.graph.now; rules = r.rules; limits = r.limits; stored = stored_specifiers r.modules.entries } };
 
-    ghost invariant = { λ r. AreWhole r.graph.now r.limits.symbols r.modules.entries × (length r.modules.entries ≤ r.limits.modules) × IsDistinct bytes_eq (stored_specifiers r.modules.entries)
+    ghost invariant = { λ r. AreWhole r.graph.now r.limits.symbols r.modules.entries × (length r.modules.entries ≤ r.limits.modules)
+        × IsDistinct bytes_eq (stored_specifiers r.modules.entries)
         × IfSome r.last (λ last. StandsUnder r.graph.now (stored_specifiers r.modules.entries) last.1 last.0.now) };
 }
 
@@ -151,7 +152,8 @@ impl<'a> RootSymbol<'a> {
         ensures kept { HasGrown self.old self.new }
         ensures gives { IfOk result (λ id. specifier_under self.new id ≡ Some graph_module.now.specifier) }
         ensures stored { OnOk result (self.new ≡ with_stored self.old (Some graph_module.now.specifier)) }
-        ensures allowed { OnOk result ((specifier : List ℕ) → IsNotStored self.old (Some graph_module.now.specifier) specifier → IsWithinLimits self.old specifier) }
+        ensures allowed { OnOk result ((specifier : List ℕ) → IsNotStored self.old (Some graph_module.now.specifier) specifier
+            → IsWithinLimits self.old specifier) }
         ensures unchanged { OnErr result (self.new ≡ self.old) }
         ensures refused { IfErr result (IsRefusal self.old (Some graph_module.now.specifier)) }
         ensures enough { length self.old.graph.modules < 4294967296 → WidestIsEnough self.old result }
@@ -209,7 +211,8 @@ impl<'a> RootSymbol<'a> {
         ensures keeps { Keeps self.old self.new (IsRefusal self.old (stands_for self.old.graph specifier.now)) result }
         ensures gives { IfOk result (λ id. option_map (specifier_under self.new) id ≡ option_map (λ s. Some s) (stands_for self.old.graph specifier.now)) }
         ensures stored { OnOk result (self.new ≡ with_stored self.old (stands_for self.old.graph specifier.now)) }
-        ensures allowed { OnOk result ((needed : List ℕ) → IsNotStored self.old (stands_for self.old.graph specifier.now) needed → IsWithinLimits self.old needed) }
+        ensures allowed { OnOk result ((needed : List ℕ) → IsNotStored self.old (stands_for self.old.graph specifier.now) needed
+            → IsWithinLimits self.old needed) }
         ensures unchanged { OnErr result (self.new ≡ self.old) }
         ensures under { IfOk result (λ _. IfSome (standing_module self.old.graph specifier.now) (λ m. module_under self.old.graph m.specifier ≡ Some m)) }
         ensures chain { IsOnlyTypesChain self.old.graph specifier.now (types_chain self.old.graph specifier.now) }

@@ -111,7 +111,8 @@ fn variable_form<'a>(
     declarator: NodeRef<'a>,
     ident: NodeRef<'a>,
 ) -> SymbolNodeRef<'a>
-    ensures { symbol_node_view result ≡ variable_form (option_map node_view variables.entry.exported) variables.entry.is_using (node_view variables.entry.decl) (node_view declarator.entry) (node_view ident.entry) }
+    ensures { symbol_node_view result ≡ variable_form (option_map node_view variables.entry.exported) variables.entry.is_using (node_view variables.entry.decl)
+        (node_view declarator.entry) (node_view ident.entry) }
 {
     let decl = variables.decl;
     if variables.is_using {
@@ -225,7 +226,8 @@ impl<'a> Builder<'a> {
         requires filled { IsFilled self.old }
         requires holder { holder.0 < length self.old.symbols.items }
         ensures keeps { KeepsTable result self.old self.new }
-        ensures table { ReadsWalk result self.old self.new (walk_of_each (binding_at (variables_view variables.entry) (node_view declarator.entry)) names.now) holder }
+        ensures table { ReadsWalk result self.old self.new (walk_of_each
+            (binding_at (variables_view variables.entry) (node_view declarator.entry)) names.now) holder }
     {
         for n in names {
             self.walk_binding(holder, variables, declarator, *n)?;
@@ -289,7 +291,8 @@ impl<'a> Builder<'a> {
         requires filled { IsFilled self.old }
         requires holder { holder.0 < length self.old.symbols.items }
         ensures keeps { KeepsTable result self.old self.new }
-        ensures table { ReadsWalk result self.old self.new (declaring_events is_exported (id_view id.now) (decl_view decl.entry) (walk_of_each (member_at node.entry.tree.now) (member_nodes (node_view node.entry)))) holder }
+        ensures table { ReadsWalk result self.old self.new (declaring_events is_exported (id_view id.now) (decl_view decl.entry)
+            (walk_of_each (member_at node.entry.tree.now) (member_nodes (node_view node.entry)))) holder }
     {
         let symbol = self.declare(holder, id, decl)?;
         self.walk_members(symbol, node, member_nodes(node))?;
@@ -308,7 +311,8 @@ impl<'a> Builder<'a> {
         requires filled { IsFilled self.old }
         requires holder { holder.0 < length self.old.symbols.items }
         ensures keeps { KeepsTable result self.old self.new }
-        ensures table { ReadsWalk result self.old self.new (named_events scope (option_map node_view exported.entry) (node_view node.entry) (export_decl_view form.entry)) holder }
+        ensures table { ReadsWalk result self.old self.new (named_events scope (option_map node_view exported.entry) (node_view node.entry)
+            (export_decl_view form.entry)) holder }
     {
         let Some(id) = own_name(node) else {
             return Ok(());
@@ -329,7 +333,8 @@ impl<'a> Builder<'a> {
         requires filled { IsFilled self.old }
         requires holder { holder.0 < length self.old.symbols.items }
         ensures keeps { KeepsTable result self.old self.new }
-        ensures table { ReadsWalk result self.old self.new (walk_if_there (kind_of (node_view node.entry)) (declaration_events scope (option_map node_view exported.entry) (node_view node.entry))) holder }
+        ensures table { ReadsWalk result self.old self.new (walk_if_there (kind_of (node_view node.entry))
+            (declaration_events scope (option_map node_view exported.entry) (node_view node.entry))) holder }
     {
         let is_using = match node.kind() {
             Kind::Decl(Decl::VarDecl { .. }) => false,

@@ -33,7 +33,8 @@ impl<'a> Builder<'a> {
         ensures inside { IfOk result (λ s. s.0 < length self.new.symbols.items) }
         ensures keeps { KeepsTable result self.old self.new }
         ensures table { (changes : List Change) → IsTableOf self.old changes
-            → Reads result (λ s. Some s) self.old.setting.limit self.new changes (new_row changes (Some holder) (decl_view decl.entry) (λ s. maps (id_view id.now) s ∷ [])) }
+            → Reads result (λ s. Some s) self.old.setting.limit self.new changes
+            (new_row changes (Some holder) (decl_view decl.entry) (λ s. maps (id_view id.now) s ∷ [])) }
     {
         let symbol = self.add_symbol(Some(holder), decl)?;
         self.map_id(id, symbol)?;
@@ -102,7 +103,9 @@ impl<'a> Builder<'a> {
         ensures inside { IfOk result (λ s. s.0 < length self.new.symbols.items) }
         ensures keeps { KeepsTable result self.old self.new }
         ensures table { (changes : List Change) → IsTableOf self.old changes
-            → Reads result (λ s. Some s) self.old.setting.limit self.new changes (new_row changes (Some holder) (decl_view decl.entry) (λ s. exports holder default_name s ∷ (if is_definition (decl_view decl.entry).kind then has_child holder s ∷ [] else []))) }
+            → Reads result (λ s. Some s) self.old.setting.limit self.new changes
+            (new_row changes (Some holder) (decl_view decl.entry)
+            (λ s. exports holder default_name s ∷ (if is_definition (decl_view decl.entry).kind then has_child holder s ∷ [] else []))) }
     {
         let is_definition = decl.kind.is_definition();
         let symbol = self.add_symbol(Some(holder), decl)?;
@@ -138,7 +141,8 @@ impl<'a> Builder<'a> {
     fn member_symbol(&self, key: &LocalName<'a>, is_static: bool) -> Option<SymbolId>
         requires filled { IsFilled self.now }
         requires holder { key.now.holder.0 < length self.now.symbols.items }
-        ensures table { (changes : List Change) → IsTableOf self.now changes → result ≡ member_found changes key.now.holder is_static (Some (cow_str_bytes key.now.name)) }
+        ensures table { (changes : List Change) → IsTableOf self.now changes
+            → result ≡ member_found changes key.now.holder is_static (Some (cow_str_bytes key.now.name)) }
         ensures inside { IfSome result (λ s. s.0 < length self.now.symbols.items) }
     {
         if !is_static {
@@ -160,7 +164,8 @@ impl<'a> Builder<'a> {
         requires holder { key.now.holder.0 < length self.old.symbols.items }
         requires symbol { symbol.0 < length self.old.symbols.items }
         ensures keeps { KeepsCount result self.old self.new }
-        ensures table { OnOk result ((changes : List Change) → IsTableOf self.old changes → IsTableOf self.new (changes ++ member_changes key.now.holder is_static (Some (cow_str_bytes key.now.name)) symbol)) }
+        ensures table { OnOk result ((changes : List Change) → IsTableOf self.old changes
+            → IsTableOf self.new (changes ++ member_changes key.now.holder is_static (Some (cow_str_bytes key.now.name)) symbol)) }
         ensures full { IfErr result (λ fault. fault ≡ OutOfMemory) }
     {
         if !is_static {
@@ -182,7 +187,8 @@ impl<'a> Builder<'a> {
         ensures inside { IfOk result (λ s. s.0 < length self.new.symbols.items) }
         ensures keeps { KeepsTable result self.old self.new }
         ensures table { (changes : List Change) → IsTableOf self.old changes
-            → Reads result (λ s. Some s) self.old.setting.limit self.new changes (new_row changes (Some key.now.holder) (decl_view decl.entry) (member_changes key.now.holder is_static (Some (cow_str_bytes key.now.name)))) }
+            → Reads result (λ s. Some s) self.old.setting.limit self.new changes
+            (new_row changes (Some key.now.holder) (decl_view decl.entry) (member_changes key.now.holder is_static (Some (cow_str_bytes key.now.name)))) }
     {
         let symbol = self.add_symbol(Some(key.holder), decl)?;
         self.add_named_member(key, symbol, is_static)?;
@@ -201,7 +207,8 @@ impl<'a> Builder<'a> {
         ensures inside { IfOk result (λ s. s.0 < length self.new.symbols.items) }
         ensures keeps { KeepsTable result self.old self.new }
         ensures table { (changes : List Change) → IsTableOf self.old changes
-            → Reads result (λ s. Some s) self.old.setting.limit self.new changes (named_member_row changes key.now.holder (decl_view decl.entry) is_static (Some (cow_str_bytes key.now.name))) }
+            → Reads result (λ s. Some s) self.old.setting.limit self.new changes
+            (named_member_row changes key.now.holder (decl_view decl.entry) is_static (Some (cow_str_bytes key.now.name))) }
     {
         if let Some(symbol) = self.member_symbol(key, is_static) {
             self.add_decl(symbol, decl)?;

@@ -28,7 +28,8 @@ pub(crate) struct Namespace<'a> {
 
 /// The namespace that a node is.
 fn plain_namespace<'a>(exported: Option<NodeRef<'a>>, node: NodeRef<'a>) -> Option<Namespace<'a>>
-    ensures { option_map namespace_view result ≡ option_and_then (plain_namespace (option_map node_view exported.entry) (node_view node.entry)) (kind_of (node_view node.entry)) }
+    ensures { option_map namespace_view result ≡ option_and_then (plain_namespace (option_map node_view exported.entry) (node_view node.entry))
+        (kind_of (node_view node.entry)) }
 {
     match node.kind() {
         Kind::Decl(Decl::TsModuleDecl { .. }) => Some(Namespace {
@@ -151,7 +152,8 @@ impl<'a> Builder<'a> {
         requires holder { holder.0 < length self.old.symbols.items }
         ensures keeps { KeepsTable result self.old self.new }
         ensures table { (levels : ℕ) → length whole.entry.tree.now.nodes.items ≤ whole.entry.number + suc levels
-            → ReadsWalk result self.old self.new (walk_if_there (child_of (node_view whole.entry) body_node_of) (body_at (block_within whole.entry.tree.now levels) (node_view whole.entry) ambient)) holder }
+            → ReadsWalk result self.old self.new (walk_if_there (child_of (node_view whole.entry) body_node_of)
+            (body_at (block_within whole.entry.tree.now levels) (node_view whole.entry) ambient)) holder }
     {
         match whole.body_node() {
             Some(body) => self.walk_body(holder, whole, ambient, body.node_id()),
@@ -172,7 +174,8 @@ impl<'a> Builder<'a> {
         requires holder { holder.0 < length self.old.symbols.items }
         ensures keeps { KeepsTable result self.old self.new }
         ensures table { (levels : ℕ) → length namespace.entry.decl.tree.now.nodes.items ≤ namespace.entry.decl.number + suc levels
-            → ReadsWalk result self.old self.new (walk_if_there (kind_of (node_view namespace.entry.decl)) (namespace_events (block_within namespace.entry.decl.tree.now levels) scope (namespace_view namespace.entry))) holder }
+            → ReadsWalk result self.old self.new (walk_if_there (kind_of (node_view namespace.entry.decl))
+            (namespace_events (block_within namespace.entry.decl.tree.now levels) scope (namespace_view namespace.entry))) holder }
     {
         let Namespace { exported, decl } = namespace;
         let kind = decl.kind();
@@ -202,7 +205,8 @@ impl<'a> Builder<'a> {
         requires filled { IsFilled self.old }
         requires holder { holder.0 < length self.old.symbols.items }
         ensures keeps { KeepsTable result self.old self.new }
-        ensures table { ReadsWalk result self.old self.new (walk_if_there (kind_of (node_view node.entry)) (plain_item_events scope (node_view node.entry))) holder }
+        ensures table { ReadsWalk result self.old self.new (walk_if_there (kind_of (node_view node.entry))
+            (plain_item_events scope (node_view node.entry))) holder }
     {
         match node.kind() {
             Kind::Item(Item::ExportDecl { .. }) => match node.decl() {
@@ -228,7 +232,8 @@ impl<'a> Builder<'a> {
         requires filled { IsFilled self.old }
         requires holder { holder.0 < length self.old.symbols.items }
         ensures keeps { KeepsTable result self.old self.new }
-        ensures table { (levels : ℕ) → length parent.entry.tree.now.nodes.items ≤ n + levels → ReadsWalk result self.old self.new (item_within parent.entry.tree.now levels scope n) holder }
+        ensures table { (levels : ℕ) → length parent.entry.tree.now.nodes.items ≤ n + levels
+            → ReadsWalk result self.old self.new (item_within parent.entry.tree.now levels scope n) holder }
     {
         let Some(node) = parent.node(n) else {
             return Ok(());
@@ -253,7 +258,8 @@ impl<'a> Builder<'a> {
         requires filled { IsFilled self.old }
         requires holder { holder.0 < length self.old.symbols.items }
         ensures keeps { KeepsTable result self.old self.new }
-        ensures table { (levels : ℕ) → length parent.entry.tree.now.nodes.items ≤ parent.entry.number + suc levels → ReadsWalk result self.old self.new (block_within parent.entry.tree.now levels scope items.now) holder }
+        ensures table { (levels : ℕ) → length parent.entry.tree.now.nodes.items ≤ parent.entry.number + suc levels
+            → ReadsWalk result self.old self.new (block_within parent.entry.tree.now levels scope items.now) holder }
     {
         for n in items {
             self.walk_item(holder, scope, parent, *n)?;

@@ -61,7 +61,8 @@ fn orig_kind<'a>(
     orig: NodeRef<'a>,
     name: &'a str,
 ) -> Option<SymbolDeclKind<'a>>
-    ensures { Some (option_map decl_kind_view result) ≡ option_map (λ kind. orig_kind (option_copied src.entry) kind name.now) (kind_of (node_view orig.entry)) }
+    ensures { Some (option_map decl_kind_view result) ≡ option_map (λ kind. orig_kind (option_copied src.entry) kind name.now)
+        (kind_of (node_view orig.entry)) }
 {
     match src {
         Some(src) => Some(file_ref(FileDepName::Name(name), src)),
@@ -190,7 +191,8 @@ impl<'a> Builder<'a> {
         requires filled { IsFilled self.old }
         requires holder { holder.0 < length self.old.symbols.items }
         ensures keeps { KeepsTable result self.old self.new }
-        ensures table { ReadsWalk result self.old self.new (specifier_at (option_copied src.entry) (node_view node.entry) (option_map string_bytes exported.now)) holder }
+        ensures table { ReadsWalk result self.old self.new (specifier_at (option_copied src.entry) (node_view node.entry)
+            (option_map string_bytes exported.now)) holder }
     {
         let Some(orig) = node.orig() else {
             return Ok(());

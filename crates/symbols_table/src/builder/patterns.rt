@@ -34,7 +34,8 @@ fn pattern_parts(kind: &Kind) -> &[NodeId]
 /// Adds the names that a pattern binds.
 fn add_leaves(node: NodeRef<'_>, leaves: &mut Vec<NodeId>) -> Result<(), AllocError>
     requires { IsWellFormed node.tree.now.nodes.items }
-    ensures { OnOk result ((levels : ℕ) → length node.entry.tree.now.nodes.items ≤ node.entry.number + levels → leaves.new.items ≡ leaves.old.items ++ leaves_within node.entry.tree.now levels node.entry.number) }
+    ensures { OnOk result ((levels : ℕ) → length node.entry.tree.now.nodes.items ≤ node.entry.number + levels
+        → leaves.new.items ≡ leaves.old.items ++ leaves_within node.entry.tree.now levels node.entry.number) }
 {
     let kind = node.kind();
     if is_binding(kind) {

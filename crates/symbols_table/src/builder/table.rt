@@ -82,7 +82,8 @@ fn add_name<'a>(
     name: Option<CowStr<'a>>,
     symbol: SymbolId,
 ) -> Result<(), BuildFault>
-    ensures named { OnOk result ((q : LocalName) → symbol_named names.new q ≡ option_or (symbol_named names.old q) (only_if (is_entry_of holder (option_map cow_str_bytes name.entry) q) symbol)) }
+    ensures named { OnOk result ((q : LocalName) → symbol_named names.new q
+        ≡ option_or (symbol_named names.old q) (only_if (is_entry_of holder (option_map cow_str_bytes name.entry) q) symbol)) }
     ensures full { IfErr result (λ fault. fault ≡ OutOfMemory) }
 {
     let Some(name) = name else {
@@ -112,7 +113,8 @@ impl<'a> Builder<'a> {
         ensures numbered { IfOk result (λ s. s.0 ≡ length self.old.symbols.items) }
         ensures setting { self.new.setting ≡ self.old.setting }
         ensures longer { OnOk result (length self.new.symbols.items ≡ length self.old.symbols.items + 1) }
-        ensures table { IfOk result (λ s. (changes : List Change) → IsTableOf self.old changes → IsTableOf self.new ((changes ++ makes parent ∷ []) ++ declares s (decl_view decl.entry) ∷ [])) }
+        ensures table { IfOk result (λ s. (changes : List Change) → IsTableOf self.old changes
+            → IsTableOf self.new ((changes ++ makes parent ∷ []) ++ declares s (decl_view decl.entry) ∷ [])) }
         ensures full { IfErr result (λ fault. fault ≡ TooManySymbols → self.old.setting.limit ≤ length self.old.symbols.items) }
     {
         if self.symbols.len() >= self.setting.limit as usize {
@@ -146,7 +148,8 @@ impl<'a> Builder<'a> {
         requires holder { holder.0 < length self.old.symbols.items }
         requires symbol { symbol.0 < length self.old.symbols.items }
         ensures keeps { KeepsCount result self.old self.new }
-        ensures table { OnOk result ((changes : List Change) → IsTableOf self.old changes → IsTableOf self.new (changes ++ exports holder name.now symbol ∷ [])) }
+        ensures table { OnOk result ((changes : List Change) → IsTableOf self.old changes
+            → IsTableOf self.new (changes ++ exports holder name.now symbol ∷ [])) }
         ensures full { IfErr result (λ fault. fault ≡ OutOfMemory) }
     {
         let name = String::from_str(self.setting.alloc, name)?;
@@ -163,7 +166,8 @@ impl<'a> Builder<'a> {
     ) -> Result<(), BuildFault>
         requires { symbol.0 < length self.old.symbols.items }
         ensures keeps { KeepsCount result self.old self.new }
-        ensures table { OnOk result ((changes : List Change) → IsTableOf self.old changes → IsTableOf self.new (changes ++ declares symbol (decl_view decl.entry) ∷ [])) }
+        ensures table { OnOk result ((changes : List Change) → IsTableOf self.old changes
+            → IsTableOf self.new (changes ++ declares symbol (decl_view decl.entry) ∷ [])) }
         ensures full { IfErr result (λ fault. fault ≡ OutOfMemory) }
     {
         let held = &mut self.symbols[symbol.0 as usize];
@@ -220,7 +224,8 @@ impl<'a> Builder<'a> {
     /// Adds a statement `export *`.
     pub(crate) fn add_star(&mut self, node_id: NodeId, src: &'a str) -> Result<(), BuildFault>
         ensures keeps { KeepsCount result self.old self.new }
-        ensures table { OnOk result ((changes : List Change) → IsTableOf self.old changes → IsTableOf self.new (changes ++ passes_on (record { number = node_id; text = src.now }) ∷ [])) }
+        ensures table { OnOk result ((changes : List Change) → IsTableOf self.old changes
+            → IsTableOf self.new (changes ++ passes_on (record { number = node_id; text = src.now }) ∷ [])) }
         ensures full { IfErr result (λ fault. fault ≡ OutOfMemory) }
     {
         match self.stars.push(StarStatement { node_id, src }) {

@@ -215,7 +215,8 @@ impl<'r, 'a> ModuleInfoRef<'r, 'a> {
         alloc: Global,
         symbol_id: SymbolId,
     ) -> Result<Option<String>, SymbolsFault>
-        ensures name { IfOk result (λ name. IsSome (symbol_in (lent_table self.entry) symbol_id) × (option_map string_bytes name ≡ qualified_name (symbol_in (lent_table self.entry)) symbol_id)) }
+        ensures name { IfOk result (λ name. IsSome (symbol_in (lent_table self.entry) symbol_id)
+            × (option_map string_bytes name ≡ qualified_name (symbol_in (lent_table self.entry)) symbol_id)) }
         ensures fault { IfErr result (IsQualifiedNameFault (symbol_in (lent_table self.entry) symbol_id)) }
     {
         if self.symbol(symbol_id).is_none() {

@@ -22,7 +22,8 @@ fn push_held(field: &Field, ids: &mut Vec<NodeId>) -> Result<(), AllocError>
 }
 
 fn push_all_held(fields: &[Option<Field>], ids: &mut Vec<NodeId>) -> Result<(), AllocError>
-    ensures { OnOk result (ids.new.items ≡ ids.old.items ++ flat_map (λ slot. option_map_or (λ field. field.children) (option_map field_view slot) []) fields.now) }
+    ensures { OnOk result (ids.new.items ≡ ids.old.items ++ flat_map
+        (λ slot. option_map_or (λ field. field.children) (option_map field_view slot) []) fields.now) }
 {
     for slot in fields {
         if let Some(field) = slot {

@@ -61,7 +61,8 @@ pub(crate) fn repeated_resolution(
     alloc: Global,
     resolutions: &[RawResolution],
 ) -> Result<Option<(&str, &str)>, AllocError>
-    ensures { IfOk result (λ found. IsFirstWhere (IsRepeat (resolution_keys (map resolution_view resolutions.now))) (option_map (λ p. (p.0.now, p.1.now)) found)) }
+    ensures { IfOk result (λ found. IsFirstWhere (IsRepeat (resolution_keys (map resolution_view resolutions.now)))
+        (option_map (λ p. (p.0.now, p.1.now)) found)) }
 {
     let pairs: Vec<(&str, &str)> = resolutions
         .iter()

@@ -33,7 +33,8 @@ impl Model for ModuleGraph {
 
     ghost Value = { GraphView };
 
-    ghost view = { λ g. record { modules = values g.modules; redirects = text_pairs g.redirects.entries; resolutions = kept_resolutions g.resolutions.entries } };
+    ghost view = { λ g.
+        record { modules = values g.modules; redirects = text_pairs g.redirects.entries; resolutions = kept_resolutions g.resolutions.entries } };
 
     ghost invariant = { λ g. AreKeyed g.modules.entries × IsUnique string_eq g.resolutions × (length g.modules.entries < 4294967296) };
 }
@@ -62,7 +63,8 @@ impl ModuleGraph {
 
         ensures modules { IfOk result (λ graph. graph.modules ≡ (graph_view raw).modules) }
         ensures redirects { IfOk result (λ graph. graph.redirects ≡ (graph_view raw).redirects) }
-        ensures resolutions { IfOk result (λ graph. (referrer text : List ℕ) → resolution_of graph referrer text ≡ resolution_of (graph_view raw) referrer text) }
+        ensures resolutions { IfOk result (λ graph. (referrer text : List ℕ) → resolution_of graph referrer text
+            ≡ resolution_of (graph_view raw) referrer text) }
     {
         check(alloc, &raw)?;
         let RawGraph {

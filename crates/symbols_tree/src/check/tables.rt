@@ -66,7 +66,10 @@ fn add_resolution(
     tables: &mut Resolutions,
     row: RawResolution,
 ) -> Result<(), AllocError>
-    ensures found { OnOk result ((referrer text : List ℕ) → found_in_maps tables.new referrer text ≡ (if bytes_eq referrer (string_bytes row.referrer) && bytes_eq text (string_bytes row.text) then Some (string_bytes row.specifier) else found_in_maps tables.old referrer text)) }
+    ensures found { OnOk result ((referrer text : List ℕ) → found_in_maps tables.new referrer text
+        ≡ (if bytes_eq referrer (string_bytes row.referrer) && bytes_eq text (string_bytes row.text)
+        then Some (string_bytes row.specifier)
+        else found_in_maps tables.old referrer text)) }
     ensures unique { OnOk result (IsUnique string_eq tables.new) }
 {
     let RawResolution {
@@ -88,7 +91,8 @@ pub(crate) fn keyed_resolutions(
     resolutions: Vec<RawResolution>,
 ) -> Result<Resolutions, AllocError>
     requires { HasNoRepeat (resolution_keys (map resolution_view resolutions.items)) }
-    ensures found { IfOk result (λ tables. (referrer text : List ℕ) → found_in_maps tables referrer text ≡ found_resolution (map resolution_view resolutions.items) referrer text) }
+    ensures found { IfOk result (λ tables. (referrer text : List ℕ) → found_in_maps tables referrer text
+        ≡ found_resolution (map resolution_view resolutions.items) referrer text) }
     ensures unique { IfOk result (IsUnique string_eq) }
 {
     let mut tables = IndexMap::new(alloc);

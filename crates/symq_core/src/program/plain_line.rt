@@ -48,7 +48,8 @@ fn query_of_mode<'r>(
     symbol: SymbolId,
     mode: &str,
 ) -> Option<Query<'r>>
-    ensures { option_map query_view result ≡ option_map (query_on specifier.now) (question_named word.now (item (number (unsigned symbol.0)) (item (string mode.now) no_items))) }
+    ensures { option_map query_view result ≡ option_map (query_on specifier.now)
+        (question_named word.now (item (number (unsigned symbol.0)) (item (string mode.now) no_items))) }
 {
     match word {
         "deps" => Some(Query::Deps(specifier, symbol, mode_named(mode)?)),

@@ -37,7 +37,8 @@ fn file_stop(kind: ErrorKind) -> Stop
 
 /// The rules and the file that one word or two say.
 fn started_by(first: String, second: Option<String>) -> Option<(Rules, String)>
-    ensures { option_map (λ (started : Rules × String Global). (started.0, string_bytes started.1)) result ≡ started_by (string_bytes first) (option_map string_bytes second) }
+    ensures { option_map (λ (started : Rules × String Global). (started.0, string_bytes started.1)) result
+        ≡ started_by (string_bytes first) (option_map string_bytes second) }
 {
     match second {
         None => Some((Rules::Deno, first)),
