@@ -9,7 +9,7 @@ use Rattle.indexmap.specs.IndexMap.{insert_entry, insert_all}
 use Rattle.symbols_syntax.specs.declared.ids.SymbolId.{SymbolId}
 use Rattle.symbols_syntax.specs.Ids.{IdView, same_id}
 use Rattle.symbols_table.specs.Changes.{Change, makes, declares, exports, has_child, has_member, maps, passes_on, only_if, same_symbol_id, with_first, child_by, member_by, setting_by, mapping_by, exports_after, exported_symbol, children_after, members_after, mapped_after}
-use Rattle.symbols_table.specs.inner.Tables.{Fits}
+use Rattle.symbols_table.specs.inner.Tables.{Fits, SparesModule}
 
 pub All-head : {X : Type 0} (P : X → Type 0) (x : X) (xs : List X) → All P (x ∷ xs) → P x
 All-head P x xs all = all 0 x (omega arith)
@@ -41,19 +41,24 @@ mapping_inside count id (maps other x) h = by (same_id other id)
     by true = h
     by false = tt
 
-last_inside : (count : ℕ) (id : IdView) (o : Option SymbolId) (changes : List Change) → IfSome o (Below count) → All (Fits count) changes → IfSome (last_or o (filter_map (mapping_by id) changes)) (Below count)
-last_inside count id o [] h all = h
-last_inside count id o (change ∷ changes) h all =
-    by (λ p q. last_inside count id p changes q (All-tail (Fits count) change changes all)) (mapping_by id change) (mapping_inside count id change (All-head (Fits count) change changes all))
-  where
-    by : ((p : Option SymbolId) → IfSome p (Below count) → IfSome (last_or p (filter_map (mapping_by id) changes)) (Below count))
-        → (found : Option SymbolId) → IfSome found (Below count) → IfSome (last_or o (cons_option found (filter_map (mapping_by id) changes))) (Below count)
-    by rest None q = rest o h
-    by rest (Some x) q = rest (Some x) q
+-- the symbol of a last mapping is such a one where that of each mapping is
+module _ (F : Change → Type 0) (P : SymbolId → Type 0) (id : IdView) (each : (change : Change) → F change → IfSome (mapping_by id change) P) where
+  last_so : (o : Option SymbolId) (changes : List Change) → IfSome o P → All F changes → IfSome (last_or o (filter_map (mapping_by id) changes)) P
+  last_so o [] h all = h
+  last_so o (change ∷ changes) h all =
+      by (λ p q. last_so p changes q (All-tail F change changes all)) (mapping_by id change) (each change (All-head F change changes all))
+    where
+      by : ((p : Option SymbolId) → IfSome p P → IfSome (last_or p (filter_map (mapping_by id) changes)) P)
+          → (found : Option SymbolId) → IfSome found P → IfSome (last_or o (cons_option found (filter_map (mapping_by id) changes))) P
+      by rest None q = rest o h
+      by rest (Some x) q = rest (Some x) q
+
+  mapped_so : (changes : List Change) → All F changes → IfSome (mapped_after changes id) P
+  unfolding mapped_after
+  mapped_so changes all = last_so None changes tt all
 
 pub mapped_inside : (count : ℕ) (changes : List Change) (id : IdView) → All (Fits count) changes → IfSome (mapped_after changes id) (Below count)
-unfolding mapped_after
-mapped_inside count changes id all = last_inside count id None changes tt all
+mapped_inside count changes id all = mapped_so (Fits count) (Below count) id (mapping_inside count id) changes all
 
 -- what a filter takes lies inside where each of what it takes does
 filtered_inside : (count : ℕ) (h : Change → Option SymbolId) → ((change : Change) → Fits count change → IfSome (h change) (Below count)) → (changes : List Change) → All (Fits count) changes → All (Below count) (filter_map h changes)
@@ -109,6 +114,9 @@ unfolding members_after
 members_inside count changes s all = firsts_inside count [] (filter_map (member_by s) changes) (λ k d lt. absurd (omega (arith, lt))) (filtered_inside count (member_by s) (member_fits count s) changes all)
 
 -- the symbols of exports
+abbrev pub ExportsSo : (SymbolId → Type 0) → List ℕ × SymbolId → Type 0
+ExportsSo P entry = P entry.1
+
 abbrev pub ExportsBelow : ℕ → List ℕ × SymbolId → Type 0
 ExportsBelow count entry = entry.1.0 < count
 
@@ -125,32 +133,76 @@ setting_fits count s (has_member _ _) h = tt
 setting_fits count s (maps _ _) h = tt
 setting_fits count s (passes_on _) h = tt
 
-settings_inside : (count : ℕ) (s : SymbolId) (changes : List Change) → All (Fits count) changes → All (ExportsBelow count) (filter_map (setting_by s) changes)
-settings_inside count s [] all = λ k d lt. absurd (omega (arith, lt))
-settings_inside count s (change ∷ changes) all =
-    by (setting_by s change) (setting_fits count s change (All-head (Fits count) change changes all)) (settings_inside count s changes (All-tail (Fits count) change changes all))
-  where
-    by : (found : Option (List ℕ × SymbolId)) → IfSome found (ExportsBelow count) → All (ExportsBelow count) (filter_map (setting_by s) changes) → All (ExportsBelow count) (cons_option found (filter_map (setting_by s) changes))
-    by None p rest = rest
-    by (Some x) p rest = All-cons (ExportsBelow count) x (filter_map (setting_by s) changes) p rest
+-- the symbol of an export is such a one where that of each setting is
+module _ (F : Change → Type 0) (P : SymbolId → Type 0) (s : SymbolId) (each : (change : Change) → F change → IfSome (setting_by s change) (ExportsSo P)) where
+  settings_so : (changes : List Change) → All F changes → All (ExportsSo P) (filter_map (setting_by s) changes)
+  settings_so [] all = λ k d lt. absurd (omega (arith, lt))
+  settings_so (change ∷ changes) all =
+      by (setting_by s change) (each change (All-head F change changes all)) (settings_so changes (All-tail F change changes all))
+    where
+      by : (found : Option (List ℕ × SymbolId)) → IfSome found (ExportsSo P) → All (ExportsSo P) (filter_map (setting_by s) changes) → All (ExportsSo P) (cons_option found (filter_map (setting_by s) changes))
+      by None p rest = rest
+      by (Some x) p rest = All-cons (ExportsSo P) x (filter_map (setting_by s) changes) p rest
 
-entry_inside : (count : ℕ) (es : List (List ℕ × SymbolId)) (name : List ℕ) (x : SymbolId) → All (ExportsBelow count) es → x.0 < count → All (ExportsBelow count) (insert_entry bytes_eq es name x)
-entry_inside count [] name x all lt = All-cons (ExportsBelow count) (name, x) [] lt all
-entry_inside count (e ∷ es) name x all lt =
-    by (All-head (ExportsBelow count) e es all) (All-tail (ExportsBelow count) e es all) (entry_inside count es name x (All-tail (ExportsBelow count) e es all) lt) (bytes_eq name e.0)
-  where
-    by : ExportsBelow count e → All (ExportsBelow count) es → All (ExportsBelow count) (insert_entry bytes_eq es name x) → (same : Bool) → All (ExportsBelow count) (cond same ((e.0, x) ∷ es) (e ∷ insert_entry bytes_eq es name x))
-    by here rest more true = All-cons (ExportsBelow count) (e.0, x) es lt rest
-    by here rest more false = All-cons (ExportsBelow count) e (insert_entry bytes_eq es name x) here more
+  entry_so : (es : List (List ℕ × SymbolId)) (name : List ℕ) (x : SymbolId) → All (ExportsSo P) es → P x → All (ExportsSo P) (insert_entry bytes_eq es name x)
+  entry_so [] name x all so = All-cons (ExportsSo P) (name, x) [] so all
+  entry_so (e ∷ es) name x all so =
+      by (All-head (ExportsSo P) e es all) (All-tail (ExportsSo P) e es all) (entry_so es name x (All-tail (ExportsSo P) e es all) so) (bytes_eq name e.0)
+    where
+      by : ExportsSo P e → All (ExportsSo P) es → All (ExportsSo P) (insert_entry bytes_eq es name x) → (same : Bool) → All (ExportsSo P) (cond same ((e.0, x) ∷ es) (e ∷ insert_entry bytes_eq es name x))
+      by here rest more true = All-cons (ExportsSo P) (e.0, x) es so rest
+      by here rest more false = All-cons (ExportsSo P) e (insert_entry bytes_eq es name x) here more
 
-entries_inside : (count : ℕ) (done xs : List (List ℕ × SymbolId)) → All (ExportsBelow count) done → All (ExportsBelow count) xs → All (ExportsBelow count) (insert_all bytes_eq done xs)
-entries_inside count done [] before all = before
-entries_inside count done (x ∷ xs) before all =
-    entries_inside count (insert_entry bytes_eq done x.0 x.1) xs (entry_inside count done x.0 x.1 before (All-head (ExportsBelow count) x xs all)) (All-tail (ExportsBelow count) x xs all)
+  entries_so : (done xs : List (List ℕ × SymbolId)) → All (ExportsSo P) done → All (ExportsSo P) xs → All (ExportsSo P) (insert_all bytes_eq done xs)
+  entries_so done [] before all = before
+  entries_so done (x ∷ xs) before all =
+      entries_so (insert_entry bytes_eq done x.0 x.1) xs (entry_so done x.0 x.1 before (All-head (ExportsSo P) x xs all)) (All-tail (ExportsSo P) x xs all)
+
+  exports_so : (changes : List Change) → All F changes → All (ExportsSo P) (exports_after changes s)
+  unfolding exports_after
+  exports_so changes all = entries_so [] (filter_map (setting_by s) changes) (λ k d lt. absurd (omega (arith, lt))) (settings_so changes all)
+
+  exported_so : (changes : List Change) (name : List ℕ) → All F changes → IfSome (exported_symbol changes s name) P
+  exported_so changes name all = All-lookup P (λ key. bytes_eq name key) (exports_after changes s) (exports_so changes all)
 
 pub exports_inside : (count : ℕ) (changes : List Change) (s : SymbolId) → All (Fits count) changes → All (ExportsBelow count) (exports_after changes s)
-unfolding exports_after
-exports_inside count changes s all = entries_inside count [] (filter_map (setting_by s) changes) (λ k d lt. absurd (omega (arith, lt))) (settings_inside count s changes all)
+exports_inside count changes s all = exports_so (Fits count) (Below count) s (setting_fits count s) changes all
 
 pub exported_inside : (count : ℕ) (changes : List Change) (s : SymbolId) (name : List ℕ) → All (Fits count) changes → IfSome (exported_symbol changes s name) (Below count)
-exported_inside count changes s name all = All-lookup (Below count) (λ key. bytes_eq name key) (exports_after changes s) (exports_inside count changes s all)
+exported_inside count changes s name all = exported_so (Fits count) (Below count) s (setting_fits count s) changes name all
+
+-- none of them is the module's own symbol
+abbrev pub Inner : SymbolId → Type 0
+Inner s = 0 < s.0
+
+mapping_apart : (id : IdView) (change : Change) → SparesModule change → IfSome (mapping_by id change) Inner
+mapping_apart id (makes _) h = tt
+mapping_apart id (declares _ _) h = tt
+mapping_apart id (exports _ _ _) h = tt
+mapping_apart id (has_child _ _) h = tt
+mapping_apart id (has_member _ _) h = tt
+mapping_apart id (passes_on _) h = tt
+mapping_apart id (maps other x) h = by (same_id other id)
+  where
+    by : (test : Bool) → IfSome (only_if test x) Inner
+    by true = h
+    by false = tt
+
+setting_apart : (s : SymbolId) (change : Change) → SparesModule change → IfSome (setting_by s change) (ExportsSo Inner)
+setting_apart s (makes _) h = tt
+setting_apart s (declares _ _) h = tt
+setting_apart s (exports t name x) h = by (same_symbol_id t s)
+  where
+    by : (test : Bool) → IfSome (only_if test (name, x)) (ExportsSo Inner)
+    by true = h
+    by false = tt
+setting_apart s (has_child _ _) h = tt
+setting_apart s (has_member _ _) h = tt
+setting_apart s (maps _ _) h = tt
+setting_apart s (passes_on _) h = tt
+
+pub mapped_apart : (changes : List Change) (id : IdView) → All SparesModule changes → IfSome (mapped_after changes id) Inner
+mapped_apart changes id all = mapped_so SparesModule Inner id (mapping_apart id) changes all
+
+pub exported_apart : (changes : List Change) (s : SymbolId) (name : List ℕ) → All SparesModule changes → IfSome (exported_symbol changes s name) Inner
+exported_apart changes s name all = exported_so SparesModule Inner s (setting_apart s) changes name all

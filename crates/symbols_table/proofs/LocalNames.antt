@@ -1,10 +1,12 @@
 -- The names under which children and members are kept.
-use Rattle.std.proofs.Common.{◌≡◌, ℕ, ◌<◌, Bool, true, false, ◌&&◌, cond, List, [], ◌∷◌, length, get_or, Option, None, Some, refl}
-use Rattle.std.specs.Prelude.{slice_get, IfSome}
+use Rattle.std.proofs.Common.{◌≡◌, ℕ, ◌<◌, ◌⊎◌, inl, inr, Bool, true, false, ◌&&◌, cond, List, [], ◌∷◌, length, get_or, Option, None, Some, refl, sym, ◌∙◌, arith}
+use Rattle.std.specs.Prelude.{◌≢◌, slice_get, IfSome}
 use Rattle.std.specs.List.{find}
 use Rattle.std.specs.Option.{option_or}
 use Rattle.std.specs.Cow.{cow_str_bytes}
 use Rattle.std.specs.Prelude.{All}
+use Rattle.std.proofs.lemmas.Bool.{cases_eq}
+use Rattle.std.proofs.lemmas.Bool.Decides.{nat_tests}
 use Rattle.std.proofs.lemmas.Option.{slice_get-get_or}
 use Rattle.symbols_syntax.specs.declared.ids.SymbolId.{SymbolId}
 use Rattle.symbols_table.specs.declared.decl.symbol.Symbol.{Symbol}
@@ -37,6 +39,20 @@ no_entry holder x q o = rw (← and_none (same_symbol_id holder q.holder) x) (no
 -- the entry of a symbol is that of its local name
 pub own_entry : (changes : List Change) (holder x : SymbolId) (own : Option (List ℕ)) (q : LocalName) → own ≡ local_name changes x → only_if (is_entry_of holder own q) x ≡ if_named changes (cow_str_bytes q.name) (same_symbol_id holder q.holder) x
 own_entry changes holder x own q e = rw e refl
+
+and_false : (b c : Bool) (x : SymbolId) → b ≡ false → only_if (b && c) x ≡ None
+and_false b c x e = rw e refl
+
+-- the same in a holder below the module's own symbol, where the local name is known below it alone
+pub inner_entry : (changes : List Change) (holder x : SymbolId) (own : Option (List ℕ)) (q : LocalName) → 0 < q.holder.0 → (0 < holder.0 → own ≡ local_name changes x)
+    → only_if (is_entry_of holder own q) x ≡ if_named changes (cow_str_bytes q.name) (same_symbol_id holder q.holder) x
+inner_entry changes holder x own q below known = by (cases_eq holder.0 q.holder.0)
+  where
+    by : (holder.0 ≡ q.holder.0) ⊎ (holder.0 ≢ q.holder.0) → only_if (is_entry_of holder own q) x ≡ if_named changes (cow_str_bytes q.name) (same_symbol_id holder q.holder) x
+    by (inl same) = own_entry changes holder x own q (known (omega (arith, same, below)))
+    by (inr other) =
+        let apart : same_symbol_id holder q.holder ≡ false = grind (arith, nat_tests) in
+        and_false _ _ x apart ∙ sym (and_false _ _ x apart)
 
 -- what is found by name is a symbol of the table
 found_inside : (count : ℕ) (p : SymbolId → Bool) (xs : List SymbolId) → All (Below count) xs → IfSome (find p xs) (Below count)

@@ -24,7 +24,7 @@ use Rattle.symbols_table.specs.declared.info.re_exports.StarStatement.{StarState
 use Rattle.symbols_table.specs.ModuleViews.{ids_view, star_view}
 use Rattle.symbols_table.specs.inner.Symbols.{IsSymbolOf}
 use Rattle.symbols_table.specs.Laws.{IsParentOf}
-use Rattle.symbols_table.specs.inner.Tables.{Fits, IsBare, IsTableOf, is_same_name, symbol_named}
+use Rattle.symbols_table.specs.inner.Tables.{Fits, SparesModule, IsBare, IsTableOf, is_same_name, symbol_named}
 use Rattle.symbols_table.proofs.Named.{IsQuiet, quiet, quiet_decl, child_quiet, member_quiet, kept_named, name_out, if_named, child_added, member_added, child_made, member_made}
 use Rattle.symbols_table.proofs.OneMore.{only_same, only_other, parents_after-out, parents_after-in, decls_after-out, decls_after-in, exports_after-out, exports_after-in, children_after-out, children_after-in, members_after-out, members_after-in, stars_after-out, stars_after-in, mapped_after-out, mapped_after-maps}
 
@@ -107,11 +107,11 @@ module _ {b after : Builder} {t : SymbolId} {old new : Symbol} (w : Writes b aft
 
   -- a change of the symbol t alone
   written : (change : Change) → parent_by change ≡ None → ((id : IdView) → mapping_by id change ≡ None) → ((s : SymbolId) → s.0 ≢ t.0 → Spares change s)
-      → Fits (length b.symbols.items) change → star_by change ≡ None
-      → ((q : LocalName) → symbol_named after.child_names q ≡ child_named (changes ++ change ∷ []) q.holder (cow_str_bytes q.name))
+      → Fits (length b.symbols.items) change → SparesModule change → star_by change ≡ None
+      → ((q : LocalName) → 0 < q.holder.0 → symbol_named after.child_names q ≡ child_named (changes ++ change ∷ []) q.holder (cow_str_bytes q.name))
       → ((q : LocalName) → symbol_named after.member_names q ≡ member_named (changes ++ change ∷ []) q.holder (cow_str_bytes q.name))
       → (IsSymbolOf b.setting.module_id changes t old → IsSymbolOf b.setting.module_id (changes ++ change ∷ []) t new) → IsTableOf after (changes ++ change ∷ [])
-  written change silent unmapped spares fits no_star children_named members_named changed = record {
+  written change silent unmapped spares fits apart no_star children_named members_named changed = record {
     count = rw (parents_after-out changes change silent) (len ∙ is.count);
     symbols = rw w.setting (λ s d lt. by s d (rw len at lt) (cases_eq s.0 t.0));
     others = λ s le. let past : length b.symbols.items ≤ s.0 = omega (arith, len) in bare_kept changes change s (spares s (λ same. absurd (omega (arith, w.below)))) (is.others s past);
@@ -121,6 +121,7 @@ module _ {b after : Builder} {t : SymbolId} {old new : Symbol} (w : Writes b aft
     stars = rw (w.stars, stars_after-out changes change no_star) is.stars;
     few = rw (w.setting, len) is.few;
     sound = rw len (All-push (Fits (length b.symbols.items)) changes change is.sound fits);
+    apart = All-push SparesModule changes change is.apart apart;
     parents = rw (parents_after-out changes change silent) is.parents;
     declared = λ s lt. let short : s.0 < length b.symbols.items = omega (arith, len) in omega (arith, is.declared s short, decls_after-grow changes s change);
   }
@@ -141,13 +142,13 @@ module _ {b after : Builder} {t : SymbolId} {old new : Symbol} (w : Writes b aft
   same_parent : (change : Change) → parent_by change ≡ None → IsSymbolOf b.setting.module_id changes t old → slice_get (parents_after (changes ++ change ∷ [])) t.0 ≡ Some new.parent_id
   same_parent change silent h = rw (parents_after-out changes change silent, w.parent) h.parent
 
-  pub only_exports : (name : List ℕ) (x : SymbolId) → x.0 < length b.symbols.items → exports_view new.exports.entries ≡ insert_entry bytes_eq (exports_view old.exports.entries) name x
+  pub only_exports : (name : List ℕ) (x : SymbolId) → x.0 < length b.symbols.items → 0 < x.0 → exports_view new.exports.entries ≡ insert_entry bytes_eq (exports_view old.exports.entries) name x
       → new.decls ≡ old.decls → new.child_ids ≡ old.child_ids → new.members ≡ old.members → after.child_names ≡ b.child_names → after.member_names ≡ b.member_names
       → IsTableOf after (changes ++ exports t name x ∷ [])
-  only_exports name x lt e d c m cn mn =
+  only_exports name x lt inner e d c m cn mn =
       let still = quiet changes (exports t name x) (λ s. refl) (λ s. refl) (λ s. refl) in
-      written (exports t name x) refl (λ id. refl) (λ s other. record { decl = refl; setting = only_other t s (name, x) other; child = refl; member = refl }) (w.below, lt) refl
-      (λ q. rw cn (is.child_names q ∙ sym (child_quiet changes (exports t name x) still q.holder (cow_str_bytes q.name))))
+      written (exports t name x) refl (λ id. refl) (λ s other. record { decl = refl; setting = only_other t s (name, x) other; child = refl; member = refl }) (w.below, lt) inner refl
+      (λ q below. rw cn (is.child_names q below ∙ sym (child_quiet changes (exports t name x) still q.holder (cow_str_bytes q.name))))
       (λ q. rw mn (is.member_names q ∙ sym (member_quiet changes (exports t name x) still q.holder (cow_str_bytes q.name)))) by
     where
       by : IsSymbolOf b.setting.module_id changes t old → IsSymbolOf b.setting.module_id (changes ++ exports t name x ∷ []) t new
@@ -163,10 +164,10 @@ module _ {b after : Builder} {t : SymbolId} {old new : Symbol} (w : Writes b aft
 
   pub only_child : (x : SymbolId) → x.0 < length b.symbols.items → new.child_ids.keys ≡ with_first old.child_ids.keys x
       → new.decls ≡ old.decls → new.exports ≡ old.exports → new.members ≡ old.members → after.member_names ≡ b.member_names
-      → ((q : LocalName) → symbol_named after.child_names q ≡ option_or (symbol_named b.child_names q) (if_named changes (cow_str_bytes q.name) (same_symbol_id t q.holder) x))
+      → ((q : LocalName) → 0 < q.holder.0 → symbol_named after.child_names q ≡ option_or (symbol_named b.child_names q) (if_named changes (cow_str_bytes q.name) (same_symbol_id t q.holder) x))
       → IsTableOf after (changes ++ has_child t x ∷ [])
-  only_child x lt e d c m on named = written (has_child t x) refl (λ id. refl) (λ s other. record { decl = refl; setting = refl; child = only_other t s x other; member = refl }) (w.below, lt) refl
-      (λ q. named q ∙ (ap (λ (o : Option SymbolId). option_or o (if_named changes (cow_str_bytes q.name) (same_symbol_id t q.holder) x)) (is.child_names q) ∙ sym (child_added changes t x q.holder (cow_str_bytes q.name))))
+  only_child x lt e d c m on named = written (has_child t x) refl (λ id. refl) (λ s other. record { decl = refl; setting = refl; child = only_other t s x other; member = refl }) (w.below, lt) tt refl
+      (λ q below. named q below ∙ (ap (λ (o : Option SymbolId). option_or o (if_named changes (cow_str_bytes q.name) (same_symbol_id t q.holder) x)) (is.child_names q below) ∙ sym (child_added changes t x q.holder (cow_str_bytes q.name))))
       (λ q. rw on (is.member_names q ∙ sym (member_still q.holder (cow_str_bytes q.name)))) by
     where
       member_still : (h : SymbolId) (name : List ℕ) → member_named (changes ++ has_child t x ∷ []) h name ≡ member_named changes h name
@@ -187,8 +188,8 @@ module _ {b after : Builder} {t : SymbolId} {old new : Symbol} (w : Writes b aft
       → new.decls ≡ old.decls → new.exports ≡ old.exports → new.child_ids ≡ old.child_ids → after.child_names ≡ b.child_names
       → ((q : LocalName) → symbol_named after.member_names q ≡ option_or (symbol_named b.member_names q) (if_named changes (cow_str_bytes q.name) (same_symbol_id t q.holder) x))
       → IsTableOf after (changes ++ has_member t x ∷ [])
-  only_member x lt e d c m on named = written (has_member t x) refl (λ id. refl) (λ s other. record { decl = refl; setting = refl; child = refl; member = only_other t s x other }) (w.below, lt) refl
-      (λ q. rw on (is.child_names q ∙ sym (child_still q.holder (cow_str_bytes q.name))))
+  only_member x lt e d c m on named = written (has_member t x) refl (λ id. refl) (λ s other. record { decl = refl; setting = refl; child = refl; member = only_other t s x other }) (w.below, lt) tt refl
+      (λ q below. rw on (is.child_names q below ∙ sym (child_still q.holder (cow_str_bytes q.name))))
       (λ q. named q ∙ (ap (λ (o : Option SymbolId). option_or o (if_named changes (cow_str_bytes q.name) (same_symbol_id t q.holder) x)) (is.member_names q) ∙ sym (member_added changes t x q.holder (cow_str_bytes q.name)))) by
     where
       child_still : (h : SymbolId) (name : List ℕ) → child_named (changes ++ has_member t x ∷ []) h name ≡ child_named changes h name
@@ -210,8 +211,8 @@ module _ {b after : Builder} {t : SymbolId} {old new : Symbol} (w : Writes b aft
       → IsTableOf after (changes ++ declares t x ∷ [])
   only_decl x e d c m cn mn =
       let still = quiet_decl changes t x (is.declared t w.below) in
-      written (declares t x) refl (λ id. refl) (λ s other. record { decl = only_other t s x other; setting = refl; child = refl; member = refl }) w.below refl
-      (λ q. rw cn (is.child_names q ∙ sym (child_quiet changes (declares t x) still q.holder (cow_str_bytes q.name))))
+      written (declares t x) refl (λ id. refl) (λ s other. record { decl = only_other t s x other; setting = refl; child = refl; member = refl }) w.below tt refl
+      (λ q below. rw cn (is.child_names q below ∙ sym (child_quiet changes (declares t x) still q.holder (cow_str_bytes q.name))))
       (λ q. rw mn (is.member_names q ∙ sym (member_quiet changes (declares t x) still q.holder (cow_str_bytes q.name)))) by
     where
       by : IsSymbolOf b.setting.module_id changes t old → IsSymbolOf b.setting.module_id (changes ++ declares t x ∷ []) t new
@@ -228,20 +229,21 @@ module _ {b after : Builder} {t : SymbolId} {old new : Symbol} (w : Writes b aft
 silent_spares : (id : IdView) (x s : SymbolId) → Spares (maps id x) s
 silent_spares id x s = record { decl = refl; setting = refl; child = refl; member = refl }
 
-pub only_maps : (b after : Builder) (changes : List Change) (id : IdView) (x : SymbolId) → x.0 < length b.symbols.items
+pub only_maps : (b after : Builder) (changes : List Change) (id : IdView) (x : SymbolId) → x.0 < length b.symbols.items → 0 < x.0
     → after.symbols ≡ b.symbols → after.setting ≡ b.setting → after.child_names ≡ b.child_names → after.member_names ≡ b.member_names → after.stars ≡ b.stars
     → ((q : IdView) → lookup (same_id q) (ids_view after.ids.entries) ≡ cond (same_id id q) (Some x) (lookup (same_id q) (ids_view b.ids.entries)))
     → IsTableOf b changes → IsTableOf after (changes ++ maps id x ∷ [])
-only_maps b after changes id x lt same setting_same cn mn stars_same updated is = record {
+only_maps b after changes id x lt inner same setting_same cn mn stars_same updated is = record {
   count = rw (same, parents_after-out changes (maps id x) refl) is.count;
   symbols = rw (same, setting_same) (λ s d below. symbol_kept b.setting.module_id changes (maps id x) s (get_or b.symbols.items s.0 d) refl (silent_spares id x s) (is.symbols s d below));
   others = λ s le. bare_kept changes (maps id x) s (silent_spares id x s) (is.others s (rw same at le));
   ids = λ q. updated q ∙ (ap (λ o. cond (same_id id q) (Some x) o) (is.ids q) ∙ sym (mapped_after-maps changes (maps id x) q (same_id id q) x refl));
-  child_names = λ q. rw cn (is.child_names q ∙ sym (child_quiet changes (maps id x) still q.holder (cow_str_bytes q.name)));
+  child_names = λ q below. rw cn (is.child_names q below ∙ sym (child_quiet changes (maps id x) still q.holder (cow_str_bytes q.name)));
   member_names = λ q. rw mn (is.member_names q ∙ sym (member_quiet changes (maps id x) still q.holder (cow_str_bytes q.name)));
   stars = rw (stars_same, stars_after-out changes (maps id x) refl) is.stars;
   few = rw (same, setting_same) is.few;
   sound = rw same (All-push (Fits (length b.symbols.items)) changes (maps id x) is.sound lt);
+  apart = All-push SparesModule changes (maps id x) is.apart inner;
   parents = rw (parents_after-out changes (maps id x) refl) is.parents;
   declared = rw same (λ s below. rw (decls_after-out changes (maps id x) s refl) (is.declared s below));
 }
@@ -257,11 +259,12 @@ only_star b after changes star same setting_same ids_same cn mn pushed is = reco
   symbols = rw (same, setting_same) (λ s d below. symbol_kept b.setting.module_id changes (passes_on (star_view star)) s (get_or b.symbols.items s.0 d) refl spares (is.symbols s d below));
   others = λ s le. bare_kept changes (passes_on (star_view star)) s spares (is.others s (rw same at le));
   ids = λ id. rw (ids_same, mapped_after-out changes (passes_on (star_view star)) id refl) (is.ids id);
-  child_names = λ q. rw cn (is.child_names q ∙ sym (child_quiet changes (passes_on (star_view star)) still q.holder (cow_str_bytes q.name)));
+  child_names = λ q below. rw cn (is.child_names q below ∙ sym (child_quiet changes (passes_on (star_view star)) still q.holder (cow_str_bytes q.name)));
   member_names = λ q. rw mn (is.member_names q ∙ sym (member_quiet changes (passes_on (star_view star)) still q.holder (cow_str_bytes q.name)));
   stars = ap (map star_view) pushed ∙ (map-append star_view b.stars.items (star ∷ []) ∙ (ap (λ (stars : List Star). stars ++ star_view star ∷ []) is.stars ∙ sym (stars_after-in changes (passes_on (star_view star)) (star_view star) refl)));
   few = rw (same, setting_same) is.few;
   sound = rw same (All-push (Fits (length b.symbols.items)) changes (passes_on (star_view star)) is.sound tt);
+  apart = All-push SparesModule changes (passes_on (star_view star)) is.apart tt;
   parents = rw (parents_after-out changes (passes_on (star_view star)) refl) is.parents;
   declared = rw same (λ s below. rw (decls_after-out changes (passes_on (star_view star)) s refl) (is.declared s below));
 }
@@ -297,11 +300,12 @@ module _ (b after : Builder) (changes : List Change) (parent : Option SymbolId) 
     symbols = rw setting_same (λ s d lt. by s d lt (cases_eq s.0 t.0));
     others = λ s le. bare_kept (changes ++ makes parent ∷ []) (declares t x) s (record { decl = only_other t s x (λ e. absurd (omega (arith, len))); setting = refl; child = refl; member = refl }) (bare_first s (is.others s (omega (arith, len))));
     ids = λ id. rw (ids_same, mapped_after-out (changes ++ makes parent ∷ []) (declares t x) id refl, mapped_after-out changes (makes parent) id refl) (is.ids id);
-    child_names = λ q. rw cn (is.child_names q ∙ sym (child_made changes (length b.symbols.items) is.sound parent t x number q.holder (cow_str_bytes q.name)));
+    child_names = λ q below. rw cn (is.child_names q below ∙ sym (child_made changes (length b.symbols.items) is.sound parent t x number q.holder (cow_str_bytes q.name)));
     member_names = λ q. rw mn (is.member_names q ∙ sym (member_made changes (length b.symbols.items) is.sound parent t x number q.holder (cow_str_bytes q.name)));
     stars = rw (stars_same, stars_after-out (changes ++ makes parent ∷ []) (declares t x) refl, stars_after-out changes (makes parent) refl) is.stars;
     few = rw setting_same (omega (arith, len));
     sound = rw len (All-push (Fits (length b.symbols.items + 1)) (changes ++ makes parent ∷ []) (declares t x) (All-push (Fits (length b.symbols.items + 1)) changes (makes parent) (fits_more (length b.symbols.items) changes is.sound) tt) (omega (arith, number)));
+    apart = All-push SparesModule (changes ++ makes parent ∷ []) (declares t x) (All-push SparesModule changes (makes parent) is.apart tt) tt;
     parents = rw (parents_after-out (changes ++ makes parent ∷ []) (declares t x) refl, parents_after-in changes (makes parent) parent refl) (λ n q at. parent_by n q (cases_lt n (length (parents_after changes))) at);
     declared = λ s below. declared_by s (cases_eq s.0 t.0) below;
   }
@@ -360,11 +364,12 @@ empty_table b no_symbols no_ids no_children no_members no_stars = record {
   symbols = λ s d lt. absurd (omega (arith, lt, ap length no_symbols));
   others = λ s le. record { decls = refl; exports = refl; children = refl; members = refl };
   ids = λ id. ap (λ (es : List (Bor Id × SymbolId)). lookup (same_id id) (ids_view es)) no_ids;
-  child_names = λ q. ap (λ (es : List (LocalName × SymbolId)). lookup (is_same_name q) es) no_children;
+  child_names = λ q below. ap (λ (es : List (LocalName × SymbolId)). lookup (is_same_name q) es) no_children;
   member_names = λ q. ap (λ (es : List (LocalName × SymbolId)). lookup (is_same_name q) es) no_members;
   stars = ap (map star_view) no_stars;
   few = omega (arith, ap length no_symbols);
   sound = λ k d lt. absurd (omega (arith, lt));
+  apart = λ k d lt. absurd (omega (arith, lt));
   parents = λ n parent at. absurd (omega (arith, slice_get_within [] n parent at));
   declared = λ s lt. absurd (omega (arith, lt, ap length no_symbols));
 }

@@ -38,6 +38,16 @@ Fits count (has_member s x) = (s.0 < count) × (x.0 < count)
 Fits count (maps _ x) = x.0 < count
 Fits count (passes_on _) = Unit {0}
 
+-- a change by which no name comes to stand for the module's own symbol, and none is exported as it
+abbrev pub SparesModule : Change → Type 0
+SparesModule (makes _) = Unit {0}
+SparesModule (declares _ _) = Unit {0}
+SparesModule (exports _ _ x) = 0 < x.0
+SparesModule (has_child _ _) = Unit {0}
+SparesModule (has_member _ _) = Unit {0}
+SparesModule (maps _ x) = 0 < x.0
+SparesModule (passes_on _) = Unit {0}
+
 -- what a symbol is called
 abbrev pub name_in : List Symbol → SymbolId → Option (List ℕ)
 name_in symbols s = option_and_then (λ (symbol : Symbol). option_and_then decl_name (slice_get (decls_in symbol) 0)) (slice_get symbols s.0)
@@ -55,11 +65,13 @@ pub record IsTableOf (b : Builder) (changes : List Change) : Type 0 where
   pub symbols : (s : SymbolId) (d : Symbol) → s.0 < length b.symbols.items → IsSymbolOf b.setting.module_id changes s (slice_index_or b.symbols.items s.0 d)
   pub others : (s : SymbolId) → length b.symbols.items ≤ s.0 → IsBare changes s
   pub ids : (id : IdView) → lookup (same_id id) (ids_view b.ids.entries) ≡ mapped_after changes id
-  pub child_names : (q : LocalName) → symbol_named b.child_names q ≡ child_named changes q.holder (cow_str_bytes q.name)
+  -- the children of the module's own symbol aren't asked for by name
+  pub child_names : (q : LocalName) → 0 < q.holder.0 → symbol_named b.child_names q ≡ child_named changes q.holder (cow_str_bytes q.name)
   pub member_names : (q : LocalName) → symbol_named b.member_names q ≡ member_named changes q.holder (cow_str_bytes q.name)
   pub stars : map star_view b.stars.items ≡ stars_after changes
   pub few : length b.symbols.items ≤ b.setting.limit
   pub sound : All (Fits (length b.symbols.items)) changes
+  pub apart : All SparesModule changes
   pub parents : (n : ℕ) (parent : Option SymbolId) → slice_get (parents_after changes) n ≡ Some parent → IsParentOf n parent
   pub declared : (s : SymbolId) → s.0 < length b.symbols.items → 0 < length (decls_after changes s)
 

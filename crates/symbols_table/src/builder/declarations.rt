@@ -140,6 +140,7 @@ impl<'a> Builder<'a> {
         requires filled { IsFilled self.old }
         requires holder { holder.0 < length self.old.symbols.items }
         requires symbol { symbol.0 < length self.old.symbols.items }
+        requires inner { 0 < symbol.0 }
         ensures keeps { KeepsTable result self.old self.new }
         ensures table { (rows : List Row) (h s : ℕ) → IsTableOf self.old (changes_of rows) → symbol_at rows h ≡ Some holder → symbol_at rows s ≡ Some symbol
             → ReadsAll result self.old.setting.limit self.new (rows_after rows (export_if is_exported h name.now s)) }
@@ -161,6 +162,7 @@ impl<'a> Builder<'a> {
         requires filled { IsFilled self.old }
         requires holder { holder.0 < length self.old.symbols.items }
         requires symbol { symbol.0 < length self.old.symbols.items }
+        requires inner { 0 < symbol.0 }
         ensures keeps { KeepsTable result self.old self.new }
         ensures table { (rows : List Row) (h s : ℕ) → IsTableOf self.old (changes_of rows) → symbol_at rows h ≡ Some holder → symbol_at rows s ≡ Some symbol
             → ReadsAll result self.old.setting.limit self.new (rows_after rows (adding_events is_exported h name.now s)) }

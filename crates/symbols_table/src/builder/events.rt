@@ -31,6 +31,7 @@ impl<'a> Builder<'a> {
         requires filled { IsFilled self.old }
         requires holder { holder.0 < length self.old.symbols.items }
         ensures inside { IfOk result (λ s. s.0 < length self.new.symbols.items) }
+        ensures inner { IfOk result (λ s. 0 < s.0) }
         ensures keeps { KeepsTable result self.old self.new }
         ensures table { (changes : List Change) → IsTableOf self.old changes
             → Reads result (λ s. Some s) self.old.setting.limit self.new changes
@@ -51,6 +52,7 @@ impl<'a> Builder<'a> {
         requires filled { IsFilled self.old }
         requires holder { holder.0 < length self.old.symbols.items }
         ensures inside { IfOk result (λ s. s.0 < length self.new.symbols.items) }
+        ensures inner { IfOk result (λ s. 0 < s.0) }
         ensures keeps { KeepsTable result self.old self.new }
         ensures table { (changes : List Change) → IsTableOf self.old changes
             → Reads result (λ s. Some s) self.old.setting.limit self.new changes (declare_row changes holder (id_view id.now) (decl_view decl.entry)) }
@@ -72,6 +74,7 @@ impl<'a> Builder<'a> {
         requires filled { IsFilled self.old }
         requires holder { holder.0 < length self.old.symbols.items }
         ensures inside { IfOk result (λ s. s.0 < length self.new.symbols.items) }
+        ensures inner { IfOk result (λ s. 0 < s.0) }
         ensures keeps { KeepsTable result self.old self.new }
         ensures table { (changes : List Change) → IsTableOf self.old changes
             → Reads result (λ s. Some s) self.old.setting.limit self.new changes (alias_row changes holder (id_view id.now) (decl_view decl.entry)) }
@@ -88,6 +91,7 @@ impl<'a> Builder<'a> {
         requires holder { holder.0 < length self.now.symbols.items }
         ensures table { (changes : List Change) → IsTableOf self.now changes → result ≡ exported_symbol changes holder name.now }
         ensures inside { IfSome result (λ s. s.0 < length self.now.symbols.items) }
+        ensures inner { IfSome result (λ s. 0 < s.0) }
     {
         self.symbols[holder.0 as usize].export(name)
     }
@@ -101,6 +105,7 @@ impl<'a> Builder<'a> {
         requires filled { IsFilled self.old }
         requires holder { holder.0 < length self.old.symbols.items }
         ensures inside { IfOk result (λ s. s.0 < length self.new.symbols.items) }
+        ensures inner { IfOk result (λ s. 0 < s.0) }
         ensures keeps { KeepsTable result self.old self.new }
         ensures table { (changes : List Change) → IsTableOf self.old changes
             → Reads result (λ s. Some s) self.old.setting.limit self.new changes
@@ -126,6 +131,7 @@ impl<'a> Builder<'a> {
         requires filled { IsFilled self.old }
         requires holder { holder.0 < length self.old.symbols.items }
         ensures inside { IfOk result (λ s. s.0 < length self.new.symbols.items) }
+        ensures inner { IfOk result (λ s. 0 < s.0) }
         ensures keeps { KeepsTable result self.old self.new }
         ensures table { (changes : List Change) → IsTableOf self.old changes
             → Reads result (λ s. Some s) self.old.setting.limit self.new changes (default_row changes holder (decl_view decl.entry)) }
@@ -141,6 +147,7 @@ impl<'a> Builder<'a> {
     fn member_symbol(&self, key: &LocalName<'a>, is_static: bool) -> Option<SymbolId>
         requires filled { IsFilled self.now }
         requires holder { key.now.holder.0 < length self.now.symbols.items }
+        requires inner { 0 < key.now.holder.0 }
         ensures table { (changes : List Change) → IsTableOf self.now changes
             → result ≡ member_found changes key.now.holder is_static (Some (cow_str_bytes key.now.name)) }
         ensures inside { IfSome result (λ s. s.0 < length self.now.symbols.items) }
@@ -163,6 +170,7 @@ impl<'a> Builder<'a> {
     ) -> Result<(), BuildFault>
         requires holder { key.now.holder.0 < length self.old.symbols.items }
         requires symbol { symbol.0 < length self.old.symbols.items }
+        requires inner { 0 < symbol.0 }
         ensures keeps { KeepsCount result self.old self.new }
         ensures table { OnOk result ((changes : List Change) → IsTableOf self.old changes
             → IsTableOf self.new (changes ++ member_changes key.now.holder is_static (Some (cow_str_bytes key.now.name)) symbol)) }
@@ -204,6 +212,7 @@ impl<'a> Builder<'a> {
     ) -> Result<SymbolId, BuildFault>
         requires filled { IsFilled self.old }
         requires holder { key.now.holder.0 < length self.old.symbols.items }
+        requires inner { 0 < key.now.holder.0 }
         ensures inside { IfOk result (λ s. s.0 < length self.new.symbols.items) }
         ensures keeps { KeepsTable result self.old self.new }
         ensures table { (changes : List Change) → IsTableOf self.old changes
@@ -249,6 +258,7 @@ impl<'a> Builder<'a> {
     ) -> Result<SymbolId, BuildFault>
         requires filled { IsFilled self.old }
         requires holder { holder.0 < length self.old.symbols.items }
+        requires inner { 0 < holder.0 }
         ensures inside { IfOk result (λ s. s.0 < length self.new.symbols.items) }
         ensures keeps { KeepsTable result self.old self.new }
         ensures table { (changes : List Change) → IsTableOf self.old changes

@@ -90,6 +90,7 @@ impl<'a> Builder<'a> {
     ) -> Result<(), BuildFault>
         requires filled { IsFilled self.old }
         requires holder { holder.0 < length self.old.symbols.items }
+        requires inner { 0 < holder.0 }
         ensures keeps { KeepsTable result self.old self.new }
         ensures table { ReadsWalk result self.old self.new (one_member (symbol_node_view form.entry) (node_view node.entry) is_static) holder }
     {
@@ -107,6 +108,7 @@ impl<'a> Builder<'a> {
     ) -> Result<(), BuildFault>
         requires filled { IsFilled self.old }
         requires holder { holder.0 < length self.old.symbols.items }
+        requires inner { 0 < holder.0 }
         ensures keeps { KeepsTable result self.old self.new }
         ensures table { ReadsWalk result self.old self.new (param_at constructor.entry.tree.now n) holder }
     {
@@ -130,6 +132,7 @@ impl<'a> Builder<'a> {
     ) -> Result<(), BuildFault>
         requires filled { IsFilled self.old }
         requires holder { holder.0 < length self.old.symbols.items }
+        requires inner { 0 < holder.0 }
         ensures keeps { KeepsTable result self.old self.new }
         ensures table { ReadsWalk result self.old self.new (walk_of_each (param_at node.entry.tree.now) params.now) holder }
     {
@@ -148,6 +151,7 @@ impl<'a> Builder<'a> {
     ) -> Result<(), BuildFault>
         requires filled { IsFilled self.old }
         requires holder { holder.0 < length self.old.symbols.items }
+        requires inner { 0 < holder.0 }
         ensures keeps { KeepsTable result self.old self.new }
         ensures table { ReadsWalk result self.old self.new (constructor_events (node_view node.entry) params.now) holder }
     {
@@ -165,6 +169,7 @@ impl<'a> Builder<'a> {
     ) -> Result<(), BuildFault>
         requires filled { IsFilled self.old }
         requires holder { holder.0 < length self.old.symbols.items }
+        requires inner { 0 < holder.0 }
         ensures keeps { KeepsTable result self.old self.new }
         ensures table { ReadsWalk result self.old self.new (member_at parent.entry.tree.now n) holder }
     {
@@ -189,6 +194,7 @@ impl<'a> Builder<'a> {
     ) -> Result<(), BuildFault>
         requires filled { IsFilled self.old }
         requires holder { holder.0 < length self.old.symbols.items }
+        requires inner { 0 < holder.0 }
         ensures keeps { KeepsTable result self.old self.new }
         ensures table { ReadsWalk result self.old self.new (walk_of_each (member_at parent.entry.tree.now) members.now) holder }
     {

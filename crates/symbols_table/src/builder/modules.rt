@@ -264,6 +264,7 @@ impl<'a> Builder<'a> {
     fn bind_name(&mut self, decl: NodeRef<'a>, symbol: SymbolId) -> Result<(), BuildFault>
         requires filled { IsFilled self.old }
         requires symbol { symbol.0 < length self.old.symbols.items }
+        requires inner { 0 < symbol.0 }
         ensures keeps { KeepsTable result self.old self.new }
         ensures table { OnOk result ((rows : List Row) (s : ℕ) → IsTableOf self.old (changes_of rows) → symbol_at rows s ≡ Some symbol
             → IsTableOf self.new (changes_of (rows_after rows (binds_if (own_name (node_view decl.entry)) s)))) }

@@ -16,6 +16,7 @@ use crate::builder::names::LocalName;
 use crate::decl::{Symbol, SymbolDecl};
 use crate::info::re_exports::StarStatement;
 use indexmap::{IndexMap, IndexSet};
+use smallvec::SmallVec;
 use std::alloc::{AllocError, AllocFailed, Global};
 use std::borrow::CowStr;
 use std::collections::HashMap;
@@ -63,16 +64,6 @@ pub(crate) struct Builder<'a> {
     pub(crate) child_names: HashMap<LocalName<'a>, SymbolId>,
     pub(crate) member_names: HashMap<LocalName<'a>, SymbolId>,
     pub(crate) stars: Vec<StarStatement<'a>>,
-}
-
-/// The declarations of a symbol that has one, with room for no more: most symbols have just one.
-fn one_decl<'a>(alloc: Global, decl: SymbolDecl<'a>) -> Result<Vec<SymbolDecl<'a>>, BuildFault>
-    ensures ok { IfOk result (λ decls. decls.items ≡ decl.entry ∷ []) }
-    ensures err { IfErr result (λ fault. fault ≡ OutOfMemory) }
-{
-    let mut decls = Vec::with_capacity(alloc, 1)?;
-    decls.push(decl)?;
-    Ok(decls)
 }
 
 /// Adds the name of a symbol, if it has one, where its holder has no symbol of that name.
@@ -123,7 +114,7 @@ impl<'a> Builder<'a> {
         let symbol_id = SymbolId(self.symbols.len() as u32);
         let has_function = decl.is_function();
         self.symbols.reserve(1)?;
-        let decls = one_decl(self.setting.alloc, decl.with_overloads(false))?;
+        let decls = SmallVec::from_buf(self.setting.alloc, [decl.with_overloads(false)]);
         self.symbols.push_reserved(Symbol {
             alloc: self.setting.alloc,
             module_id: self.setting.module_id,
@@ -147,6 +138,7 @@ impl<'a> Builder<'a> {
     ) -> Result<(), BuildFault>
         requires holder { holder.0 < length self.old.symbols.items }
         requires symbol { symbol.0 < length self.old.symbols.items }
+        requires inner { 0 < symbol.0 }
         ensures keeps { KeepsCount result self.old self.new }
         ensures table { OnOk result ((changes : List Change) → IsTableOf self.old changes
             → IsTableOf self.new (changes ++ exports holder name.now symbol ∷ [])) }
@@ -171,7 +163,7 @@ impl<'a> Builder<'a> {
         ensures full { IfErr result (λ fault. fault ≡ OutOfMemory) }
     {
         let held = &mut self.symbols[symbol.0 as usize];
-        let has_overloads = decl.is_overload_after(&held.decls);
+        let has_overloads = decl.is_overload_after(held.decls.as_slice());
         let is_function = decl.is_function();
         held.decls.push(decl.with_overloads(has_overloads))?;
         held.has_function = held.has_function | is_function;
@@ -189,6 +181,23 @@ impl<'a> Builder<'a> {
         }
     }
 
+    /// The name by which a child is asked for in its holder: its local name; none in the module's own
+    /// symbol, whose children aren't asked for by name.
+    fn child_name(
+        &self,
+        holder: SymbolId,
+        symbol: SymbolId,
+    ) -> Result<Option<CowStr<'a>>, AllocError>
+        requires { symbol.0 < length self.now.symbols.items }
+        ensures module { holder.0 ≡ 0 → IfOk result (λ name. name ≡ None) }
+        ensures inner { 0 < holder.0 → IfOk result (λ name. option_map cow_str_bytes name ≡ name_in self.now.symbols.items symbol) }
+    {
+        if holder == SymbolId(0) {
+            return Ok(None);
+        }
+        self.local_name(symbol)
+    }
+
     /// Adds a child, once.
     pub(crate) fn add_child(&mut self, holder: SymbolId, symbol: SymbolId) -> Result<(), BuildFault>
         requires holder { holder.0 < length self.old.symbols.items }
@@ -197,7 +206,7 @@ impl<'a> Builder<'a> {
         ensures table { OnOk result ((changes : List Change) → IsTableOf self.old changes → IsTableOf self.new (changes ++ has_child holder symbol ∷ [])) }
         ensures full { IfErr result (λ fault. fault ≡ OutOfMemory) }
     {
-        let name = self.local_name(symbol)?;
+        let name = self.child_name(holder, symbol)?;
         let held = &mut self.symbols[holder.0 as usize];
         held.child_ids.insert(symbol)?;
         add_name(&mut self.child_names, holder, name, symbol)
@@ -236,7 +245,8 @@ impl<'a> Builder<'a> {
 
     /// Maps a name, also one that is mapped already.
     pub(crate) fn map_id(&mut self, id: &'a Id, symbol: SymbolId) -> Result<(), BuildFault>
-        requires { symbol.0 < length self.old.symbols.items }
+        requires symbol { symbol.0 < length self.old.symbols.items }
+        requires inner { 0 < symbol.0 }
         ensures keeps { KeepsCount result self.old self.new }
         ensures table { OnOk result ((changes : List Change) → IsTableOf self.old changes → IsTableOf self.new (changes ++ maps (id_view id.now) symbol ∷ [])) }
         ensures full { IfErr result (λ fault. fault ≡ OutOfMemory) }
@@ -252,6 +262,7 @@ impl<'a> Builder<'a> {
         requires { IsFilled self.now }
         ensures table { (changes : List Change) → IsTableOf self.now changes → result ≡ mapped_after changes (id_view id.now) }
         ensures inside { IfSome result (λ s. s.0 < length self.now.symbols.items) }
+        ensures inner { IfSome result (λ s. 0 < s.0) }
     {
         self.ids.get(&id).copied()
     }

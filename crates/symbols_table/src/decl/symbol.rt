@@ -15,6 +15,7 @@ use crate::decl::child_ids::ChildIds;
 use crate::decl::dep::FileDep;
 use crate::decl::symbol_decl::SymbolDecl;
 use indexmap::{IndexMap, IndexSet};
+use smallvec::SmallVec;
 use std::alloc::{AllocError, Global};
 use std::borrow::CowStr;
 use symbols_nodes::nodes::SymbolNodeRef;
@@ -27,7 +28,7 @@ pub struct Symbol<'a> {
     pub(crate) module_id: ModuleId,
     pub(crate) symbol_id: SymbolId,
     pub(crate) parent_id: Option<SymbolId>,
-    pub(crate) decls: Vec<SymbolDecl<'a>>,
+    pub(crate) decls: SmallVec<SymbolDecl<'a>, 1>,
     pub(crate) exports: IndexMap<String, SymbolId>,
     pub(crate) child_ids: IndexSet<SymbolId>,
     pub(crate) members: IndexSet<SymbolId>,
@@ -71,7 +72,7 @@ impl<'a> Symbol<'a> {
             module_id,
             symbol_id,
             parent_id,
-            decls: Vec::new(alloc),
+            decls: SmallVec::new(alloc),
             exports: IndexMap::new(alloc),
             child_ids: IndexSet::new(alloc),
             members: IndexSet::new(alloc),
@@ -137,7 +138,7 @@ impl<'a> Symbol<'a> {
     pub fn decls(&self) -> &[SymbolDecl<'a>]
         ensures { map decl_view result.now ≡ decls_in self.now }
     {
-        &self.decls
+        self.decls.as_slice()
     }
 
     /// The exported names with their symbols: a name has the place where it was first exported, and
@@ -174,7 +175,7 @@ impl<'a> Symbol<'a> {
     pub fn file_dep(&self) -> Option<FileDep<'a>>
         ensures { option_map dep_view result ≡ first_dep (decls_in self.now) }
     {
-        first_dep(&self.decls)
+        first_dep(self.decls.as_slice())
     }
 
     /// The node of the first declaration, if there is one that has a node.

@@ -11,6 +11,7 @@ ghost use Rattle.symbols_table.specs.DeclViews.{decl_view, decl_kind_view, decl_
 use crate::decl::dep::FileDep;
 use std::alloc::{AllocError, Global};
 use std::borrow::CowStr;
+use std::default::MadeWith;
 use symbols_nodes::deps::{ResolveDepsMode, SymbolNodeDep};
 use symbols_nodes::nodes::{SymbolNode, SymbolNodeRef};
 use symbols_syntax::tree::{Id, SourceRange, Tree};
@@ -69,6 +70,12 @@ pub struct SymbolDecl<'a> {
     pub kind: SymbolDeclKind<'a>,
     pub range: SourceRange,
     pub(crate) flags: SymbolDeclFlags,
+}
+
+impl<'a> MadeWith<Global> for SymbolDecl<'a> {
+    fn made_with(_alloc: Global) -> SymbolDecl<'a> {
+        SymbolDecl::without_node(SourceRange { start: 0, end: 0 })
+    }
 }
 
 impl<'a> SymbolDecl<'a> {

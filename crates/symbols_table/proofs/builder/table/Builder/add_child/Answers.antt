@@ -1,11 +1,11 @@
-use Rattle.std.proofs.Common.{◌≡◌, Option, refl, ◌∙◌, ap}
+use Rattle.std.proofs.Common.{◌≡◌, ◌<◌, Option, refl, ◌∙◌, ap}
 use Rattle.std.specs.Option.{option_map, option_or}
 use Rattle.std.specs.Cow.{cow_str_bytes}
 use Rattle.std.proofs.lemmas.Result.{on_ok_weaker}
 use Rattle.symbols_syntax.specs.declared.ids.SymbolId.{SymbolId}
 use Rattle.symbols_table.specs.Changes.{local_name}
 use Rattle.symbols_table.specs.inner.Tables.{symbol_named}
-use Rattle.symbols_table.proofs.LocalNames.{name_is, own_entry}
+use Rattle.symbols_table.proofs.LocalNames.{name_is, inner_entry}
 use Rattle.symbols_table.proofs.OneChange.{only_child}
 use Rattle.symbols_table.proofs.builder.table.Builder.add_child.Goals as goal
 
@@ -14,8 +14,8 @@ returns-clause-table c = on_ok_weaker c.add_name.result
     (λ found changes is.
     let held = c.index_mut-held.result.now in
     let own = option_map cow_str_bytes c.in_ok-name.name in
-    let called : own ≡ local_name changes c.args.symbol = c.in_ok-name.ensures ∙ name_is c.args.self.now changes c.args.symbol held c.requires.symbol is in
+    let called : 0 < c.args.holder.0 → own ≡ local_name changes c.args.symbol = λ below. c.in_ok-name.ensures.inner below ∙ name_is c.args.self.now changes c.args.symbol held c.requires.symbol is in
     only_child {old = held} (record { below = c.requires.holder; read = c.index_mut-held.ensures.value; set_to = refl; ids = refl; stars = refl; setting = refl; number = refl; module_number = refl; parent = refl }) changes is
     c.args.symbol c.requires.symbol c.in_ok-insert.ensures.keys refl refl refl refl
-    (λ q. found q ∙ ap (λ (o : Option SymbolId). option_or (symbol_named c.args.self.now.child_names q) o) (own_entry changes c.args.holder c.args.symbol own q called)))
+    (λ q below. found q ∙ ap (λ (o : Option SymbolId). option_or (symbol_named c.args.self.now.child_names q) o) (inner_entry changes c.args.holder c.args.symbol own q below called)))
     c.add_name.ensures.named

@@ -8,6 +8,6 @@ use Rattle.symbols_table.proofs.builder.table.Builder.add_decl.Goals as goal
 pub returns-clause-table : goal.returns-clause-table
 returns-clause-table c = λ changes is.
     let held = c.index_mut-held.result.now in
-    let flag = c.is_overload_after-has_overloads.ensures ∙ ap (λ (ds : List SymbolDecl). is_overload_after (last_decl (map decl_view ds)) (decl_view c.args.decl)) c.deref.ensures.value in
+    let flag = c.is_overload_after-has_overloads.ensures ∙ ap (λ (ds : List SymbolDecl). is_overload_after (last_decl (map decl_view ds)) (decl_view c.args.decl)) c.as_slice.ensures in
     only_decl {old = held} (record { below = c.requires; read = c.index_mut-held.ensures.value; set_to = refl; ids = refl; stars = refl; setting = refl; number = refl; module_number = refl; parent = refl }) changes is
-    (decl_view c.args.decl) (pushed_decl held.decls.items _ c.args.decl c.with_overloads.result _ c.in_ok-push.ensures.items c.with_overloads.ensures flag) refl refl refl refl refl
+    (decl_view c.args.decl) (pushed_decl held.decls.items _ c.args.decl c.with_overloads.result _ c.in_ok-push.ensures.ok c.with_overloads.ensures flag) refl refl refl refl refl

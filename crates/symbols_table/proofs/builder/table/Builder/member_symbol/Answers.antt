@@ -18,4 +18,4 @@ returns-in-None-clause-inside c =
     let filled = c.requires.filled in
     let count = length c.args.self.now.symbols.items in
     let P : Option SymbolId → Type 0 = λ o. IfSome o (Below count) in
-    subst P (sym (c.copied-in-None.ensures ∙ (c.get-in-None.ensures.value ∙ filled.1.child_names c.args.key.now))) (child_inside count filled.0 c.args.key.now.holder (cow_str_bytes c.args.key.now.name) filled.1.sound)
+    subst P (sym (c.copied-in-None.ensures ∙ (c.get-in-None.ensures.value ∙ filled.1.child_names c.args.key.now c.requires.inner))) (child_inside count filled.0 c.args.key.now.holder (cow_str_bytes c.args.key.now.name) filled.1.sound)
