@@ -8,7 +8,7 @@ TOP = os.path.dirname(os.path.dirname(os.path.dirname(os.path.abspath(__file__))
 
 FUNCTION = re.compile(r'( *)(?:pub(?:\([a-z]+\))? )?(?:const )?(?:unsafe )?(?:extern "C" )?fn (\w+)')
 TYPE = re.compile(r'^(?:pub(?:\([a-z]+\))? )?(?:struct|enum|union) (\w+)', re.M)
-IMPL = re.compile(r'impl(?:<.*?>)? (?:(?P<trait>\w.*) for )?(?P<type>\w+)')
+IMPL = re.compile(r'impl(?:<.*?>)? (?:(?P<trait>\w.*) for )?(?P<type>\w+(?:<\(.*\)>)?|\(.*\))')
 CYCLE = re.compile(r' *#\[cycle\((\w+)\)\]')
 CYCLE_OF_TYPE = re.compile(r'#\[cycle\((\w+)\)\]\n(?: *(?:#\[|///).*\n)* *(?:pub(?:\([a-z]+\))? )?(?:struct|enum|union)\b')
 
@@ -76,6 +76,12 @@ def module_of(file):
     return tuple(parts[:-1] if parts[-1] in ('lib', 'main', 'mod') else parts)
 
 
+def words_of(text):
+    """A type's words in one, as a check writes them in the name of an impl: without lifetimes, and of a tuple first how many it has."""
+    tuples = re.sub(r'\(([^()]*)\)', lambda found: 'Tuple%d %s' % (found[1].count(',') + 1, found[1]), re.sub(r"'\w+", '', text))
+    return ''.join(re.findall(r'\w+', tuples))
+
+
 def functions_of(file, text, types):
     """The functions of a file in the layout of `rt fmt`: an item ends at the brace below its own indentation."""
     lines, found, impl, cycle = text.split('\n'), [], None, ''
@@ -91,8 +97,8 @@ def functions_of(file, text, types):
         own = impl if head[1] else None
         path, trait = module_of(file), ''
         if own:
-            trait = ''.join(re.findall(r'\w+', re.sub(r"'\w+", '', own['trait'] or '')))
-            path = types.get(own['type'], path) + (own['type'] + trait,)
+            trait = words_of(own['trait'] or '')
+            path = types.get(own['type'], path) + (words_of(own['type']) + trait,)
         found.append(Function(file, first, next(ends, first), path + (head[2],), cycle, trait))
         cycle = ''
     return found
