@@ -21,7 +21,7 @@ HERE = os.path.dirname(os.path.abspath(__file__))
 SOURCE = '''//! A small crate.
 #![tactic(auto)]
 
-ghost use Rattle.std.specs.Prelude.{◌+◌, ◌≡◌, ◌≤◌, IfErr};
+ghost use Rattle.std.specs.Prelude.{ℕ, ◌+◌, ◌≡◌, ◌≤◌, IfErr};
 ghost use Rattle.small.specs.Small.{double, IsRefusal};
 
 /// The next number.
@@ -113,6 +113,24 @@ pub fn doubled(x: u8) -> u8
     ensures { result ≡ double x }
 {
     x + x
+}
+
+/// What has parts.
+pub trait Parted {
+    ghost parts: { Self → ℕ };
+
+    /// How many parts it has.
+    fn count(&self) -> u8
+        ensures { result ≡ parts self.now };
+}
+
+impl Parted for (Digit, Digit) {
+    ghost parts = { λ _. 2 };
+
+    fn count(&self) -> u8 {
+        let two = 2;
+        two
+    }
 }
 
 /// Says nothing of its result.
@@ -226,6 +244,7 @@ EDITS = [
     ('a_name_that_is_not_there', [('next(next(x))', 'next(next(y))')], 'not reached', ''),
     ('of_a_function_without_a_promise', [('pub fn any(x: u8) -> u8 {', 'pub fn any(x: u8) -> u8 { let x = 0;')], 'let through', ''),
     ('against_a_law_of_its_type', [('Digit { value: x }', 'Digit { value: 10 }')], 'refused', ''),
+    ('of_an_impl_for_a_tuple', [('let two = 2', 'let two = 3')], 'refused', ''),
     ('a_sum_in_the_cycle', [('below(y - 1)', 'below(y - 1) + 0')], 'let through', ''),
     ('more_by_turns', [('below(y - 1)', 'below(y - 1) + 2')], 'refused', ''),
     ('more_in_the_cycle', [('far_below(x - 1)', 'far_below(x - 1) + 2')], 'refused', ''),
