@@ -8,8 +8,8 @@ of public names, the counts of wrong bodies, and the stored cases on the proved 
 libraries below the crate are proved, over copies of what it built of them: those that are due, as `wrong_bodies.py` says,
 by the number of commits. Beside them the model of `evidence/` is held to what it was read from, and the static library is built and
 called from other languages. What needs the proved programs comes last: random graphs, the command over folders, calls that are refused
-in turn, long ways, the cases. Behind all stand the lines of what failed, once more, and a line for each part of what it took, on the clock and
-of the processors; the last line is 'N passed, M failed'.
+in turn, long ways, the cases. Behind all stands a line for each part of what it took, on the clock and of the
+processors, and then the lines of what failed, once more; the last line is 'N passed, M failed'.
 """
 import os
 import re
@@ -185,11 +185,11 @@ def all_parts():
 def main():
     began, parts = time.time(), all_parts()
     for part in parts:
-        if part.failed:
-            print('%s: what failed, again:\n%s' % (part.name, ''.join(part.told)), end='')
-    for part in parts:
         word = ', FAILED' if part.failed else ''
         print('%s: %.1f minutes, %.1f of the processors%s' % (part.name, part.clock, part.processors, word))
+    for part in parts:
+        if part.failed:
+            print('%s: what failed, again:\n%s' % (part.name, ''.join(part.told)), end='')
     took = (time.time() - began) / 60, sum(it.processors for it in parts)
     print('all: %.1f minutes, %.1f of the processors' % took)
     failed = sum(it.failed for it in parts)
