@@ -1,10 +1,12 @@
 -- What is no whole number.
-use Rattle.std.proofs.Common.{◌≡◌, ◌^◌, ◌&&◌, ◌==◌, ℕ, List, Bool, true, false, cond, Float, None, Some, refl, nat_lt, nat_le, get_or, drop}
+use Rattle.std.proofs.Common.{◌≡◌, ◌^◌, ◌<◌, ◌++◌, [], ◌∷◌, length, arith, decimal, append-nil, sym, ap, ◌∙◌, ◌&&◌, ◌==◌, ℕ, List, Bool, true, false, cond, Float, None, Some, refl, nat_lt, nat_le, get_or, drop}
+use Rattle.std.proofs.lemmas.Bool.{eqb-true}
 use Rattle.std.specs.Float.{binary64, float_is_finite}
 use Rattle.fast_float.specs.Text.{Parts, scan, nearest, digits_of, with_sign}
 use Rattle.serde_json.specs.Data.{negative, float}
 use Rattle.serde_json.specs.Read.{number_of, number_from, float_of, is_integer}
 use Rattle.serde_json.specs.Find.{as_u64}
+use Rattle.serde_json.proofs.Numbers.{number_of-decimal}
 use Rattle.symq_reader.specs.JsonData.{num_or}
 
 either_float : (b : Bool) (x : Float) → as_u64 (num_or (cond b (Some (float x)) None)) ≡ None
@@ -28,3 +30,8 @@ of_minus s e = rw e (no_negative (scan (drop 1 s)))
 pub of_digits : (s : List ℕ) → (get_or s 0 0 == 45) ≡ false → number_of s ≡ number_from false (scan s)
 unfolding number_of
 of_digits s e = rw e
+
+-- a number is read from its own text
+pub of_decimal : (s rest : List ℕ) (n : ℕ) → s ≡ decimal n ++ rest → (length rest == 0) ≡ true → n < 2 ^ 64 → Some n ≡ as_u64 (num_or (number_of s))
+of_decimal s [] n is none fits = sym (ap (λ x. as_u64 (num_or (number_of x))) (is ∙ append-nil (decimal n)) ∙ ap (λ o. as_u64 (num_or o)) (number_of-decimal n fits))
+of_decimal s (b ∷ rest) n is none fits = absurd (omega (arith, eqb-true (length (b ∷ rest)) 0 none))

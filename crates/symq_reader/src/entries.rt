@@ -16,6 +16,8 @@ pub(crate) enum Entry<'a> {
     Flag(bool),
     Text(&'a str),
     Whole(u64),
+    /// A list of one whole number.
+    One(u64),
     /// A list of two whole numbers.
     Pair(u64, u64),
     /// A list of a text and a whole number.

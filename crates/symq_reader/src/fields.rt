@@ -185,6 +185,7 @@ pub(crate) fn children(
         None => Ok(Vec::new(alloc)),
         Some(Found::Value(Value::Array(items))) => children_of_values(alloc, items.as_slice()),
         Some(Found::Entry(Entry::List(numbers))) => children_numbered(alloc, numbers.as_slice()),
+        Some(Found::Entry(Entry::One(number))) => children_numbered(alloc, &[*number]),
         Some(Found::Entry(Entry::Pair(first, second))) => {
             children_numbered(alloc, &[*first, *second])
         }

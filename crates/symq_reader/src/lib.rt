@@ -15,6 +15,7 @@ mod lists;
 mod lookup;
 mod nodes;
 mod numbers;
+mod short_numbers;
 mod stream;
 mod values;
 mod whole;

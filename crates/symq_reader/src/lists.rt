@@ -14,6 +14,7 @@ ghost use Rattle.symq_reader.specs.inner.ListTexts.{IsAfterComma, IsBehindText, 
 
 use crate::ends::after;
 use crate::escapes::is_plain;
+use crate::short_numbers::short_number;
 use memchr::memchr;
 
 /// What stands in a list behind two texts.
@@ -70,41 +71,6 @@ fn quoted(bytes: &[u8]) -> Option<(&str, &[u8])>
     Some((text, after(rest, b'"')?))
 }
 
-/// The digit at a place.
-fn digit(bytes: &[u8], place: usize) -> Option<u32>
-    ensures found { IfSome result (λ d. get_or bytes.now place 0 ≡ 48 + d) }
-    ensures small { IfSome result (λ d. d < 10) }
-    ensures within { IfSome result (λ _. place < length bytes.now) }
-{
-    if place < bytes.len() && b'0' <= bytes[place] && bytes[place] <= b'9' {
-        Some(u32::from(bytes[place] - b'0'))
-    } else {
-        None
-    }
-}
-
-/// The number that bytes begin with, and what follows it.
-fn number(bytes: &[u8]) -> Option<(u32, &[u8])>
-    ensures text { IfSome result (λ parts. bytes.now ≡ decimal parts.0 ++ parts.1.now) }
-    ensures fits { IfSome result (λ parts. parts.0 < 2 ^ 64) }
-{
-    let mut found = digit(bytes, 0)?;
-    let mut place = 1;
-    if found == 0 {
-        let (_, rest) = bytes.split_at(1);
-        return Some((0, rest));
-    }
-    'digits: while let Some(next) = digit(bytes, place) {
-        if 100_000_000 <= found {
-            return None;
-        }
-        found = found * 10 + next;
-        place += 1;
-    }
-    let (_, rest) = bytes.split_at(place);
-    Some((found, rest))
-}
-
 /// What stands behind two texts, up to the end of the list.
 fn items_behind(bytes: &[u8]) -> Option<Behind<'_>>
     ensures text { IfSome result (IsBehindText bytes.now) }
@@ -113,7 +79,7 @@ fn items_behind(bytes: &[u8]) -> Option<Behind<'_>>
     if is_end(bytes) {
         return Some(Behind::Nothing);
     }
-    let (n, rest) = number(after_comma(bytes)?)?;
+    let (n, rest) = short_number(after_comma(bytes)?)?;
     if is_end(rest) {
         return Some(Behind::Number(n));
     }

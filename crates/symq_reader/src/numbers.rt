@@ -10,6 +10,7 @@ ghost use Rattle.symq_reader.specs.JsonData.{num_or, data_of};
 ghost use Rattle.symq_reader.specs.inner.JsonData.{fits, items_fit, members_fit};
 ghost use Rattle.symq_reader.specs.UnderKeys.{as_offset, as_u32};
 
+use crate::short_numbers::short_number;
 use fast_float::Numeral;
 use json::Value;
 use serde_json::Map;
@@ -70,16 +71,27 @@ fn unsigned(numeral: &Numeral<'_>) -> Option<u64>
     }
 }
 
-/// The whole number of a numeral's text.
+/// The whole number of a numeral's text, of any length.
 #[tactic(auto, using(crate::proofs::Numerals::of_minus, crate::proofs::Numerals::of_digits))]
-pub(crate) fn whole(digits: &str) -> Option<u64>
-    ensures { result ≡ as_u64 (num_or (number_of digits.now)) }
+fn long_whole(bytes: &[u8]) -> Option<u64>
+    ensures { result ≡ as_u64 (num_or (number_of bytes.now)) }
 {
-    let bytes = digits.as_bytes();
     if has_minus(bytes) {
         None
     } else {
         unsigned(&Numeral::scan(bytes))
+    }
+}
+
+/// The whole number of a numeral's text; most are short.
+#[inline(always)]
+pub(crate) fn whole(digits: &str) -> Option<u64>
+    ensures { result ≡ as_u64 (num_or (number_of digits.now)) }
+{
+    let bytes = digits.as_bytes();
+    match short_number(bytes) {
+        Some((number, rest)) if rest.is_empty() => Some(u64::from(number)),
+        _ => long_whole(bytes),
     }
 }
 

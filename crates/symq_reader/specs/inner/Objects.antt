@@ -24,6 +24,7 @@ entry_data taken.Null = null
 entry_data (taken.Flag b) = boolean b
 entry_data (taken.Text s) = string s.now
 entry_data (taken.Whole n) = whole_number n
+entry_data (taken.One n) = array (item (whole_number n) no_items)
 entry_data (taken.Pair m n) = array (item (whole_number m) (item (whole_number n) no_items))
 entry_data (taken.Named s n) = array (item (string s.now) (item (whole_number n) no_items))
 entry_data (taken.List v) = array (whole_numbers v.items)

@@ -62,15 +62,14 @@ fn list_of_wholes<'a>(
         (λ d. Some d) (entry_data entry)) }
 {
     let first = whole(digits)?;
-    let mut found = Vec::new(alloc);
     if reader.take_end_array() {
-        found.push(first)?;
-        return Ok(Entry::List(found));
+        return Ok(Entry::One(first));
     }
     let second = next_whole(reader)?;
     if reader.take_end_array() {
         return Ok(Entry::Pair(first, second));
     }
+    let mut found = Vec::new(alloc);
     found.push(first)?;
     found.push(second)?;
     others(reader, &mut found)?;

@@ -12,8 +12,7 @@ returns-then-take_end_array c =
     let s = c.args.digits.now in
     let n = c.in_ok-first.first in
     let ends : after_end_array ts ≡ Some new = grind arith in
-    let pushed : c.push.new.self.items ≡ n ∷ [] = search rules in
-    wholes_read (Token.number s ∷ ts) new (n ∷ []) c.push.new.self.items pushed
+    wholes_read (Token.number s ∷ ts) new (n ∷ []) (n ∷ []) refl
     (first_read (λ d. Some d) 120 (Token.number s ∷ ts) ts new (whole_number n) [] (whole_read 120 (Token.number s ∷ ts) ts s n refl c.in_ok-first.ensures) (none_read (λ d. Some d) 120 ts new ends))
 
 pub returns-then-take_end_array-2 : goal.returns-then-take_end_array-2
@@ -44,8 +43,8 @@ returns c =
     let h = c.in_ok-others.ensures in
     let stays : mid ≡ ts = grind arith in
     let stays_again : next ≡ end = grind arith in
-    let pushed : c.push-2.new.self.items ≡ m ∷ [] = search rules in
-    let pushed_again : c.push-3.new.self.items ≡ c.push-2.new.self.items ++ n ∷ [] = search rules in
+    let pushed : c.push.new.self.items ≡ m ∷ [] = search rules in
+    let pushed_again : c.push-2.new.self.items ≡ c.push.new.self.items ++ n ∷ [] = search rules in
     let all : c.others.new.found.items ≡ m ∷ n ∷ h.0 = h.2 ∙ ap (λ xs. xs ++ h.0) (pushed_again ∙ ap (λ xs. xs ++ n ∷ []) pushed) in
     let first = whole_read 120 (Token.number s ∷ ts) mid s m (ap (λ us. Token.number s ∷ us) (sym stays)) c.in_ok-first.ensures in
     let rest = first_read (λ d. Some d) 120 mid end new (whole_number n) (map whole_number h.0) c.in_ok-second.ensures (rw stays_again at h.1) in

@@ -1,5 +1,5 @@
 use Rattle.std.proofs.Common.{◌≡◌, ◌-◌, ◌<◌, ◌≤◌, length, take, decimal}
-use Rattle.symq_reader.proofs.lists.number.Given as goal
+use Rattle.symq_reader.proofs.short_numbers.short_number.Given as goal
 
 abbrev pub invariant-digits : goal.invariant-digits
 invariant-digits l = (0 < l.found) × (l.place ≤ length l.bytes) × (take l.place l.bytes ≡ decimal l.found)

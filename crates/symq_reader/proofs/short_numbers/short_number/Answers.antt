@@ -1,6 +1,6 @@
 use Rattle.std.proofs.Common.{◌≡◌, take, decimal, subst, arith}
 use Rattle.symq_reader.proofs.Digits.{digit_first, digit_more, digits_then}
-use Rattle.symq_reader.proofs.lists.number.Goals as goal
+use Rattle.symq_reader.proofs.short_numbers.short_number.Goals as goal
 
 pub returns-then-found-eq0-clause-text : goal.returns-then-found-eq0-clause-text
 returns-then-found-eq0-clause-text c =
