@@ -18,7 +18,8 @@ use Rattle.symbols_syntax.specs.Ids.{IdView, same_id}
 use Rattle.symbols_table.specs.declared.decl.symbol.Symbol.{Symbol}
 use Rattle.symbols_table.specs.declared.builder.names.LocalName.{LocalName}
 use Rattle.symbols_table.specs.declared.builder.table.Builder.{Builder}
-use Rattle.symbols_table.specs.DeclViews.{Declaration, decl_view, exports_view, with_decl, is_overload_after, last_decl}
+use Rattle.symbols_table.specs.DeclViews.{Declaration, decl_view, with_decl, is_overload_after, last_decl}
+use Rattle.symbols_table.specs.TableViews.{TablesView, empty_tables}
 use Rattle.symbols_table.specs.Changes.{Change, Star, makes, declares, exports, has_child, has_member, maps, passes_on, same_symbol_id, star_by, stars_after, child_named, member_named, parent_by, decl_by, setting_by, child_by, member_by, mapping_by, parents_after, decls_after, exports_after, children_after, members_after, mapped_after, with_first}
 use Rattle.symbols_table.specs.declared.info.re_exports.StarStatement.{StarStatement}
 use Rattle.symbols_table.specs.ModuleViews.{ids_view, star_view}
@@ -142,8 +143,8 @@ module _ {b after : Builder} {t : SymbolId} {old new : Symbol} (w : Writes b aft
   same_parent : (change : Change) → parent_by change ≡ None → IsSymbolOf b.setting.module_id changes t old → slice_get (parents_after (changes ++ change ∷ [])) t.0 ≡ Some new.parent_id
   same_parent change silent h = rw (parents_after-out changes change silent, w.parent) h.parent
 
-  pub only_exports : (name : List ℕ) (x : SymbolId) → x.0 < length b.symbols.items → 0 < x.0 → exports_view new.exports.entries ≡ insert_entry bytes_eq (exports_view old.exports.entries) name x
-      → new.decls ≡ old.decls → new.child_ids ≡ old.child_ids → new.members ≡ old.members → after.child_names ≡ b.child_names → after.member_names ≡ b.member_names
+  pub only_exports : (name : List ℕ) (x : SymbolId) → x.0 < length b.symbols.items → 0 < x.0 → new.tables.exports ≡ insert_entry bytes_eq old.tables.exports name x
+      → new.decls ≡ old.decls → new.tables.children ≡ old.tables.children → new.tables.members ≡ old.tables.members → after.child_names ≡ b.child_names → after.member_names ≡ b.member_names
       → IsTableOf after (changes ++ exports t name x ∷ [])
   only_exports name x lt inner e d c m cn mn =
       let still = quiet changes (exports t name x) (λ s. refl) (λ s. refl) (λ s. refl) in
@@ -162,8 +163,8 @@ module _ {b after : Builder} {t : SymbolId} {old new : Symbol} (w : Writes b aft
         members = rw (m, members_after-out changes (exports t name x) t refl) h.members;
       }
 
-  pub only_child : (x : SymbolId) → x.0 < length b.symbols.items → new.child_ids.keys ≡ with_first old.child_ids.keys x
-      → new.decls ≡ old.decls → new.exports ≡ old.exports → new.members ≡ old.members → after.member_names ≡ b.member_names
+  pub only_child : (x : SymbolId) → x.0 < length b.symbols.items → new.tables.children ≡ with_first old.tables.children x
+      → new.decls ≡ old.decls → new.tables.exports ≡ old.tables.exports → new.tables.members ≡ old.tables.members → after.member_names ≡ b.member_names
       → ((q : LocalName) → 0 < q.holder.0 → symbol_named after.child_names q ≡ option_or (symbol_named b.child_names q) (if_named changes (cow_str_bytes q.name) (same_symbol_id t q.holder) x))
       → IsTableOf after (changes ++ has_child t x ∷ [])
   only_child x lt e d c m on named = written (has_child t x) refl (λ id. refl) (λ s other. record { decl = refl; setting = refl; child = only_other t s x other; member = refl }) (w.below, lt) tt refl
@@ -184,8 +185,8 @@ module _ {b after : Builder} {t : SymbolId} {old new : Symbol} (w : Writes b aft
         members = rw (m, members_after-out changes (has_child t x) t refl) h.members;
       }
 
-  pub only_member : (x : SymbolId) → x.0 < length b.symbols.items → new.members.keys ≡ with_first old.members.keys x
-      → new.decls ≡ old.decls → new.exports ≡ old.exports → new.child_ids ≡ old.child_ids → after.child_names ≡ b.child_names
+  pub only_member : (x : SymbolId) → x.0 < length b.symbols.items → new.tables.members ≡ with_first old.tables.members x
+      → new.decls ≡ old.decls → new.tables.exports ≡ old.tables.exports → new.tables.children ≡ old.tables.children → after.child_names ≡ b.child_names
       → ((q : LocalName) → symbol_named after.member_names q ≡ option_or (symbol_named b.member_names q) (if_named changes (cow_str_bytes q.name) (same_symbol_id t q.holder) x))
       → IsTableOf after (changes ++ has_member t x ∷ [])
   only_member x lt e d c m on named = written (has_member t x) refl (λ id. refl) (λ s other. record { decl = refl; setting = refl; child = refl; member = only_other t s x other }) (w.below, lt) tt refl
@@ -207,7 +208,7 @@ module _ {b after : Builder} {t : SymbolId} {old new : Symbol} (w : Writes b aft
       }
 
   pub only_decl : (x : Declaration) → map decl_view new.decls.items ≡ with_decl (map decl_view old.decls.items) x
-      → new.exports ≡ old.exports → new.child_ids ≡ old.child_ids → new.members ≡ old.members → after.child_names ≡ b.child_names → after.member_names ≡ b.member_names
+      → new.tables.exports ≡ old.tables.exports → new.tables.children ≡ old.tables.children → new.tables.members ≡ old.tables.members → after.child_names ≡ b.child_names → after.member_names ≡ b.member_names
       → IsTableOf after (changes ++ declares t x ∷ [])
   only_decl x e d c m cn mn =
       let still = quiet_decl changes t x (is.declared t w.below) in
@@ -293,9 +294,9 @@ module _ (b after : Builder) (changes : List Change) (parent : Option SymbolId) 
   bare_first s is = bare_kept changes (makes parent) s (record { decl = refl; setting = refl; child = refl; member = refl }) is
 
   pub made : IsTableOf b changes → after.symbols.items ≡ b.symbols.items ++ new ∷ [] → t.0 ≡ length b.symbols.items → after.ids ≡ b.ids → after.child_names ≡ b.child_names → after.member_names ≡ b.member_names → after.stars ≡ b.stars → after.setting ≡ b.setting → length b.symbols.items < b.setting.limit
-      → IsParentOf t.0 parent → new.symbol_id ≡ t → new.module_id ≡ b.setting.module_id → new.parent_id ≡ parent → map decl_view new.decls.items ≡ with_decl [] x → new.exports.entries ≡ [] → new.child_ids.keys ≡ [] → new.members.keys ≡ []
+      → IsParentOf t.0 parent → new.symbol_id ≡ t → new.module_id ≡ b.setting.module_id → new.parent_id ≡ parent → map decl_view new.decls.items ≡ with_decl [] x → new.tables ≡ empty_tables
       → IsTableOf after ((changes ++ makes parent ∷ []) ++ declares t x ∷ [])
-  made is pushed number ids_same cn mn stars_same setting_same room lower number_is of_module_is parent_is decls_is exports_is children_is members_is = record {
+  made is pushed number ids_same cn mn stars_same setting_same room lower number_is of_module_is parent_is decls_is tables_are = record {
     count = rw (pushed, parents_after-out (changes ++ makes parent ∷ []) (declares t x) refl, parents_after-in changes (makes parent) parent refl, length_push b.symbols.items new, length_push (parents_after changes) parent) (ap (λ n. n + 1) is.count);
     symbols = rw setting_same (λ s d lt. by s d lt (cases_eq s.0 t.0));
     others = λ s le. bare_kept (changes ++ makes parent ∷ []) (declares t x) s (record { decl = only_other t s x (λ e. absurd (omega (arith, len))); setting = refl; child = refl; member = refl }) (bare_first s (is.others s (omega (arith, len))));
@@ -321,9 +322,9 @@ module _ (b after : Builder) (changes : List Change) (parent : Option SymbolId) 
             of_module = of_module_is;
             parent = rw (parents_after-out (changes ++ makes parent ∷ []) (declares t x) refl, parents_after-in changes (makes parent) parent refl, parent_is) (slice_get-push_last (parents_after changes) parent t.0 (sym is.count ∙ sym number));
             decls = decls_is ∙ (ap (λ ds. with_decl ds x) (sym bare.decls) ∙ sym (decls_after-in (changes ++ makes parent ∷ []) (declares t x) t x (only_same t x)));
-            exports = ap exports_view exports_is ∙ (sym bare.exports ∙ sym (exports_after-out (changes ++ makes parent ∷ []) (declares t x) t refl));
-            children = children_is ∙ (sym bare.children ∙ sym (children_after-out (changes ++ makes parent ∷ []) (declares t x) t refl));
-            members = members_is ∙ (sym bare.members ∙ sym (members_after-out (changes ++ makes parent ∷ []) (declares t x) t refl));
+            exports = ap (λ (tables : TablesView). tables.exports) tables_are ∙ (sym bare.exports ∙ sym (exports_after-out (changes ++ makes parent ∷ []) (declares t x) t refl));
+            children = ap (λ (tables : TablesView). tables.children) tables_are ∙ (sym bare.children ∙ sym (children_after-out (changes ++ makes parent ∷ []) (declares t x) t refl));
+            members = ap (λ (tables : TablesView). tables.members) tables_are ∙ (sym bare.members ∙ sym (members_after-out (changes ++ makes parent ∷ []) (declares t x) t refl));
           }
 
       by : (s : SymbolId) (d : Symbol) → s.0 < length after.symbols.items → (s.0 ≡ t.0) ⊎ (s.0 ≢ t.0) → IsSymbolOf b.setting.module_id ((changes ++ makes parent ∷ []) ++ declares t x ∷ []) s (get_or after.symbols.items s.0 d)

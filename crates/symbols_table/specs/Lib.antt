@@ -8,6 +8,7 @@ pub mod DeclarationEvents
 pub mod ModuleEvents
 pub mod TreeEvents
 pub mod Symbols
+pub mod TableViews
 pub mod SymbolViews
 pub mod ModuleViews
 pub mod Laws

@@ -4,7 +4,7 @@ use Rattle.std.specs.Option.{option_map, option_map_or, option_and_then}
 use Rattle.symbols_syntax.specs.declared.ids.SymbolId.{SymbolId}
 use Rattle.symbols_nodes.specs.NodeViews.{NodeView}
 use Rattle.symbols_table.specs.declared.decl.symbol.Symbol.{Symbol}
-use Rattle.symbols_table.specs.DeclViews.{Declaration, decl_view, decl_name, node_of_kind, exports_view}
+use Rattle.symbols_table.specs.DeclViews.{Declaration, decl_view, decl_name, node_of_kind}
 use Rattle.symbols_table.specs.Changes.{Change, parents_after, decls_after, exports_after, children_after, members_after}
 
 pub record SymbolView : Type 0 where
@@ -20,9 +20,9 @@ symbol_view symbol = record {
   number = symbol.symbol_id;
   parent = symbol.parent_id;
   decls = map decl_view symbol.decls.items;
-  exports = exports_view symbol.exports.entries;
-  children = symbol.child_ids.keys;
-  members = symbol.members.keys;
+  exports = symbol.tables.exports;
+  children = symbol.tables.children;
+  members = symbol.tables.members;
 }
 
 abbrev pub first_decl : SymbolView → Option Declaration

@@ -13,9 +13,9 @@ ghost use Rattle.symbols_table.specs.declared.builder.names.LocalName.{LocalName
 ghost use Rattle.symbols_table.specs.declared.builder.table.BuildFault.TheVariants.{OutOfMemory, TooManySymbols};
 
 use crate::builder::names::LocalName;
-use crate::decl::{Symbol, SymbolDecl};
+use crate::decl::{Symbol, SymbolDecl, Tables};
 use crate::info::re_exports::StarStatement;
-use indexmap::{IndexMap, IndexSet};
+use indexmap::IndexMap;
 use smallvec::SmallVec;
 use std::alloc::{AllocError, AllocFailed, Global};
 use std::borrow::CowStr;
@@ -121,9 +121,7 @@ impl<'a> Builder<'a> {
             symbol_id,
             parent_id: parent,
             decls,
-            exports: IndexMap::new(self.setting.alloc),
-            child_ids: IndexSet::new(self.setting.alloc),
-            members: IndexSet::new(self.setting.alloc),
+            tables: Tables::new(),
             has_function,
         });
         Ok(symbol_id)
@@ -146,7 +144,7 @@ impl<'a> Builder<'a> {
     {
         let name = String::from_str(self.setting.alloc, name)?;
         let held = &mut self.symbols[holder.0 as usize];
-        held.exports.insert(name, symbol)?;
+        held.tables.add_export(self.setting.alloc, name, symbol)?;
         Ok(())
     }
 
@@ -208,7 +206,7 @@ impl<'a> Builder<'a> {
     {
         let name = self.child_name(holder, symbol)?;
         let held = &mut self.symbols[holder.0 as usize];
-        held.child_ids.insert(symbol)?;
+        held.tables.add_child(self.setting.alloc, symbol)?;
         add_name(&mut self.child_names, holder, name, symbol)
     }
 
@@ -226,7 +224,7 @@ impl<'a> Builder<'a> {
     {
         let name = self.local_name(symbol)?;
         let held = &mut self.symbols[holder.0 as usize];
-        held.members.insert(symbol)?;
+        held.tables.add_member(self.setting.alloc, symbol)?;
         add_name(&mut self.member_names, holder, name, symbol)
     }
 

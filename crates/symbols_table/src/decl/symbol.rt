@@ -9,12 +9,13 @@ ghost use Rattle.std.specs.Str.{bytes_eq};
 ghost use Rattle.symbols_nodes.specs.NodeTests.{is_function, is_module};
 ghost use Rattle.symbols_nodes.specs.NodeMembers.{is_decl, is_member_node, is_private_member};
 ghost use Rattle.symbols_nodes.specs.NodeViews.{symbol_node_view};
-ghost use Rattle.symbols_table.specs.DeclViews.{decl_view, dep_view, first_dep, exports_view, node_test};
+ghost use Rattle.symbols_table.specs.DeclViews.{decl_view, dep_view, first_dep, node_test};
 
 use crate::decl::child_ids::ChildIds;
 use crate::decl::dep::FileDep;
+use crate::decl::exports::Exports;
 use crate::decl::symbol_decl::SymbolDecl;
-use indexmap::{IndexMap, IndexSet};
+use crate::decl::tables::Tables;
 use smallvec::SmallVec;
 use std::alloc::{AllocError, Global};
 use std::borrow::CowStr;
@@ -29,9 +30,7 @@ pub struct Symbol<'a> {
     pub(crate) symbol_id: SymbolId,
     pub(crate) parent_id: Option<SymbolId>,
     pub(crate) decls: SmallVec<SymbolDecl<'a>, 1>,
-    pub(crate) exports: IndexMap<String, SymbolId>,
-    pub(crate) child_ids: IndexSet<SymbolId>,
-    pub(crate) members: IndexSet<SymbolId>,
+    pub(crate) tables: Tables,
     pub(crate) has_function: bool,
     ghost functions: { has_function ≡ list_any (node_test is_function) (map decl_view decls.items) },
 }
@@ -73,9 +72,7 @@ impl<'a> Symbol<'a> {
             symbol_id,
             parent_id,
             decls: SmallVec::new(alloc),
-            exports: IndexMap::new(alloc),
-            child_ids: IndexSet::new(alloc),
-            members: IndexSet::new(alloc),
+            tables: Tables::new(),
             has_function: false,
         }
     }
@@ -143,31 +140,31 @@ impl<'a> Symbol<'a> {
 
     /// The exported names with their symbols: a name has the place where it was first exported, and
     /// the symbol of the last export.
-    pub fn exports(&self) -> &IndexMap<String, SymbolId>
-        ensures { exports_view result.now.entries ≡ exports_in self.now }
+    pub fn exports(&self) -> Exports<'_>
+        ensures { result ≡ exports_in self.now }
     {
-        &self.exports
+        self.tables.exports()
     }
 
     /// The symbol that is exported under a name.
     pub fn export(&self, name: &str) -> Option<SymbolId>
         ensures { result ≡ lookup (λ key. bytes_eq name.now key) (exports_in self.now) }
     {
-        self.exports.get(name).copied()
+        self.tables.export(name)
     }
 
     /// What is declared in the symbol's own body, each once, in order.
     pub fn child_ids(&self) -> ChildIds<'_>
         ensures { result ≡ children_in self.now }
     {
-        ChildIds::new(self.child_ids.as_slice())
+        self.tables.child_ids()
     }
 
     /// The instance members of a class, or the members of an interface, each once.
-    pub fn members(&self) -> &IndexSet<SymbolId>
-        ensures { result.now.keys ≡ members_in self.now }
+    pub fn members(&self) -> &[SymbolId]
+        ensures { result.now ≡ members_in self.now }
     {
-        &self.members
+        self.tables.members()
     }
 
     /// What the symbol takes of another module (as deno_graph): what the first of its declarations

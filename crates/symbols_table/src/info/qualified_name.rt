@@ -104,7 +104,7 @@ fn behind<'a>(
 ) -> Result<Vec<CowStr<'a>>, AllocError>
     ensures { IfOk result (λ pieces. text_told pieces.items ≡ inner_suffix (symbol_view symbol.now) inner.entry.number (text_told inner.entry.pieces.items)) }
 {
-    if !symbol.members.contains(&inner.number) {
+    if !symbol.tables.has_member(inner.number) {
         return with_piece(inner.pieces, CowStr::Borrowed("."));
     }
     if is_class(symbol) {

@@ -3,6 +3,7 @@ use Rattle.std.specs.Option.{option_map, option_or}
 use Rattle.std.specs.Cow.{cow_str_bytes}
 use Rattle.std.proofs.lemmas.Result.{on_ok_weaker}
 use Rattle.symbols_syntax.specs.declared.ids.SymbolId.{SymbolId}
+use Rattle.symbols_table.specs.TableViews.{TablesView}
 use Rattle.symbols_table.specs.Changes.{local_name}
 use Rattle.symbols_table.specs.inner.Tables.{symbol_named}
 use Rattle.symbols_table.proofs.LocalNames.{name_is, own_entry}
@@ -16,6 +17,6 @@ returns-clause-table c = on_ok_weaker c.add_name.result
     let own = option_map cow_str_bytes c.in_ok-name.name in
     let called : own ≡ local_name changes c.args.symbol = c.in_ok-name.ensures ∙ name_is c.args.self.now changes c.args.symbol held c.requires.symbol is in
     only_member {old = held} (record { below = c.requires.holder; read = c.index_mut-held.ensures.value; set_to = refl; ids = refl; stars = refl; setting = refl; number = refl; module_number = refl; parent = refl }) changes is
-    c.args.symbol c.requires.symbol c.in_ok-insert.ensures.keys refl refl refl refl
+    c.args.symbol c.requires.symbol (ap (λ (tables : TablesView). tables.members) c.in_ok-add_member.ensures) refl (ap (λ (tables : TablesView). tables.exports) c.in_ok-add_member.ensures) (ap (λ (tables : TablesView). tables.children) c.in_ok-add_member.ensures) refl
     (λ q. found q ∙ ap (λ (o : Option SymbolId). option_or (symbol_named c.args.self.now.member_names q) o) (own_entry changes c.args.holder c.args.symbol own q called)))
     c.add_name.ensures.named

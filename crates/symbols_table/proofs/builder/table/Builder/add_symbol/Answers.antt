@@ -12,4 +12,4 @@ pub returns-clause-table : goal.returns-clause-table
 returns-clause-table c = λ changes is.
     let number = c.len-2.ensures ∙ c.args.self.now.symbols.ok.0 in
     made c.args.self.now _ changes c.args.parent (decl_view c.args.decl) (record { 0 = c.len-2.result }) _ is (behind_same _ c.push_reserved.ensures.items c.in_ok-reserve.ensures.items) number refl refl refl refl refl (omega arith) (rw number c.requires) refl refl refl
-    (pushed_decl [] _ c.args.decl c.with_overloads.result _ c.from_buf-decls.ensures.items c.with_overloads.ensures refl) c.new.ensures.empty c.new-2.ensures.empty c.new-3.ensures.empty
+    (pushed_decl [] _ c.args.decl c.with_overloads.result _ c.from_buf-decls.ensures.items c.with_overloads.ensures refl) c.new.ensures
