@@ -29,3 +29,4 @@ pub mod Lawful
 pub mod Sources
 pub mod Stars
 pub mod NamePaths
+pub mod Escapes

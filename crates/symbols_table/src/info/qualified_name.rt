@@ -1,6 +1,6 @@
 //! What a symbol is called in full.
 
-ghost use Rattle.std.specs.Prelude.{◌≡◌, ◌<◌, ◌++◌, ◌∷◌, List, length, Some, codes, string_bytes, encode_utf8_all, IfOk, OnOk, IfErr, IsSome};
+ghost use Rattle.std.specs.Prelude.{◌≡◌, ◌<◌, ◌++◌, ◌∷◌, [], List, length, Some, codes, string_bytes, encode_utf8_all, IfOk, OnOk, IfErr, IsSome};
 ghost use Rattle.std.specs.Cow.{cow_str_bytes};
 ghost use Rattle.std.specs.Option.{option_map};
 ghost use Rattle.symbols_syntax.specs.declared.ids.ModuleId.{ModuleId};
@@ -31,6 +31,10 @@ fn push_escaped(text: &mut String, c: char) -> Result<(), AllocError>
 fn push_all_escaped(made: &mut String, text: &str) -> Result<(), AllocError>
     ensures { OnOk result (string_bytes made.new ≡ string_bytes made.old ++ escaped_text text.now) }
 {
+    if !text.as_bytes().contains(&b'"') {
+        made.push_str(text)?;
+        return Ok(());
+    }
     for c in text.chars() {
         push_escaped(made, c)?;
     }
@@ -85,15 +89,31 @@ fn with_piece<'a>(pieces: Vec<CowStr<'a>>, piece: CowStr<'a>) -> Result<Vec<CowS
     Ok(pieces)
 }
 
-/// A text in brackets and quotes, as one piece.
-fn in_brackets<'a>(alloc: Global, text: &str) -> Result<Vec<CowStr<'a>>, AllocError>
-    ensures { IfOk result (λ pieces. text_told pieces.items ≡ codes "[\"" ++ (escaped_text text.now ++ codes "\"]")) }
+/// Takes pieces of a text, from the last to the first, and adds them as one text with `\` before each
+/// `"`.
+fn take_all_escaped(made: &mut String, pieces: &mut Vec<CowStr<'_>>) -> Result<(), AllocError>
+    ensures { OnOk result (string_bytes made.new ≡ string_bytes made.old ++ escaped_text (text_told pieces.old.items)) }
 {
-    let mut made = String::with_capacity(alloc, text.len().saturating_add(4))?;
+    while let Some(piece) = pieces.pop() {
+        push_all_escaped(made, piece.as_str())?;
+    }
+    Ok(())
+}
+
+/// A text of pieces in brackets and quotes, as one piece.
+fn in_brackets<'a>(
+    alloc: Global,
+    pieces: Vec<CowStr<'a>>,
+) -> Result<Vec<CowStr<'a>>, AllocError>
+    ensures { IfOk result (λ more. text_told more.items ≡ codes "[\"" ++ (escaped_text (text_told pieces.entry.items) ++ codes "\"]")) }
+{
+    let mut pieces = pieces;
+    let mut made = String::with_capacity(alloc, room_for(&pieces).saturating_add(4))?;
     made.push_str("[\"")?;
-    push_all_escaped(&mut made, text)?;
+    take_all_escaped(&mut made, &mut pieces)?;
     made.push_str("\"]")?;
-    with_piece(Vec::new(alloc), CowStr::Owned(made))
+    pieces.clear();
+    with_piece(pieces, CowStr::Owned(made))
 }
 
 /// The pieces behind the name of a symbol that say what a symbol in it is called.
@@ -110,8 +130,7 @@ fn behind<'a>(
     if is_class(symbol) {
         return with_piece(inner.pieces, CowStr::Borrowed(".prototype."));
     }
-    let text = text_of(alloc, inner.pieces)?;
-    in_brackets(alloc, text.as_str())
+    in_brackets(alloc, inner.pieces)
 }
 
 /// What a path that begins one symbol higher is called; nothing where that is empty.
