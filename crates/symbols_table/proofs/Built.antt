@@ -22,7 +22,7 @@ use Rattle.symbols_table.specs.DeclViews.{Declaration, definition_at}
 use Rattle.symbols_table.specs.Changes.{Change, makes, declares, parents_after, exports_after, mapped_after, stars_after}
 use Rattle.symbols_table.specs.Events.{Event, Row, begins, default, row_of, default_row, changes_of, symbol_at, rows_after, changes_by}
 use Rattle.symbols_table.specs.JsonEvents.{json_decl}
-use Rattle.symbols_table.specs.Walks.{range_in}
+use Rattle.symbols_table.specs.PlacedEvents.{range_in}
 use Rattle.symbols_table.specs.TreeEvents.{items_at, module_scope, root_of, root_decl}
 use Rattle.symbols_table.specs.Symbols.{parent_in}
 use Rattle.symbols_table.specs.inner.Symbols.{IsSymbolOf}

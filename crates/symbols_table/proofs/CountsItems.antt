@@ -17,11 +17,11 @@ use Rattle.symbols_nodes.specs.Expando.{Expando, expando_in}
 use Rattle.symbols_nodes.specs.NodeViews.{exported_ts_module}
 use Rattle.symbols_table.specs.declared.builder.scope.Scope.{Scope}
 use Rattle.symbols_table.specs.DeclViews.{DeclKind, definition_at, declaration_at, file_ref, all_names}
-use Rattle.symbols_table.specs.Walks.{Walk, walk_if_there, walk_of_each, range_in, sym_in}
+use Rattle.symbols_table.specs.PlacedEvents.{PlacedEvents, events_if_there, events_of_each, range_in, sym_in}
 use Rattle.symbols_table.specs.MemberEvents.{member_at, member_nodes}
 use Rattle.symbols_table.specs.DeclarationEvents.{declaration_form, whole_range, is_exported, declaring_events, own_name, declaration_events}
 use Rattle.symbols_table.specs.ModuleEvents.{import_name, importing_events, import_events, import_at, named_export, orig_name, orig_kind, specifier_events, export_events, export_at, binds_if, default_decl_events, default_at, default_expr, assignment_events, alias_kind, alias_events, import_equals_events, expando_events, module_events}
-use Rattle.symbols_table.specs.TreeEvents.{Namespace, plain_namespace, exported_namespace, namespace_of, declares_items, inner_scope, Block, part_events, body_events, body_within, body_at, namespace_events, exported_events, plain_item_events, item_or, item_events, item_within, block_within, module_scope, tree_events}
+use Rattle.symbols_table.specs.TreeEvents.{Namespace, namespace_at, exported_namespace, namespace_of, declares_items, inner_scope, Block, part_events, body_events, body_within, body_at, namespace_events, exported_events, other_item_events, item_or, item_events, item_within, block_within, module_scope, tree_events}
 use Rattle.symbols_table.proofs.CountsWeights.{weights, weights-append}
 use Rattle.symbols_table.proofs.CountsFields.{body_weighs, body_node_weighs, decl_weighs}
 use Rattle.symbols_table.proofs.CountsEvents.{count, count-append}
@@ -30,13 +30,13 @@ use Rattle.symbols_table.proofs.CountsParts.{IsLight, light_up, light_none, ligh
 -- ---- one event at most
 
 light_import : (src : List ℕ) (node : TreeNode) (kind : Kind) → IsLight (import_events src node kind) 1
-light_import src node kind = light_on (sym_in local_of node) (λ (id : Id). walk_if_there (import_name id kind) (importing_events src node id)) 1 (λ id at. light_on (import_name id kind) (importing_events src node id) 1 (λ name is holder start. omega arith))
+light_import src node kind = light_on (sym_in local_of node) (λ (id : Id). events_if_there (import_name id kind) (importing_events src node id)) 1 (λ id at. light_on (import_name id kind) (importing_events src node id) 1 (λ name is holder start. omega arith))
 
 light_specifier : (src : Option (List ℕ)) (node : TreeNode) (exported : Option (List ℕ)) (orig : Kind) → IsLight (specifier_events src node exported orig) 1
 light_specifier src node exported orig =
-    light_on (orig_name orig) (λ (name : List ℕ). walk_if_there (orig_kind src orig name) (export_as name)) 1 (λ name at. light_on (orig_kind src orig name) (export_as name) 1 (λ kind is holder start. omega arith))
+    light_on (orig_name orig) (λ (name : List ℕ). events_if_there (orig_kind src orig name) (export_as name)) 1 (λ name at. light_on (orig_kind src orig name) (export_as name) 1 (λ kind is holder start. omega arith))
   where
-    export_as : List ℕ → DeclKind → Walk
+    export_as : List ℕ → DeclKind → PlacedEvents
     export_as name kind = named_export (unwrap_or exported name) (declaration_at kind (range_in node))
 
 light_exported : (src : Option (List ℕ)) (node : TreeNode) (kind : Kind) → IsLight (export_events src node kind) 1
@@ -52,7 +52,7 @@ light_assignment expr _ = light_none 1
 
 light_import_equals : (node : TreeNode) (is_export : Bool) (entity : Option ℕ) (external : Option (String Global)) → IsLight (import_equals_events node is_export entity external) 1
 light_import_equals node is_export entity external =
-    light_on (sym_in id_of node) (λ (id : Id). walk_if_there (alias_kind node entity external) (alias_events node is_export id)) 1 (λ id at. light_on (alias_kind node entity external) (alias_events node is_export id) 1 (λ kind is holder start.
+    light_on (sym_in id_of node) (λ (id : Id). events_if_there (alias_kind node entity external) (alias_events node is_export id)) 1 (λ id at. light_on (alias_kind node entity external) (alias_events node is_export id) 1 (λ kind is holder start.
     omega (arith, light_export is_export holder (string_bytes id.name) start)))
 
 light_expando : (node : TreeNode) → IsLight (expando_events node) 1
@@ -69,19 +69,19 @@ module _ (tree : Tree) (w : ℕ → ℕ) (weighs : (n : ℕ) (kind : Kind) → k
   light_export_at : (src : Option (List ℕ)) (n : ℕ) → IsLight (export_at src tree n) (w n)
   light_export_at src n = light_kind tree n (export_events src) (w n) (λ kind is. light_up (export_events src (node_at tree n) kind) 1 (w n) (omega (arith, weighs n kind is)) (light_exported src (node_at tree n) kind))
 
-  light_members_of : (c : ℕ) → IsLight (walk_of_each (member_at tree) (member_nodes (node_at tree c))) (w c)
+  light_members_of : (c : ℕ) → IsLight (events_of_each (member_at tree) (member_nodes (node_at tree c))) (w c)
   light_members_of c = by (kinds tree c) refl
     where
-      by : (o : Option Kind) → kinds tree c ≡ o → IsLight (walk_of_each (member_at tree) (member_nodes (node_at tree c))) (w c)
+      by : (o : Option Kind) → kinds tree c ≡ o → IsLight (events_of_each (member_at tree) (member_nodes (node_at tree c))) (w c)
       by None is = rw is (light_none (w c))
-      by (Some kind) is = light_up (walk_of_each (member_at tree) (member_nodes (node_at tree c))) (weights w (child_numbers kind)) (w c) (omega (arith, weighs c kind is)) (light_members tree w weighs c kind is)
+      by (Some kind) is = light_up (events_of_each (member_at tree) (member_nodes (node_at tree c))) (weights w (child_numbers kind)) (w c) (omega (arith, weighs c kind is)) (light_members tree w weighs c kind is)
 
   -- a default declaration, with its members
   light_default : (node : TreeNode) (c : ℕ) → IsLight (default_decl_events node (node_at tree c)) (suc (w c))
   light_default node c = λ holder start.
       let bound = binds_if (own_name (node_at tree c)) start in
       let after = start + 1 + length bound in
-      omega (arith, light_members_of c start after, count_binds (own_name (node_at tree c)) start, count-append bound (walk_of_each (member_at tree) (member_nodes (node_at tree c)) start after))
+      omega (arith, light_members_of c start after, count_binds (own_name (node_at tree c)) start, count-append bound (events_of_each (member_at tree) (member_nodes (node_at tree c)) start after))
 
   light_module : (n : ℕ) (kind : Kind) → kinds tree n ≡ Some kind → IsLight (module_events (node_at tree n) kind) (w n)
   light_module n kind is = by kind is (weighs n kind is)
@@ -91,18 +91,18 @@ module _ (tree : Tree) (w : ℕ → ℕ) (weighs : (n : ℕ) (kind : Kind) → k
 
       by : (kind : Kind) → kinds tree n ≡ Some kind → suc (weights w (child_numbers kind)) ≤ w n → IsLight (module_events (node_at tree n) kind) (w n)
       by (Kind.Item (Item.Import specifiers src)) is heavy =
-          light_up (walk_of_each (import_at (string_bytes src) tree) specifiers.items) (weights w specifiers.items) (w n) (omega (arith, heavy, weights-append w specifiers.items [])) (light_each (import_at (string_bytes src) tree) w specifiers.items (light_import_at (string_bytes src)))
+          light_up (events_of_each (import_at (string_bytes src) tree) specifiers.items) (weights w specifiers.items) (w n) (omega (arith, heavy, weights-append w specifiers.items [])) (light_each (import_at (string_bytes src) tree) w specifiers.items (light_import_at (string_bytes src)))
       by (Kind.Item (Item.ExportNamed specifiers src)) is heavy =
           let from = option_map string_bytes src in
-          light_up (walk_of_each (export_at from tree) specifiers.items) (weights w specifiers.items) (w n) (omega (arith, heavy, weights-append w specifiers.items [])) (light_each (export_at from tree) w specifiers.items (light_export_at from))
+          light_up (events_of_each (export_at from tree) specifiers.items) (weights w specifiers.items) (w n) (omega (arith, heavy, weights-append w specifiers.items [])) (light_each (export_at from tree) w specifiers.items (light_export_at from))
       by (Kind.Item (Item.ExportDefaultDecl decl)) is heavy =
           light_field tree n decl_of (default_decl_events (node_at tree n)) (w n) (λ kind c is field.
           light_up (default_decl_events (node_at tree n) (node_at tree c)) (suc (w c)) (w n) (omega (arith, weighs n kind is, rw field at (decl_weighs w kind))) (light_default (node_at tree n) c))
       by (Kind.Item (Item.ExportDefaultExpr expr)) is heavy =
-          light_field tree n expr_of (λ (expr : TreeNode). walk_if_there (kind_of expr) (λ (kind : Kind). default_at (default_expr (node_at tree n) expr kind))) (w n) (λ kind c at field.
+          light_field tree n expr_of (λ (expr : TreeNode). events_if_there (kind_of expr) (λ (kind : Kind). default_at (default_expr (node_at tree n) expr kind))) (w n) (λ kind c at field.
           light_on (kinds tree c) (λ (kind : Kind). default_at (default_expr (node_at tree n) (node_at tree c) kind)) (w n) (λ kind at holder start. omega arith))
       by (Kind.Item (Item.TsExportAssignment expr)) is heavy =
-          light_field tree n expr_of (λ (expr : TreeNode). walk_if_there (kind_of expr) (assignment_events expr)) (w n) (λ kind c at field.
+          light_field tree n expr_of (λ (expr : TreeNode). events_if_there (kind_of expr) (assignment_events expr)) (w n) (λ kind c at field.
           light_on (kinds tree c) (assignment_events (node_at tree c)) (w n) (λ kind at. light_up (assignment_events (node_at tree c) kind) 1 (w n) (omega arith) (light_assignment (node_at tree c) kind)))
       by (Kind.Item (Item.TsImportEqualsDecl is_export id entity external)) is heavy =
           light_up (import_equals_events (node_at tree n) is_export entity external) 1 (w n) (omega arith) (light_import_equals (node_at tree n) is_export entity external)
@@ -111,14 +111,14 @@ module _ (tree : Tree) (w : ℕ → ℕ) (weighs : (n : ℕ) (kind : Kind) → k
       by (Kind.Item (Item.ExportAll _)) is heavy = λ holder start. omega arith
       by _ is heavy = light_none (w n)
 
-  light_exported_item : (scope : Scope) (n : ℕ) → IsLight (walk_if_there (child_of (node_at tree n) decl_of) (exported_events scope (node_at tree n))) (w n)
+  light_exported_item : (scope : Scope) (n : ℕ) → IsLight (events_if_there (child_of (node_at tree n) decl_of) (exported_events scope (node_at tree n))) (w n)
   light_exported_item scope n =
       light_field tree n decl_of (exported_events scope (node_at tree n)) (w n) (λ kind c is field.
       light_on (kinds tree c) (declaration_events scope (Some (node_at tree n)) (node_at tree c)) (w n) (λ inner at.
       light_up (declaration_events scope (Some (node_at tree n)) (node_at tree c) inner) (w c) (w n) (omega (arith, weighs n kind is, rw field at (decl_weighs w kind)))
       (light_declaration tree w weighs scope (Some (node_at tree n)) c inner at)))
 
-  light_plain_item : (scope : Scope) (n : ℕ) (kind : Kind) → kinds tree n ≡ Some kind → IsLight (plain_item_events scope (node_at tree n) kind) (w n)
+  light_plain_item : (scope : Scope) (n : ℕ) (kind : Kind) → kinds tree n ≡ Some kind → IsLight (other_item_events scope (node_at tree n) kind) (w n)
   light_plain_item scope n (Kind.Item (Item.ExportDecl decl)) is = light_exported_item scope n
   light_plain_item scope n (Kind.Item item) is = light_module n (Kind.Item item) is
   light_plain_item scope n kind is = light_declaration tree w weighs scope None n kind is
@@ -132,7 +132,7 @@ module _ (tree : Tree) (w : ℕ → ℕ) (weighs : (n : ℕ) (kind : Kind) → k
     light_body whole ambient (suc levels) n =
         light_kind tree n (body_events (body_within block (node_at tree whole) ambient levels) block (node_at tree whole) ambient) (w n) (λ kind is. by kind (weighs n kind is) (light_body whole ambient levels))
       where
-        inner : ℕ → Walk
+        inner : ℕ → PlacedEvents
         inner = body_within block (node_at tree whole) ambient levels
 
         by : (kind : Kind) → suc (weights w (child_numbers kind)) ≤ w n → ((m : ℕ) → IsLight (inner m) (w m)) → IsLight (body_events inner block (node_at tree whole) ambient (node_at tree n) kind) (w n)
@@ -145,7 +145,7 @@ module _ (tree : Tree) (w : ℕ → ℕ) (weighs : (n : ℕ) (kind : Kind) → k
     light_namespace scope exported n kind is =
         let ambient = scope.ambient || declares_items kind in
         let parts = weights w (child_numbers kind) in
-        let body : Walk = walk_if_there (child_of (node_at tree n) body_node_of) (body_at block (node_at tree n) ambient) in
+        let body : PlacedEvents = events_if_there (child_of (node_at tree n) body_node_of) (body_at block (node_at tree n) ambient) in
         let light_parts : IsLight body parts = light_child tree n kind body_node_of (body_at block (node_at tree n) ambient) parts is (λ c field.
         light_up (body_at block (node_at tree n) ambient (node_at tree c)) (w c) parts (omega (arith, rw field at (body_node_weighs w kind))) (light_body n ambient (length tree.nodes.items) c)) in
         light_on (sym_in id_of (node_at tree n)) _ (w n) (λ (id : Id) at.
@@ -154,23 +154,23 @@ module _ (tree : Tree) (w : ℕ → ℕ) (weighs : (n : ℕ) (kind : Kind) → k
 
     -- ---- items
 
-    abbrev namespace_walk : Scope → Namespace → Walk
-    namespace_walk scope namespace = walk_if_there (kind_of namespace.decl) (namespace_events block scope namespace)
+    abbrev namespace_walk : Scope → Namespace → PlacedEvents
+    namespace_walk scope namespace = events_if_there (kind_of namespace.decl) (namespace_events block scope namespace)
 
     light_found : (scope : Scope) (exported : Option TreeNode) (n : ℕ) → IsLight (namespace_walk scope (record { exported = exported; decl = node_at tree n })) (w n)
     light_found scope exported n =
         light_on (kinds tree n) (namespace_events block scope (record { exported = exported; decl = node_at tree n })) (w n) (λ kind is. light_namespace scope exported n kind is)
 
-    light_plain : (scope : Scope) (exported : Option TreeNode) (n k : ℕ) (kind : Kind) (other : Walk) → w n ≤ k → IsLight other k → IsLight (item_or (plain_namespace exported (node_at tree n) kind) (namespace_walk scope) other) k
+    light_plain : (scope : Scope) (exported : Option TreeNode) (n k : ℕ) (kind : Kind) (other : PlacedEvents) → w n ≤ k → IsLight other k → IsLight (item_or (namespace_at exported (node_at tree n) kind) (namespace_walk scope) other) k
     light_plain scope exported n k (Kind.Decl (Decl.TsModuleDecl _ _ _)) other le rest = light_up (namespace_walk scope (record { exported = exported; decl = node_at tree n })) (w n) k le (light_found scope exported n)
     light_plain scope exported n k _ other le rest = rest
 
-    light_exported_namespace : (scope : Scope) (n : ℕ) (found : Option ℕ) (other : Walk) → weights w (option_to_list found) ≤ w n → IsLight other (w n)
+    light_exported_namespace : (scope : Scope) (n : ℕ) (found : Option ℕ) (other : PlacedEvents) → weights w (option_to_list found) ≤ w n → IsLight other (w n)
         → IsLight (item_or (option_and_then (exported_namespace (node_at tree n)) (node_in tree found)) (namespace_walk scope) other) (w n)
     light_exported_namespace scope n None other le rest = rest
     light_exported_namespace scope n (Some c) other le rest = by (ltb c (length tree.nodes.items))
       where
-        of_kind : (o : Option Kind) → IsLight (item_or (option_and_then (plain_namespace (Some (node_at tree n)) (node_at tree c)) o) (namespace_walk scope) other) (w n)
+        of_kind : (o : Option Kind) → IsLight (item_or (option_and_then (namespace_at (Some (node_at tree n)) (node_at tree c)) o) (namespace_walk scope) other) (w n)
         of_kind None = rest
         of_kind (Some kind) = light_plain scope (Some (node_at tree n)) c (w n) kind other (omega arith) rest
 
@@ -181,10 +181,10 @@ module _ (tree : Tree) (w : ℕ → ℕ) (weighs : (n : ℕ) (kind : Kind) → k
     light_item : (scope : Scope) (n : ℕ) (kind : Kind) → kinds tree n ≡ Some kind → IsLight (item_events block scope (node_at tree n) kind) (w n)
     light_item scope n kind is = by kind is (light_plain_item scope n kind is)
       where
-        by : (kind : Kind) → kinds tree n ≡ Some kind → IsLight (plain_item_events scope (node_at tree n) kind) (w n) → IsLight (item_or (namespace_of (node_at tree n) kind) (namespace_walk scope) (plain_item_events scope (node_at tree n) kind)) (w n)
+        by : (kind : Kind) → kinds tree n ≡ Some kind → IsLight (other_item_events scope (node_at tree n) kind) (w n) → IsLight (item_or (namespace_of (node_at tree n) kind) (namespace_walk scope) (other_item_events scope (node_at tree n) kind)) (w n)
         by (Kind.Item (Item.ExportDecl decl)) is rest =
-            light_exported_namespace scope n (option_and_then decl_of (kinds tree n)) (plain_item_events scope (node_at tree n) (Kind.Item (Item.ExportDecl decl))) (rw is (omega (arith, weighs n (Kind.Item (Item.ExportDecl decl)) is))) rest
-        by kind is rest = light_plain scope None n (w n) kind (plain_item_events scope (node_at tree n) kind) (omega arith) rest
+            light_exported_namespace scope n (option_and_then decl_of (kinds tree n)) (other_item_events scope (node_at tree n) (Kind.Item (Item.ExportDecl decl))) (rw is (omega (arith, weighs n (Kind.Item (Item.ExportDecl decl)) is))) rest
+        by kind is rest = light_plain scope None n (w n) kind (other_item_events scope (node_at tree n) kind) (omega arith) rest
 
   light_items : (levels : ℕ) (scope : Scope) (n : ℕ) → IsLight (item_within tree levels scope n) (w n)
   unfolding item_within
@@ -200,5 +200,5 @@ module _ (tree : Tree) (w : ℕ → ℕ) (weighs : (n : ℕ) (kind : Kind) → k
       levels : ℕ
       levels = length tree.nodes.items
 
-      item : ℕ → Walk
+      item : ℕ → PlacedEvents
       item = item_within tree levels (module_scope tree)

@@ -17,7 +17,7 @@ use Rattle.symbols_syntax.specs.Ids.{IdView, id_view, sym_of}
 use Rattle.symbols_nodes.specs.NodeViews.{NodeView, ExportDeclView}
 use Rattle.symbols_table.specs.declared.builder.scope.Scope.{Scope}
 use Rattle.symbols_table.specs.DeclViews.{Declaration, definition_at}
-use Rattle.symbols_table.specs.Walks.{Walk, empty_walk, walk_if_there, walk_of_each, range_in}
+use Rattle.symbols_table.specs.PlacedEvents.{PlacedEvents, no_placed_events, events_if_there, events_of_each, range_in}
 use Rattle.symbols_table.specs.Patterns.{pattern_leaves, leaves_within, leaves_below, pattern_parts}
 use Rattle.symbols_table.specs.MemberEvents.{members_of_kind, member_nodes, one_member, param_events, param_at, simple_member, member_events, member_at}
 use Rattle.symbols_table.specs.DeclarationEvents.{declaration_form, whole_range, is_exported, variable_form, export_if, adding_events, declaring_events, Variables, binding_events, binding_at, declarator_events, declarator_at, variables_events, named_form, own_name, named_events, declaration_events}
@@ -26,31 +26,31 @@ use Rattle.symbols_table.proofs.CountsFields.{body_weighs, name_weighs, class_we
 use Rattle.symbols_table.proofs.CountsEvents.{count, count-append}
 
 -- at most n events of the walk may declare something
-abbrev pub IsLight : Walk → ℕ → Type 0
+abbrev pub IsLight : PlacedEvents → ℕ → Type 0
 IsLight walk n = (holder start : ℕ) → count (walk holder start) ≤ n
 
-pub light_up : (walk : Walk) (k n : ℕ) → k ≤ n → IsLight walk k → IsLight walk n
+pub light_up : (walk : PlacedEvents) (k n : ℕ) → k ≤ n → IsLight walk k → IsLight walk n
 light_up walk k n le light = λ holder start. omega (arith, le, light holder start)
 
-pub light_none : (n : ℕ) → IsLight empty_walk n
+pub light_none : (n : ℕ) → IsLight no_placed_events n
 light_none n = λ holder start. omega arith
 
-pub light_on : {A : Type 0} (found : Option A) (walk : A → Walk) (n : ℕ) → ((x : A) → found ≡ Some x → IsLight (walk x) n) → IsLight (walk_if_there found walk) n
+pub light_on : {A : Type 0} (found : Option A) (walk : A → PlacedEvents) (n : ℕ) → ((x : A) → found ≡ Some x → IsLight (walk x) n) → IsLight (events_if_there found walk) n
 light_on None walk n light = light_none n
 light_on (Some x) walk n light = light x refl
 
-pub light_each : (walk : ℕ → Walk) (w : ℕ → ℕ) (xs : List ℕ) → ((x : ℕ) → IsLight (walk x) (w x)) → IsLight (walk_of_each walk xs) (weights w xs)
+pub light_each : (walk : ℕ → PlacedEvents) (w : ℕ → ℕ) (xs : List ℕ) → ((x : ℕ) → IsLight (walk x) (w x)) → IsLight (events_of_each walk xs) (weights w xs)
 light_each walk w [] light = light_none 0
 light_each walk w (x ∷ xs) light = λ holder start.
     let after = start + length (walk x holder start) in
-    omega (arith, light x holder start, light_each walk w xs light holder after, count-append (walk x holder start) (walk_of_each walk xs holder after))
+    omega (arith, light x holder start, light_each walk w xs light holder after, count-append (walk x holder start) (events_of_each walk xs holder after))
 
 weights_ones : (xs : List ℕ) → weights (λ _. 1) xs ≡ length xs
 weights_ones [] = refl
 weights_ones (x ∷ xs) = omega (arith, weights_ones xs)
 
-pub light_ones : (walk : ℕ → Walk) (xs : List ℕ) → ((x : ℕ) → IsLight (walk x) 1) → IsLight (walk_of_each walk xs) (length xs)
-light_ones walk xs light = light_up (walk_of_each walk xs) (weights (λ _. 1) xs) (length xs) (omega (arith, weights_ones xs)) (light_each walk (λ _. 1) xs light)
+pub light_ones : (walk : ℕ → PlacedEvents) (xs : List ℕ) → ((x : ℕ) → IsLight (walk x) 1) → IsLight (events_of_each walk xs) (length xs)
+light_ones walk xs light = light_up (events_of_each walk xs) (weights (λ _. 1) xs) (length xs) (omega (arith, weights_ones xs)) (light_each walk (λ _. 1) xs light)
 
 -- ---- nodes of a tree
 
@@ -60,26 +60,26 @@ node_at tree n = record { tree = tree; number = n }
 abbrev pub kinds : Tree → ℕ → Option Kind
 kinds tree n = kind_at tree.nodes.items n
 
-pub light_node : (tree : Tree) (found : Option ℕ) (walk : TreeNode → Walk) (k : ℕ) → ((n : ℕ) → found ≡ Some n → IsLight (walk (node_at tree n)) k) → IsLight (walk_if_there (node_in tree found) walk) k
+pub light_node : (tree : Tree) (found : Option ℕ) (walk : TreeNode → PlacedEvents) (k : ℕ) → ((n : ℕ) → found ≡ Some n → IsLight (walk (node_at tree n)) k) → IsLight (events_if_there (node_in tree found) walk) k
 light_node tree None walk k light = light_none k
 light_node tree (Some n) walk k light = by (ltb n (length tree.nodes.items))
   where
-    by : (b : Bool) → IsLight (walk_if_there (cond b (Some (node_at tree n)) None) walk) k
+    by : (b : Bool) → IsLight (events_if_there (cond b (Some (node_at tree n)) None) walk) k
     by true = light n refl
     by false = light_none k
 
-pub light_kind : (tree : Tree) (n : ℕ) (walk : TreeNode → Kind → Walk) (k : ℕ) → ((kind : Kind) → kinds tree n ≡ Some kind → IsLight (walk (node_at tree n) kind) k) → IsLight (walk_if_there (node_in tree (Some n)) (λ (node : TreeNode). walk_if_there (kind_of node) (walk node))) k
+pub light_kind : (tree : Tree) (n : ℕ) (walk : TreeNode → Kind → PlacedEvents) (k : ℕ) → ((kind : Kind) → kinds tree n ≡ Some kind → IsLight (walk (node_at tree n) kind) k) → IsLight (events_if_there (node_in tree (Some n)) (λ (node : TreeNode). events_if_there (kind_of node) (walk node))) k
 light_kind tree n walk k light =
-    light_node tree (Some n) (λ (node : TreeNode). walk_if_there (kind_of node) (walk node)) k (λ m is. rw (← same_Some n m is) (light_on (kinds tree n) (walk (node_at tree n)) k light))
+    light_node tree (Some n) (λ (node : TreeNode). events_if_there (kind_of node) (walk node)) k (λ m is. rw (← same_Some n m is) (light_on (kinds tree n) (walk (node_at tree n)) k light))
 
-pub light_child : (tree : Tree) (n : ℕ) (kind : Kind) (field : Kind → Option ℕ) (walk : TreeNode → Walk) (k : ℕ) → kinds tree n ≡ Some kind → ((c : ℕ) → field kind ≡ Some c → IsLight (walk (node_at tree c)) k) → IsLight (walk_if_there (child_of (node_at tree n) field) walk) k
+pub light_child : (tree : Tree) (n : ℕ) (kind : Kind) (field : Kind → Option ℕ) (walk : TreeNode → PlacedEvents) (k : ℕ) → kinds tree n ≡ Some kind → ((c : ℕ) → field kind ≡ Some c → IsLight (walk (node_at tree c)) k) → IsLight (events_if_there (child_of (node_at tree n) field) walk) k
 light_child tree n kind field walk k is light = rw is (light_node tree (field kind) walk k light)
 
 and_then_is : (field : Kind → Option ℕ) (o : Option Kind) (c : ℕ) → option_and_then field o ≡ Some c → (kind : Kind) × (o ≡ Some kind) × (field kind ≡ Some c)
 and_then_is field None c is = absurd (none-some c is)
 and_then_is field (Some kind) c is = (kind, refl, is)
 
-pub light_field : (tree : Tree) (n : ℕ) (field : Kind → Option ℕ) (walk : TreeNode → Walk) (k : ℕ) → ((kind : Kind) (c : ℕ) → kinds tree n ≡ Some kind → field kind ≡ Some c → IsLight (walk (node_at tree c)) k) → IsLight (walk_if_there (child_of (node_at tree n) field) walk) k
+pub light_field : (tree : Tree) (n : ℕ) (field : Kind → Option ℕ) (walk : TreeNode → PlacedEvents) (k : ℕ) → ((kind : Kind) (c : ℕ) → kinds tree n ≡ Some kind → field kind ≡ Some c → IsLight (walk (node_at tree c)) k) → IsLight (events_if_there (child_of (node_at tree n) field) walk) k
 light_field tree n field walk k light =
     light_node tree (option_and_then field (kinds tree n)) walk k (λ c at. let found = and_then_is field (kinds tree n) c at in light found.0 c found.1 found.2)
 
@@ -89,7 +89,7 @@ pub light_export : (test : Bool) (holder : ℕ) (name : List ℕ) (of : ℕ) →
 light_export true holder name of = refl
 light_export false holder name of = refl
 
-pub light_declared : (test : Bool) (id : IdView) (decl : Declaration) (inner : Walk) (k : ℕ) → IsLight inner k → IsLight (declaring_events test id decl inner) (suc k)
+pub light_declared : (test : Bool) (id : IdView) (decl : Declaration) (inner : PlacedEvents) (k : ℕ) → IsLight inner k → IsLight (declaring_events test id decl inner) (suc k)
 light_declared test id decl inner k light = λ holder start.
     omega (arith, light start (start + 1), light_export test holder id.name start, count-append (inner start (start + 1)) (adding_events test holder id.name start))
 
@@ -135,9 +135,9 @@ module _ (tree : Tree) (w : ℕ → ℕ) (weighs : (n : ℕ) (kind : Kind) → k
       by kind is = rw is (omega (arith, class_weighs w kind, body_of_child (class_of kind)))
 
   -- the members of a class or an interface, with one event for itself
-  pub light_members : (n : ℕ) (kind : Kind) → kinds tree n ≡ Some kind → IsLight (walk_of_each (member_at tree) (member_nodes (node_at tree n))) (weights w (child_numbers kind))
+  pub light_members : (n : ℕ) (kind : Kind) → kinds tree n ≡ Some kind → IsLight (events_of_each (member_at tree) (member_nodes (node_at tree n))) (weights w (child_numbers kind))
   light_members n kind is =
-      light_up (walk_of_each (member_at tree) (member_nodes (node_at tree n))) (weights w (member_nodes (node_at tree n))) (weights w (child_numbers kind)) (members_weigh n kind is) (light_each (member_at tree) w (member_nodes (node_at tree n)) light_member)
+      light_up (events_of_each (member_at tree) (member_nodes (node_at tree n))) (weights w (member_nodes (node_at tree n))) (weights w (child_numbers kind)) (members_weigh n kind is) (light_each (member_at tree) w (member_nodes (node_at tree n)) light_member)
 
   -- ---- variables
 
@@ -165,7 +165,7 @@ module _ (tree : Tree) (w : ℕ → ℕ) (weighs : (n : ℕ) (kind : Kind) → k
     light_binding : (declarator : TreeNode) (n : ℕ) → IsLight (binding_at variables declarator n) 1
     light_binding declarator n =
         light_node tree (Some n) (binding_events variables declarator) 1 (λ c is. light_on (option_and_then sym_of (kinds tree c)) _ 1 (λ (id : Id) at.
-        light_declared (is_exported scope exported) (id_view id) (definition_at (variable_form exported is_using (node_at tree m) declarator (node_at tree c)) (range_in declarator)) empty_walk 0 (light_none 0)))
+        light_declared (is_exported scope exported) (id_view id) (definition_at (variable_form exported is_using (node_at tree m) declarator (node_at tree c)) (range_in declarator)) no_placed_events 0 (light_none 0)))
 
     light_declarator : (n : ℕ) → IsLight (declarator_at variables n) (w n)
     light_declarator n = light_node tree (Some n) (declarator_events variables) (w n) (λ c here. rw (← same_Some n c here) (light_field tree n name_of (bindings n) (w n) (λ kind p is field.
@@ -173,8 +173,8 @@ module _ (tree : Tree) (w : ℕ → ℕ) (weighs : (n : ℕ) (kind : Kind) → k
         let name : w p ≤ weights w (child_numbers kind) = omega (arith, rw field at (name_weighs w kind)) in
         light_up (bindings n (node_at tree p)) (length leaves) (w n) (omega (arith, name, weighs n kind is, leaves_weigh (length tree.nodes.items) p)) (light_ones (binding_at variables (node_at tree n)) leaves (light_binding (node_at tree n))))))
       where
-        bindings : ℕ → TreeNode → Walk
-        bindings n pattern = walk_of_each (binding_at variables (node_at tree n)) (pattern_leaves tree pattern.number)
+        bindings : ℕ → TreeNode → PlacedEvents
+        bindings n pattern = events_of_each (binding_at variables (node_at tree n)) (pattern_leaves tree pattern.number)
 
     light_variables : (kind : Kind) → kinds tree m ≡ Some kind → IsLight (variables_events variables) (weights w (decls_of kind))
     light_variables kind is = rw is (light_each (declarator_at variables) w (decls_of kind) light_declarator)
@@ -185,10 +185,10 @@ module _ (tree : Tree) (w : ℕ → ℕ) (weighs : (n : ℕ) (kind : Kind) → k
   light_named scope exported n kind form is = light_on (own_name (node_at tree n)) walk (w n) (λ id at. light_up (walk id) (suc (weights w (child_numbers kind))) (w n) (weighs n kind is)
       (light_declared (is_exported scope exported) (id_view id) (definition_at (declaration_form exported form) (whole_range exported (node_at tree n))) members (weights w (child_numbers kind)) (light_members n kind is)))
     where
-      members : Walk
-      members = walk_of_each (member_at tree) (member_nodes (node_at tree n))
+      members : PlacedEvents
+      members = events_of_each (member_at tree) (member_nodes (node_at tree n))
 
-      walk : Id → Walk
+      walk : Id → PlacedEvents
       walk id = declaring_events (is_exported scope exported) (id_view id) (definition_at (declaration_form exported form) (whole_range exported (node_at tree n))) members
 
   pub light_declaration : (scope : Scope) (exported : Option TreeNode) (n : ℕ) (kind : Kind) → kinds tree n ≡ Some kind → IsLight (declaration_events scope exported (node_at tree n) kind) (w n)

@@ -9,8 +9,8 @@ use Rattle.symbols_table.specs.declared.builder.table.BuildFault.{BuildFault}
 use Rattle.symbols_table.specs.Changes.{parents_after}
 use Rattle.symbols_table.specs.DeclViews.{Declaration}
 use Rattle.symbols_table.specs.Events.{Event, Row, member, member_row, declare, declare_row, row_of, changes_of, symbol_at, rows_after}
-use Rattle.symbols_table.specs.Walks.{Walk}
-use Rattle.symbols_table.specs.inner.Tables.{IsTableOf, ReadsAll, ReadsWalk}
+use Rattle.symbols_table.specs.PlacedEvents.{PlacedEvents}
+use Rattle.symbols_table.specs.inner.Tables.{IsTableOf, ReadsAll, ReadsPlaced}
 use Rattle.symbols_table.proofs.Rows.{rows_after-step, rows_after-nil, rows_after-append, symbol_at-push, symbol_at_kept, symbol_at_after, parents_after_grow}
 use Rattle.symbols_table.proofs.Walks.{one_read, reads_from}
 
@@ -20,8 +20,8 @@ module _ (rows : List Row) (event : Event) (row : Row) (reads : row_of (changes_
   event_read new is = rw (rows_after-step rows event [] row reads, rows_after-nil (rows ++ row ∷ [])) (one_read new rows row is)
 
   -- one event, and then a call for others under the same holder
-  pub event_then : {A : Type 0} (r : Result A BuildFault) (limit : ℕ) (now new : Builder) (walk : Walk) (holder : SymbolId) (h start : ℕ) → now.setting.limit ≡ limit → start ≡ length rows + 1
-      → IsTableOf now (changes_of rows ++ row.changes) → symbol_at rows h ≡ Some holder → ReadsWalk r now new walk holder → ReadsAll r limit new (rows_after rows (event ∷ walk h start))
+  pub event_then : {A : Type 0} (r : Result A BuildFault) (limit : ℕ) (now new : Builder) (walk : PlacedEvents) (holder : SymbolId) (h start : ℕ) → now.setting.limit ≡ limit → start ≡ length rows + 1
+      → IsTableOf now (changes_of rows ++ row.changes) → symbol_at rows h ≡ Some holder → ReadsPlaced r now new walk holder → ReadsAll r limit new (rows_after rows (event ∷ walk h start))
   event_then r limit now new walk holder h start same from is at next =
       let len : length (rows ++ row ∷ []) ≡ start = length_push rows row ∙ sym from in
       let read : ReadsAll r now.setting.limit new (rows_after (rows ++ row ∷ []) (walk h (length (rows ++ row ∷ [])))) = next (rows ++ row ∷ []) h (one_read now rows row is) (symbol_at_kept rows row h holder at) in
@@ -31,14 +31,14 @@ module _ (rows : List Row) (event : Event) (row : Row) (reads : row_of (changes_
   pub around_rows : (inner rest : List Event) → rows_after rows (event ∷ (inner ++ rest)) ≡ rows_after (rows_after (rows ++ row ∷ []) inner) rest
   around_rows inner rest = rows_after-step rows event (inner ++ rest) row reads ∙ rows_after-append (rows ++ row ∷ []) inner rest
 
-  pub inner_read : {A : Type 0} (r : Result A BuildFault) (now new : Builder) (walk : Walk) (s : SymbolId) → IsTableOf now (changes_of rows ++ row.changes) → row.symbol ≡ Some s → ReadsWalk r now new walk s
+  pub inner_read : {A : Type 0} (r : Result A BuildFault) (now new : Builder) (walk : PlacedEvents) (s : SymbolId) → IsTableOf now (changes_of rows ++ row.changes) → row.symbol ≡ Some s → ReadsPlaced r now new walk s
       → ReadsAll r now.setting.limit new (rows_after (rows ++ row ∷ []) (walk (length rows) (length rows + 1)))
   inner_read r now new walk s is of next =
       let P : ℕ → Type 0 = λ n. ReadsAll r now.setting.limit new (rows_after (rows ++ row ∷ []) (walk (length rows) n)) in
       subst P (length_push rows row) (next (rows ++ row ∷ []) (length rows) (one_read now rows row is) (symbol_at-push rows row ∙ of))
 
-  pub inner_fault : (A : Type 0) {B : Type 0} (r : Result B BuildFault) (limit : ℕ) (now next new : Builder) (walk : Walk) (s : SymbolId) (rest : List Event) (fault : BuildFault) → now.setting.limit ≡ limit
-      → IsTableOf now (changes_of rows ++ row.changes) → row.symbol ≡ Some s → IsErrAnd r (λ e. e ≡ fault) → ReadsWalk {A = A} (Err fault) now next walk s
+  pub inner_fault : (A : Type 0) {B : Type 0} (r : Result B BuildFault) (limit : ℕ) (now next new : Builder) (walk : PlacedEvents) (s : SymbolId) (rest : List Event) (fault : BuildFault) → now.setting.limit ≡ limit
+      → IsTableOf now (changes_of rows ++ row.changes) → row.symbol ≡ Some s → IsErrAnd r (λ e. e ≡ fault) → ReadsPlaced {A = A} (Err fault) now next walk s
       → ReadsAll r limit new (rows_after rows (event ∷ (walk (length rows) (length rows + 1) ++ rest)))
   inner_fault A {B} (Ok x) limit now next new walk s rest fault same is of h reads_inner = absurd h
   inner_fault A {B} (Err e) limit now next new walk s rest fault same is of h reads_inner = λ many.

@@ -26,11 +26,11 @@ use Rattle.symbols_table.specs.declared.builder.table.BuildFault.TheVariants.{To
 use Rattle.symbols_table.specs.DeclViews.{Declaration, definition_at}
 use Rattle.symbols_table.specs.Changes.{Change, exports, has_child, parents_after}
 use Rattle.symbols_table.specs.Events.{Event, Row, row_of_changes, declare, export, child, declare_row, row_of, changes_of, symbol_at, rows_after}
-use Rattle.symbols_table.specs.Walks.{Walk, empty_walk, walk_if_there, range_in, sym_in}
+use Rattle.symbols_table.specs.PlacedEvents.{PlacedEvents, no_placed_events, events_if_there, range_in, sym_in}
 use Rattle.symbols_table.specs.DeclarationEvents.{declaration_form, whole_range, is_exported, adding_events, declaring_events}
-use Rattle.symbols_table.specs.TreeEvents.{declares_items, body_at, Namespace, plain_namespace, exported_namespace, namespace_of, Block, part_events, body_events, body_within, namespace_events, plain_item_events, item_or, item_events, item_within, block_within, part_first}
+use Rattle.symbols_table.specs.TreeEvents.{declares_items, body_at, Namespace, namespace_at, exported_namespace, namespace_of, Block, part_events, body_events, body_within, namespace_events, other_item_events, item_or, item_events, item_within, block_within, part_first}
 use Rattle.symbols_table.specs.inner.Levels.{AreAbove, ReadsPart}
-use Rattle.symbols_table.specs.inner.Tables.{IsTableOf, ReadsAll, ReadsWalk}
+use Rattle.symbols_table.specs.inner.Tables.{IsTableOf, ReadsAll, ReadsPlaced}
 use Rattle.symbols_table.proofs.Rows.{rows_after-step, rows_after-nil, rows_after-append, length-rows_after, symbol_at_kept, symbol_at-push, symbol_at_after, parents_after_grow}
 use Rattle.symbols_table.proofs.Walks.{one_read, none_read, reads_from, err_all, on_none, on_some, on_reads, read_as}
 use Rattle.symbols_table.proofs.PatternLemmas.{IsFound, is_found, is_above}
@@ -81,7 +81,7 @@ part_fault (Err e) whole node id decl rows h holder limit new fault is at same r
     subst (λ (d : Declaration). e ≡ TooManySymbols → limit < length (parents_after (changes_of (rows_after rows (part_declares id d h (length rows)))))) is all
 
 -- the same of a call that goes on in the part
-pub later_read : {A : Type 0} (r : Result A BuildFault) (whole node : TreeNode) (id : Id) (inner : Walk) (rows : List Row) (h : ℕ) (s : SymbolId) (limit : ℕ) (b1 b2 : Builder) → b1.setting.limit ≡ limit → IsPartRead b1 s rows (part_first whole node id h (length rows)) → ReadsWalk r b1 b2 inner s
+pub later_read : {A : Type 0} (r : Result A BuildFault) (whole node : TreeNode) (id : Id) (inner : PlacedEvents) (rows : List Row) (h : ℕ) (s : SymbolId) (limit : ℕ) (b1 b2 : Builder) → b1.setting.limit ≡ limit → IsPartRead b1 s rows (part_first whole node id h (length rows)) → ReadsPlaced r b1 b2 inner s
     → ReadsAll r limit b2 (rows_after rows (part_events whole node inner id h (length rows)))
 later_read r whole node id inner rows h s limit b1 b2 same read reads =
     let first = part_first whole node id h (length rows) in
@@ -90,7 +90,7 @@ later_read r whole node id inner rows h s limit b1 b2 same read reads =
     let all : rows_after rows (first ++ inner (length rows) (length rows + 3)) ≡ rows_after rows1 (inner (length rows) (length rows1)) = rw count (rows_after-append rows first (inner (length rows) (length rows + 3))) in
     reads_from r limit b1.setting.limit b2 (rows_after rows (part_events whole node inner id h (length rows))) (rows_after rows1 (inner (length rows) (length rows1))) same all (reads rows1 (length rows) read.0 read.1)
 
-pub later_fault : {A : Type 0} (r : Result A BuildFault) (whole node : TreeNode) (id : Id) (inner : Walk) (rows : List Row) (h : ℕ) (limit : ℕ) (new : Builder) (fault : BuildFault) → IsErrAnd r (λ e. e ≡ fault)
+pub later_fault : {A : Type 0} (r : Result A BuildFault) (whole node : TreeNode) (id : Id) (inner : PlacedEvents) (rows : List Row) (h : ℕ) (limit : ℕ) (new : Builder) (fault : BuildFault) → IsErrAnd r (λ e. e ≡ fault)
     → (fault ≡ TooManySymbols → limit < length (parents_after (changes_of (rows_after rows (part_first whole node id h (length rows)))))) → ReadsAll r limit new (rows_after rows (part_events whole node inner id h (length rows)))
 later_fault (Ok x) whole node id inner rows h limit new fault same read = absurd same
 later_fault (Err e) whole node id inner rows h limit new fault same read = λ many.
@@ -106,7 +106,7 @@ later_fault (Err e) whole node id inner rows h limit new fault same read = λ ma
 abbrev declared_rows : List Row → SymbolId → IdView → Declaration → List Row
 declared_rows rows holder id decl = rows ++ declare_row (changes_of rows) holder id decl ∷ []
 
-declared_split : (test : Bool) (id : IdView) (decl : Declaration) (inner : Walk) (rows : List Row) (h : ℕ) (holder : SymbolId) → symbol_at rows h ≡ Some holder → rows_after rows (declaring_events test id decl inner h (length rows))
+declared_split : (test : Bool) (id : IdView) (decl : Declaration) (inner : PlacedEvents) (rows : List Row) (h : ℕ) (holder : SymbolId) → symbol_at rows h ≡ Some holder → rows_after rows (declaring_events test id decl inner h (length rows))
     ≡ rows_after (rows_after (declared_rows rows holder id decl) (inner (length rows) (length (declared_rows rows holder id decl)))) (adding_events test h id.name (length rows))
 declared_split test id decl inner rows h holder at =
     let row = declare_row (changes_of rows) holder id decl in
@@ -116,15 +116,15 @@ declared_split test id decl inner rows h holder at =
     ∙ ap (λ (start : ℕ). rows_after (rows_after (rows ++ row ∷ []) (inner (length rows) start)) (adding_events test h id.name (length rows))) (sym (length_push rows row))
 
 -- a fault at its first event
-pub declared_fault : {A : Type 0} (r : Result A BuildFault) (test : Bool) (id : IdView) (decl : Declaration) (inner : Walk) (rows : List Row) (h : ℕ) (holder : SymbolId) (limit : ℕ) (new : Builder) (fault : BuildFault) → symbol_at rows h ≡ Some holder → IsErrAnd r (λ e. e ≡ fault)
+pub declared_fault : {A : Type 0} (r : Result A BuildFault) (test : Bool) (id : IdView) (decl : Declaration) (inner : PlacedEvents) (rows : List Row) (h : ℕ) (holder : SymbolId) (limit : ℕ) (new : Builder) (fault : BuildFault) → symbol_at rows h ≡ Some holder → IsErrAnd r (λ e. e ≡ fault)
     → (fault ≡ TooManySymbols → limit < length (parents_after (changes_of rows ++ (declare_row (changes_of rows) holder id decl).changes))) → ReadsAll r limit new (rows_after rows (declaring_events test id decl inner h (length rows)))
 declared_fault r test id decl inner rows h holder limit new fault at same read =
     let first : row_of (changes_of rows) (symbol_at rows) (declare h id decl) ≡ declare_row (changes_of rows) holder id decl = rw at refl in
     err_all r limit new rows (declare h id decl) (declare_row (changes_of rows) holder id decl) (inner (length rows) (length rows + 1) ++ adding_events test h id.name (length rows)) fault first same read
 
 -- a fault under it
-pub declared_inner_fault : (A : Type 0) {B : Type 0} (r : Result B BuildFault) (test : Bool) (id : IdView) (decl : Declaration) (inner : Walk) (rows : List Row) (h : ℕ) (holder s : SymbolId) (limit : ℕ) (b1 b2 new : Builder) (fault : BuildFault) → b1.setting.limit ≡ limit → symbol_at rows h ≡ Some holder
-    → ((declare_row (changes_of rows) holder id decl).symbol ≡ Some s) × IsTableOf b1 (changes_of rows ++ (declare_row (changes_of rows) holder id decl).changes) → IsErrAnd r (λ e. e ≡ fault) → ReadsWalk {A = A} (Err fault) b1 b2 inner s
+pub declared_inner_fault : (A : Type 0) {B : Type 0} (r : Result B BuildFault) (test : Bool) (id : IdView) (decl : Declaration) (inner : PlacedEvents) (rows : List Row) (h : ℕ) (holder s : SymbolId) (limit : ℕ) (b1 b2 new : Builder) (fault : BuildFault) → b1.setting.limit ≡ limit → symbol_at rows h ≡ Some holder
+    → ((declare_row (changes_of rows) holder id decl).symbol ≡ Some s) × IsTableOf b1 (changes_of rows ++ (declare_row (changes_of rows) holder id decl).changes) → IsErrAnd r (λ e. e ≡ fault) → ReadsPlaced {A = A} (Err fault) b1 b2 inner s
     → ReadsAll r limit new (rows_after rows (declaring_events test id decl inner h (length rows)))
 declared_inner_fault A (Ok x) test id decl inner rows h holder s limit b1 b2 new fault setting at read same reads = absurd same
 declared_inner_fault A (Err e) test id decl inner rows h holder s limit b1 b2 new fault setting at read same reads = λ many.
@@ -136,7 +136,7 @@ declared_inner_fault A (Err e) test id decl inner rows h holder s limit b1 b2 ne
     rw (declared_split test id decl inner rows h holder at) (omega (arith, here, setting, parents_after_grow under (adding_events test h id.name (length rows))))
 
 -- it is read, and then added to its holder
-pub declared_read : {A : Type 0} (r : Result A BuildFault) (test : Bool) (id : IdView) (decl : Declaration) (inner : Walk) (rows : List Row) (h : ℕ) (holder s : SymbolId) (limit : ℕ) (b1 b2 b3 : Builder) → b2.setting.limit ≡ limit → symbol_at rows h ≡ Some holder
+pub declared_read : {A : Type 0} (r : Result A BuildFault) (test : Bool) (id : IdView) (decl : Declaration) (inner : PlacedEvents) (rows : List Row) (h : ℕ) (holder s : SymbolId) (limit : ℕ) (b1 b2 b3 : Builder) → b2.setting.limit ≡ limit → symbol_at rows h ≡ Some holder
     → ((declare_row (changes_of rows) holder id decl).symbol ≡ Some s) × IsTableOf b1 (changes_of rows ++ (declare_row (changes_of rows) holder id decl).changes)
     → ((rs : List Row) (h' : ℕ) → IsTableOf b1 (changes_of rs) → symbol_at rs h' ≡ Some s → IsTableOf b2 (changes_of (rows_after rs (inner h' (length rs)))))
     → ((rs : List Row) (h' s' : ℕ) → IsTableOf b2 (changes_of rs) → symbol_at rs h' ≡ Some holder → symbol_at rs s' ≡ Some s → ReadsAll r b2.setting.limit b3 (rows_after rs (adding_events test h' id.name s')))
@@ -241,55 +241,55 @@ list_above node formed inside = of_kind (kind_of node) refl
 
 -- ---- bodies and items, a level down
 
-pub none_reads : {A : Type 0} (x : A) (b : Builder) (holder : SymbolId) → ReadsWalk (Ok x) b b empty_walk holder
+pub none_reads : {A : Type 0} (x : A) (b : Builder) (holder : SymbolId) → ReadsPlaced (Ok x) b b no_placed_events holder
 none_reads x b holder rows h is at = none_read b rows is
 
 pub body_reads : {A : Type 0} (r : Result A BuildFault) (old new : Builder) (holder : SymbolId) (block : Block) (whole : TreeNode) (ambient : Bool) (parts n : ℕ) (node : TreeNode) (kind : Kind) → IsFound whole.tree n node → kind_of node ≡ Some kind → length whole.tree.nodes.items ≤ n + parts
-    → ((left : ℕ) → length whole.tree.nodes.items ≤ n + suc left → ReadsWalk r old new (body_events (body_within block whole ambient left) block whole ambient node kind) holder) → ReadsWalk r old new (body_within block whole ambient parts n) holder
+    → ((left : ℕ) → length whole.tree.nodes.items ≤ n + suc left → ReadsPlaced r old new (body_events (body_within block whole ambient left) block whole ambient node kind) holder) → ReadsPlaced r old new (body_within block whole ambient parts n) holder
 unfolding body_within
 body_reads r old new holder block whole ambient zero n node kind found is enough reads = absurd (omega (arith, found.inside))
 body_reads r old new holder block whole ambient (suc left) n node kind found is enough reads =
     let there : node_in whole.tree (Some n) ≡ Some node = rw (lt-ltb n (length whole.tree.nodes.items) found.inside, found.same) refl in
-    λ rows h before at. on_reads r old.setting.limit new rows (node_in whole.tree (Some n)) node (λ (found : TreeNode). walk_if_there (kind_of found) (body_events (body_within block whole ambient left) block whole ambient found)) h (length rows) there
+    λ rows h before at. on_reads r old.setting.limit new rows (node_in whole.tree (Some n)) node (λ (found : TreeNode). events_if_there (kind_of found) (body_events (body_within block whole ambient left) block whole ambient found)) h (length rows) there
     (on_reads r old.setting.limit new rows (kind_of node) kind (body_events (body_within block whole ambient left) block whole ambient node) h (length rows) is (reads left enough rows h before at))
 
 pub item_reads : {A : Type 0} (r : Result A BuildFault) (old new : Builder) (holder : SymbolId) (tree : Tree) (scope : Scope) (levels n : ℕ) (node : TreeNode) → IsFound tree n node → length tree.nodes.items ≤ n + levels
-    → ((left : ℕ) → length tree.nodes.items ≤ n + suc left → ReadsWalk r old new (walk_if_there (kind_of node) (item_events (block_within tree left) scope node)) holder) → ReadsWalk r old new (item_within tree levels scope n) holder
+    → ((left : ℕ) → length tree.nodes.items ≤ n + suc left → ReadsPlaced r old new (events_if_there (kind_of node) (item_events (block_within tree left) scope node)) holder) → ReadsPlaced r old new (item_within tree levels scope n) holder
 unfolding item_within
 item_reads r old new holder tree scope zero n node found enough reads = absurd (omega (arith, found.inside))
 item_reads r old new holder tree scope (suc left) n node found enough reads =
     let there : node_in tree (Some n) ≡ Some node = rw (lt-ltb n (length tree.nodes.items) found.inside, found.same) refl in
-    λ rows h before at. on_reads r old.setting.limit new rows (node_in tree (Some n)) node (λ (found : TreeNode). walk_if_there (kind_of found) (item_events (block_within tree left) scope found)) h (length rows) there (reads left enough rows h before at)
+    λ rows h before at. on_reads r old.setting.limit new rows (node_in tree (Some n)) node (λ (found : TreeNode). events_if_there (kind_of found) (item_events (block_within tree left) scope found)) h (length rows) there (reads left enough rows h before at)
 
 -- an item that is no namespace, and one that is
-plain_same : (block : Block) (scope : Scope) (node : TreeNode) (kinds : Option Kind) → None ≡ option_and_then (namespace_of node) kinds → (h start : ℕ) → walk_if_there kinds (item_events block scope node) h start ≡ walk_if_there kinds (plain_item_events scope node) h start
+plain_same : (block : Block) (scope : Scope) (node : TreeNode) (kinds : Option Kind) → None ≡ option_and_then (namespace_of node) kinds → (h start : ℕ) → events_if_there kinds (item_events block scope node) h start ≡ events_if_there kinds (other_item_events scope node) h start
 plain_same block scope node None e h start = refl
-plain_same block scope node (Some kind) e h start = ap (λ (found : Option Namespace). item_or found (λ (namespace : Namespace). walk_if_there (kind_of namespace.decl) (namespace_events block scope namespace)) (plain_item_events scope node kind) h start) (sym e)
+plain_same block scope node (Some kind) e h start = ap (λ (found : Option Namespace). item_or found (λ (namespace : Namespace). events_if_there (kind_of namespace.decl) (namespace_events block scope namespace)) (other_item_events scope node kind) h start) (sym e)
 
-pub plain_reads : {A : Type 0} (r : Result A BuildFault) (old new : Builder) (holder : SymbolId) (block : Block) (scope : Scope) (node : TreeNode) → None ≡ option_and_then (namespace_of node) (kind_of node) → ReadsWalk r old new (walk_if_there (kind_of node) (plain_item_events scope node)) holder
-    → ReadsWalk r old new (walk_if_there (kind_of node) (item_events block scope node)) holder
-plain_reads r old new holder block scope node e reads = read_as r old new (walk_if_there (kind_of node) (plain_item_events scope node)) holder (walk_if_there (kind_of node) (item_events block scope node)) (plain_same block scope node (kind_of node) e) reads
+pub plain_reads : {A : Type 0} (r : Result A BuildFault) (old new : Builder) (holder : SymbolId) (block : Block) (scope : Scope) (node : TreeNode) → None ≡ option_and_then (namespace_of node) (kind_of node) → ReadsPlaced r old new (events_if_there (kind_of node) (other_item_events scope node)) holder
+    → ReadsPlaced r old new (events_if_there (kind_of node) (item_events block scope node)) holder
+plain_reads r old new holder block scope node e reads = read_as r old new (events_if_there (kind_of node) (other_item_events scope node)) holder (events_if_there (kind_of node) (item_events block scope node)) (plain_same block scope node (kind_of node) e) reads
 
-namespace_same : (block : Block) (scope : Scope) (node : TreeNode) (found : Namespace) (kinds : Option Kind) → Some found ≡ option_and_then (namespace_of node) kinds → (h start : ℕ) → walk_if_there kinds (item_events block scope node) h start ≡ walk_if_there (kind_of found.decl) (namespace_events block scope found) h start
+namespace_same : (block : Block) (scope : Scope) (node : TreeNode) (found : Namespace) (kinds : Option Kind) → Some found ≡ option_and_then (namespace_of node) kinds → (h start : ℕ) → events_if_there kinds (item_events block scope node) h start ≡ events_if_there (kind_of found.decl) (namespace_events block scope found) h start
 namespace_same block scope node found None e h start = absurd (let f : ⊥ = cc in f)
-namespace_same block scope node found (Some kind) e h start = ap (λ (o : Option Namespace). item_or o (λ (namespace : Namespace). walk_if_there (kind_of namespace.decl) (namespace_events block scope namespace)) (plain_item_events scope node kind) h start) (sym e)
+namespace_same block scope node found (Some kind) e h start = ap (λ (o : Option Namespace). item_or o (λ (namespace : Namespace). events_if_there (kind_of namespace.decl) (namespace_events block scope namespace)) (other_item_events scope node kind) h start) (sym e)
 
 pub namespace_reads : {A : Type 0} (r : Result A BuildFault) (old new : Builder) (holder : SymbolId) (tree : Tree) (left : ℕ) (scope : Scope) (node : TreeNode) (found : Namespace) → found.decl.tree ≡ tree → Some found ≡ option_and_then (namespace_of node) (kind_of node)
-    → ReadsWalk r old new (walk_if_there (kind_of found.decl) (namespace_events (block_within found.decl.tree left) scope found)) holder → ReadsWalk r old new (walk_if_there (kind_of node) (item_events (block_within tree left) scope node)) holder
+    → ReadsPlaced r old new (events_if_there (kind_of found.decl) (namespace_events (block_within found.decl.tree left) scope found)) holder → ReadsPlaced r old new (events_if_there (kind_of node) (item_events (block_within tree left) scope node)) holder
 namespace_reads r old new holder tree left scope node found same e reads =
-    let there = subst (λ (t : Tree). ReadsWalk r old new (walk_if_there (kind_of found.decl) (namespace_events (block_within t left) scope found)) holder) same reads in
-    read_as r old new (walk_if_there (kind_of found.decl) (namespace_events (block_within tree left) scope found)) holder (walk_if_there (kind_of node) (item_events (block_within tree left) scope node)) (namespace_same (block_within tree left) scope node found (kind_of node) e) there
+    let there = subst (λ (t : Tree). ReadsPlaced r old new (events_if_there (kind_of found.decl) (namespace_events (block_within t left) scope found)) holder) same reads in
+    read_as r old new (events_if_there (kind_of found.decl) (namespace_events (block_within tree left) scope found)) holder (events_if_there (kind_of node) (item_events (block_within tree left) scope node)) (namespace_same (block_within tree left) scope node found (kind_of node) e) there
 
 -- a namespace has the number of the item, or a higher one
 pub record IsAtItem (node : TreeNode) (found : Namespace) : Type 0 where
   pub same_tree : found.decl.tree ≡ node.tree
   pub from : node.number ≤ found.decl.number
 
-plain_at : (node decl : TreeNode) (exported : Option TreeNode) (found : Namespace) (kind : Kind) → Some found ≡ plain_namespace exported decl kind → found.decl ≡ decl
+plain_at : (node decl : TreeNode) (exported : Option TreeNode) (found : Namespace) (kind : Kind) → Some found ≡ namespace_at exported decl kind → found.decl ≡ decl
 plain_at node decl exported found (Kind.Decl (Decl.TsModuleDecl id is_declared body)) e = let same : found ≡ (let n : Namespace = record { exported = exported; decl = decl } in n) = cc in ap (λ (n : Namespace). n.decl) same
 plain_at node decl exported found kind e = absurd (let f : ⊥ = cc in f)
 
-exported_at : (node : TreeNode) (found : Namespace) (decl : TreeNode) (kinds : Option Kind) → Some found ≡ option_and_then (plain_namespace (Some node) decl) kinds → found.decl ≡ decl
+exported_at : (node : TreeNode) (found : Namespace) (decl : TreeNode) (kinds : Option Kind) → Some found ≡ option_and_then (namespace_at (Some node) decl) kinds → found.decl ≡ decl
 exported_at node found decl None e = absurd (let f : ⊥ = cc in f)
 exported_at node found decl (Some kind) e = plain_at node decl (Some node) found kind e
 
@@ -324,22 +324,22 @@ body_stays b holder block whole ambient parts n node kind found is enough stays 
 
 -- ---- a namespace
 
-abbrev pub namespace_inner : Block → Scope → Namespace → Kind → Walk
-namespace_inner block scope namespace kind = walk_if_there (child_of namespace.decl body_node_of) (body_at block namespace.decl (scope.ambient || declares_items kind))
+abbrev pub namespace_inner : Block → Scope → Namespace → Kind → PlacedEvents
+namespace_inner block scope namespace kind = events_if_there (child_of namespace.decl body_node_of) (body_at block namespace.decl (scope.ambient || declares_items kind))
 
 abbrev pub namespace_decl : Namespace → Declaration
 namespace_decl namespace = definition_at (declaration_form namespace.exported (exported_ts_module namespace.decl)) (whole_range namespace.exported namespace.decl)
 
 -- the events of one that has a name
-abbrev pub namespace_declared : Block → Scope → Namespace → Kind → Id → Walk
+abbrev pub namespace_declared : Block → Scope → Namespace → Kind → Id → PlacedEvents
 namespace_declared block scope namespace kind id = declaring_events (is_exported scope namespace.exported) (id_view id) (namespace_decl namespace) (namespace_inner block scope namespace kind)
 
 pub namespace_read : {A : Type 0} (r : Result A BuildFault) (limit : ℕ) (new : Builder) (rows : List Row) (h : ℕ) (block : Block) (scope : Scope) (namespace : Namespace) (kind : Kind) (id : Id) → kind_of namespace.decl ≡ Some kind → sym_in id_of namespace.decl ≡ Some id
-    → ReadsAll r limit new (rows_after rows (namespace_declared block scope namespace kind id h (length rows))) → ReadsAll r limit new (rows_after rows (walk_if_there (kind_of namespace.decl) (namespace_events block scope namespace) h (length rows)))
+    → ReadsAll r limit new (rows_after rows (namespace_declared block scope namespace kind id h (length rows))) → ReadsAll r limit new (rows_after rows (events_if_there (kind_of namespace.decl) (namespace_events block scope namespace) h (length rows)))
 namespace_read r limit new rows h block scope namespace kind id is named reads =
     on_reads r limit new rows (kind_of namespace.decl) kind (namespace_events block scope namespace) h (length rows) is (on_reads r limit new rows (sym_in id_of namespace.decl) id (namespace_declared block scope namespace kind) h (length rows) named reads)
 
 pub namespace_stays : (b : Builder) (rows : List Row) (h : ℕ) (block : Block) (scope : Scope) (namespace : Namespace) (kind : Kind) → kind_of namespace.decl ≡ Some kind → sym_in id_of namespace.decl ≡ None → IsTableOf b (changes_of rows)
-    → IsTableOf b (changes_of (rows_after rows (walk_if_there (kind_of namespace.decl) (namespace_events block scope namespace) h (length rows))))
+    → IsTableOf b (changes_of (rows_after rows (events_if_there (kind_of namespace.decl) (namespace_events block scope namespace) h (length rows))))
 namespace_stays b rows h block scope namespace kind is named before =
     on_some b rows (kind_of namespace.decl) kind (namespace_events block scope namespace) h (length rows) is (on_none b rows (sym_in id_of namespace.decl) (namespace_declared block scope namespace kind) h (length rows) named before)

@@ -21,7 +21,7 @@ use Rattle.symbols_table.specs.declared.builder.table.BuildFault.TheVariants.{Ou
 use Rattle.symbols_table.specs.DeclViews.{Declaration, DepName, DeclKind, declaration_at, definition_at, file_ref}
 use Rattle.symbols_table.specs.Changes.{makes, declares, maps, parents_after}
 use Rattle.symbols_table.specs.Events.{Event, Row, declare, declare_alias, default, expando, binds, row_of_symbol, new_row, row_of, changes_of, symbol_at, rows_after}
-use Rattle.symbols_table.specs.Walks.{Walk, walk_if_there, walk_of_each, range_in, sym_in}
+use Rattle.symbols_table.specs.PlacedEvents.{PlacedEvents, events_if_there, events_of_each, range_in, sym_in}
 use Rattle.symbols_table.specs.MemberEvents.{member_at, member_nodes}
 use Rattle.symbols_table.specs.DeclarationEvents.{own_name, export_if}
 use Rattle.symbols_table.specs.ModuleEvents.{import_name, importing_events, import_events, import_at, binds_if, default_decl_events, expando_events, alias_kind, alias_events, import_equals_events, module_events}
@@ -60,21 +60,21 @@ err_as r limit new rows events event row more fault e reads h full = rw e (err_a
 
 -- ---- what is there or isn't
 
-pub on_nothing : {A : Type 0} (found : Option A) (walk : A → Walk) (h start : ℕ) → found ≡ None → walk_if_there found walk h start ≡ []
+pub on_nothing : {A : Type 0} (found : Option A) (walk : A → PlacedEvents) (h start : ℕ) → found ≡ None → events_if_there found walk h start ≡ []
 on_nothing found walk h start e = rw e refl
 
-pub on_thing : {A : Type 0} (found : Option A) (x : A) (walk : A → Walk) (h start : ℕ) → found ≡ Some x → walk_if_there found walk h start ≡ walk x h start
+pub on_thing : {A : Type 0} (found : Option A) (x : A) (walk : A → PlacedEvents) (h start : ℕ) → found ≡ Some x → events_if_there found walk h start ≡ walk x h start
 on_thing found x walk h start e = rw e refl
 
-pub on_same : {A : Type 0} (found : Option A) (walk other : A → Walk) (h start : ℕ) → ((x : A) → walk x h start ≡ other x h start) → walk_if_there found walk h start ≡ walk_if_there found other h start
+pub on_same : {A : Type 0} (found : Option A) (walk other : A → PlacedEvents) (h start : ℕ) → ((x : A) → walk x h start ≡ other x h start) → events_if_there found walk h start ≡ events_if_there found other h start
 on_same None walk other h start same = refl
 on_same (Some x) walk other h start same = same x
 
-pub on_each_nothing : {A : Type 0} (found : Option A) (walk : A → Walk) (h start : ℕ) → ((x : A) → walk x h start ≡ []) → walk_if_there found walk h start ≡ []
+pub on_each_nothing : {A : Type 0} (found : Option A) (walk : A → PlacedEvents) (h start : ℕ) → ((x : A) → walk x h start ≡ []) → events_if_there found walk h start ≡ []
 on_each_nothing None walk h start same = refl
 on_each_nothing (Some x) walk h start same = same x
 
-pub on_both : {A C : Type 0} (found : Option A) (part : A → Option C) (walk : C → Walk) (h start : ℕ) → walk_if_there found (λ (x : A). walk_if_there (part x) walk) h start ≡ walk_if_there (option_and_then part found) walk h start
+pub on_both : {A C : Type 0} (found : Option A) (part : A → Option C) (walk : C → PlacedEvents) (h start : ℕ) → events_if_there found (λ (x : A). events_if_there (part x) walk) h start ≡ events_if_there (option_and_then part found) walk h start
 on_both None part walk h start = refl
 on_both (Some x) part walk h start = refl
 
@@ -84,16 +84,16 @@ stands node range e = rw e refl
 
 -- ---- imports
 
-pub import_unnamed : (src : List ℕ) (node : TreeNode) (h start : ℕ) → sym_in local_of node ≡ None → walk_if_there (kind_of node) (import_events src node) h start ≡ []
-import_unnamed src node h start e = on_each_nothing (kind_of node) (import_events src node) h start (λ kind. on_nothing (sym_in local_of node) (λ (id : Id). walk_if_there (import_name id kind) (importing_events src node id)) h start e)
+pub import_unnamed : (src : List ℕ) (node : TreeNode) (h start : ℕ) → sym_in local_of node ≡ None → events_if_there (kind_of node) (import_events src node) h start ≡ []
+import_unnamed src node h start e = on_each_nothing (kind_of node) (import_events src node) h start (λ kind. on_nothing (sym_in local_of node) (λ (id : Id). events_if_there (import_name id kind) (importing_events src node id)) h start e)
 
-pub import_named : (src : List ℕ) (node : TreeNode) (id : Id) (h start : ℕ) → sym_in local_of node ≡ Some id → walk_if_there (kind_of node) (import_events src node) h start ≡ walk_if_there (option_and_then (import_name id) (kind_of node)) (importing_events src node id) h start
+pub import_named : (src : List ℕ) (node : TreeNode) (id : Id) (h start : ℕ) → sym_in local_of node ≡ Some id → events_if_there (kind_of node) (import_events src node) h start ≡ events_if_there (option_and_then (import_name id) (kind_of node)) (importing_events src node id) h start
 import_named src node id h start e =
-    on_same (kind_of node) (import_events src node) (λ (kind : Kind). walk_if_there (import_name id kind) (importing_events src node id)) h start (λ kind. on_thing (sym_in local_of node) id (λ (x : Id). walk_if_there (import_name x kind) (importing_events src node x)) h start e)
+    on_same (kind_of node) (import_events src node) (λ (kind : Kind). events_if_there (import_name id kind) (importing_events src node id)) h start (λ kind. on_thing (sym_in local_of node) id (λ (x : Id). events_if_there (import_name x kind) (importing_events src node x)) h start e)
     ∙ on_both (kind_of node) (import_name id) (importing_events src node id) h start
 
-pub import_found : (src : List ℕ) (tree : Tree) (n : ℕ) (node : TreeNode) (h start : ℕ) → node_in tree (Some n) ≡ Some node → import_at src tree n h start ≡ walk_if_there (kind_of node) (import_events src node) h start
-import_found src tree n node h start e = on_thing (node_in tree (Some n)) node (λ (x : TreeNode). walk_if_there (kind_of x) (import_events src x)) h start e
+pub import_found : (src : List ℕ) (tree : Tree) (n : ℕ) (node : TreeNode) (h start : ℕ) → node_in tree (Some n) ≡ Some node → import_at src tree n h start ≡ events_if_there (kind_of node) (import_events src node) h start
+import_found src tree n node h start e = on_thing (node_in tree (Some n)) node (λ (x : TreeNode). events_if_there (kind_of x) (import_events src x)) h start e
 
 pub import_one : (src : List ℕ) (tree : Tree) (n : ℕ) (node : TreeNode) (id : Id) (name : DepName) (kind : DeclKind) (range : SourceRange) (decl : Declaration) (h start : ℕ) → node_in tree (Some n) ≡ Some node → sym_in local_of node ≡ Some id
     → option_and_then (import_name id) (kind_of node) ≡ Some name → range_of node ≡ Some range → kind ≡ file_ref name src → decl ≡ declaration_at kind range → import_at src tree n h start ≡ declare h (id_view id) decl ∷ []
@@ -140,7 +140,7 @@ expando_one node inner id range decl h start is_named same place is_decl =
 -- ---- default exports
 
 -- one event, then those of a list, and then a part
-pub rows_of_three : (rows : List Row) (event : Event) (row : Row) (events : List Event) (walk : Walk) (place : ℕ) → row_of (changes_of rows) (symbol_at rows) event ≡ row
+pub rows_of_three : (rows : List Row) (event : Event) (row : Row) (events : List Event) (walk : PlacedEvents) (place : ℕ) → row_of (changes_of rows) (symbol_at rows) event ≡ row
     → rows_after rows (event ∷ (events ++ walk place (length rows + 1 + length events)))
     ≡ rows_after (rows_after (rows ++ row ∷ []) events) (walk place (length (rows_after (rows ++ row ∷ []) events)))
 rows_of_three rows event row events walk place reads =
@@ -160,18 +160,18 @@ bound b rows found id s symbol is_named at is =
     rw is_named (event_read b rows (binds (id_view id) s) row reads is)
 
 pub default_decl_as : (node decl : TreeNode) (range : SourceRange) (d : Declaration) (h start : ℕ) → range_of node ≡ Some range → d ≡ definition_at (export_default_decl node) range
-    → default_decl_events node decl h start ≡ default h d ∷ (binds_if (own_name decl) start ++ walk_of_each (member_at decl.tree) (member_nodes decl) start (start + 1 + length (binds_if (own_name decl) start)))
+    → default_decl_events node decl h start ≡ default h d ∷ (binds_if (own_name decl) start ++ events_of_each (member_at decl.tree) (member_nodes decl) start (start + 1 + length (binds_if (own_name decl) start)))
 default_decl_as node decl range d h start place is_decl =
     let e : d ≡ definition_at (export_default_decl node) (range_in node) = is_decl ∙ rw (stands node range place) refl in
     let names = binds_if (own_name decl) start in
-    ap (λ (x : Declaration). default h x ∷ (names ++ walk_of_each (member_at decl.tree) (member_nodes decl) start (start + 1 + length names))) (sym e)
+    ap (λ (x : Declaration). default h x ∷ (names ++ events_of_each (member_at decl.tree) (member_nodes decl) start (start + 1 + length names))) (sym e)
 
 pub default_decl_rows : (rows : List Row) (node decl : TreeNode) (range : SourceRange) (d : Declaration) (row : Row) (h : ℕ) → range_of node ≡ Some range → d ≡ definition_at (export_default_decl node) range → row_of (changes_of rows) (symbol_at rows) (default h d) ≡ row
     → rows_after rows (default_decl_events node decl h (length rows))
-    ≡ rows_after (rows_after (rows ++ row ∷ []) (binds_if (own_name decl) (length rows))) (walk_of_each (member_at decl.tree) (member_nodes decl) (length rows) (length (rows_after (rows ++ row ∷ []) (binds_if (own_name decl) (length rows)))))
+    ≡ rows_after (rows_after (rows ++ row ∷ []) (binds_if (own_name decl) (length rows))) (events_of_each (member_at decl.tree) (member_nodes decl) (length rows) (length (rows_after (rows ++ row ∷ []) (binds_if (own_name decl) (length rows)))))
 default_decl_rows rows node decl range d row h place is_decl reads =
     ap (λ (events : List Event). rows_after rows events) (default_decl_as node decl range d h (length rows) place is_decl)
-    ∙ rows_of_three rows (default h d) row (binds_if (own_name decl) (length rows)) (walk_of_each (member_at decl.tree) (member_nodes decl)) (length rows) reads
+    ∙ rows_of_three rows (default h d) row (binds_if (own_name decl) (length rows)) (events_of_each (member_at decl.tree) (member_nodes decl)) (length rows) reads
 
 -- ---- `import a = ..`
 
@@ -179,7 +179,7 @@ pub alias_one : (node : TreeNode) (test : Bool) (entity : Option ℕ) (external 
     → range_of node ≡ Some range → decl ≡ declaration_at kind range → import_equals_events node test entity external h start ≡ declare_alias h (id_view id) decl ∷ export_if test h (string_bytes id.name) start
 alias_one node test entity external id kind range decl h start is_named is_kind place is_decl =
     let e : decl ≡ declaration_at kind (range_in node) = is_decl ∙ rw (stands node range place) refl in
-    on_thing (sym_in id_of node) id (λ (x : Id). walk_if_there (alias_kind node entity external) (alias_events node test x)) h start is_named
+    on_thing (sym_in id_of node) id (λ (x : Id). events_if_there (alias_kind node entity external) (alias_events node test x)) h start is_named
     ∙ on_thing (alias_kind node entity external) kind (alias_events node test id) h start is_kind
     ∙ ap (λ (d : Declaration). declare_alias h (id_view id) d ∷ export_if test h (string_bytes id.name) start) (sym e)
 

@@ -22,12 +22,12 @@ use Rattle.symbols_table.specs.declared.builder.scope.Scope.{Scope}
 use Rattle.symbols_table.specs.DeclViews.{Declaration, DeclKind, definition_at, declaration_at, node_of_kind, file_ref, all_names, target}
 use Rattle.symbols_table.specs.Events.{Event, begins, declare, declare_alias, fresh, default, binds, member, expando, export, child, star}
 use Rattle.symbols_table.specs.Laws.{IsNodeOf, IsDeclaredIn, IsStarOf}
-use Rattle.symbols_table.specs.Walks.{Walk, empty_walk, walk_if_there, walk_of_each, range_in, sym_in}
+use Rattle.symbols_table.specs.PlacedEvents.{PlacedEvents, no_placed_events, events_if_there, events_of_each, range_in, sym_in}
 use Rattle.symbols_table.specs.Patterns.{pattern_leaves}
 use Rattle.symbols_table.specs.MemberEvents.{member_nodes, one_member, param_events, param_at, simple_member, member_events, member_at}
 use Rattle.symbols_table.specs.DeclarationEvents.{declaration_form, unexported_form, whole_range, is_exported, variable_form, export_if, adding_events, declaring_events, Variables, binding_events, binding_at, declarator_events, declarator_at, variables_events, named_form, own_name, named_events, declaration_events}
 use Rattle.symbols_table.specs.ModuleEvents.{import_name, importing_events, import_events, import_at, named_export, orig_name, orig_kind, specifier_events, export_events, export_at, binds_if, default_decl_events, default_at, default_expr, assignment_events, alias_kind, alias_events, import_equals_events, expando_events, module_events}
-use Rattle.symbols_table.specs.TreeEvents.{Namespace, plain_namespace, exported_namespace, namespace_of, declares_items, inner_scope, Block, part_events, body_events, body_within, body_at, namespace_events, exported_events, plain_item_events, item_or, item_events, item_within, block_within, module_scope, root_of, root_decl, tree_events}
+use Rattle.symbols_table.specs.TreeEvents.{Namespace, namespace_at, exported_namespace, namespace_of, declares_items, inner_scope, Block, part_events, body_events, body_within, body_at, namespace_events, exported_events, other_item_events, item_or, item_events, item_within, block_within, module_scope, root_of, root_decl, tree_events}
 use Rattle.symbols_table.proofs.CountsParts.{node_at, kinds}
 
 -- the declaration of an event, or its `export *`, is of the tree
@@ -47,7 +47,7 @@ IsEventOf tree (child _ _) = Unit {0}
 abbrev pub AreOwn : Tree → List Event → Type 0
 AreOwn tree events = All (IsEventOf tree) events
 
-abbrev pub IsOwn : Tree → Walk → Type 0
+abbrev pub IsOwn : Tree → PlacedEvents → Type 0
 IsOwn tree walk = (holder start : ℕ) → AreOwn tree (walk holder start)
 
 -- the nodes of a kind of declaration are nodes of the tree
@@ -67,40 +67,40 @@ module _ (tree : Tree) where
   own_append : (es fs : List Event) → AreOwn tree es → AreOwn tree fs → AreOwn tree (es ++ fs)
   own_append es fs first rest = All-append (IsEventOf tree) es fs first rest
 
-  own_none : IsOwn tree empty_walk
+  own_none : IsOwn tree no_placed_events
   own_none = λ holder start. own_nil
 
-  own_on : {A : Type 0} (found : Option A) (walk : A → Walk) → ((x : A) → found ≡ Some x → IsOwn tree (walk x)) → IsOwn tree (walk_if_there found walk)
+  own_on : {A : Type 0} (found : Option A) (walk : A → PlacedEvents) → ((x : A) → found ≡ Some x → IsOwn tree (walk x)) → IsOwn tree (events_if_there found walk)
   own_on None walk own = own_none
   own_on (Some x) walk own = own x refl
 
-  own_if : {A : Type 0} (P : A → Type 0) (found : Option A) (walk : A → Walk) → IfSome found P → ((x : A) → P x → IsOwn tree (walk x)) → IsOwn tree (walk_if_there found walk)
+  own_if : {A : Type 0} (P : A → Type 0) (found : Option A) (walk : A → PlacedEvents) → IfSome found P → ((x : A) → P x → IsOwn tree (walk x)) → IsOwn tree (events_if_there found walk)
   own_if P None walk is own = own_none
   own_if P (Some x) walk is own = own x is
 
-  own_each : (walk : ℕ → Walk) (xs : List ℕ) → ((x : ℕ) → IsOwn tree (walk x)) → IsOwn tree (walk_of_each walk xs)
+  own_each : (walk : ℕ → PlacedEvents) (xs : List ℕ) → ((x : ℕ) → IsOwn tree (walk x)) → IsOwn tree (events_of_each walk xs)
   own_each walk [] own = own_none
   own_each walk (x ∷ xs) own = λ holder start.
       let after = start + length (walk x holder start) in
-      own_append (walk x holder start) (walk_of_each walk xs holder after) (own x holder start) (own_each walk xs own holder after)
+      own_append (walk x holder start) (events_of_each walk xs holder after) (own x holder start) (own_each walk xs own holder after)
 
   -- ---- nodes
 
   abbrev IsInside : ℕ → Type 0
   IsInside n = n < length tree.nodes.items
 
-  own_node : (found : Option ℕ) (walk : TreeNode → Walk) → ((n : ℕ) → IsInside n → IsOwn tree (walk (node_at tree n))) → IsOwn tree (walk_if_there (node_in tree found) walk)
+  own_node : (found : Option ℕ) (walk : TreeNode → PlacedEvents) → ((n : ℕ) → IsInside n → IsOwn tree (walk (node_at tree n))) → IsOwn tree (events_if_there (node_in tree found) walk)
   own_node None walk own = own_none
   own_node (Some n) walk own = by (ltb n (length tree.nodes.items)) refl
     where
-      by : (b : Bool) → ltb n (length tree.nodes.items) ≡ b → IsOwn tree (walk_if_there (cond b (Some (node_at tree n)) None) walk)
+      by : (b : Bool) → ltb n (length tree.nodes.items) ≡ b → IsOwn tree (events_if_there (cond b (Some (node_at tree n)) None) walk)
       by true is = own n ((Decides-ltb n (length tree.nodes.items)).0 is)
       by false is = own_none
 
-  own_kind : (found : Option ℕ) (walk : TreeNode → Kind → Walk) → ((n : ℕ) (kind : Kind) → IsInside n → kinds tree n ≡ Some kind → IsOwn tree (walk (node_at tree n) kind))
-      → IsOwn tree (walk_if_there (node_in tree found) (λ (node : TreeNode). walk_if_there (kind_of node) (walk node)))
+  own_kind : (found : Option ℕ) (walk : TreeNode → Kind → PlacedEvents) → ((n : ℕ) (kind : Kind) → IsInside n → kinds tree n ≡ Some kind → IsOwn tree (walk (node_at tree n) kind))
+      → IsOwn tree (events_if_there (node_in tree found) (λ (node : TreeNode). events_if_there (kind_of node) (walk node)))
   own_kind found walk own =
-      own_node found (λ (node : TreeNode). walk_if_there (kind_of node) (walk node)) (λ n inside. own_on (kinds tree n) (walk (node_at tree n)) (λ kind is. own n kind inside is))
+      own_node found (λ (node : TreeNode). events_if_there (kind_of node) (walk node)) (λ n inside. own_on (kinds tree n) (walk (node_at tree n)) (λ kind is. own n kind inside is))
 
   one_node : (n : ℕ) → IsInside n → All (IsNodeOf tree) (node_at tree n ∷ [])
   one_node n inside = All-cons (IsNodeOf tree) (node_at tree n) [] (refl, inside) (All-nil (IsNodeOf tree))
@@ -132,7 +132,7 @@ module _ (tree : Tree) where
   own_export true holder name of = own_one (export holder name of) tt
   own_export false holder name of = own_nil
 
-  own_declared : (test : Bool) (id : IdView) (decl : Declaration) (inner : Walk) → IsDeclaredIn tree decl → IsOwn tree inner → IsOwn tree (declaring_events test id decl inner)
+  own_declared : (test : Bool) (id : IdView) (decl : Declaration) (inner : PlacedEvents) → IsDeclaredIn tree decl → IsOwn tree inner → IsOwn tree (declaring_events test id decl inner)
   own_declared test id decl inner is own = λ holder start.
       let last = adding_events test holder id.name start in
       let added : AreOwn tree last = own_cons (child holder start) (export_if test holder id.name start) tt (own_export test holder id.name start) in
@@ -165,13 +165,13 @@ module _ (tree : Tree) where
     where
       by : (m : ℕ) → IsInside m → (kind : Kind) → IsOwn tree (member_events (node_at tree m) kind)
       by m inside (Kind.Member (Member.Constructor params _ _)) = λ holder start.
-          own_cons (member holder (definition_at (constructor (node_at tree m)) (range_in (node_at tree m))) true) (walk_of_each (param_at tree) params.items holder (start + 1)) (one_node m inside)
+          own_cons (member holder (definition_at (constructor (node_at tree m)) (range_in (node_at tree m))) true) (events_of_each (param_at tree) params.items holder (start + 1)) (one_node m inside)
           (own_each (param_at tree) params.items own_param holder (start + 1))
       by m inside kind =
           own_if (λ (found : NodeView × Bool). All (IsNodeOf tree) (nodes_of found.0)) (simple_member (node_at tree m) kind) (λ (found : NodeView × Bool). one_member found.0 (node_at tree m) found.1) (simple_own m (one_node m inside) kind)
           (λ found own holder start. own_one (member holder (definition_at found.0 (range_in (node_at tree m))) found.1) own)
 
-  own_members : (node : TreeNode) → IsOwn tree (walk_of_each (member_at tree) (member_nodes node))
+  own_members : (node : TreeNode) → IsOwn tree (events_of_each (member_at tree) (member_nodes node))
   own_members node = own_each (member_at tree) (member_nodes node) own_member
 
   -- ---- variables
@@ -190,11 +190,11 @@ module _ (tree : Tree) where
 
       binding : (m : ℕ) → IsInside m → (n : ℕ) → IsOwn tree (binding_at vars (node_at tree m) n)
       binding m at n = own_node (Some n) (binding_events vars (node_at tree m)) (λ c here. own_on (option_and_then sym_of (kinds tree c)) _ (λ (id : Id) found.
-          own_declared (is_exported scope exported) (id_view id) (definition_at (variable_form exported is_using (node_at tree k) (node_at tree m) (node_at tree c)) (range_in (node_at tree m))) empty_walk (own_variable exported is_using k m c is inside at here) own_none))
+          own_declared (is_exported scope exported) (id_view id) (definition_at (variable_form exported is_using (node_at tree k) (node_at tree m) (node_at tree c)) (range_in (node_at tree m))) no_placed_events (own_variable exported is_using k m c is inside at here) own_none))
 
       declarator : (n : ℕ) → IsOwn tree (declarator_at vars n)
       declarator n = own_node (Some n) (declarator_events vars) (λ m at.
-          own_node (option_and_then name_of (kinds tree m)) (λ (pattern : TreeNode). walk_of_each (binding_at vars (node_at tree m)) (pattern_leaves tree pattern.number)) (λ p here. own_each (binding_at vars (node_at tree m)) (pattern_leaves tree p) (binding m at)))
+          own_node (option_and_then name_of (kinds tree m)) (λ (pattern : TreeNode). events_of_each (binding_at vars (node_at tree m)) (pattern_leaves tree pattern.number)) (λ p here. own_each (binding_at vars (node_at tree m)) (pattern_leaves tree p) (binding m at)))
 
   -- ---- what has a name of its own
 
@@ -212,13 +212,13 @@ module _ (tree : Tree) where
   own_declaration scope exported n is inside kind =
       own_if (λ (form : ExportDeclView). All (IsNodeOf tree) (exported_nodes form)) (named_form (node_at tree n) kind) (named_events scope exported (node_at tree n)) (named_own n (one_node n inside) kind) (λ form own.
       own_on (own_name (node_at tree n)) _ (λ (id : Id) at.
-      own_declared (is_exported scope exported) (id_view id) (definition_at (declaration_form exported form) (whole_range exported (node_at tree n))) (walk_of_each (member_at tree) (member_nodes (node_at tree n))) (own_form exported form is own) (own_members (node_at tree n))))
+      own_declared (is_exported scope exported) (id_view id) (definition_at (declaration_form exported form) (whole_range exported (node_at tree n))) (events_of_each (member_at tree) (member_nodes (node_at tree n))) (own_form exported form is own) (own_members (node_at tree n))))
 
   -- ---- imports and exports
 
   own_import : (src : List ℕ) (n : ℕ) → IsOwn tree (import_at src tree n)
   own_import src n = own_kind (Some n) (import_events src) (λ m kind inside is.
-      own_on (sym_in local_of (node_at tree m)) (λ (id : Id). walk_if_there (import_name id kind) (importing_events src (node_at tree m) id)) (λ id at.
+      own_on (sym_in local_of (node_at tree m)) (λ (id : Id). events_if_there (import_name id kind) (importing_events src (node_at tree m) id)) (λ id at.
       own_on (import_name id kind) (importing_events src (node_at tree m) id) (λ name here holder start. own_one (declare holder (id_view id) (declaration_at (file_ref name src) (range_in (node_at tree m)))) no_nodes)))
 
   own_named_export : (name : List ℕ) (decl : Declaration) → IsDeclaredIn tree decl → IsOwn tree (named_export name decl)
@@ -255,7 +255,7 @@ module _ (tree : Tree) where
   own_default_decl n inside c = λ holder start.
       let names = binds_if (own_name (node_at tree c)) start in
       let after = start + 1 + length names in
-      let members = walk_of_each (member_at tree) (member_nodes (node_at tree c)) start after in
+      let members = events_of_each (member_at tree) (member_nodes (node_at tree c)) start after in
       own_cons (default holder (definition_at (export_default_decl (node_at tree n)) (range_in (node_at tree n)))) (names ++ members) (one_node n inside)
       (own_append names members (own_binds (own_name (node_at tree c)) start) (own_members (node_at tree c) start after))
 
@@ -302,11 +302,11 @@ module _ (tree : Tree) where
   own_module n inside (Kind.Item (Item.ExportAll src)) is = λ holder start. own_one (star (record { number = n; text = string_bytes src })) (rw is refl)
   own_module n inside _ is = own_none
 
-  own_exported_item : (scope : Scope) (n : ℕ) → IsInside n → IsOwn tree (walk_if_there (child_of (node_at tree n) decl_of) (exported_events scope (node_at tree n)))
+  own_exported_item : (scope : Scope) (n : ℕ) → IsInside n → IsOwn tree (events_if_there (child_of (node_at tree n) decl_of) (exported_events scope (node_at tree n)))
   own_exported_item scope n inside =
       own_kind (option_and_then decl_of (kinds tree n)) (declaration_events scope (Some (node_at tree n))) (λ c kind here at. own_declaration scope (Some (node_at tree n)) c (refl, inside) here kind)
 
-  own_plain_item : (scope : Scope) (n : ℕ) → IsInside n → (kind : Kind) → kinds tree n ≡ Some kind → IsOwn tree (plain_item_events scope (node_at tree n) kind)
+  own_plain_item : (scope : Scope) (n : ℕ) → IsInside n → (kind : Kind) → kinds tree n ≡ Some kind → IsOwn tree (other_item_events scope (node_at tree n) kind)
   own_plain_item scope n inside (Kind.Item (Item.ExportDecl decl)) is = own_exported_item scope n inside
   own_plain_item scope n inside (Kind.Item item) is = own_module n inside (Kind.Item item) is
   own_plain_item scope n inside kind is = own_declaration scope None n tt inside kind
@@ -320,7 +320,7 @@ module _ (tree : Tree) where
     own_body whole at ambient (suc levels) n =
         own_kind (Some n) (body_events (body_within block (node_at tree whole) ambient levels) block (node_at tree whole) ambient) (λ m kind inside is. by m kind (own_body whole at ambient levels))
       where
-        inner : ℕ → Walk
+        inner : ℕ → PlacedEvents
         inner = body_within block (node_at tree whole) ambient levels
 
         by : (m : ℕ) (kind : Kind) → ((k : ℕ) → IsOwn tree (inner k)) → IsOwn tree (body_events inner block (node_at tree whole) ambient (node_at tree m) kind)
@@ -332,28 +332,28 @@ module _ (tree : Tree) where
             (own_cons (export holder (id_view id).name start) (child holder start ∷ last) tt (own_cons (child holder start) last tt (rest body start (start + 3)))))
         by m _ rest = own_none
 
-    abbrev namespace_walk : Scope → Namespace → Walk
-    namespace_walk scope namespace = walk_if_there (kind_of namespace.decl) (namespace_events block scope namespace)
+    abbrev namespace_walk : Scope → Namespace → PlacedEvents
+    namespace_walk scope namespace = events_if_there (kind_of namespace.decl) (namespace_events block scope namespace)
 
     own_namespace : (scope : Scope) (exported : Option TreeNode) (n : ℕ) → IfSome exported (IsNodeOf tree) → IsInside n → IsOwn tree (namespace_walk scope (record { exported = exported; decl = node_at tree n }))
     own_namespace scope exported n is inside = own_on (kinds tree n) (namespace_events block scope (record { exported = exported; decl = node_at tree n })) (λ kind found.
         let ambient = scope.ambient || declares_items kind in
         own_on (sym_in id_of (node_at tree n)) _ (λ (id : Id) at.
-        own_declared (is_exported scope exported) (id_view id) (definition_at (declaration_form exported (exported_ts_module (node_at tree n))) (whole_range exported (node_at tree n))) (walk_if_there (child_of (node_at tree n) body_node_of) (body_at block (node_at tree n) ambient))
+        own_declared (is_exported scope exported) (id_view id) (definition_at (declaration_form exported (exported_ts_module (node_at tree n))) (whole_range exported (node_at tree n))) (events_if_there (child_of (node_at tree n) body_node_of) (body_at block (node_at tree n) ambient))
         (own_form exported (exported_ts_module (node_at tree n)) is (one_node n inside))
         (own_node (option_and_then body_node_of (kinds tree n)) (body_at block (node_at tree n) ambient) (λ c here. own_body n inside ambient (length tree.nodes.items) c))))
 
-    own_found : (scope : Scope) (exported : Option TreeNode) (n : ℕ) → IfSome exported (IsNodeOf tree) → IsInside n → (kind : Kind) (other : Walk) → IsOwn tree other
-        → IsOwn tree (item_or (plain_namespace exported (node_at tree n) kind) (namespace_walk scope) other)
+    own_found : (scope : Scope) (exported : Option TreeNode) (n : ℕ) → IfSome exported (IsNodeOf tree) → IsInside n → (kind : Kind) (other : PlacedEvents) → IsOwn tree other
+        → IsOwn tree (item_or (namespace_at exported (node_at tree n) kind) (namespace_walk scope) other)
     own_found scope exported n is inside (Kind.Decl (Decl.TsModuleDecl _ _ _)) other rest = own_namespace scope exported n is inside
     own_found scope exported n is inside _ other rest = rest
 
-    own_exported_found : (scope : Scope) (n : ℕ) → IsInside n → (found : Option ℕ) (other : Walk) → IsOwn tree other
+    own_exported_found : (scope : Scope) (n : ℕ) → IsInside n → (found : Option ℕ) (other : PlacedEvents) → IsOwn tree other
         → IsOwn tree (item_or (option_and_then (exported_namespace (node_at tree n)) (node_in tree found)) (namespace_walk scope) other)
     own_exported_found scope n inside None other rest = rest
     own_exported_found scope n inside (Some c) other rest = by (ltb c (length tree.nodes.items)) refl
       where
-        of_kind : IsInside c → (o : Option Kind) → IsOwn tree (item_or (option_and_then (plain_namespace (Some (node_at tree n)) (node_at tree c)) o) (namespace_walk scope) other)
+        of_kind : IsInside c → (o : Option Kind) → IsOwn tree (item_or (option_and_then (namespace_at (Some (node_at tree n)) (node_at tree c)) o) (namespace_walk scope) other)
         of_kind here None = rest
         of_kind here (Some kind) = own_found scope (Some (node_at tree n)) c (refl, inside) here kind other rest
 
@@ -364,9 +364,9 @@ module _ (tree : Tree) where
     own_item : (scope : Scope) (n : ℕ) → IsInside n → (kind : Kind) → kinds tree n ≡ Some kind → IsOwn tree (item_events block scope (node_at tree n) kind)
     own_item scope n inside kind is = by kind (own_plain_item scope n inside kind is)
       where
-        by : (kind : Kind) → IsOwn tree (plain_item_events scope (node_at tree n) kind) → IsOwn tree (item_or (namespace_of (node_at tree n) kind) (namespace_walk scope) (plain_item_events scope (node_at tree n) kind))
-        by (Kind.Item (Item.ExportDecl decl)) rest = own_exported_found scope n inside (option_and_then decl_of (kinds tree n)) (plain_item_events scope (node_at tree n) (Kind.Item (Item.ExportDecl decl))) rest
-        by kind rest = own_found scope None n tt inside kind (plain_item_events scope (node_at tree n) kind) rest
+        by : (kind : Kind) → IsOwn tree (other_item_events scope (node_at tree n) kind) → IsOwn tree (item_or (namespace_of (node_at tree n) kind) (namespace_walk scope) (other_item_events scope (node_at tree n) kind))
+        by (Kind.Item (Item.ExportDecl decl)) rest = own_exported_found scope n inside (option_and_then decl_of (kinds tree n)) (other_item_events scope (node_at tree n) (Kind.Item (Item.ExportDecl decl))) rest
+        by kind rest = own_found scope None n tt inside kind (other_item_events scope (node_at tree n) kind) rest
 
   own_items : (levels : ℕ) (scope : Scope) (n : ℕ) → IsOwn tree (item_within tree levels scope n)
   unfolding item_within
@@ -379,5 +379,5 @@ module _ (tree : Tree) where
   pub own_tree : IsInside 0 → AreOwn tree (tree_events tree)
   own_tree first =
       let items = list_of (root_of tree) body_of in
-      let item : ℕ → Walk = item_within tree (length tree.nodes.items) (module_scope tree) in
-      own_cons (begins (root_decl tree)) (walk_of_each item items 0 1) (one_node 0 first) (own_each item items (own_items (length tree.nodes.items) (module_scope tree)) 0 1)
+      let item : ℕ → PlacedEvents = item_within tree (length tree.nodes.items) (module_scope tree) in
+      own_cons (begins (root_decl tree)) (events_of_each item items 0 1) (one_node 0 first) (own_each item items (own_items (length tree.nodes.items) (module_scope tree)) 0 1)

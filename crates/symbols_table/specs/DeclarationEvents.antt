@@ -12,7 +12,7 @@ use Rattle.symbols_nodes.specs.NodeViews.{NodeView, ExportDeclView, export_decl,
 use Rattle.symbols_table.specs.declared.builder.scope.Scope.{Scope}
 use Rattle.symbols_table.specs.DeclViews.{Declaration, definition_at}
 use Rattle.symbols_table.specs.Events.{Event, declare, child, export}
-use Rattle.symbols_table.specs.Walks.{Walk, empty_walk, walk_if_there, with_next, walk_of_each, range_in, sym_in}
+use Rattle.symbols_table.specs.PlacedEvents.{PlacedEvents, no_placed_events, events_if_there, with_next, events_of_each, range_in, sym_in}
 use Rattle.symbols_table.specs.Patterns.{pattern_leaves}
 use Rattle.symbols_table.specs.MemberEvents.{member_at, member_nodes}
 
@@ -47,7 +47,7 @@ abbrev pub adding_events : Bool → ℕ → List ℕ → ℕ → List Event
 adding_events test holder name of = child holder of ∷ export_if test holder name of
 
 -- a name is declared; then come the events under its symbol, and then it is added to its holder
-abbrev pub declaring_events : Bool → IdView → Declaration → Walk → Walk
+abbrev pub declaring_events : Bool → IdView → Declaration → PlacedEvents → PlacedEvents
 declaring_events test id decl inner holder start = with_next (declare holder id decl ∷ []) (inner start) start ++ adding_events test holder id.name start
 
 -- ---- variables
@@ -63,23 +63,23 @@ pub record Variables : Type 0 where
   pub decl : TreeNode
 
 -- of a name that the pattern of a declarator binds: it is declared where the declarator stands
-abbrev pub binding_events : Variables → TreeNode → TreeNode → Walk
+abbrev pub binding_events : Variables → TreeNode → TreeNode → PlacedEvents
 binding_events vars declarator ident =
-    walk_if_there (option_and_then sym_of (kind_of ident))
-    (λ (id : Id). declaring_events (is_exported vars.scope vars.exported) (id_view id) (definition_at (variable_form vars.exported vars.is_using vars.decl declarator ident) (range_in declarator)) empty_walk)
+    events_if_there (option_and_then sym_of (kind_of ident))
+    (λ (id : Id). declaring_events (is_exported vars.scope vars.exported) (id_view id) (definition_at (variable_form vars.exported vars.is_using vars.decl declarator ident) (range_in declarator)) no_placed_events)
 
-abbrev pub binding_at : Variables → TreeNode → ℕ → Walk
-binding_at vars declarator n = walk_if_there (node_in vars.decl.tree (Some n)) (binding_events vars declarator)
+abbrev pub binding_at : Variables → TreeNode → ℕ → PlacedEvents
+binding_at vars declarator n = events_if_there (node_in vars.decl.tree (Some n)) (binding_events vars declarator)
 
 -- of a declarator: each name that its pattern binds, in order
-abbrev pub declarator_events : Variables → TreeNode → Walk
-declarator_events vars declarator = walk_if_there (child_of declarator name_of) (λ (pattern : TreeNode). walk_of_each (binding_at vars declarator) (pattern_leaves vars.decl.tree pattern.number))
+abbrev pub declarator_events : Variables → TreeNode → PlacedEvents
+declarator_events vars declarator = events_if_there (child_of declarator name_of) (λ (pattern : TreeNode). events_of_each (binding_at vars declarator) (pattern_leaves vars.decl.tree pattern.number))
 
-abbrev pub declarator_at : Variables → ℕ → Walk
-declarator_at vars n = walk_if_there (node_in vars.decl.tree (Some n)) (declarator_events vars)
+abbrev pub declarator_at : Variables → ℕ → PlacedEvents
+declarator_at vars n = events_if_there (node_in vars.decl.tree (Some n)) (declarator_events vars)
 
-abbrev pub variables_events : Variables → Walk
-variables_events vars = walk_of_each (declarator_at vars) (list_of vars.decl decls_of)
+abbrev pub variables_events : Variables → PlacedEvents
+variables_events vars = events_of_each (declarator_at vars) (list_of vars.decl decls_of)
 
 -- ---- what has a name of its own
 
@@ -96,13 +96,13 @@ abbrev pub own_name : TreeNode → Option Id
 own_name node = option_or (sym_in ident_of node) (sym_in id_of node)
 
 -- it is declared where the whole statement stands, with its members
-abbrev pub named_events : Scope → Option TreeNode → TreeNode → ExportDeclView → Walk
+abbrev pub named_events : Scope → Option TreeNode → TreeNode → ExportDeclView → PlacedEvents
 named_events scope exported node form =
-    walk_if_there (own_name node)
-    (λ (id : Id). declaring_events (is_exported scope exported) (id_view id) (definition_at (declaration_form exported form) (whole_range exported node)) (walk_of_each (member_at node.tree) (member_nodes node)))
+    events_if_there (own_name node)
+    (λ (id : Id). declaring_events (is_exported scope exported) (id_view id) (definition_at (declaration_form exported form) (whole_range exported node)) (events_of_each (member_at node.tree) (member_nodes node)))
 
 -- of a declaration, after the `export` if one stands before it
-abbrev pub declaration_events : Scope → Option TreeNode → TreeNode → Kind → Walk
+abbrev pub declaration_events : Scope → Option TreeNode → TreeNode → Kind → PlacedEvents
 declaration_events scope exported node (Kind.Decl (Decl.VarDecl _)) = variables_events (record { scope = scope; exported = exported; is_using = false; decl = node })
 declaration_events scope exported node (Kind.Decl (Decl.UsingDecl _)) = variables_events (record { scope = scope; exported = exported; is_using = true; decl = node })
-declaration_events scope exported node kind = walk_if_there (named_form node kind) (named_events scope exported node)
+declaration_events scope exported node kind = events_if_there (named_form node kind) (named_events scope exported node)

@@ -13,7 +13,7 @@ use Rattle.symbols_nodes.specs.NodeViews.{program, ts_namespace, exported_ts_mod
 use Rattle.symbols_table.specs.declared.builder.scope.Scope.{Scope}
 use Rattle.symbols_table.specs.DeclViews.{Declaration, definition_at}
 use Rattle.symbols_table.specs.Events.{Event, begins, declare, export, child}
-use Rattle.symbols_table.specs.Walks.{Walk, empty_walk, walk_if_there, with_next, walk_of_each, range_in, sym_in}
+use Rattle.symbols_table.specs.PlacedEvents.{PlacedEvents, no_placed_events, events_if_there, with_next, events_of_each, range_in, sym_in}
 use Rattle.symbols_table.specs.DeclarationEvents.{declaration_form, whole_range, is_exported, declaring_events, declaration_events}
 use Rattle.symbols_table.specs.ModuleEvents.{module_events}
 
@@ -22,16 +22,16 @@ pub record Namespace : Type 0 where
   pub exported : Option TreeNode
   pub decl : TreeNode
 
-abbrev pub plain_namespace : Option TreeNode → TreeNode → Kind → Option Namespace
-plain_namespace exported node (Kind.Decl (Decl.TsModuleDecl _ _ _)) = Some (record { exported = exported; decl = node })
-plain_namespace exported node _ = None
+abbrev pub namespace_at : Option TreeNode → TreeNode → Kind → Option Namespace
+namespace_at exported node (Kind.Decl (Decl.TsModuleDecl _ _ _)) = Some (record { exported = exported; decl = node })
+namespace_at exported node _ = None
 
 abbrev pub exported_namespace : TreeNode → TreeNode → Option Namespace
-exported_namespace node decl = option_and_then (plain_namespace (Some node) decl) (kind_of decl)
+exported_namespace node decl = option_and_then (namespace_at (Some node) decl) (kind_of decl)
 
 abbrev pub namespace_of : TreeNode → Kind → Option Namespace
 namespace_of node (Kind.Item (Item.ExportDecl _)) = option_and_then (exported_namespace node) (child_of node decl_of)
-namespace_of node kind = plain_namespace None node kind
+namespace_of node kind = namespace_at None node kind
 
 -- `declare` before a namespace makes its items ambient
 abbrev pub declares_items : Kind → Bool
@@ -44,66 +44,66 @@ inner_scope ambient = record { ambient = ambient; is_module = false }
 
 -- the events of a list of items in a scope
 abbrev pub Block : Type 0
-Block = Scope → List ℕ → Walk
+Block = Scope → List ℕ → PlacedEvents
 
 -- a later part of a dotted name: declared in the part before, by the whole namespace where the part stands, and its export and its child,
-abbrev pub part_first : TreeNode → TreeNode → Id → Walk
+abbrev pub part_first : TreeNode → TreeNode → Id → PlacedEvents
 part_first whole node id holder start = declare holder (id_view id) (definition_at (ts_namespace whole) (range_in node)) ∷ export holder (id_view id).name start ∷ child holder start ∷ []
 
 -- and then what is in it
-abbrev pub part_events : TreeNode → TreeNode → Walk → Id → Walk
+abbrev pub part_events : TreeNode → TreeNode → PlacedEvents → Id → PlacedEvents
 part_events whole node inner id holder start = with_next (part_first whole node id holder start) (inner start) start
 
-abbrev pub body_events : (ℕ → Walk) → Block → TreeNode → Bool → TreeNode → Kind → Walk
+abbrev pub body_events : (ℕ → PlacedEvents) → Block → TreeNode → Bool → TreeNode → Kind → PlacedEvents
 body_events inner block whole ambient node (Kind.Decl (Decl.TsModuleBlock items)) = block (inner_scope ambient) items.items
-body_events inner block whole ambient node (Kind.Decl (Decl.TsNamespaceDecl _ body)) = walk_if_there (sym_in id_of node) (part_events whole node (inner body))
-body_events inner block whole ambient node _ = empty_walk
+body_events inner block whole ambient node (Kind.Decl (Decl.TsNamespaceDecl _ body)) = events_if_there (sym_in id_of node) (part_events whole node (inner body))
+body_events inner block whole ambient node _ = no_placed_events
 
 -- of the body of a namespace: the later parts of its name, and its items in the last of them
-unfoldable pub body_within : Block → TreeNode → Bool → ℕ → ℕ → Walk
-body_within block whole ambient zero n = empty_walk
-body_within block whole ambient (suc levels) n = walk_if_there (node_in whole.tree (Some n)) (λ (node : TreeNode). walk_if_there (kind_of node) (body_events (body_within block whole ambient levels) block whole ambient node))
+unfoldable pub body_within : Block → TreeNode → Bool → ℕ → ℕ → PlacedEvents
+body_within block whole ambient zero n = no_placed_events
+body_within block whole ambient (suc levels) n = events_if_there (node_in whole.tree (Some n)) (λ (node : TreeNode). events_if_there (kind_of node) (body_events (body_within block whole ambient levels) block whole ambient node))
 
-abbrev pub body_at : Block → TreeNode → Bool → TreeNode → Walk
+abbrev pub body_at : Block → TreeNode → Bool → TreeNode → PlacedEvents
 body_at block whole ambient body = body_within block whole ambient (length whole.tree.nodes.items) body.number
 
 -- a namespace that has a name is declared, with the events of its body; one that is a text is not
-abbrev pub namespace_events : Block → Scope → Namespace → Kind → Walk
+abbrev pub namespace_events : Block → Scope → Namespace → Kind → PlacedEvents
 namespace_events block scope namespace kind =
-    walk_if_there (sym_in id_of namespace.decl)
+    events_if_there (sym_in id_of namespace.decl)
     (λ (id : Id). declaring_events (is_exported scope namespace.exported) (id_view id) (definition_at (declaration_form namespace.exported (exported_ts_module namespace.decl)) (whole_range namespace.exported namespace.decl))
-    (walk_if_there (child_of namespace.decl body_node_of) (body_at block namespace.decl (scope.ambient || declares_items kind))))
+    (events_if_there (child_of namespace.decl body_node_of) (body_at block namespace.decl (scope.ambient || declares_items kind))))
 
 -- `export` before a declaration, and all else
-abbrev pub exported_events : Scope → TreeNode → TreeNode → Walk
-exported_events scope node decl = walk_if_there (kind_of decl) (declaration_events scope (Some node) decl)
+abbrev pub exported_events : Scope → TreeNode → TreeNode → PlacedEvents
+exported_events scope node decl = events_if_there (kind_of decl) (declaration_events scope (Some node) decl)
 
-abbrev pub plain_item_events : Scope → TreeNode → Kind → Walk
-plain_item_events scope node (Kind.Item (Item.ExportDecl _)) = walk_if_there (child_of node decl_of) (exported_events scope node)
-plain_item_events scope node (Kind.Item item) = module_events node (Kind.Item item)
-plain_item_events scope node kind = declaration_events scope None node kind
+abbrev pub other_item_events : Scope → TreeNode → Kind → PlacedEvents
+other_item_events scope node (Kind.Item (Item.ExportDecl _)) = events_if_there (child_of node decl_of) (exported_events scope node)
+other_item_events scope node (Kind.Item item) = module_events node (Kind.Item item)
+other_item_events scope node kind = declaration_events scope None node kind
 
-abbrev pub item_or : Option Namespace → (Namespace → Walk) → Walk → Walk
+abbrev pub item_or : Option Namespace → (Namespace → PlacedEvents) → PlacedEvents → PlacedEvents
 item_or None namespace other = other
 item_or (Some found) namespace other = namespace found
 
 -- of an item: a namespace, or another one
-abbrev pub item_events : Block → Scope → TreeNode → Kind → Walk
+abbrev pub item_events : Block → Scope → TreeNode → Kind → PlacedEvents
 item_events block scope node kind =
-    item_or (namespace_of node kind) (λ (namespace : Namespace). walk_if_there (kind_of namespace.decl) (namespace_events block scope namespace)) (plain_item_events scope node kind)
+    item_or (namespace_of node kind) (λ (namespace : Namespace). events_if_there (kind_of namespace.decl) (namespace_events block scope namespace)) (other_item_events scope node kind)
 
 -- of the item n, down to so many levels
-unfoldable pub item_within : Tree → ℕ → Scope → ℕ → Walk
-item_within tree zero scope n = empty_walk
+unfoldable pub item_within : Tree → ℕ → Scope → ℕ → PlacedEvents
+item_within tree zero scope n = no_placed_events
 item_within tree (suc levels) scope n =
-    walk_if_there (node_in tree (Some n)) (λ (node : TreeNode). walk_if_there (kind_of node) (item_events (λ (inner : Scope). walk_of_each (item_within tree levels inner)) scope node))
+    events_if_there (node_in tree (Some n)) (λ (node : TreeNode). events_if_there (kind_of node) (item_events (λ (inner : Scope). events_of_each (item_within tree levels inner)) scope node))
 
 -- the items of a list, down to so many levels
 abbrev pub block_within : Tree → ℕ → Block
-block_within tree levels scope = walk_of_each (item_within tree levels scope)
+block_within tree levels scope = events_of_each (item_within tree levels scope)
 
 -- of a list of items: no namespace is deeper than the tree
-abbrev pub items_at : Tree → Scope → List ℕ → Walk
+abbrev pub items_at : Tree → Scope → List ℕ → PlacedEvents
 items_at tree = block_within tree (length tree.nodes.items)
 
 abbrev pub root_of : Tree → TreeNode

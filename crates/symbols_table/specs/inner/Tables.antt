@@ -18,7 +18,7 @@ use Rattle.symbols_table.specs.Laws.{IsParentOf}
 use Rattle.symbols_table.specs.ModuleViews.{ids_view, star_view}
 use Rattle.symbols_table.specs.Changes.{Change, makes, declares, exports, has_child, has_member, maps, passes_on, same_symbol_id, parents_after, decls_after, exports_after, children_after, members_after, stars_after, mapped_after, child_named, member_named}
 use Rattle.symbols_table.specs.Events.{Row, changes_of, symbol_at, rows_after}
-use Rattle.symbols_table.specs.Walks.{Walk}
+use Rattle.symbols_table.specs.PlacedEvents.{PlacedEvents}
 use Rattle.symbols_table.specs.DeclViews.{decl_name}
 
 -- nothing was changed of the number s
@@ -100,6 +100,6 @@ ReadsOnly result limit new before row =
     (λ fault. fault ≡ TooManySymbols → limit < length (parents_after (before ++ row.changes)))
 
 -- a call that stands for the events of a part of a tree under a holder, whatever events came before
-abbrev pub ReadsWalk : {A : Type 0} → Result A BuildFault → Builder → Builder → Walk → SymbolId → Type 0
-ReadsWalk result old new walk holder =
+abbrev pub ReadsPlaced : {A : Type 0} → Result A BuildFault → Builder → Builder → PlacedEvents → SymbolId → Type 0
+ReadsPlaced result old new walk holder =
     (rows : List Row) (h : ℕ) → IsTableOf old (changes_of rows) → symbol_at rows h ≡ Some holder → ReadsAll result old.setting.limit new (rows_after rows (walk h (length rows)))

@@ -8,7 +8,7 @@ ghost use Rattle.symbols_syntax.specs.WellFormed.{IsWellFormed};
 ghost use Rattle.symbols_nodes.specs.NodeViews.{export_decl_view, symbol_node_view};
 ghost use Rattle.symbols_table.specs.DeclViews.{decl_view};
 ghost use Rattle.symbols_table.specs.Events.{Row, rows_after, symbol_at, changes_of};
-ghost use Rattle.symbols_table.specs.Walks.{empty_walk, walk_if_there, walk_of_each};
+ghost use Rattle.symbols_table.specs.PlacedEvents.{no_placed_events, events_if_there, events_of_each};
 ghost use Rattle.symbols_table.specs.MemberEvents.{member_at, member_nodes};
 ghost use Rattle.symbols_table.specs.DeclarationEvents.{unexported_form, declaration_form, whole_range, is_exported, export_if, adding_events, declaring_events, variable_form, binding_at, declarator_at, variables_events, named_form, own_name, named_events, declaration_events};
 ghost use Rattle.symbols_table.specs.inner.VariablesViews.{variables_view};
@@ -126,7 +126,7 @@ fn variable_form<'a>(
 }
 
 impl<'a> Builder<'a> {
-    ghost use Rattle.symbols_table.specs.inner.Tables.{IsTableOf, IsFilled, ReadsAll, ReadsWalk};
+    ghost use Rattle.symbols_table.specs.inner.Tables.{IsTableOf, IsFilled, ReadsAll, ReadsPlaced};
     ghost use Rattle.symbols_table.specs.inner.Keeping.{KeepsTable};
 
     /// Exports the symbol under the name where it is exported.
@@ -182,7 +182,7 @@ impl<'a> Builder<'a> {
         requires filled { IsFilled self.old }
         requires holder { holder.0 < length self.old.symbols.items }
         ensures keeps { KeepsTable result self.old self.new }
-        ensures table { ReadsWalk result self.old self.new (declaring_events is_exported (id_view id.now) (decl_view decl.entry) empty_walk) holder }
+        ensures table { ReadsPlaced result self.old self.new (declaring_events is_exported (id_view id.now) (decl_view decl.entry) no_placed_events) holder }
     {
         let symbol = self.declare(holder, id, decl)?;
         self.add_to_holder(holder, symbol, id.name.as_str(), is_exported)
@@ -199,7 +199,7 @@ impl<'a> Builder<'a> {
         requires filled { IsFilled self.old }
         requires holder { holder.0 < length self.old.symbols.items }
         ensures keeps { KeepsTable result self.old self.new }
-        ensures table { ReadsWalk result self.old self.new (binding_at (variables_view variables.entry) (node_view declarator.entry) n) holder }
+        ensures table { ReadsPlaced result self.old self.new (binding_at (variables_view variables.entry) (node_view declarator.entry) n) holder }
     {
         let Some(ident) = variables.decl.node(n) else {
             return Ok(());
@@ -228,7 +228,7 @@ impl<'a> Builder<'a> {
         requires filled { IsFilled self.old }
         requires holder { holder.0 < length self.old.symbols.items }
         ensures keeps { KeepsTable result self.old self.new }
-        ensures table { ReadsWalk result self.old self.new (walk_of_each
+        ensures table { ReadsPlaced result self.old self.new (events_of_each
             (binding_at (variables_view variables.entry) (node_view declarator.entry)) names.now) holder }
     {
         for n in names {
@@ -248,7 +248,7 @@ impl<'a> Builder<'a> {
         requires filled { IsFilled self.old }
         requires holder { holder.0 < length self.old.symbols.items }
         ensures keeps { KeepsTable result self.old self.new }
-        ensures table { ReadsWalk result self.old self.new (declarator_at (variables_view variables.entry) n) holder }
+        ensures table { ReadsPlaced result self.old self.new (declarator_at (variables_view variables.entry) n) holder }
     {
         let Some(declarator) = variables.decl.node(n) else {
             return Ok(());
@@ -273,7 +273,7 @@ impl<'a> Builder<'a> {
         requires filled { IsFilled self.old }
         requires holder { holder.0 < length self.old.symbols.items }
         ensures keeps { KeepsTable result self.old self.new }
-        ensures table { ReadsWalk result self.old self.new (variables_events (variables_view variables.entry)) holder }
+        ensures table { ReadsPlaced result self.old self.new (variables_events (variables_view variables.entry)) holder }
     {
         for n in variables.decl.decls() {
             self.walk_declarator(holder, variables, *n)?;
@@ -293,8 +293,8 @@ impl<'a> Builder<'a> {
         requires filled { IsFilled self.old }
         requires holder { holder.0 < length self.old.symbols.items }
         ensures keeps { KeepsTable result self.old self.new }
-        ensures table { ReadsWalk result self.old self.new (declaring_events is_exported (id_view id.now) (decl_view decl.entry)
-            (walk_of_each (member_at node.entry.tree.now) (member_nodes (node_view node.entry)))) holder }
+        ensures table { ReadsPlaced result self.old self.new (declaring_events is_exported (id_view id.now) (decl_view decl.entry)
+            (events_of_each (member_at node.entry.tree.now) (member_nodes (node_view node.entry)))) holder }
     {
         let symbol = self.declare(holder, id, decl)?;
         self.walk_members(symbol, node, member_nodes(node))?;
@@ -313,7 +313,7 @@ impl<'a> Builder<'a> {
         requires filled { IsFilled self.old }
         requires holder { holder.0 < length self.old.symbols.items }
         ensures keeps { KeepsTable result self.old self.new }
-        ensures table { ReadsWalk result self.old self.new (named_events scope (option_map node_view exported.entry) (node_view node.entry)
+        ensures table { ReadsPlaced result self.old self.new (named_events scope (option_map node_view exported.entry) (node_view node.entry)
             (export_decl_view form.entry)) holder }
     {
         let Some(id) = own_name(node) else {
@@ -335,7 +335,7 @@ impl<'a> Builder<'a> {
         requires filled { IsFilled self.old }
         requires holder { holder.0 < length self.old.symbols.items }
         ensures keeps { KeepsTable result self.old self.new }
-        ensures table { ReadsWalk result self.old self.new (walk_if_there (kind_of (node_view node.entry))
+        ensures table { ReadsPlaced result self.old self.new (events_if_there (kind_of (node_view node.entry))
             (declaration_events scope (option_map node_view exported.entry) (node_view node.entry))) holder }
     {
         let is_using = match node.kind() {

@@ -6,10 +6,10 @@ ghost use Rattle.symbols_syntax.specs.NodeRefs.{node_view, kind_of, child_of};
 ghost use Rattle.symbols_syntax.specs.ChildFields.{id_of, body_node_of};
 ghost use Rattle.symbols_syntax.specs.WellFormed.{IsWellFormed};
 ghost use Rattle.symbols_table.specs.inner.NamespaceViews.{namespace_view};
-ghost use Rattle.symbols_table.specs.Walks.{walk_if_there, sym_in};
+ghost use Rattle.symbols_table.specs.PlacedEvents.{events_if_there, sym_in};
 ghost use Rattle.symbols_table.specs.inner.Levels.{AreAbove, ReadsPart};
 ghost use Rattle.symbols_table.specs.Events.{Row, symbol_at, changes_of};
-ghost use Rattle.symbols_table.specs.TreeEvents.{plain_namespace, namespace_of, declares_items, part_first, body_within, body_at, namespace_events, plain_item_events, item_within, block_within};
+ghost use Rattle.symbols_table.specs.TreeEvents.{namespace_at, namespace_of, declares_items, part_first, body_within, body_at, namespace_events, other_item_events, item_within, block_within};
 
 use crate::builder::declarations::{declared_as, is_exported, whole_range};
 use crate::builder::scope::Scope;
@@ -27,8 +27,8 @@ pub(crate) struct Namespace<'a> {
 }
 
 /// The namespace that a node is.
-fn plain_namespace<'a>(exported: Option<NodeRef<'a>>, node: NodeRef<'a>) -> Option<Namespace<'a>>
-    ensures { option_map namespace_view result ≡ option_and_then (plain_namespace (option_map node_view exported.entry) (node_view node.entry))
+fn namespace_at<'a>(exported: Option<NodeRef<'a>>, node: NodeRef<'a>) -> Option<Namespace<'a>>
+    ensures { option_map namespace_view result ≡ option_and_then (namespace_at (option_map node_view exported.entry) (node_view node.entry))
         (kind_of (node_view node.entry)) }
 {
     match node.kind() {
@@ -45,8 +45,8 @@ fn namespace_of<'a>(node: NodeRef<'a>) -> Option<Namespace<'a>>
     ensures { option_map namespace_view result ≡ option_and_then (namespace_of (node_view node.entry)) (kind_of (node_view node.entry)) }
 {
     match node.kind() {
-        Kind::Item(Item::ExportDecl { .. }) => plain_namespace(Some(node), node.decl()?),
-        _ => plain_namespace(None, node),
+        Kind::Item(Item::ExportDecl { .. }) => namespace_at(Some(node), node.decl()?),
+        _ => namespace_at(None, node),
     }
 }
 
@@ -75,7 +75,7 @@ fn namespace_id<'a>(node: NodeRef<'a>) -> Option<&'a Id>
 }
 
 impl<'a> Builder<'a> {
-    ghost use Rattle.symbols_table.specs.inner.Tables.{IsTableOf, IsFilled, ReadsWalk};
+    ghost use Rattle.symbols_table.specs.inner.Tables.{IsTableOf, IsFilled, ReadsPlaced};
     ghost use Rattle.symbols_table.specs.inner.Keeping.{KeepsTable};
 
     /// A later part of the dotted name of a namespace.
@@ -115,7 +115,7 @@ impl<'a> Builder<'a> {
         requires holder { holder.0 < length self.old.symbols.items }
         ensures keeps { KeepsTable result self.old self.new }
         ensures table { (levels parts : ℕ) → length whole.entry.tree.now.nodes.items ≤ n + suc levels → length whole.entry.tree.now.nodes.items ≤ n + parts
-            → ReadsWalk result self.old self.new (body_within (block_within whole.entry.tree.now levels) (node_view whole.entry) ambient parts n) holder }
+            → ReadsPlaced result self.old self.new (body_within (block_within whole.entry.tree.now levels) (node_view whole.entry) ambient parts n) holder }
     {
         let Some(node) = whole.node(n) else {
             return Ok(());
@@ -152,7 +152,7 @@ impl<'a> Builder<'a> {
         requires holder { holder.0 < length self.old.symbols.items }
         ensures keeps { KeepsTable result self.old self.new }
         ensures table { (levels : ℕ) → length whole.entry.tree.now.nodes.items ≤ whole.entry.number + suc levels
-            → ReadsWalk result self.old self.new (walk_if_there (child_of (node_view whole.entry) body_node_of)
+            → ReadsPlaced result self.old self.new (events_if_there (child_of (node_view whole.entry) body_node_of)
             (body_at (block_within whole.entry.tree.now levels) (node_view whole.entry) ambient)) holder }
     {
         match whole.body_node() {
@@ -174,7 +174,7 @@ impl<'a> Builder<'a> {
         requires holder { holder.0 < length self.old.symbols.items }
         ensures keeps { KeepsTable result self.old self.new }
         ensures table { (levels : ℕ) → length namespace.entry.decl.tree.now.nodes.items ≤ namespace.entry.decl.number + suc levels
-            → ReadsWalk result self.old self.new (walk_if_there (kind_of (node_view namespace.entry.decl))
+            → ReadsPlaced result self.old self.new (events_if_there (kind_of (node_view namespace.entry.decl))
             (namespace_events (block_within namespace.entry.decl.tree.now levels) scope (namespace_view namespace.entry))) holder }
     {
         let Namespace { exported, decl } = namespace;
@@ -205,8 +205,8 @@ impl<'a> Builder<'a> {
         requires filled { IsFilled self.old }
         requires holder { holder.0 < length self.old.symbols.items }
         ensures keeps { KeepsTable result self.old self.new }
-        ensures table { ReadsWalk result self.old self.new (walk_if_there (kind_of (node_view node.entry))
-            (plain_item_events scope (node_view node.entry))) holder }
+        ensures table { ReadsPlaced result self.old self.new (events_if_there (kind_of (node_view node.entry))
+            (other_item_events scope (node_view node.entry))) holder }
     {
         match node.kind() {
             Kind::Item(Item::ExportDecl { .. }) => match node.decl() {
@@ -233,7 +233,7 @@ impl<'a> Builder<'a> {
         requires holder { holder.0 < length self.old.symbols.items }
         ensures keeps { KeepsTable result self.old self.new }
         ensures table { (levels : ℕ) → length parent.entry.tree.now.nodes.items ≤ n + levels
-            → ReadsWalk result self.old self.new (item_within parent.entry.tree.now levels scope n) holder }
+            → ReadsPlaced result self.old self.new (item_within parent.entry.tree.now levels scope n) holder }
     {
         let Some(node) = parent.node(n) else {
             return Ok(());
@@ -259,7 +259,7 @@ impl<'a> Builder<'a> {
         requires holder { holder.0 < length self.old.symbols.items }
         ensures keeps { KeepsTable result self.old self.new }
         ensures table { (levels : ℕ) → length parent.entry.tree.now.nodes.items ≤ parent.entry.number + suc levels
-            → ReadsWalk result self.old self.new (block_within parent.entry.tree.now levels scope items.now) holder }
+            → ReadsPlaced result self.old self.new (block_within parent.entry.tree.now levels scope items.now) holder }
     {
         for n in items {
             self.walk_item(holder, scope, parent, *n)?;

@@ -5,7 +5,7 @@ ghost use Rattle.std.specs.Option.{option_map, option_and_then};
 ghost use Rattle.symbols_syntax.specs.NodeRefs.{node_view, kind_of};
 ghost use Rattle.symbols_nodes.specs.NodeViews.{symbol_node_view};
 ghost use Rattle.symbols_table.specs.inner.MemberViews.{member_view};
-ghost use Rattle.symbols_table.specs.Walks.{walk_of_each};
+ghost use Rattle.symbols_table.specs.PlacedEvents.{events_of_each};
 ghost use Rattle.symbols_table.specs.MemberEvents.{member_nodes, one_member, param_at, constructor_events, simple_member, member_at};
 
 use crate::builder::table::{BuildFault, Builder};
@@ -77,7 +77,7 @@ fn simple_member<'a>(node: NodeRef<'a>) -> Option<SimpleMember<'a>>
 }
 
 impl<'a> Builder<'a> {
-    ghost use Rattle.symbols_table.specs.inner.Tables.{IsFilled, ReadsWalk};
+    ghost use Rattle.symbols_table.specs.inner.Tables.{IsFilled, ReadsPlaced};
     ghost use Rattle.symbols_table.specs.inner.Keeping.{KeepsTable};
 
     /// One member, where its node stands.
@@ -92,7 +92,7 @@ impl<'a> Builder<'a> {
         requires holder { holder.0 < length self.old.symbols.items }
         requires inner { 0 < holder.0 }
         ensures keeps { KeepsTable result self.old self.new }
-        ensures table { ReadsWalk result self.old self.new (one_member (symbol_node_view form.entry) (node_view node.entry) is_static) holder }
+        ensures table { ReadsPlaced result self.old self.new (one_member (symbol_node_view form.entry) (node_view node.entry) is_static) holder }
     {
         let decl = SymbolDecl::definition(form, node.range());
         self.declare_member(holder, decl, is_static)?;
@@ -110,7 +110,7 @@ impl<'a> Builder<'a> {
         requires holder { holder.0 < length self.old.symbols.items }
         requires inner { 0 < holder.0 }
         ensures keeps { KeepsTable result self.old self.new }
-        ensures table { ReadsWalk result self.old self.new (param_at constructor.entry.tree.now n) holder }
+        ensures table { ReadsPlaced result self.old self.new (param_at constructor.entry.tree.now n) holder }
     {
         let Some(param) = constructor.node(n) else {
             return Ok(());
@@ -134,7 +134,7 @@ impl<'a> Builder<'a> {
         requires holder { holder.0 < length self.old.symbols.items }
         requires inner { 0 < holder.0 }
         ensures keeps { KeepsTable result self.old self.new }
-        ensures table { ReadsWalk result self.old self.new (walk_of_each (param_at node.entry.tree.now) params.now) holder }
+        ensures table { ReadsPlaced result self.old self.new (events_of_each (param_at node.entry.tree.now) params.now) holder }
     {
         for n in params {
             self.walk_param(holder, node, *n)?;
@@ -153,7 +153,7 @@ impl<'a> Builder<'a> {
         requires holder { holder.0 < length self.old.symbols.items }
         requires inner { 0 < holder.0 }
         ensures keeps { KeepsTable result self.old self.new }
-        ensures table { ReadsWalk result self.old self.new (constructor_events (node_view node.entry) params.now) holder }
+        ensures table { ReadsPlaced result self.old self.new (constructor_events (node_view node.entry) params.now) holder }
     {
         let decl = SymbolDecl::definition(SymbolNodeRef::Constructor(node), node.range());
         self.declare_member(holder, decl, true)?;
@@ -171,7 +171,7 @@ impl<'a> Builder<'a> {
         requires holder { holder.0 < length self.old.symbols.items }
         requires inner { 0 < holder.0 }
         ensures keeps { KeepsTable result self.old self.new }
-        ensures table { ReadsWalk result self.old self.new (member_at parent.entry.tree.now n) holder }
+        ensures table { ReadsPlaced result self.old self.new (member_at parent.entry.tree.now n) holder }
     {
         let Some(node) = parent.node(n) else {
             return Ok(());
@@ -196,7 +196,7 @@ impl<'a> Builder<'a> {
         requires holder { holder.0 < length self.old.symbols.items }
         requires inner { 0 < holder.0 }
         ensures keeps { KeepsTable result self.old self.new }
-        ensures table { ReadsWalk result self.old self.new (walk_of_each (member_at parent.entry.tree.now) members.now) holder }
+        ensures table { ReadsPlaced result self.old self.new (events_of_each (member_at parent.entry.tree.now) members.now) holder }
     {
         for n in members {
             self.walk_member(holder, parent, *n)?;

@@ -5,7 +5,7 @@ ghost use Rattle.std.specs.Option.{option_map, option_copied, option_and_then};
 ghost use Rattle.symbols_syntax.specs.NodeRefs.{node_view, kind_of};
 ghost use Rattle.symbols_syntax.specs.WellFormed.{IsWellFormed};
 ghost use Rattle.symbols_table.specs.DeclViews.{decl_view, decl_kind_view, dep_name_view, file_ref};
-ghost use Rattle.symbols_table.specs.Walks.{walk_if_there, walk_of_each};
+ghost use Rattle.symbols_table.specs.PlacedEvents.{events_if_there, events_of_each};
 ghost use Rattle.symbols_table.specs.Events.{Row, changes_of, symbol_at, rows_after};
 ghost use Rattle.symbols_table.specs.DeclarationEvents.{own_name};
 ghost use Rattle.symbols_table.specs.declared.builder.table.BuildFault.TheVariants.{OutOfMemory};
@@ -108,7 +108,7 @@ fn alias_kind<'a>(
 }
 
 impl<'a> Builder<'a> {
-    ghost use Rattle.symbols_table.specs.inner.Tables.{IsTableOf, IsFilled, ReadsWalk};
+    ghost use Rattle.symbols_table.specs.inner.Tables.{IsTableOf, IsFilled, ReadsPlaced};
     ghost use Rattle.symbols_table.specs.inner.Keeping.{KeepsTable};
 
     /// One name of an import, by its number.
@@ -122,7 +122,7 @@ impl<'a> Builder<'a> {
         requires filled { IsFilled self.old }
         requires holder { holder.0 < length self.old.symbols.items }
         ensures keeps { KeepsTable result self.old self.new }
-        ensures table { ReadsWalk result self.old self.new (import_at src.now import.entry.tree.now n) holder }
+        ensures table { ReadsPlaced result self.old self.new (import_at src.now import.entry.tree.now n) holder }
     {
         let Some(node) = import.node(n) else {
             return Ok(());
@@ -155,7 +155,7 @@ impl<'a> Builder<'a> {
         requires filled { IsFilled self.old }
         requires holder { holder.0 < length self.old.symbols.items }
         ensures keeps { KeepsTable result self.old self.new }
-        ensures table { ReadsWalk result self.old self.new (walk_of_each (import_at src.now node.entry.tree.now) specifiers.now) holder }
+        ensures table { ReadsPlaced result self.old self.new (events_of_each (import_at src.now node.entry.tree.now) specifiers.now) holder }
     {
         for n in specifiers {
             self.walk_import_specifier(holder, src, node, *n)?;
@@ -173,7 +173,7 @@ impl<'a> Builder<'a> {
         requires filled { IsFilled self.old }
         requires holder { holder.0 < length self.old.symbols.items }
         ensures keeps { KeepsTable result self.old self.new }
-        ensures table { ReadsWalk result self.old self.new (named_export name.now (decl_view decl.entry)) holder }
+        ensures table { ReadsPlaced result self.old self.new (named_export name.now (decl_view decl.entry)) holder }
     {
         let symbol = self.add_symbol(Some(holder), decl)?;
         self.add_export(holder, name, symbol)?;
@@ -191,7 +191,7 @@ impl<'a> Builder<'a> {
         requires filled { IsFilled self.old }
         requires holder { holder.0 < length self.old.symbols.items }
         ensures keeps { KeepsTable result self.old self.new }
-        ensures table { ReadsWalk result self.old self.new (specifier_at (option_copied src.entry) (node_view node.entry)
+        ensures table { ReadsPlaced result self.old self.new (specifier_at (option_copied src.entry) (node_view node.entry)
             (option_map string_bytes exported.now)) holder }
     {
         let Some(orig) = node.orig() else {
@@ -221,7 +221,7 @@ impl<'a> Builder<'a> {
         requires filled { IsFilled self.old }
         requires holder { holder.0 < length self.old.symbols.items }
         ensures keeps { KeepsTable result self.old self.new }
-        ensures table { ReadsWalk result self.old self.new (export_at (option_copied src.entry) export.entry.tree.now n) holder }
+        ensures table { ReadsPlaced result self.old self.new (export_at (option_copied src.entry) export.entry.tree.now n) holder }
     {
         let Some(node) = export.node(n) else {
             return Ok(());
@@ -252,7 +252,7 @@ impl<'a> Builder<'a> {
         requires filled { IsFilled self.old }
         requires holder { holder.0 < length self.old.symbols.items }
         ensures keeps { KeepsTable result self.old self.new }
-        ensures table { ReadsWalk result self.old self.new (walk_of_each (export_at (option_copied src.entry) node.entry.tree.now) specifiers.now) holder }
+        ensures table { ReadsPlaced result self.old self.new (events_of_each (export_at (option_copied src.entry) node.entry.tree.now) specifiers.now) holder }
     {
         for n in specifiers {
             self.walk_export_name(holder, src, node, *n)?;
@@ -286,7 +286,7 @@ impl<'a> Builder<'a> {
         requires filled { IsFilled self.old }
         requires holder { holder.0 < length self.old.symbols.items }
         ensures keeps { KeepsTable result self.old self.new }
-        ensures table { ReadsWalk result self.old self.new (default_decl_events (node_view node.entry) (node_view decl.entry)) holder }
+        ensures table { ReadsPlaced result self.old self.new (default_decl_events (node_view node.entry) (node_view decl.entry)) holder }
     {
         let definition = SymbolDecl::definition(
             SymbolNodeRef::ExportDefaultDecl(node),
@@ -302,7 +302,7 @@ impl<'a> Builder<'a> {
         requires filled { IsFilled self.old }
         requires holder { holder.0 < length self.old.symbols.items }
         ensures keeps { KeepsTable result self.old self.new }
-        ensures table { ReadsWalk result self.old self.new (default_at (decl_view decl.entry)) holder }
+        ensures table { ReadsPlaced result self.old self.new (default_at (decl_view decl.entry)) holder }
     {
         self.declare_default(holder, decl)?;
         Ok(())
@@ -317,7 +317,7 @@ impl<'a> Builder<'a> {
         requires filled { IsFilled self.old }
         requires holder { holder.0 < length self.old.symbols.items }
         ensures keeps { KeepsTable result self.old self.new }
-        ensures table { ReadsWalk result self.old self.new (walk_if_there (kind_of (node_view expr.entry)) (assignment_events (node_view expr.entry))) holder }
+        ensures table { ReadsPlaced result self.old self.new (events_if_there (kind_of (node_view expr.entry)) (assignment_events (node_view expr.entry))) holder }
     {
         match expr.kind() {
             Kind::Expr(Expr::Ident { sym }) => {
@@ -341,7 +341,7 @@ impl<'a> Builder<'a> {
         requires filled { IsFilled self.old }
         requires holder { holder.0 < length self.old.symbols.items }
         ensures keeps { KeepsTable result self.old self.new }
-        ensures table { ReadsWalk result self.old self.new (import_equals_events (node_view node.entry) is_export entity external.now) holder }
+        ensures table { ReadsPlaced result self.old self.new (import_equals_events (node_view node.entry) is_export entity external.now) holder }
     {
         let Some(ident) = node.id() else {
             return Ok(());
@@ -361,7 +361,7 @@ impl<'a> Builder<'a> {
         requires filled { IsFilled self.old }
         requires holder { holder.0 < length self.old.symbols.items }
         ensures keeps { KeepsTable result self.old self.new }
-        ensures table { ReadsWalk result self.old self.new (expando_events (node_view expr.entry)) holder }
+        ensures table { ReadsPlaced result self.old self.new (expando_events (node_view expr.entry)) holder }
     {
         let Some(expando) = ExpandoPropertyRef::maybe_new(expr) else {
             return Ok(());
@@ -383,7 +383,7 @@ impl<'a> Builder<'a> {
         requires filled { IsFilled self.old }
         requires holder { holder.0 < length self.old.symbols.items }
         ensures keeps { KeepsTable result self.old self.new }
-        ensures table { ReadsWalk result self.old self.new (walk_if_there (kind_of (node_view node.entry)) (module_events (node_view node.entry))) holder }
+        ensures table { ReadsPlaced result self.old self.new (events_if_there (kind_of (node_view node.entry)) (module_events (node_view node.entry))) holder }
     {
         let Kind::Item(item) = node.kind() else {
             return Ok(());

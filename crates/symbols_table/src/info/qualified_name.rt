@@ -101,10 +101,7 @@ fn take_all_escaped(made: &mut String, pieces: &mut Vec<CowStr<'_>>) -> Result<(
 }
 
 /// A text of pieces in brackets and quotes, as one piece.
-fn in_brackets<'a>(
-    alloc: Global,
-    pieces: Vec<CowStr<'a>>,
-) -> Result<Vec<CowStr<'a>>, AllocError>
+fn in_brackets<'a>(alloc: Global, pieces: Vec<CowStr<'a>>) -> Result<Vec<CowStr<'a>>, AllocError>
     ensures { IfOk result (λ more. text_told more.items ≡ codes "[\"" ++ (escaped_text (text_told pieces.entry.items) ++ codes "\"]")) }
 {
     let mut pieces = pieces;

@@ -10,11 +10,11 @@ use Rattle.symbols_table.specs.declared.builder.table.Setting.{Setting}
 use Rattle.symbols_table.specs.inner.NamespaceViews.{namespace_view}
 use Rattle.symbols_table.specs.DeclViews.{Declaration, decl_view}
 use Rattle.symbols_table.specs.DeclarationEvents.{is_exported, declaring_events}
-use Rattle.symbols_table.specs.Walks.{walk_of_each, sym_in}
+use Rattle.symbols_table.specs.PlacedEvents.{events_of_each, sym_in}
 use Rattle.symbols_table.specs.inner.Levels.{AreAbove}
 use Rattle.symbols_table.specs.Events.{rows_after, changes_of}
 use Rattle.symbols_table.specs.TreeEvents.{part_events, body_events, body_within, body_at, item_within, block_within}
-use Rattle.symbols_table.specs.inner.Tables.{ReadsAll, ReadsWalk}
+use Rattle.symbols_table.specs.inner.Tables.{ReadsAll, ReadsPlaced}
 use Rattle.symbols_table.proofs.Keeping.{keeps_same}
 use Rattle.symbols_table.proofs.Walks.{take_item, split_item, each_none, each_next, each_fault, none_read, on_none, on_reads}
 use Rattle.symbols_table.proofs.PatternLemmas.{is_found}
@@ -216,7 +216,7 @@ walk_items-returns-in_err-walk_item-clause-table t c = λ levels enough.
     let n = c.n-item.result in
     let walk = item_within c.args.parent.tree.now levels c.args.scope in
     let above = c.requires.above c.loop-n.n-index n c.loop-n-test.true in
-    let P : List ℕ → Type 0 = λ ms. ReadsWalk c.from_residual.result c.args.self.now c.walk_item.new.self (walk_of_each walk ms) c.args.holder in
+    let P : List ℕ → Type 0 = λ ms. ReadsPlaced c.from_residual.result c.args.self.now c.walk_item.new.self (events_of_each walk ms) c.args.holder in
     subst P (split_item items c.loop-n.n-index n c.loop-n-test.true c.n-item.is)
     (each_fault ℕ walk (take c.loop-n.n-index items) (c.loop-n.invariant levels enough) c.walk_item.new.self c.walk_item.new.self n (drop (suc c.loop-n.n-index) items) c.in_err-walk_item.field-0.0 c.from_residual.result c.from_residual.ensures.1 (c.in_err-walk_item.ensures.table levels (omega (arith, above.0, c.n-item.is))))
 

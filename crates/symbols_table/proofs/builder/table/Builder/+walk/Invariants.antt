@@ -1,5 +1,5 @@
 use Rattle.std.proofs.Common.{ℕ, suc, ◌+◌, ◌-◌, ◌*◌, ◌≤◌, length, take}
-use Rattle.symbols_table.specs.Walks.{walk_of_each}
+use Rattle.symbols_table.specs.PlacedEvents.{events_of_each}
 use Rattle.symbols_table.specs.TreeEvents.{item_within}
 use Rattle.symbols_table.proofs.Walks.{IsWalked}
 use Rattle.symbols_table.proofs.builder.table.Builder.+walk.Given as goal
@@ -21,4 +21,4 @@ decreases-walk_items l = 4 * (length l.parent.tree.now.nodes.items - l.parent.nu
 
 abbrev pub invariant-walk_items-loop-n : goal.invariant-walk_items-loop-n
 invariant-walk_items-loop-n l =
-    (levels : ℕ) → length l.parent.tree.now.nodes.items ≤ l.parent.number + suc levels → IsWalked l.fn.self l.self (walk_of_each (item_within l.parent.tree.now levels l.scope) (take l.n-index l.items)) l.holder
+    (levels : ℕ) → length l.parent.tree.now.nodes.items ≤ l.parent.number + suc levels → IsWalked l.fn.self l.self (events_of_each (item_within l.parent.tree.now levels l.scope) (take l.n-index l.items)) l.holder

@@ -4,7 +4,7 @@ use Rattle.symbols_syntax.specs.NodeRefs.{node_view}
 use Rattle.symbols_nodes.specs.NodeViews.{ts_namespace}
 use Rattle.symbols_table.specs.DeclViews.{decl_view, definition_at}
 use Rattle.symbols_table.specs.Events.{changes_of}
-use Rattle.symbols_table.specs.Walks.{range_in}
+use Rattle.symbols_table.specs.PlacedEvents.{range_in}
 use Rattle.symbols_table.proofs.ItemWalks.{part_read, part_fault}
 use Rattle.symbols_table.proofs.builder.table.Builder.declare_part.Goals as goal
 

@@ -7,8 +7,8 @@ use Rattle.symbols_table.specs.DeclViews.{decl_view}
 use Rattle.symbols_table.specs.Events.{declare_row, row_of, changes_of, symbol_at, rows_after, declare}
 use Rattle.symbols_table.specs.MemberEvents.{member_at, member_nodes}
 use Rattle.symbols_table.specs.DeclarationEvents.{adding_events}
-use Rattle.symbols_table.specs.inner.Tables.{ReadsAll, ReadsWalk}
-use Rattle.symbols_table.specs.Walks.{walk_of_each}
+use Rattle.symbols_table.specs.inner.Tables.{ReadsAll, ReadsPlaced}
+use Rattle.symbols_table.specs.PlacedEvents.{events_of_each}
 use Rattle.symbols_table.proofs.Walks.{reads_from, err_all}
 use Rattle.symbols_table.proofs.EventReads.{around_rows, inner_read, inner_fault, holder_after, symbol_after}
 use Rattle.symbols_table.proofs.builder.table.Builder.declare_with_members.Goals as goal
@@ -20,7 +20,7 @@ returns-in_err-symbol-clause-table c = λ rows h is at.
     let event = declare h id decl in
     let row = declare_row (changes_of rows) c.args.holder id decl in
     let reads : row_of (changes_of rows) (symbol_at rows) event ≡ row = rw at refl in
-    let walk = walk_of_each (member_at c.args.node.tree.now) (member_nodes (node_view c.args.node)) in
+    let walk = events_of_each (member_at c.args.node.tree.now) (member_nodes (node_view c.args.node)) in
     let inner = walk (length rows) (length rows + 1) in
     err_all _ _ _ rows event row (inner ++ adding_events c.args.is_exported h id.name (length rows)) c.in_err-symbol.field-0.0 reads c.from_residual.ensures.1 (c.in_err-symbol.ensures.table (changes_of rows) is)
 
@@ -31,10 +31,10 @@ returns-in_err-walk_members-clause-table c = λ rows h is at.
     let event = declare h id decl in
     let row = declare_row (changes_of rows) c.args.holder id decl in
     let reads : row_of (changes_of rows) (symbol_at rows) event ≡ row = rw at refl in
-    let walk = walk_of_each (member_at c.args.node.tree.now) (member_nodes (node_view c.args.node)) in
+    let walk = events_of_each (member_at c.args.node.tree.now) (member_nodes (node_view c.args.node)) in
     let inner = walk (length rows) (length rows + 1) in
     let read = c.in_ok-symbol.ensures.table (changes_of rows) is in
-    let P : List ℕ → Type 0 = λ ms. ReadsWalk {A = Unit {0}} (Err c.in_err-walk_members.field-0.0) c.declare.new.self c.walk_members.new.self (walk_of_each (member_at c.args.node.tree.now) ms) c.in_ok-symbol.symbol in
+    let P : List ℕ → Type 0 = λ ms. ReadsPlaced {A = Unit {0}} (Err c.in_err-walk_members.field-0.0) c.declare.new.self c.walk_members.new.self (events_of_each (member_at c.args.node.tree.now) ms) c.in_ok-symbol.symbol in
     inner_fault rows event row reads (Unit {0}) c.from_residual-in_err-walk_members.result c.args.self.now.setting.limit c.declare.new.self c.walk_members.new.self c.walk_members.new.self walk c.in_ok-symbol.symbol (adding_events c.args.is_exported h id.name (length rows)) c.in_err-walk_members.field-0.0
     (ap (λ (s : Setting). s.limit) c.in_ok-symbol.ensures.keeps.setting) read.1 read.0 c.from_residual-in_err-walk_members.ensures.1 (subst P c.member_nodes.ensures c.in_err-walk_members.ensures.table)
 
@@ -45,10 +45,10 @@ returns-clause-table c = λ rows h is at.
     let event = declare h id decl in
     let row = declare_row (changes_of rows) c.args.holder id decl in
     let reads : row_of (changes_of rows) (symbol_at rows) event ≡ row = rw at refl in
-    let walk = walk_of_each (member_at c.args.node.tree.now) (member_nodes (node_view c.args.node)) in
+    let walk = events_of_each (member_at c.args.node.tree.now) (member_nodes (node_view c.args.node)) in
     let inner = walk (length rows) (length rows + 1) in
     let read = c.in_ok-symbol.ensures.table (changes_of rows) is in
-    let P : List ℕ → Type 0 = λ ms. ReadsWalk (Ok c.in_ok-walk_members.field-0) c.declare.new.self c.walk_members.new.self (walk_of_each (member_at c.args.node.tree.now) ms) c.in_ok-symbol.symbol in
+    let P : List ℕ → Type 0 = λ ms. ReadsPlaced (Ok c.in_ok-walk_members.field-0) c.declare.new.self c.walk_members.new.self (events_of_each (member_at c.args.node.tree.now) ms) c.in_ok-symbol.symbol in
     let walked = inner_read rows event row reads (Ok c.in_ok-walk_members.field-0) c.declare.new.self c.walk_members.new.self walk c.in_ok-symbol.symbol read.1 read.0 (subst P c.member_nodes.ensures c.in_ok-walk_members.ensures.table) in
     let last = c.add_to_holder.ensures.table (rows_after (rows ++ row ∷ []) inner) h (length rows) walked (holder_after rows event row reads inner h c.args.holder at) (symbol_after rows event row reads inner c.in_ok-symbol.symbol read.0) in
     let Q : List ℕ → Type 0 = λ name. ReadsAll c.add_to_holder.result c.walk_members.new.self.setting.limit c.add_to_holder.new.self (rows_after (rows_after (rows ++ row ∷ []) inner) (adding_events c.args.is_exported h name (length rows))) in

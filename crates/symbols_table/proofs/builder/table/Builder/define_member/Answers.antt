@@ -4,7 +4,7 @@ use Rattle.symbols_syntax.specs.NodeRefs.{node_view}
 use Rattle.symbols_nodes.specs.NodeViews.{symbol_node_view}
 use Rattle.symbols_table.specs.DeclViews.{decl_view, definition_at}
 use Rattle.symbols_table.specs.Events.{member, member_row, row_of, changes_of, symbol_at}
-use Rattle.symbols_table.specs.Walks.{range_in}
+use Rattle.symbols_table.specs.PlacedEvents.{range_in}
 use Rattle.symbols_table.proofs.Walks.{err_all}
 use Rattle.symbols_table.proofs.EventReads.{event_read, member_reads}
 use Rattle.symbols_table.proofs.builder.table.Builder.define_member.Goals as goal

@@ -7,7 +7,7 @@ use Rattle.symbols_table.specs.declared.builder.table.Setting.{Setting}
 use Rattle.symbols_table.specs.DeclViews.{decl_view, definition_at}
 use Rattle.symbols_table.specs.Events.{member, member_row, row_of, changes_of, symbol_at}
 use Rattle.symbols_table.specs.MemberEvents.{param_at}
-use Rattle.symbols_table.specs.Walks.{walk_of_each, range_in}
+use Rattle.symbols_table.specs.PlacedEvents.{events_of_each, range_in}
 use Rattle.symbols_table.proofs.Walks.{err_all}
 use Rattle.symbols_table.proofs.EventReads.{event_then, member_reads}
 use Rattle.symbols_table.proofs.builder.table.Builder.walk_constructor.Goals as goal
@@ -21,7 +21,7 @@ returns-clause-table c = λ rows h is at.
     let row = member_row (changes_of rows) c.args.holder decl true in
     let event = member h (definition_at (constructor node) (range_in node)) true in
     let reads : row_of (changes_of rows) (symbol_at rows) event ≡ row = member_reads rows h c.args.holder at (definition_at (constructor node) (range_in node)) decl declared true in
-    event_then rows event row reads c.walk_params.result c.args.self.now.setting.limit c.declare_member.new.self c.walk_params.new.self (walk_of_each (param_at c.args.node.tree.now) c.args.params.now) c.args.holder h (length rows + 1)
+    event_then rows event row reads c.walk_params.result c.args.self.now.setting.limit c.declare_member.new.self c.walk_params.new.self (events_of_each (param_at c.args.node.tree.now) c.args.params.now) c.args.holder h (length rows + 1)
     (ap (λ (s : Setting). s.limit) c.in_ok-declare_member.ensures.keeps.setting) refl (c.in_ok-declare_member.ensures.table (changes_of rows) is).1 at c.walk_params.ensures.table
 
 pub returns-in_err-declare_member-clause-table : goal.returns-in_err-declare_member-clause-table
@@ -33,4 +33,4 @@ returns-in_err-declare_member-clause-table c = λ rows h is at.
     let row = member_row (changes_of rows) c.args.holder decl true in
     let event = member h (definition_at (constructor node) (range_in node)) true in
     let reads : row_of (changes_of rows) (symbol_at rows) event ≡ row = member_reads rows h c.args.holder at (definition_at (constructor node) (range_in node)) decl declared true in
-    err_all _ _ _ rows event row (walk_of_each (param_at c.args.node.tree.now) c.args.params.now h (length rows + 1)) c.in_err-declare_member.field-0.0 reads c.from_residual.ensures.1 (c.in_err-declare_member.ensures.table (changes_of rows) is)
+    err_all _ _ _ rows event row (events_of_each (param_at c.args.node.tree.now) c.args.params.now h (length rows + 1)) c.in_err-declare_member.field-0.0 reads c.from_residual.ensures.1 (c.in_err-declare_member.ensures.table (changes_of rows) is)

@@ -1,6 +1,6 @@
 use Rattle.std.proofs.Common.{length, rules}
 use Rattle.symbols_syntax.specs.NodeRefs.{node_view, kind_of}
-use Rattle.symbols_table.specs.Walks.{walk_if_there}
+use Rattle.symbols_table.specs.PlacedEvents.{events_if_there}
 use Rattle.symbols_table.specs.ModuleEvents.{assignment_events}
 use Rattle.symbols_table.proofs.Keeping.{keeps_same}
 use Rattle.symbols_table.proofs.ModuleWalks.{no_events}
@@ -9,11 +9,11 @@ use Rattle.symbols_table.proofs.builder.table.Builder.walk_export_assignment.Goa
 pub returns-in_default : goal.returns-in_default
 returns-in_default c = record {
   keeps = keeps_same _ _ c.requires.filled;
-  table = λ rows h is at. no_events c.args.self.now rows (walk_if_there (kind_of (node_view c.args.expr)) (assignment_events (node_view c.args.expr)) h (length rows)) (search rules) is;
+  table = λ rows h is at. no_events c.args.self.now rows (events_if_there (kind_of (node_view c.args.expr)) (assignment_events (node_view c.args.expr)) h (length rows)) (search rules) is;
 }
 
 pub returns-in_default-2 : goal.returns-in_default-2
 returns-in_default-2 c = record {
   keeps = keeps_same _ _ c.requires.filled;
-  table = λ rows h is at. no_events c.args.self.now rows (walk_if_there (kind_of (node_view c.args.expr)) (assignment_events (node_view c.args.expr)) h (length rows)) (search rules) is;
+  table = λ rows h is at. no_events c.args.self.now rows (events_if_there (kind_of (node_view c.args.expr)) (assignment_events (node_view c.args.expr)) h (length rows)) (search rules) is;
 }

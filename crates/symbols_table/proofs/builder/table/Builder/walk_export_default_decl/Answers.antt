@@ -7,7 +7,7 @@ use Rattle.symbols_table.specs.Events.{default, default_row, row_of, changes_of,
 use Rattle.symbols_table.specs.MemberEvents.{member_at}
 use Rattle.symbols_table.specs.ModuleEvents.{binds_if}
 use Rattle.symbols_table.specs.inner.Tables.{ReadsAll}
-use Rattle.symbols_table.specs.Walks.{walk_of_each}
+use Rattle.symbols_table.specs.PlacedEvents.{events_of_each}
 use Rattle.symbols_table.proofs.Rows.{symbol_at-push, symbol_at_after}
 use Rattle.symbols_table.proofs.Walks.{one_read, reads_from}
 use Rattle.symbols_table.proofs.ModuleWalks.{err_as, default_decl_as, default_decl_rows}
@@ -27,7 +27,7 @@ returns-clause-table c = λ rows h is at.
     let found : symbol_at more (length rows) ≡ Some c.in_ok-symbol.symbol = symbol_at-push rows row ∙ read.0 in
     let named = c.in_ok-bind_name.ensures.table more (length rows) (one_read c.declare_default.new.self rows row read.1) found in
     let rest = c.walk_members.ensures.table so_far (length rows) named (symbol_at_after more names (length rows) c.in_ok-symbol.symbol found) in
-    let P : List ℕ → Type 0 = λ ms. ReadsAll c.walk_members.result c.bind_name.new.self.setting.limit c.walk_members.new.self (rows_after so_far (walk_of_each (member_at declared.tree) ms (length rows) (length so_far))) in
+    let P : List ℕ → Type 0 = λ ms. ReadsAll c.walk_members.result c.bind_name.new.self.setting.limit c.walk_members.new.self (rows_after so_far (events_of_each (member_at declared.tree) ms (length rows) (length so_far))) in
     reads_from _ _ _ _ _ _ (ap (λ (s : Setting). s.limit) (c.in_ok-bind_name.ensures.keeps.setting ∙ c.in_ok-symbol.ensures.keeps.setting)) (default_decl_rows rows node declared c.range.result decl row h c.range.ensures c.definition-definition.ensures reads) (subst P c.member_nodes.ensures rest)
 
 pub returns-in_err-symbol-clause-table : goal.returns-in_err-symbol-clause-table

@@ -1,8 +1,8 @@
 use Rattle.std.proofs.Common.{ℕ, List, take, drop, suc, subst}
 use Rattle.std.specs.Option.{option_copied}
-use Rattle.symbols_table.specs.Walks.{walk_of_each}
+use Rattle.symbols_table.specs.PlacedEvents.{events_of_each}
 use Rattle.symbols_table.specs.ModuleEvents.{export_at}
-use Rattle.symbols_table.specs.inner.Tables.{ReadsWalk}
+use Rattle.symbols_table.specs.inner.Tables.{ReadsPlaced}
 use Rattle.symbols_table.proofs.Walks.{take_item, split_item, each_none, each_next, each_fault}
 use Rattle.symbols_table.proofs.builder.table.Builder.walk_export_named.Goals as goal
 
@@ -17,6 +17,6 @@ loop-n-preserved c =
 pub returns-in_err-walk_export_name-clause-table : goal.returns-in_err-walk_export_name-clause-table
 returns-in_err-walk_export_name-clause-table c =
     let items = c.args.specifiers.now in
-    let P : List ℕ → Type 0 = λ ms. ReadsWalk c.from_residual.result c.args.self.now c.walk_export_name.new.self (walk_of_each (export_at (option_copied c.args.src) c.args.node.tree.now) ms) c.args.holder in
+    let P : List ℕ → Type 0 = λ ms. ReadsPlaced c.from_residual.result c.args.self.now c.walk_export_name.new.self (events_of_each (export_at (option_copied c.args.src) c.args.node.tree.now) ms) c.args.holder in
     subst P (split_item items c.loop-n.n-index c.n-item.result c.loop-n-test.true c.n-item.is)
     (each_fault (Unit {0}) (export_at (option_copied c.args.src) c.args.node.tree.now) (take c.loop-n.n-index items) c.loop-n.invariant c.walk_export_name.new.self c.walk_export_name.new.self c.n-item.result (drop (suc c.loop-n.n-index) items) c.in_err-walk_export_name.field-0.0 c.from_residual.result c.from_residual.ensures.1 c.in_err-walk_export_name.ensures.table)

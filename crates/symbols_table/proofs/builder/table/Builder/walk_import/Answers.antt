@@ -1,7 +1,7 @@
 use Rattle.std.proofs.Common.{ℕ, List, take, drop, suc, subst}
-use Rattle.symbols_table.specs.Walks.{walk_of_each}
+use Rattle.symbols_table.specs.PlacedEvents.{events_of_each}
 use Rattle.symbols_table.specs.ModuleEvents.{import_at}
-use Rattle.symbols_table.specs.inner.Tables.{ReadsWalk}
+use Rattle.symbols_table.specs.inner.Tables.{ReadsPlaced}
 use Rattle.symbols_table.proofs.Walks.{take_item, split_item, each_none, each_next, each_fault}
 use Rattle.symbols_table.proofs.builder.table.Builder.walk_import.Goals as goal
 
@@ -16,6 +16,6 @@ loop-n-preserved c =
 pub returns-in_err-walk_import_specifier-clause-table : goal.returns-in_err-walk_import_specifier-clause-table
 returns-in_err-walk_import_specifier-clause-table c =
     let items = c.args.specifiers.now in
-    let P : List ℕ → Type 0 = λ ms. ReadsWalk c.from_residual.result c.args.self.now c.walk_import_specifier.new.self (walk_of_each (import_at c.args.src.now c.args.node.tree.now) ms) c.args.holder in
+    let P : List ℕ → Type 0 = λ ms. ReadsPlaced c.from_residual.result c.args.self.now c.walk_import_specifier.new.self (events_of_each (import_at c.args.src.now c.args.node.tree.now) ms) c.args.holder in
     subst P (split_item items c.loop-n.n-index c.n-item.result c.loop-n-test.true c.n-item.is)
     (each_fault (Unit {0}) (import_at c.args.src.now c.args.node.tree.now) (take c.loop-n.n-index items) c.loop-n.invariant c.walk_import_specifier.new.self c.walk_import_specifier.new.self c.n-item.result (drop (suc c.loop-n.n-index) items) c.in_err-walk_import_specifier.field-0.0 c.from_residual.result c.from_residual.ensures.1 c.in_err-walk_import_specifier.ensures.table)

@@ -10,7 +10,7 @@ use Rattle.symbols_table.specs.DeclarationEvents.{export_if}
 use Rattle.symbols_table.specs.Events.{Event, declare_alias, alias_row, row_of, changes_of, symbol_at, rows_after}
 use Rattle.symbols_table.specs.ModuleEvents.{alias_kind}
 use Rattle.symbols_table.specs.inner.Tables.{ReadsAll}
-use Rattle.symbols_table.specs.Walks.{sym_in}
+use Rattle.symbols_table.specs.PlacedEvents.{sym_in}
 use Rattle.symbols_table.proofs.Rows.{rows_after-step, symbol_at-push, symbol_at_kept}
 use Rattle.symbols_table.proofs.Walks.{on_none, one_read, reads_from}
 use Rattle.symbols_table.proofs.ModuleWalks.{no_events, err_as, on_nothing, on_thing, alias_one}

@@ -5,7 +5,7 @@ use Rattle.symbols_syntax.specs.NodeRefs.{node_view, kind_of, node_in}
 use Rattle.symbols_syntax.specs.ChildFields.{local_of}
 use Rattle.symbols_table.specs.DeclViews.{decl_view, dep_name_view}
 use Rattle.symbols_table.specs.Events.{declare, declare_row, row_of, changes_of, symbol_at}
-use Rattle.symbols_table.specs.Walks.{sym_in}
+use Rattle.symbols_table.specs.PlacedEvents.{sym_in}
 use Rattle.symbols_table.specs.ModuleEvents.{import_at, import_name}
 use Rattle.symbols_table.proofs.Walks.{on_none}
 use Rattle.symbols_table.proofs.ModuleWalks.{no_events, event_as, err_as, on_nothing, import_unnamed, import_named, import_found, import_one}

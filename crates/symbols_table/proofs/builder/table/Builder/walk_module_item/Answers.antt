@@ -4,7 +4,7 @@ use Rattle.symbols_syntax.specs.NodeRefs.{node_view, kind_of}
 use Rattle.symbols_table.specs.Changes.{Star, passes_on}
 use Rattle.symbols_table.specs.Events.{row_of_changes, star, changes_of}
 use Rattle.symbols_table.specs.ModuleEvents.{module_events}
-use Rattle.symbols_table.specs.Walks.{walk_if_there}
+use Rattle.symbols_table.specs.PlacedEvents.{events_if_there}
 use Rattle.symbols_table.proofs.Keeping.{keeps_same}
 use Rattle.symbols_table.proofs.ModuleWalks.{no_events, on_thing, on_ok, only_memory, not_item}
 use Rattle.symbols_table.proofs.builder.table.Builder.walk_module_item.Goals as goal
@@ -22,20 +22,20 @@ returns-in-ExportAll-clause-table c = λ rows h is at.
     let node = node_view c.args.node in
     let text : c.as_str-in-ExportAll.result.now ≡ string_bytes c.in-ExportAll.src = c.as_str-in-ExportAll.ensures.value in
     let statement : Star = record { number = c.node_id.result; text = string_bytes c.in-ExportAll.src } in
-    let events : walk_if_there (kind_of node) (module_events node) h (length rows) ≡ star statement ∷ [] = rw (c.kind.ensures, c.in-Item.is, c.in-ExportAll.is, c.node_id.ensures) refl in
+    let events : events_if_there (kind_of node) (module_events node) h (length rows) ≡ star statement ∷ [] = rw (c.kind.ensures, c.in-Item.is, c.in-ExportAll.is, c.node_id.ensures) refl in
     only_memory c.add_star.result _ _ rows _ (star statement) (row_of_changes (passes_on statement ∷ [])) events refl (on_ok c.add_star.result (λ table. rw (← text) (table (changes_of rows) is)) c.add_star.ensures.table) c.add_star.ensures.full
 
 pub returns-in-None-clause-table : goal.returns-in-None-clause-table
-returns-in-None-clause-table c = λ rows h is at. no_events _ rows (walk_if_there (kind_of (node_view c.args.node)) (module_events (node_view c.args.node)) h (length rows)) (search rules) is
+returns-in-None-clause-table c = λ rows h is at. no_events _ rows (events_if_there (kind_of (node_view c.args.node)) (module_events (node_view c.args.node)) h (length rows)) (search rules) is
 
 pub returns-in-None-expr-clause-table : goal.returns-in-None-expr-clause-table
-returns-in-None-expr-clause-table c = λ rows h is at. no_events _ rows (walk_if_there (kind_of (node_view c.args.node)) (module_events (node_view c.args.node)) h (length rows)) (search rules) is
+returns-in-None-expr-clause-table c = λ rows h is at. no_events _ rows (events_if_there (kind_of (node_view c.args.node)) (module_events (node_view c.args.node)) h (length rows)) (search rules) is
 
 pub returns-in-None-expr-2-clause-table : goal.returns-in-None-expr-2-clause-table
-returns-in-None-expr-2-clause-table c = λ rows h is at. no_events _ rows (walk_if_there (kind_of (node_view c.args.node)) (module_events (node_view c.args.node)) h (length rows)) (search rules) is
+returns-in-None-expr-2-clause-table c = λ rows h is at. no_events _ rows (events_if_there (kind_of (node_view c.args.node)) (module_events (node_view c.args.node)) h (length rows)) (search rules) is
 
 pub returns-in-None-expr-3-clause-table : goal.returns-in-None-expr-3-clause-table
-returns-in-None-expr-3-clause-table c = λ rows h is at. no_events _ rows (walk_if_there (kind_of (node_view c.args.node)) (module_events (node_view c.args.node)) h (length rows)) (search rules) is
+returns-in-None-expr-3-clause-table c = λ rows h is at. no_events _ rows (events_if_there (kind_of (node_view c.args.node)) (module_events (node_view c.args.node)) h (length rows)) (search rules) is
 
 pub returns-in_default-item-clause-table : goal.returns-in_default-item-clause-table
-returns-in_default-item-clause-table c = λ rows h is at. no_events _ rows (walk_if_there (kind_of (node_view c.args.node)) (module_events (node_view c.args.node)) h (length rows)) (search rules) is
+returns-in_default-item-clause-table c = λ rows h is at. no_events _ rows (events_if_there (kind_of (node_view c.args.node)) (module_events (node_view c.args.node)) h (length rows)) (search rules) is

@@ -3,7 +3,7 @@ use Rattle.symbols_syntax.specs.declared.tree.kinds.Kind.{Kind}
 use Rattle.symbols_syntax.specs.declared.tree.kinds.Item.TheVariants as Item
 use Rattle.symbols_syntax.specs.NodeRefs.{node_view, kind_of, child_of}
 use Rattle.symbols_syntax.specs.ChildFields.{decl_of}
-use Rattle.symbols_table.specs.TreeEvents.{exported_events, plain_item_events}
+use Rattle.symbols_table.specs.TreeEvents.{exported_events, other_item_events}
 use Rattle.symbols_table.proofs.Walks.{on_some, on_none}
 use Rattle.symbols_table.proofs.builder.table.Builder.walk_plain_item.Goals as goal
 
@@ -11,5 +11,5 @@ pub returns-in-None-clause-table : goal.returns-in-None-clause-table
 returns-in-None-clause-table c = λ rows h is at.
     let node = node_view c.args.node in
     let kind : c.kind.result.now ≡ Kind.Item (Item.ExportDecl c.in-Item-ExportDecl.field-0-0) = search rules in
-    on_some c.args.self.now rows (kind_of node) (Kind.Item (Item.ExportDecl c.in-Item-ExportDecl.field-0-0)) (plain_item_events c.args.scope node) h (length rows) (c.kind.ensures ∙ ap (λ (k : Kind). Some k) kind)
+    on_some c.args.self.now rows (kind_of node) (Kind.Item (Item.ExportDecl c.in-Item-ExportDecl.field-0-0)) (other_item_events c.args.scope node) h (length rows) (c.kind.ensures ∙ ap (λ (k : Kind). Some k) kind)
     (on_none c.args.self.now rows (child_of node decl_of) (exported_events c.args.scope node) h (length rows) (sym c.in-None.ensures) is)

@@ -9,25 +9,25 @@ use Rattle.symbols_syntax.specs.Ids.{sym_of}
 use Rattle.symbols_table.specs.Events.{Event}
 
 -- the events of a part, by the place of their holder and that of the first of them
-abbrev pub Walk : Type 0
-Walk = ℕ → ℕ → List Event
+abbrev pub PlacedEvents : Type 0
+PlacedEvents = ℕ → ℕ → List Event
 
-abbrev pub empty_walk : Walk
-empty_walk holder start = []
+abbrev pub no_placed_events : PlacedEvents
+no_placed_events holder start = []
 
 -- the events of what is there, and none of what isn't
-abbrev pub walk_if_there : {A : Type 0} → Option A → (A → Walk) → Walk
-walk_if_there None walk = empty_walk
-walk_if_there (Some x) walk = walk x
+abbrev pub events_if_there : {A : Type 0} → Option A → (A → PlacedEvents) → PlacedEvents
+events_if_there None part = no_placed_events
+events_if_there (Some x) part = part x
 
 -- events, and the next ones, which start behind them
 abbrev pub with_next : List Event → (ℕ → List Event) → ℕ → List Event
 with_next events next start = events ++ next (start + length events)
 
 -- each part of a list in order
-abbrev pub walk_of_each : {A : Type 0} → (A → Walk) → List A → Walk
-walk_of_each walk [] holder start = []
-walk_of_each walk (x ∷ xs) holder start = with_next (walk x holder start) (walk_of_each walk xs holder) start
+abbrev pub events_of_each : {A : Type 0} → (A → PlacedEvents) → List A → PlacedEvents
+events_of_each part [] holder start = []
+events_of_each part (x ∷ xs) holder start = with_next (part x holder start) (events_of_each part xs holder) start
 
 -- a node is where it stands; what is no node, nowhere
 abbrev pub range_in : TreeNode → SourceRange
