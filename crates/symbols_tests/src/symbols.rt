@@ -30,7 +30,7 @@ fn tells_its_ids(symbol: &Symbol<'_>) -> Checked {
 /// A symbol of which nothing is known yet.
 fn is_empty(symbol: &Symbol<'_>) -> Checked {
     holds!(symbol.decls().is_empty(), "no declarations");
-    holds!(symbol.exports().is_empty(), "no exports");
+    holds!(symbol.exports().len() == 0, "no exports");
     holds!(symbol.child_ids().len() == 0, "no children");
     holds!(symbol.members().is_empty(), "no members");
     holds!(matches!(symbol.maybe_name(), Ok(None)), "no name");

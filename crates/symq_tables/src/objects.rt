@@ -1,10 +1,9 @@
 //! The symbols of a module as a JSON object, for tools.
 
 use crate::nodes::form_name;
-use indexmap::IndexMap;
 use json::Writer;
 use std::alloc::{AllocError, Global};
-use symbols_table::decl::{Symbol, SymbolDecl, SymbolDeclKind};
+use symbols_table::decl::{Exports, Symbol, SymbolDecl, SymbolDeclKind};
 use symbols_table::info::ModuleInfoRef;
 use symbols_tree::ids::SymbolId;
 
@@ -46,11 +45,11 @@ fn add_declarations(out: &mut Writer, decls: &[SymbolDecl<'_>]) -> Result<(), Al
     out.end_array()
 }
 
-fn add_exports(out: &mut Writer, exports: &IndexMap<String, SymbolId>) -> Result<(), AllocError> {
+fn add_exports(out: &mut Writer, exports: Exports<'_>) -> Result<(), AllocError> {
     out.key("exports")?;
     out.begin_object()?;
     for (name, symbol) in exports {
-        add_number(out, name.as_str(), symbol.number())?;
+        add_number(out, name, symbol.number())?;
     }
     out.end_object()
 }
@@ -87,7 +86,7 @@ fn add_symbol(out: &mut Writer, symbol: &Symbol<'_>) -> Result<(), AllocError> {
     add_declarations(out, symbol.decls())?;
     add_exports(out, symbol.exports())?;
     add_numbers(out, "children", symbol.child_ids().as_slice())?;
-    add_numbers(out, "members", symbol.members().as_slice())?;
+    add_numbers(out, "members", symbol.members())?;
     out.end_object()
 }
 

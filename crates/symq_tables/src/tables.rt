@@ -1,9 +1,8 @@
 //! The symbols of a module, a line for each, with its declarations and tables below it.
 
 use crate::declarations::{push_declaration, push_file_ref, push_name, push_test};
-use indexmap::IndexMap;
 use std::alloc::{AllocError, Global};
-use symbols_table::decl::Symbol;
+use symbols_table::decl::{Exports, Symbol};
 use symbols_table::info::ModuleInfoRef;
 use symbols_tree::ids::SymbolId;
 
@@ -44,7 +43,7 @@ fn push_declarations(
     Ok(())
 }
 
-fn push_exports(text: &mut String, exports: &IndexMap<String, SymbolId>) -> Result<(), AllocError> {
+fn push_exports(text: &mut String, exports: Exports<'_>) -> Result<(), AllocError> {
     for (name, symbol) in exports {
         write!(text, "    export {name:?} is {symbol:?}\n")?;
     }
@@ -70,7 +69,7 @@ fn push_symbol(alloc: Global, text: &mut String, symbol: &Symbol<'_>) -> Result<
     push_declarations(alloc, text, symbol)?;
     push_exports(text, symbol.exports())?;
     push_numbers(text, "children", symbol.child_ids().as_slice())?;
-    push_numbers(text, "members", symbol.members().as_slice())
+    push_numbers(text, "members", symbol.members())
 }
 
 /// The symbols, by their numbers.

@@ -1,7 +1,6 @@
 //! The names that a module gives to the world.
 
 ghost use Rattle.std.specs.Prelude.{◌≡◌, ◌≢◌, ◌++◌, ◌∷◌, [], ℕ, List, map, flat_map, All, AllPairs, Some, IfOk, IfErr, OnOk, if◌then◌else◌};
-ghost use Rattle.symbols_table.specs.DeclViews.{exports_view};
 ghost use Rattle.symbols_root.specs.Roots.{specifier_in};
 ghost use Rattle.symbols_root.specs.Growing.{HasGrown};
 ghost use Rattle.symbols_root.specs.Calls.{IsStored, WidestIsEnough};
@@ -15,8 +14,9 @@ use crate::exports::walk::exports;
 use indexmap::IndexMap;
 use std::alloc::{AllocError, Global};
 use symbols_root::root::RootSymbol;
+use symbols_table::decl::Exports;
 use symbols_table::info::SymbolsFault;
-use symbols_tree::ids::{ModuleId, SymbolId};
+use symbols_tree::ids::ModuleId;
 
 /// A name that a module gives to the world (own rule).
 #[derive(Drop)]
@@ -36,12 +36,9 @@ fn is_nameless(member: &str) -> bool
 }
 
 /// What the symbol of an export exports itself.
-fn exported_by<'r>(
-    root: &'r RootSymbol<'_>,
-    export: &ResolvedExport,
-) -> &'r IndexMap<String, SymbolId>
+fn exported_by<'r>(root: &'r RootSymbol<'_>, export: &ResolvedExport) -> Exports<'r>
     requires { IsOwned root.now export.now }
-    ensures { exports_view result.now.entries ≡ exported_by root.now.graph (specifier_in root.now export.now.«module») export.now.symbol_id }
+    ensures { result ≡ exported_by root.now.graph (specifier_in root.now export.now.«module») export.now.symbol_id }
 {
     match root.module_from_id(export.module) {
         Some(info) => match info.symbol(export.symbol_id) {
@@ -76,13 +73,13 @@ fn add_member(
 fn add_members(
     alloc: Global,
     name: &str,
-    members: &IndexMap<String, SymbolId>,
+    members: Exports<'_>,
     names: &mut Vec<PublicName>,
 ) -> Result<(), AllocError>
-    ensures { OnOk result (map name_item names.new.items ≡ map name_item names.old.items ++ members_under name.now (exports_view members.now.entries)) }
+    ensures { OnOk result (map name_item names.new.items ≡ map name_item names.old.items ++ members_under name.now members.entry) }
 {
-    for (member, _) in members.iter() {
-        add_member(alloc, name, member.as_str(), names)?;
+    for (member, _) in members {
+        add_member(alloc, name, member, names)?;
     }
     Ok(())
 }

@@ -1,9 +1,10 @@
 //! What a stored module exports itself, and its statements `export *` with where they lead.
 
 ghost use Rattle.std.specs.Prelude.{◌≡◌, ◌<◌, ◌+◌, ◌^◌, ℕ, List, length, slice_get, Some, IfSome, IfOk, OnOk, OnErr};
+ghost use Rattle.std.specs.Map.{lookup};
 ghost use Rattle.std.specs.Option.{option_map};
+ghost use Rattle.std.specs.Str.{bytes_eq};
 ghost use Rattle.symbols_syntax.specs.Graph.{ModuleView};
-ghost use Rattle.symbols_table.specs.DeclViews.{exports_view};
 ghost use Rattle.symbols_root.specs.Specifiers.{module_under};
 ghost use Rattle.symbols_root.specs.Roots.{with_stored, specifier_under, IsRefusal, specifier_in};
 ghost use Rattle.symbols_root.specs.Calls.{IsStored, Keeps};
@@ -11,8 +12,8 @@ ghost use Rattle.symbols_exports.specs.StarStatements.{star_texts, text_target, 
 
 use crate::exports::steps::Steps;
 use crate::exports::turn::Turn;
-use indexmap::IndexMap;
 use symbols_root::root::RootSymbol;
+use symbols_table::decl::Exports;
 use symbols_table::info::SymbolsFault;
 use symbols_tree::ids::{ModuleId, SymbolId};
 
@@ -36,15 +37,23 @@ pub(crate) fn statement_at<'a>(
 }
 
 /// The names that a stored module exports itself, with their symbols.
-pub(crate) fn own_names<'r>(
-    root: &'r RootSymbol<'_>,
-    module_id: ModuleId,
-) -> &'r IndexMap<String, SymbolId>
+pub(crate) fn own_names<'r>(root: &'r RootSymbol<'_>, module_id: ModuleId) -> Exports<'r>
     requires { IsStored root.now module_id }
-    ensures { exports_view result.now.entries ≡ owned_of root.now.graph (specifier_in root.now module_id) }
+    ensures { result ≡ owned_of root.now.graph (specifier_in root.now module_id) }
 {
     match root.module_from_id(module_id) {
         Some(info) => info.module_symbol().exports(),
+        None => unreachable!(),
+    }
+}
+
+/// The symbol of one of these names.
+pub(crate) fn own_name(root: &RootSymbol<'_>, module_id: ModuleId, name: &str) -> Option<SymbolId>
+    requires { IsStored root.now module_id }
+    ensures { result ≡ lookup (λ key. bytes_eq name.now key) (owned_of root.now.graph (specifier_in root.now module_id)) }
+{
+    match root.module_from_id(module_id) {
+        Some(info) => info.module_symbol().export(name),
         None => unreachable!(),
     }
 }

@@ -5,7 +5,6 @@ ghost use Rattle.std.specs.Global.{Global};
 ghost use Rattle.std.specs.List.{position};
 ghost use Rattle.std.specs.Map.{keys_of, lookup};
 ghost use Rattle.std.specs.Str.{bytes_eq};
-ghost use Rattle.symbols_table.specs.DeclViews.{exports_view};
 ghost use Rattle.symbols_root.specs.Roots.{specifier_in};
 ghost use Rattle.symbols_exports.specs.Sharing.{shared_only};
 ghost use Rattle.symbols_exports.specs.inner.Sharing.{comes_along};
@@ -16,7 +15,7 @@ ghost use Rattle.symbols_exports.specs.inner.Wanted.{is_done, owned_for};
 use crate::exports::module_exports::{ModuleExports, UnresolvedSpecifier};
 use crate::exports::offers::{Others, put_other, shared_names};
 use crate::exports::path::{ResolvedExport, ResolvedExportOrReExportAllPath};
-use crate::exports::statements::own_names;
+use crate::exports::statements::{own_name, own_names};
 use crate::exports::turn::Turn;
 use crate::exports::wanted::Wanted;
 use crate::exports::ways::{path_along, stays_behind};
@@ -24,7 +23,8 @@ use indexmap::IndexMap;
 use std::alloc::{AllocError, Global};
 use std::marker::Model;
 use symbols_root::root::RootSymbol;
-use symbols_tree::ids::{ModuleId, SymbolId};
+use symbols_table::decl::Exports;
+use symbols_tree::ids::ModuleId;
 
 /// The place of a name among those that were taken; where none was it isn't looked up.
 fn place_of(
@@ -113,18 +113,18 @@ impl<'a> Taken<'a> {
     fn take_all(
         &mut self,
         alloc: Global,
-        own: &IndexMap<String, SymbolId>,
+        own: Exports<'_>,
         owner: ModuleId,
         above: &[Turn<'a>],
     ) -> Result<(), AllocError>
-        ensures { OnOk result (self.new ≡ with_owned (map turn_told above.now) owner (exports_view own.now.entries) self.old) }
+        ensures { OnOk result (self.new ≡ with_owned (map turn_told above.now) owner own.entry self.old) }
     {
-        for (name, symbol_id) in own.iter() {
+        for (name, symbol_id) in own {
             let export = ResolvedExport {
                 module: owner,
-                symbol_id: *symbol_id,
+                symbol_id,
             };
-            self.take_name(alloc, name.as_str(), export, above)?;
+            self.take_name(alloc, name, export, above)?;
         }
         Ok(())
     }
@@ -142,14 +142,13 @@ impl<'a> Taken<'a> {
         ensures { OnOk result (self.new ≡ with_owned (map turn_told above.now) owner
             (owned_for wanted.entry root.now.graph (specifier_in root.now owner)) self.old) }
     {
-        let own = own_names(root, owner);
         match wanted {
-            Wanted::AllNames => self.take_all(root.alloc(), own, owner, above),
-            Wanted::OneName(name) => match own.get(name) {
+            Wanted::AllNames => self.take_all(root.alloc(), own_names(root, owner), owner, above),
+            Wanted::OneName(name) => match own_name(root, owner, name) {
                 Some(symbol_id) => {
                     let export = ResolvedExport {
                         module: owner,
-                        symbol_id: *symbol_id,
+                        symbol_id,
                     };
                     self.take_name(root.alloc(), name, export, above)
                 }

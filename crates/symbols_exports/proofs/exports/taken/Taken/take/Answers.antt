@@ -8,10 +8,10 @@ use Rattle.symbols_exports.proofs.exports.taken.Taken.take.Goals as goal
 
 pub returns-in-Some : goal.returns-in-Some
 returns-in-Some c =
-    let own = one_own c.in-OneName.name c.args.wanted c.own_names-own.result.now.entries (owned_of c.args.root.now.graph (specifier_in c.args.root.now c.args.owner)) c.in-Some.symbol_id.now c.in-OneName.is c.own_names-own.ensures c.in-Some.ensures.value in
+    let own = one_own c.in-OneName.name c.args.wanted (owned_of c.args.root.now.graph (specifier_in c.args.root.now c.args.owner)) c.in-Some.symbol_id c.in-OneName.is c.in-Some.ensures in
     subst (λ taken. OnOk c.take_name.result (c.take_name.new.self ≡ with_owned (map turn_told c.args.above.now) c.args.owner taken c.args.self.now)) (sym own) c.take_name.ensures
 
 pub returns-in-None : goal.returns-in-None
 returns-in-None c =
-    let own = none_own c.in-OneName.name c.args.wanted c.own_names-own.result.now.entries (owned_of c.args.root.now.graph (specifier_in c.args.root.now c.args.owner)) c.in-OneName.is c.own_names-own.ensures c.in-None.ensures.value in
+    let own = none_own c.in-OneName.name c.args.wanted (owned_of c.args.root.now.graph (specifier_in c.args.root.now c.args.owner)) c.in-OneName.is c.in-None.ensures in
     sym (ap (λ taken. with_owned (map turn_told c.args.above.now) c.args.owner taken c.args.self.now) own ∙ nothing_owned (map turn_told c.args.above.now) c.args.owner c.args.self.now)
