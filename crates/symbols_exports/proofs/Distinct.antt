@@ -29,7 +29,7 @@ same_place xs once i j i_in j_in same = elim (cases_order i j) [
         let other = apart_from_distinct bytes_eq xs k l [] once less within in
         true≢false (sym (subst (λ q. bytes_eq (get_or xs k []) q ≡ true) equal (nat_list_eq_equiv.refl (get_or xs k []))) ∙ other)
 
-abbrev Setting : Type 0
+abbrev pub Setting : Type 0
 Setting = List ℕ × SymbolId
 
 names_of : List Setting → List (List ℕ)

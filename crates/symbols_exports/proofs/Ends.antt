@@ -5,9 +5,6 @@ use Rattle.std.proofs.lemmas.Bool.{cases_lt}
 use Rattle.std.proofs.lemmas.List.{get_or_past}
 use Rattle.symbols_exports.specs.Chains.{Statements, statement_target, chain_end}
 
-pub same_module : (a b : List ℕ) → Some a ≡ Some b → a ≡ b
-same_module a b same = cc
-
 pub none_or_some : (found : Option (List ℕ)) → (found ≡ None) ⊎ ((v : List ℕ) × (found ≡ Some v))
 none_or_some None = inl refl
 none_or_some (Some v) = inr (v, refl)

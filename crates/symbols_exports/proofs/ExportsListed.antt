@@ -4,8 +4,9 @@ use Rattle.std.specs.Prelude.{Contains, AllPairs, filter, flat_map}
 use Rattle.std.specs.Option.{option_map_or}
 use Rattle.std.specs.Str.{bytes_eq}
 use Rattle.std.proofs.lemmas.Cmp.{nat_list_eq_equiv}
-use Rattle.std.proofs.lemmas.Option.{slice_get-get_or, slice_get_within, get_or_from_slice_get}
+use Rattle.std.proofs.lemmas.Option.{slice_get-get_or, slice_get_within, get_or_from_slice_get, same_Some}
 use Rattle.std.proofs.lemmas.Slice.Eq.{bytes_eq-Decides}
+use Rattle.std.proofs.lemmas.List.Elements.{Contains-append_left, Contains-append_right, Contains-append_cases}
 use Rattle.symbols_syntax.specs.declared.ids.SymbolId.{SymbolId}
 use Rattle.symbols_syntax.specs.Graph.{GraphView}
 use Rattle.symbols_table.specs.Events.{default_name}
@@ -14,17 +15,16 @@ use Rattle.symbols_exports.specs.Exports.{Owned, Entry, IsOffered, IsExport, Sta
 use Rattle.symbols_exports.specs.StarStatements.{statements_of, owned_of}
 use Rattle.symbols_exports.specs.Ways.{Way, ways_of, is_passed_by, offered_by, offered_at, same_name, exports_of}
 use Rattle.symbols_exports.proofs.Distinct.{owns_once, owned_place}
-use Rattle.symbols_exports.proofs.Ends.{same_module}
 use Rattle.symbols_exports.proofs.ListedWays.{arrives, arrival_there}
 use Rattle.symbols_exports.proofs.Order.{never_before_itself, before_then_before, up_to_then_before}
-use Rattle.symbols_exports.proofs.Sorted.{IsSorted, first_or_later, contains_first, contains_later, contains_nothing, contains_left, contains_right, contains_either, contains_mapped, mapped_from, filtered_from, contains_filtered, sorted_pairs, pairs_sorted, sorted_both, sorted_map, sorted_filter, same_sorted, first_is_one, first_sorted, first_once, first_covers}
+use Rattle.symbols_exports.proofs.Sorted.{IsSorted, first_or_later, contains_first, contains_later, contains_nothing, contains_mapped, mapped_from, filtered_from, contains_filtered, sorted_pairs, pairs_sorted, sorted_both, sorted_map, sorted_filter, same_sorted, first_is_one, first_sorted, first_once, first_covers}
 use Rattle.symbols_exports.proofs.Ways.{ComesBefore, ways_sorted}
 
 -- ---- lists of lists
 
 pub flat_from : {A B : Type 0} (f : A → List B) (xs : List A) (y : B) → Contains (flat_map f xs) y → (x : A) × Contains xs x × Contains (f x) y
 flat_from f [] y has = absurd (contains_nothing y has)
-flat_from f (x ∷ xs) y has = elim (contains_either (f x) (flat_map f xs) y has) [
+flat_from f (x ∷ xs) y has = elim (Contains-append_cases (f x) (flat_map f xs) y has) [
   | inl here ↦ (x, contains_first x xs, here)
   | inr later ↦ let from = flat_from f xs y later in (from.0, contains_later x xs from.0 from.1, from.2)
 ]
@@ -32,8 +32,8 @@ flat_from f (x ∷ xs) y has = elim (contains_either (f x) (flat_map f xs) y has
 pub contains_flat : {A B : Type 0} (f : A → List B) (xs : List A) (x : A) (y : B) → Contains xs x → Contains (f x) y → Contains (flat_map f xs) y
 contains_flat f [] x y has has_y = absurd (contains_nothing x has)
 contains_flat f (w ∷ xs) x y has has_y = elim (first_or_later w xs x has) [
-  | inl same ↦ contains_left (f w) (flat_map f xs) y (subst (λ z. Contains (f z) y) (sym same) has_y)
-  | inr later ↦ contains_right (f w) (flat_map f xs) y (contains_flat f xs x y later has_y)
+  | inl same ↦ Contains-append_left (f w) (flat_map f xs) y (subst (λ z. Contains (f z) y) (sym same) has_y)
+  | inr later ↦ Contains-append_right (f w) (flat_map f xs) y (contains_flat f xs x y later has_y)
 ]
 
 pub flat_sorted : {A B : Type 0} (R : A → A → Type 0) (S : B → B → Type 0) (f : A → List B) → ((x : A) → IsSorted S (f x)) → ((x y : A) → R x y → (a b : B) → Contains (f x) a → Contains (f y) b → S a b) → (xs : List A) → IsSorted R xs → IsSorted S (flat_map f xs)
@@ -179,7 +179,7 @@ module _ (graph : GraphView) (start : List ℕ) where
       together : (f : Entry) → Contains (exports_of graph start) f → f.name ≡ e.name → f.chain ≡ e.chain → f ≡ e
       together f has same chains =
           let offer = was_offered f has in
-          let owners : f.owner ≡ e.owner = same_module f.owner e.owner (sym offer.leads.leads ∙ (ap (chain_end (statements_of graph) start) chains ∙ export.offered.leads.leads)) in
+          let owners : f.owner ≡ e.owner = same_Some f.owner e.owner (sym offer.leads.leads ∙ (ap (chain_end (statements_of graph) start) chains ∙ export.offered.leads.leads)) in
           let symbols : f.symbol ≡ e.symbol = owns_once graph e.owner e.name f.symbol e.symbol (subst (λ q. Contains (owned_of graph e.owner) (q, f.symbol)) same (subst (λ u. Contains (owned_of graph u) (f.name, f.symbol)) owners offer.owns)) export.offered.owns in
           λ i. record { name = same i; chain = chains i; owner = owners i; symbol = symbols i }
 
@@ -201,7 +201,7 @@ module _ (graph : GraphView) (start : List ℕ) where
   apart x y export_x export_y (inl before) (inr along) = never_before_itself x.chain (subst (IsBefore x.chain) along.0 before)
   apart x y export_x export_y (inr along) (inl behind) = never_before_itself y.chain (subst (IsBefore y.chain) along.0 behind)
   apart x y export_x export_y (inr there) (inr back) =
-      let owners : y.owner ≡ x.owner = same_module y.owner x.owner (sym export_y.offered.leads.leads ∙ (ap (chain_end (statements_of graph) start) back.0 ∙ export_x.offered.leads.leads)) in
+      let owners : y.owner ≡ x.owner = same_Some y.owner x.owner (sym export_y.offered.leads.leads ∙ (ap (chain_end (statements_of graph) start) back.0 ∙ export_x.offered.leads.leads)) in
       both_ways (owned_of graph x.owner) (λ i j d i_in j_in same. owned_place graph x.owner i j d i_in j_in (ap (λ (p : List ℕ × SymbolId). p.0) same)) (x.name, x.symbol) (y.name, y.symbol) there.1 (subst (λ u. StandsBefore (owned_of graph u) (y.name, y.symbol) (x.name, x.symbol)) owners back.1)
 
   pub apart_itself : (x : Entry) → StandsBefore (owned_of graph x.owner) (x.name, x.symbol) (x.name, x.symbol) → ⊥

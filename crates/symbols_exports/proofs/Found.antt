@@ -2,15 +2,14 @@
 use Rattle.std.proofs.Common.{◌≡◌, ℕ, ◌+◌, ◌≤◌, ◌⊎◌, inl, inr, List, [], ◌∷◌, ◌++◌, length, take, get_or, slice_get, Some, refl, sym, ◌∙◌, ap, subst, arith}
 use Rattle.std.specs.Prelude.{Contains, AllPairs}
 use Rattle.std.proofs.lemmas.List.{take_more, take_all}
-use Rattle.std.proofs.lemmas.Option.{get_or_from_slice_get, slice_get_within}
+use Rattle.std.proofs.lemmas.Option.{get_or_from_slice_get, slice_get_within, same_Some}
 use Rattle.std.proofs.lemmas.List.Elements.{Contains-push, Contains-push_cases, Contains-append_left, Contains-get_or}
 use Rattle.std.proofs.lemmas.List.Quantifiers.{all_pairs_push}
 use Rattle.symbols_syntax.specs.declared.ids.SymbolId.{SymbolId}
 use Rattle.symbols_table.specs.Events.{default_name}
 use Rattle.symbols_exports.specs.Chains.{Statements, chain_end, IsBefore, IsUpTo, AreReached}
 use Rattle.symbols_exports.specs.Exports.{Owned, Entry, IsOffered, IsExport, InOrder, AreExports}
-use Rattle.symbols_exports.proofs.Order.{up_to_then_up_to, same_both_ways}
-use Rattle.symbols_exports.proofs.Ends.{same_module}
+use Rattle.symbols_exports.proofs.Order.{up_to_then_up_to, same_both_ways, up_to_nothing}
 use Rattle.symbols_exports.proofs.Places.{Meeting}
 
 -- no module owns a name for two symbols
@@ -171,10 +170,6 @@ module _ (statements : Statements) (owned : Owned) (start : List ℕ) (met : Lis
     passed = are.passed entry at;
   }
 
-  up_to_nothing : (c : List ℕ) → IsUpTo c [] → c ≡ []
-  up_to_nothing c (inl same) = same
-  up_to_nothing c (inr before) = absurd before
-
   -- whatever is offered, something was found by its name, and by no later a chain
   found_up_to : (other : Entry) → IsOffered statements owned start other → (first : Entry) × Contains found first × (first.name ≡ other.name) × IsUpTo first.chain other.chain
   found_up_to other offer =
@@ -202,7 +197,7 @@ module _ (statements : Statements) (owned : Owned) (start : List ℕ) (met : Lis
       chains = same_both_ways first.0.chain entry.chain first.3 (export.least first.0 (offered first.0 first.1) first.2)
 
       owners : first.0.owner ≡ entry.owner
-      owners = same_module first.0.owner entry.owner (sym (offered first.0 first.1).leads.leads ∙ (ap (chain_end statements start) chains ∙ export.offered.leads.leads))
+      owners = same_Some first.0.owner entry.owner (sym (offered first.0 first.1).leads.leads ∙ (ap (chain_end statements start) chains ∙ export.offered.leads.leads))
 
       symbols : first.0.symbol ≡ entry.symbol
       symbols = own_once entry.owner entry.name first.0.symbol entry.symbol (subst (λ x. Contains (owned entry.owner) (x, first.0.symbol)) first.2 (subst (λ u. Contains (owned u) (first.0.name, first.0.symbol)) owners (offered first.0 first.1).owns)) export.offered.owns

@@ -1,32 +1,25 @@
 -- Where a text leads there is a module of the graph.
-use Rattle.std.proofs.Common.{◌≡◌, ℕ, zero, suc, Bool, true, false, cond, List, [], ◌∷◌, ◌++◌, length, find, reverse, Option, None, Some, option_and_then, refl, sym, ap, subst, ◌∙◌}
+use Rattle.std.proofs.Common.{◌≡◌, ℕ, zero, suc, Bool, true, false, List, [], ◌∷◌, ◌++◌, length, find, reverse, Option, None, Some, option_and_then, refl, sym, ap, subst, ◌∙◌}
 use Rattle.std.specs.Prelude.{if◌then◌else◌}
 use Rattle.std.specs.Option.{option_map, option_or}
 use Rattle.std.specs.Str.{bytes_eq}
 use Rattle.std.proofs.lemmas.List.{reverse-append}
 use Rattle.std.proofs.lemmas.List.Folds.{find-append}
-use Rattle.std.proofs.lemmas.Option.{none-some, same_Some}
+use Rattle.std.proofs.lemmas.Option.{none-some, same_Some, cond_some}
 use Rattle.std.proofs.lemmas.Slice.Eq.{bytes_eq-Decides}
 use Rattle.symbols_syntax.specs.Graph.{GraphView, ModuleView, module_of, types_of, redirected, resolution_of}
 use Rattle.symbols_root.specs.Specifiers.{module_under, is_among}
 use Rattle.symbols_root.specs.TypesChains.{is_analyzable, types_module, chain_from, types_chain, standing_module, stands_for}
 use Rattle.symbols_exports.specs.StarStatements.{text_target}
+use Rattle.symbols_exports.proofs.Sorted.{found_there}
 
 abbrev IsUnder : GraphView → ModuleView → Type 0
 IsUnder graph m = module_under graph m.specifier ≡ Some m
 
-found_passes : {A : Type 0} (p : A → Bool) (xs : List A) (m : A) → find p xs ≡ Some m → p m ≡ true
-found_passes p [] m found = absurd (none-some m found)
-found_passes p (x ∷ xs) m found = by (p x) refl found (found_passes p xs m)
-  where
-    by : (b : Bool) → p x ≡ b → cond b (Some x) (find p xs) ≡ Some m → (find p xs ≡ Some m → p m ≡ true) → p m ≡ true
-    by true is same rest = subst (λ y. p y ≡ true) (same_Some x m same) is
-    by false is same rest = rest same
-
 -- what is looked up stands under its own specifier
 looked_up : (graph : GraphView) (specifier : List ℕ) (m : ModuleView) → module_of graph specifier ≡ Some m → IsUnder graph m
 looked_up graph specifier m found =
-    let same : redirected graph specifier ≡ m.specifier = (bytes_eq-Decides (redirected graph specifier) m.specifier).0 (found_passes (λ (x : ModuleView). bytes_eq (redirected graph specifier) x.specifier) graph.modules m found) in
+    let same : redirected graph specifier ≡ m.specifier = (bytes_eq-Decides (redirected graph specifier) m.specifier).0 (found_there (λ (x : ModuleView). bytes_eq (redirected graph specifier) x.specifier) graph.modules m found).1 in
     subst (λ q. module_under graph q ≡ Some m) same found
 
 types_known : (graph : GraphView) (m next : ModuleView) → types_module graph m ≡ Some next → IsUnder graph next
@@ -55,12 +48,8 @@ last_known : (graph : GraphView) (p : ModuleView → Bool) (xs : List ModuleView
 last_known graph p [] m known found = absurd (none-some m found)
 last_known graph p (x ∷ xs) m known found = by (find p (reverse xs)) refl (sym (find-append p (reverse xs) (x ∷ [])) ∙ (ap (find p) (sym (reverse-append (x ∷ []) xs)) ∙ found)) (last_known graph p xs m known.1)
   where
-    one : (b : Bool) → cond b (Some x) None ≡ Some m → x ≡ m
-    one true same = same_Some x m same
-    one false none = absurd (none-some m none)
-
     by : (r : Option ModuleView) → find p (reverse xs) ≡ r → option_or r (find p (x ∷ [])) ≡ Some m → (find p (reverse xs) ≡ Some m → IsUnder graph m) → IsUnder graph m
-    by None is same rest = subst (IsUnder graph) (one (p x) same) known.0
+    by None is same rest = subst (IsUnder graph) (cond_some (p x) x m same).1 known.0
     by (Some y) is same rest = rest (is ∙ same)
 
 pub target_known : (graph : GraphView) (referrer text v : List ℕ) → text_target graph referrer text ≡ Some v → (m : ModuleView) × (module_under graph v ≡ Some m)

@@ -2,9 +2,10 @@
 use Rattle.std.proofs.Common.{◌≡◌, ℕ, zero, suc, ◌+◌, ◌≤◌, ◌↔◌, inl, inr, List, [], ◌∷◌, ◌++◌, length, take, get_or, Some, refl, sym, ◌∙◌, ap, subst, arith, add-one}
 use Rattle.std.specs.Prelude.{Contains}
 use Rattle.std.proofs.lemmas.List.{take-take, take_at, length-take-le, length-append, take_more, take_all}
+use Rattle.std.proofs.lemmas.Option.{same_Some}
 use Rattle.symbols_exports.specs.Chains.{Statements, statement_target, chain_end, IsSimpleChain, IsBefore, IsUpTo, IsLeastChain, AreReached}
 use Rattle.symbols_exports.proofs.Order.{with_one_more, before_then_before, up_to_then_before, up_to_then_up_to, same_both_ways, up_to_or_behind, beginning_up_to}
-use Rattle.symbols_exports.proofs.Ends.{same_module, leads_back, beginning_leads, first_is_there}
+use Rattle.symbols_exports.proofs.Ends.{leads_back, beginning_leads, first_is_there}
 use Rattle.symbols_exports.proofs.Places.{Meeting, IsMetUpTo, StandsAt}
 
 -- where the chain leads was met, by this chain or an earlier one
@@ -32,7 +33,7 @@ module _ (statements : Statements) (start place : List ℕ) (met : List Meeting)
   one_further : (k x : ℕ) (v : List ℕ) → k ≤ length chain → IsUpTo (take k chain ++ x ∷ []) chain → IsMetAlong statements start met (take k chain) → chain_end statements start (take k chain ++ x ∷ []) ≡ Some v → IsMetAlong statements start met (take k chain ++ x ∷ [])
   one_further k x v within begins so_far leads =
       let from = leads_back statements start v (take k chain) x leads in
-      let same : so_far.0 ≡ from.0 = same_module so_far.0 from.0 (sym so_far.1 ∙ from.1) in
+      let same : so_far.0 ≡ from.0 = same_Some so_far.0 from.0 (sym so_far.1 ∙ from.1) in
       let next : statement_target statements so_far.0 x ≡ Some v = ap (λ w. statement_target statements w x) same ∙ from.2 in
       let c = so_far.2.0 in
       let up_to = pushed k x within so_far.0 c so_far.1 so_far.2.1 so_far.2.2 in
@@ -51,7 +52,7 @@ module _ (statements : Statements) (start place : List ℕ) (met : List Meeting)
   met_so_far =
       let all : take (length chain) chain ≡ chain = take_all (length chain) chain (omega arith) in
       let at_end = met_along (length chain) (omega arith) in
-      let same : at_end.0 ≡ end = same_module at_end.0 end (sym at_end.1 ∙ (ap (chain_end statements start) all ∙ simple.leads)) in
+      let same : at_end.0 ≡ end = same_Some at_end.0 end (sym at_end.1 ∙ (ap (chain_end statements start) all ∙ simple.leads)) in
       rw (same, all) at at_end.2
 
 -- a module has one least chain

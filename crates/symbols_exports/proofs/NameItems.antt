@@ -4,7 +4,7 @@ use Rattle.std.specs.Prelude.{◌≢◌, Contains, All, AllPairs, filter, flat_m
 use Rattle.std.proofs.lemmas.List.{get_or_default}
 use Rattle.std.proofs.lemmas.List.Folds.{flat_map-map}
 use Rattle.std.proofs.lemmas.Map.Made.{AllPairs-from_IsDistinct}
-use Rattle.std.proofs.lemmas.Option.{none-some}
+use Rattle.std.proofs.lemmas.Option.{none-some, same_Some}
 use Rattle.std.proofs.lemmas.Slice.Eq.{bytes_eq-Decides}
 use Rattle.symbols_syntax.specs.declared.ids.ModuleId.{ModuleId}
 use Rattle.symbols_syntax.specs.declared.ids.SymbolId.{SymbolId}
@@ -20,13 +20,10 @@ use Rattle.symbols_exports.specs.StarStatements.{owned_of}
 use Rattle.symbols_exports.specs.Taking.{NameView}
 use Rattle.symbols_exports.specs.Told.{ToldExport, told_export, told_name, AllNumbered}
 use Rattle.symbols_exports.specs.Ways.{ways_of, offered_at, same_name, exports_of, exports_told}
-use Rattle.symbols_exports.proofs.Distinct.{exported_once}
+use Rattle.symbols_exports.proofs.Distinct.{exported_once, Setting}
 use Rattle.symbols_exports.proofs.ExportsListed.{flat_sorted}
 use Rattle.symbols_exports.proofs.WalkingEnd.{answer_broken}
 use Rattle.symbols_exports.proofs.Sorted.{IsSorted, sorted_pairs, pairs_sorted, sorted_map, sorted_mapped, sorted_filter, first_apart, contains_mapped, mapped_from, first_or_later}
-
-abbrev Setting : Type 0
-Setting = List ℕ × SymbolId
 
 -- ---- none twice
 
@@ -40,15 +37,12 @@ exported_apart graph u s = sorted_mapped (λ x y. x ≡ y → ⊥) (λ (x : Sett
 member_is : (a b : NameItem) → a ≡ b → a.member ≡ b.member
 member_is a b same = ap (λ (item : NameItem). item.member) same
 
-same_text : (x y : List ℕ) → Some x ≡ Some y → x ≡ y
-same_text x y same = cc
-
 -- so do the items under a name
 items_apart : (name : List ℕ) (members : List Setting) → IsSorted (λ (x y : Setting). x.0 ≡ y.0 → ⊥) members → IsSorted (λ (a b : NameItem). a ≡ b → ⊥) (items_under name members)
 items_apart name members apart = (
   λ b has same. let from = mapped_from (λ (member : Setting). record { name = name; member = Some member.0 }) (filter (λ (member : Setting). not (is_nameless member.0)) members) b has in
       none-some from.0.0 (member_is (record { name = name; member = None }) b same ∙ sym (member_is (record { name = name; member = Some from.0.0 }) b from.2)),
-  sorted_map (λ (x y : Setting). x.0 ≡ y.0 → ⊥) (λ (a b : NameItem). a ≡ b → ⊥) (λ (member : Setting). record { name = name; member = Some member.0 }) (λ x y other same. other (same_text x.0 y.0 (member_is (record { name = name; member = Some x.0 }) (record { name = name; member = Some y.0 }) same)))
+  sorted_map (λ (x y : Setting). x.0 ≡ y.0 → ⊥) (λ (a b : NameItem). a ≡ b → ⊥) (λ (member : Setting). record { name = name; member = Some member.0 }) (λ x y other same. other (same_Some x.0 y.0 (member_is (record { name = name; member = Some x.0 }) (record { name = name; member = Some y.0 }) same)))
       (filter (λ (member : Setting). not (is_nameless member.0)) members) (sorted_filter (λ (x y : Setting). x.0 ≡ y.0 → ⊥) (λ (member : Setting). not (is_nameless member.0)) members apart),
 )
 

@@ -12,8 +12,8 @@ use Rattle.symbols_exports.specs.OneName.{IsNameAnswer, export_named}
 use Rattle.symbols_exports.specs.Taking.{NameView, name_view, names_view, path_view}
 use Rattle.symbols_exports.specs.Told.{ToldExport, told_export, told_name}
 use Rattle.symbols_exports.specs.Ways.{exports_of}
-use Rattle.symbols_exports.proofs.NamedExport.{found_there}
 use Rattle.symbols_exports.proofs.Taken.{NameEntry}
+use Rattle.symbols_exports.proofs.Sorted.{found_there}
 
 -- the entry's name is the one that is asked for
 name_told : {old new : RootView} {start : ModuleId} {name : List ℕ} (view : NameView) {asked : ℕ} → IsNameAnswer old new start name (view ∷ []) asked → view.name ≡ name

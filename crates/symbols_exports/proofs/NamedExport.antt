@@ -9,21 +9,13 @@ use Rattle.symbols_table.specs.Events.{default_name}
 use Rattle.symbols_exports.specs.Chains.{Statements, chain_end, IsBefore, IsUpTo}
 use Rattle.symbols_exports.specs.Exports.{Owned, Entry, IsOffered, IsExport, InOrder, AreExports}
 use Rattle.symbols_exports.specs.OneName.{last_chain, IsWithin}
-use Rattle.symbols_exports.proofs.Ends.{same_module}
 use Rattle.symbols_exports.proofs.Found.{OwnOnce, AreFound}
 use Rattle.symbols_exports.proofs.Least.{met_so_far}
-use Rattle.symbols_exports.proofs.Order.{never_before_itself, before_then_before, up_to_then_up_to, same_both_ways, up_to_or_behind}
+use Rattle.symbols_exports.proofs.Order.{never_before_itself, before_then_before, up_to_then_up_to, same_both_ways, up_to_or_behind, up_to_nothing}
 use Rattle.symbols_exports.proofs.Places.{Meeting, StandsAt}
+use Rattle.symbols_exports.proofs.Sorted.{only_one, found_there}
 
 -- ---- what is found in a list
-
-pub found_there : {A : Type 0} (p : A → Bool) (xs : List A) (x : A) → find p xs ≡ Some x → Contains xs x × (p x ≡ true)
-found_there p [] x none = absurd (none-some x none)
-found_there p (y ∷ xs) x found = by (p y) refl found (found_there p xs x)
-  where
-    by : (b : Bool) → p y ≡ b → cond b (Some y) (find p xs) ≡ Some x → (find p xs ≡ Some x → Contains xs x × (p x ≡ true)) → Contains (y ∷ xs) x × (p x ≡ true)
-    by true is same rest = ((0, omega arith, same_Some y x same), subst (λ z. p z ≡ true) (same_Some y x same) is)
-    by false is same rest = let later = rest same in ((suc later.0.0, omega (arith, later.0.1), later.0.2), later.1)
 
 none_there : {A : Type 0} (p : A → Bool) (xs : List A) → find p xs ≡ None → (x : A) → Contains xs x → p x ≡ true → ⊥
 none_there p [] none x at passes = omega (arith, at.1)
@@ -51,15 +43,7 @@ find_nothing p xs nothing = by (find p xs) refl
     by None none = refl
     by (Some y) found = let there = found_there p xs y found in absurd (nothing y there.0 there.1)
 
-alone : {A : Type 0} (x y : A) → Contains (x ∷ []) y → x ≡ y
-alone x y (zero, within, same) = same
-alone x y (suc i, within, same) = absurd (omega (arith, within))
-
 -- ---- the names of modules, and those of one name
-
-up_to_nothing : (c : List ℕ) → IsUpTo c [] → c ≡ []
-up_to_nothing c (inl same) = same
-up_to_nothing c (inr before) = absurd before
 
 module _ (statements : Statements) (owned : Owned) (start : List ℕ) (own_once : OwnOnce owned) (n : List ℕ) where
   abbrev pub is_called : List ℕ × SymbolId → Bool
@@ -76,7 +60,7 @@ module _ (statements : Statements) (owned : Owned) (start : List ℕ) (own_once 
       by None none at = absurd (omega (arith, at.1))
       by (Some x) found at =
           let there = found_there is_called (owned u) x found in
-          let same = alone x (q, s) at in
+          let same = only_one x (q, s) at in
           (subst (Contains (owned u)) same there.0, ap (λ y. y.0) (sym same) ∙ sym ((bytes_eq-Decides n x.0).0 there.1))
 
   is_called_too : (u : List ℕ) (s : SymbolId) → Contains (owned u) (n, s) → Contains (called u) (n, s)
@@ -102,7 +86,7 @@ module _ (statements : Statements) (owned : Owned) (start : List ℕ) (own_once 
   pub export_once : (e f : Entry) → IsExport statements owned start e → IsExport statements owned start f → e.name ≡ f.name → e ≡ f
   export_once e f is_e is_f names =
       let chains : e.chain ≡ f.chain = same_both_ways e.chain f.chain (is_e.least f is_f.offered (sym names)) (is_f.least e is_e.offered names) in
-      let owners : e.owner ≡ f.owner = same_module e.owner f.owner (sym is_e.offered.leads.leads ∙ (ap (chain_end statements start) chains ∙ is_f.offered.leads.leads)) in
+      let owners : e.owner ≡ f.owner = same_Some e.owner f.owner (sym is_e.offered.leads.leads ∙ (ap (chain_end statements start) chains ∙ is_f.offered.leads.leads)) in
       let symbols : e.symbol ≡ f.symbol = own_once f.owner f.name e.symbol f.symbol (subst (λ q. Contains (owned f.owner) (q, e.symbol)) names (subst (λ u. Contains (owned u) (e.name, e.symbol)) owners is_e.offered.owns)) is_f.offered.owns in
       λ i. record { name = names i; chain = chains i; owner = owners i; symbol = symbols i }
 

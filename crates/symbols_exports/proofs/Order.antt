@@ -32,6 +32,10 @@ pub same_both_ways : (a b : List ℕ) → IsUpTo a b → IsUpTo b a → a ≡ b
 same_both_ways a b (inl same) ba = same
 same_both_ways a b (inr ab) ba = absurd (never_before_itself a (before_then_up_to a b a ab ba))
 
+pub up_to_nothing : (c : List ℕ) → IsUpTo c [] → c ≡ []
+up_to_nothing c (inl same) = same
+up_to_nothing c (inr before) = absurd before
+
 two_positions : (i j : ℕ) → (i < j) ⊎ ((i ≡ j) ⊎ (j < i))
 two_positions i j = grind arith
 

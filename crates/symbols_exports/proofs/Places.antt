@@ -4,9 +4,10 @@ use Rattle.std.specs.Prelude.{Contains, AllPairs}
 use Rattle.std.proofs.lemmas.List.{take_all, length_push, take-append-le}
 use Rattle.std.proofs.lemmas.List.Elements.{Contains-push, Contains-push_cases, Contains-append_left, Contains-get_or}
 use Rattle.std.proofs.lemmas.List.Quantifiers.{all_pairs_push}
+use Rattle.std.proofs.lemmas.Option.{same_Some}
 use Rattle.symbols_exports.specs.Chains.{Statements, statement_target, chain_end, IsSimpleChain, IsBefore, IsUpTo}
 use Rattle.symbols_exports.proofs.Order.{before_then_before, before_behind, between_neighbours, between_module_and_next}
-use Rattle.symbols_exports.proofs.Ends.{same_module, leads_on}
+use Rattle.symbols_exports.proofs.Ends.{leads_on}
 
 -- a chain by which a module was met
 abbrev pub Meeting : Type 0
@@ -32,7 +33,7 @@ pub record StandsAt (statements : Statements) (start : List ℕ) (place : List �
 -- two chains that were met and are the same lead to the same module
 pub met_by_one : (statements : Statements) (start place : List ℕ) (met : List Meeting) → StandsAt statements start place met → (c d u v : List ℕ) → Contains met (c, u) → Contains met (d, v) → c ≡ d → u ≡ v
 met_by_one statements start place met stands c d u v cu dv same =
-    same_module u v (sym (stands.are_chains c u cu).leads ∙ (ap (chain_end statements start) same ∙ (stands.are_chains d v dv).leads))
+    same_Some u v (sym (stands.are_chains c u cu).leads ∙ (ap (chain_end statements start) same ∙ (stands.are_chains d v dv).leads))
 
 -- a walk with the same meetings at a later place, if all that lies between was followed
 pub moved_on : (statements : Statements) (start place next : List ℕ) (met : List Meeting) → StandsAt statements start place met → IsBefore place next → ((c u v : List ℕ) (k : ℕ) → Contains met (c, u) → IsBefore (c ++ k ∷ []) next → statement_target statements u k ≡ Some v → IsMetUpTo met v (c ++ k ∷ [])) → StandsAt statements start next met
@@ -157,7 +158,7 @@ module _ (statements : Statements) (start q u v : List ℕ) (i : ℕ) (met : Lis
   comes_by_no : (k : ℕ) → k ≤ length q → chain_end statements start (take k q) ≡ Some v → ⊥
   comes_by_no k within same =
       let w = stands.along q u here k within in
-      let equal : w.0 ≡ v = same_module w.0 v (sym (stands.are_chains (take k q) w.0 w.1).leads ∙ same) in
+      let equal : w.0 ≡ v = same_Some w.0 v (sym (stands.are_chains (take k q) w.0 w.1).leads ∙ same) in
       fresh (take k q) (subst (λ x. Contains met (take k q, x)) equal w.1)
 
   it_comes_once : (j k : ℕ) → j ≤ length (q ++ i ∷ []) → k ≤ length (q ++ i ∷ []) → chain_end statements start (take j (q ++ i ∷ [])) ≡ chain_end statements start (take k (q ++ i ∷ [])) → j ≡ k
@@ -208,7 +209,7 @@ module _ (statements : Statements) (start q u v : List ℕ) (i : ℕ) (met : Lis
     where
       this_one : Contains met (c, w) → c ≡ q → k ≡ i → IsMetUpTo more x (c ++ k ∷ [])
       this_one was same at =
-          let to : v ≡ x = same_module v x (sym leads ∙ rw (met_by_one statements start (q ++ i ∷ []) met stands c q w u was here same, at) at next) in
+          let to : v ≡ x = same_Some v x (sym leads ∙ rw (met_by_one statements start (q ++ i ∷ []) met stands c q w u was here same, at) at next) in
           let place : q ++ i ∷ [] ≡ c ++ k ∷ [] = cc in
           (q ++ i ∷ [], subst (λ y. Contains more (q ++ i ∷ [], y)) to entered, inl place)
 

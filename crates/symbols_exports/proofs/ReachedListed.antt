@@ -8,7 +8,7 @@ use Rattle.symbols_exports.specs.StarStatements.{statements_of}
 use Rattle.symbols_exports.specs.Ways.{Way, ways_of, first_of_each, same_stop}
 use Rattle.symbols_exports.proofs.ListedWays.{arrives, arrival_there}
 use Rattle.symbols_exports.proofs.Order.{never_before_itself, before_then_before, same_both_ways}
-use Rattle.symbols_exports.proofs.Places.{Meeting}
+use Rattle.symbols_exports.proofs.Places.{Meeting, MeetsInOrder}
 use Rattle.symbols_exports.proofs.Sorted.{IsSorted, first_or_later, contains_first, contains_later, contains_nothing, sorted_pairs, pairs_sorted, same_sorted, first_sorted}
 use Rattle.symbols_exports.proofs.UnresolvedListed.{stop_of, stops, all_sorted, was_way, first_way, first_up_to, least_there}
 use Rattle.symbols_exports.proofs.Ways.{ComesBefore}
@@ -40,17 +40,14 @@ arrives_there (w ∷ ways) chain end has = by (first_or_later w ways (record { c
     by (inl same) rest = subst (λ (x : Way). Contains {X = Meeting} (filter_map arrival_at (x ∷ ways)) (chain, end)) (sym same) (contains_first (chain, end) (filter_map arrival_at ways))
     by (inr later) rest = behind w.nowhere (rest later)
 
-abbrev MetBefore : Meeting → Meeting → Type 0
-MetBefore x y = IsBefore x.0 y.0
-
-arrivals_sorted : (ways : List Way) → IsSorted ComesBefore ways → IsSorted MetBefore (filter_map arrival_at ways)
+arrivals_sorted : (ways : List Way) → IsSorted ComesBefore ways → IsSorted MeetsInOrder (filter_map arrival_at ways)
 arrivals_sorted [] sorted = tt
 arrivals_sorted (w ∷ ways) sorted = by w.nowhere (arrivals_sorted ways sorted.1)
   where
     first : (m : Meeting) → Contains (filter_map arrival_at ways) m → IsBefore w.chain m.0
     first m has = sorted.0 (record { chain = m.0; end = m.1; nowhere = None }) (arrival_from ways m has)
 
-    by : (nowhere : Option ℕ) → IsSorted MetBefore (filter_map arrival_at ways) → IsSorted MetBefore (filter_map arrival_at (record { chain = w.chain; end = w.end; nowhere = nowhere } ∷ ways))
+    by : (nowhere : Option ℕ) → IsSorted MeetsInOrder (filter_map arrival_at ways) → IsSorted MeetsInOrder (filter_map arrival_at (record { chain = w.chain; end = w.end; nowhere = nowhere } ∷ ways))
     by None rest = (first, rest)
     by (Some k) rest = rest
 
@@ -83,9 +80,9 @@ module _ (graph : GraphView) (start : List ℕ) where
   reached_are_listed = record {
     all = λ chain end. (met_is_least chain end, least_is_met chain end);
     reached = λ end by. let least = least_there graph start end by in (least.0, least_is_met least.0 end least.1);
-    ordered = sorted_pairs MetBefore (reached_of graph start) (arrivals_sorted first_ways (first_sorted same_stop stop_of stops ComesBefore (ways_of graph start) (all_sorted graph start)));
+    ordered = sorted_pairs MeetsInOrder (reached_of graph start) (arrivals_sorted first_ways (first_sorted same_stop stop_of stops ComesBefore (ways_of graph start) (all_sorted graph start)));
   }
 
   -- no other list has them
   pub reached_are_one : (met : List Meeting) → AreReached (statements_of graph) start met → met ≡ reached_of graph start
-  reached_are_one met are = same_sorted MetBefore met (reached_of graph start) (λ x y has_x has_y before behind. never_before_itself x.0 (before_then_before x.0 y.0 x.0 before behind)) (pairs_sorted MetBefore met are.ordered) (pairs_sorted MetBefore (reached_of graph start) reached_are_listed.ordered) (λ m. (λ has. (reached_are_listed.all m.0 m.1).1 ((are.all m.0 m.1).0 has), λ has. (are.all m.0 m.1).1 ((reached_are_listed.all m.0 m.1).0 has)))
+  reached_are_one met are = same_sorted MeetsInOrder met (reached_of graph start) (λ x y has_x has_y before behind. never_before_itself x.0 (before_then_before x.0 y.0 x.0 before behind)) (pairs_sorted MeetsInOrder met are.ordered) (pairs_sorted MeetsInOrder (reached_of graph start) reached_are_listed.ordered) (λ m. (λ has. (reached_are_listed.all m.0 m.1).1 ((are.all m.0 m.1).0 has), λ has. (are.all m.0 m.1).1 ((reached_are_listed.all m.0 m.1).0 has)))

@@ -3,22 +3,22 @@ use Rattle.std.proofs.Common.{◌≡◌, ℕ, ◌⊎◌, inl, inr, Bool, true, L
 use Rattle.std.specs.Prelude.{Contains, filter}
 use Rattle.std.specs.Str.{bytes_eq}
 use Rattle.std.proofs.lemmas.Slice.Eq.{bytes_eq-Decides}
+use Rattle.std.proofs.lemmas.Option.{same_Some}
 use Rattle.symbols_syntax.specs.declared.ids.SymbolId.{SymbolId}
 use Rattle.symbols_syntax.specs.Graph.{GraphView}
 use Rattle.symbols_table.specs.Events.{default_name}
-use Rattle.symbols_exports.specs.Chains.{chain_end, IsSimpleChain, IsBefore, IsUpTo, IsLeastChain}
+use Rattle.symbols_exports.specs.Chains.{chain_end, IsSimpleChain, IsBefore, IsLeastChain}
 use Rattle.symbols_exports.specs.Exports.{Entry, IsOffered, IsExport, InOrder}
 use Rattle.symbols_exports.specs.Shared.{Shared, IsOwner, HasTwoOwners, IsShared, NamesInOrder, AreShared}
 use Rattle.symbols_exports.specs.Sharing.{reached_of, offers_of, grouped_by_name, is_shared_group, has_position, shared_of}
 use Rattle.symbols_exports.specs.StarStatements.{statements_of, owned_of}
 use Rattle.symbols_exports.specs.Ways.{Way, offered_by}
 use Rattle.symbols_exports.proofs.Distinct.{owns_once}
-use Rattle.symbols_exports.proofs.Ends.{same_module}
 use Rattle.symbols_exports.proofs.ExportsListed.{flat_from, contains_flat, flat_sorted, offered_from, offered_there, offered_sorted, covered, is_export, apart, apart_itself}
-use Rattle.symbols_exports.proofs.Order.{never_before_itself, before_then_before, same_both_ways, up_to_then_before}
+use Rattle.symbols_exports.proofs.Order.{never_before_itself, before_then_before, same_both_ways, up_to_then_before, beginning_up_to}
 use Rattle.symbols_exports.proofs.Places.{Meeting}
 use Rattle.symbols_exports.proofs.ReachedListed.{reached_are_listed}
-use Rattle.symbols_exports.proofs.Sorted.{IsSorted, first_or_later, contains_first, contains_later, contains_nothing, filtered_from, contains_filtered, sorted_pairs, pairs_sorted, sorted_filter, same_sorted}
+use Rattle.symbols_exports.proofs.Sorted.{IsSorted, first_or_later, contains_first, contains_later, contains_nothing, filtered_from, contains_filtered, sorted_pairs, pairs_sorted, sorted_filter, same_sorted, only_one}
 use Rattle.symbols_exports.proofs.Together.{IsFirst, owners_are, has_group, FirstsInOrder, groups_sorted}
 
 -- ---- lists
@@ -43,13 +43,7 @@ begins (x ∷ y ∷ rest) is = (x, y, rest, refl, is)
 -- with two members that differ and a first that comes along a statement it is shared
 are_two : (xs : List Entry) (x y : Entry) → Contains xs x → Contains xs y → (x ≡ y → ⊥) → ((e : Entry) → Contains xs e → e.chain ≡ [] → ⊥) → is_shared_group along xs ≡ true
 are_two [] x y has_x has_y differ behind = absurd (contains_nothing x has_x)
-are_two (a ∷ []) x y has_x has_y differ behind = absurd (differ (sym (only x has_x) ∙ only y has_y))
-  where
-    only : (e : Entry) → Contains (a ∷ []) e → a ≡ e
-    only e has = elim (first_or_later a [] e has) [
-      | inl same ↦ same
-      | inr later ↦ absurd (contains_nothing e later)
-    ]
+are_two (a ∷ []) x y has_x has_y differ behind = absurd (differ (sym (only_one a x has_x) ∙ only_one a y has_y))
 are_two (a ∷ b ∷ rest) x y has_x has_y differ behind = by a.chain (behind a (contains_first a (b ∷ rest)))
   where
     by : (chain : List ℕ) → (chain ≡ [] → ⊥) → has_position chain ≡ true
@@ -62,14 +56,7 @@ chain_not_nothing (k ∷ chain) is none = cc
 
 -- the module where the chains begin has the empty chain
 nothing_is_least : (graph : GraphView) (start : List ℕ) → IsLeastChain (statements_of graph) start [] start
-nothing_is_least graph start = record { is_chain = record { leads = refl; once = λ j k j_in k_in same. omega (arith, j_in, k_in) }; least = λ other simple. up_to other }
-  where
-    up_to : (other : List ℕ) → IsUpTo [] other
-    up_to [] = inl refl
-    up_to (k ∷ other) = inr tt
-
-nothing_before : (chain : List ℕ) → IsBefore chain [] → ⊥
-nothing_before chain before = before
+nothing_is_least graph start = record { is_chain = record { leads = refl; once = λ j k j_in k_in same. omega (arith, j_in, k_in) }; least = λ other simple. beginning_up_to 0 other }
 
 module _ (graph : GraphView) (start : List ℕ) where
   abbrev offers : List Entry
@@ -115,7 +102,7 @@ module _ (graph : GraphView) (start : List ℕ) where
       λ i. record { name = names i; chain = chains i; owner = owners i; symbol = symbols i }
 
   by_one_chain : (x y : Entry) → Contains offers x → Contains offers y → x.chain ≡ y.chain → x.owner ≡ y.owner
-  by_one_chain x y has_x has_y chains = same_module x.owner y.owner (sym (is_offer x has_x).0.is_chain.leads ∙ (ap (chain_end (statements_of graph) start) chains ∙ (is_offer y has_y).0.is_chain.leads))
+  by_one_chain x y has_x has_y chains = same_Some x.owner y.owner (sym (is_offer x has_x).0.is_chain.leads ∙ (ap (chain_end (statements_of graph) start) chains ∙ (is_offer y has_y).0.is_chain.leads))
 
   -- an export is of a shared name's offers, whose first it is
   offers_not_itself : (x : Entry) → Contains offers x → InOrder (owned_of graph) x x → ⊥
@@ -188,7 +175,7 @@ module _ (graph : GraphView) (start : List ℕ) where
           before_it own has (inl same) none = chain_not_nothing parts.0.chain parts.4 (ap (λ (e : Entry). e.chain) same ∙ none)
           before_it own has (inr later) none =
               let before : IsBefore parts.0.chain own.chain = (subst (IsSorted (λ (x y : Entry). IsBefore x.chain y.chain)) parts.3 chains_sorted).0 own later in
-              nothing_before parts.0.chain (subst (IsBefore parts.0.chain) none before)
+              subst (IsBefore parts.0.chain) none before
 
       two : HasTwoOwners (statements_of graph) (owned_of graph) start group.name
       two = record {
@@ -238,7 +225,7 @@ module _ (graph : GraphView) (start : List ℕ) where
       behind : (group : Shared Entry) → Contains (grouped_by_name entry_name offers) group → group.name ≡ shared.name → (e : Entry) → Contains group.owners e → e.chain ≡ [] → ⊥
       behind group has_it named e has none =
           let owner = owner_from group has_it e has in
-          let at_start : start ≡ e.owner = same_module start e.owner (sym (ap (chain_end (statements_of graph) start) none) ∙ owner.leads.is_chain.leads) in
+          let at_start : start ≡ e.owner = same_Some start e.owner (sym (ap (chain_end (statements_of graph) start) none) ∙ owner.leads.is_chain.leads) in
           they.is_shared.not_own e.symbol (subst (λ u. Contains (owned_of graph u) (shared.name, e.symbol)) (sym at_start) (subst (λ q. Contains (owned_of graph e.owner) (q, e.symbol)) named owner.owns))
 
   -- ---- their order

@@ -3,17 +3,15 @@ use Rattle.std.proofs.Common.{◌≡◌, ℕ, zero, suc, ◌+◌, ◌<◌, ◌�
 use Rattle.std.specs.Prelude.{if◌then◌else◌}
 use Rattle.std.specs.Str.{bytes_eq}
 use Rattle.std.proofs.lemmas.Cmp.{nat_list_eq_equiv}
-use Rattle.std.proofs.lemmas.List.Folds.{list_any-append}
 use Rattle.std.proofs.lemmas.List.Sums.{sum_by-le}
-use Rattle.std.proofs.lemmas.Option.{none-some}
+use Rattle.std.proofs.lemmas.Option.{none-some, same_Some}
 use Rattle.std.proofs.lemmas.Slice.Eq.{bytes_eq-Decides}
 use Rattle.symbols_syntax.specs.Graph.{GraphView, ModuleView}
 use Rattle.symbols_root.specs.Specifiers.{module_under, is_among}
 use Rattle.symbols_exports.specs.Chains.{Statements, statement_target, chain_end, IsSimpleChain}
 use Rattle.symbols_exports.specs.StarStatements.{statements_of, star_texts, text_target}
 use Rattle.symbols_exports.proofs.Known.{target_known}
-use Rattle.symbols_exports.proofs.Unmet.{unmet, weighed, unmet_entered}
-use Rattle.symbols_exports.proofs.Ways.{some_is}
+use Rattle.symbols_exports.proofs.Unmet.{unmet, weighed, unmet_entered, among_more}
 
 -- a chain from a module to another that comes by no module again, nor by one of those before
 abbrev pub Goes : Statements → List (List ℕ) → List ℕ → List ℕ → List ℕ → Type 0
@@ -25,9 +23,6 @@ starts_fresh statements before here [] end goes = goes.0
 starts_fresh statements before here (k ∷ chain) end goes = goes.0
 
 -- ---- what is among modules and one more
-
-among_more : (before : List (List ℕ)) (here q : List ℕ) → is_among (before ++ here ∷ []) q ≡ (is_among before q || (bytes_eq q here || false))
-among_more before here q = list_any-append (bytes_eq q) before (here ∷ [])
 
 among_itself : (before : List (List ℕ)) (here : List ℕ) → is_among (before ++ here ∷ []) here ≡ true
 among_itself before here = rw (among_more before here here, nat_list_eq_equiv.refl here) (last (is_among before here))
@@ -60,9 +55,9 @@ goes_leads statements before here [] end goes = ap (λ u. Some u) goes.1
 goes_leads statements before here (k ∷ chain) end goes = step_leads statements here goes.1.0 k chain goes.1.1 ∙ goes_leads statements (before ++ here ∷ []) goes.1.0 chain end goes.1.2
 
 goes_apart : (statements : Statements) (before : List (List ℕ)) (here chain end : List ℕ) → Goes statements before here chain end → (j : ℕ) (w : List ℕ) → chain_end statements here (take j chain) ≡ Some w → is_among before w ≡ false
-goes_apart statements before here [] end goes zero w at = subst (λ u. is_among before u ≡ false) (some_is here w at) goes.0
-goes_apart statements before here [] end goes (suc j) w at = subst (λ u. is_among before u ≡ false) (some_is here w at) goes.0
-goes_apart statements before here (k ∷ chain) end goes zero w at = subst (λ u. is_among before u ≡ false) (some_is here w at) goes.0
+goes_apart statements before here [] end goes zero w at = subst (λ u. is_among before u ≡ false) (same_Some here w at) goes.0
+goes_apart statements before here [] end goes (suc j) w at = subst (λ u. is_among before u ≡ false) (same_Some here w at) goes.0
+goes_apart statements before here (k ∷ chain) end goes zero w at = subst (λ u. is_among before u ≡ false) (same_Some here w at) goes.0
 goes_apart statements before here (k ∷ chain) end goes (suc j) w at = fewer_among before here w (goes_apart statements (before ++ here ∷ []) goes.1.0 chain end goes.1.2 j w (sym (step_leads statements here goes.1.0 k (take j chain) goes.1.1) ∙ at))
 
 goes_once : (statements : Statements) (before : List (List ℕ)) (here chain end : List ℕ) → Goes statements before here chain end → (i j : ℕ) → i ≤ length chain → j ≤ length chain → chain_end statements here (take i chain) ≡ chain_end statements here (take j chain) → i ≡ j
@@ -84,7 +79,7 @@ goes_simple statements start chain end goes = record { leads = goes_leads statem
 -- ---- and each simple chain is such a one
 
 goes_from : (statements : Statements) (before : List (List ℕ)) (here chain end : List ℕ) → chain_end statements here chain ≡ Some end → ((j : ℕ) (w : List ℕ) → j ≤ length chain → chain_end statements here (take j chain) ≡ Some w → is_among before w ≡ false) → ((i j : ℕ) → i ≤ length chain → j ≤ length chain → chain_end statements here (take i chain) ≡ chain_end statements here (take j chain) → i ≡ j) → Goes statements before here chain end
-goes_from statements before here [] end leads apart once = (apart 0 here (omega arith) refl, some_is here end leads)
+goes_from statements before here [] end leads apart once = (apart 0 here (omega arith) refl, same_Some here end leads)
 goes_from statements before here (k ∷ chain) end leads apart once = by (statement_target statements here k) refl leads (λ v at later. goes_from statements (before ++ here ∷ []) v chain end later (further_apart v at) (further_once v at))
   where
     further_apart : (v : List ℕ) → statement_target statements here k ≡ Some v → (j : ℕ) (w : List ℕ) → j ≤ length chain → chain_end statements v (take j chain) ≡ Some w → is_among (before ++ here ∷ []) w ≡ false

@@ -1,7 +1,10 @@
 -- Lists that are sorted by a relation, and the first of each sort in them.
-use Rattle.std.proofs.Common.{◌≡◌, ℕ, zero, suc, ◌<◌, ◌⊎◌, ◌↔◌, inl, inr, Bool, true, false, not, List, [], ◌∷◌, ◌++◌, length, map, get_or, refl, sym, ap, subst, ◌∙◌, arith, true≢false}
+use Rattle.std.proofs.Common.{◌≡◌, ℕ, zero, suc, ◌<◌, ◌⊎◌, ◌↔◌, inl, inr, Bool, true, false, not, List, [], ◌∷◌, ◌++◌, length, map, get_or, refl, sym, ap, subst, ◌∙◌, arith, true≢false, cond, find, Some}
 use Rattle.std.specs.Prelude.{Contains, AllPairs, filter, if◌then◌else◌}
 use Rattle.std.specs.Bool.{Decides}
+use Rattle.std.proofs.lemmas.List.Elements.{Contains-append_cases, Contains-get_or}
+use Rattle.std.proofs.lemmas.Option.{none-some, same_Some}
+use Rattle.std.proofs.lemmas.List.{length_push}
 use Rattle.symbols_exports.specs.Ways.{first_of_each}
 
 -- ---- what a list contains
@@ -22,26 +25,9 @@ contains_later x xs y has = (suc has.0, omega (arith, has.1), has.2)
 pub contains_nothing : {A : Type 0} (y : A) → Contains {X = A} [] y → ⊥
 contains_nothing y has = omega (arith, has.1)
 
-pub contains_left : {A : Type 0} (xs ys : List A) (z : A) → Contains xs z → Contains (xs ++ ys) z
-contains_left [] ys z has = absurd (contains_nothing z has)
-contains_left (x ∷ xs) ys z has = elim (first_or_later x xs z has) [
-  | inl same ↦ subst (Contains (x ∷ (xs ++ ys))) same (contains_first x (xs ++ ys))
-  | inr later ↦ contains_later x (xs ++ ys) z (contains_left xs ys z later)
-]
-
-pub contains_right : {A : Type 0} (xs ys : List A) (z : A) → Contains ys z → Contains (xs ++ ys) z
-contains_right [] ys z has = has
-contains_right (x ∷ xs) ys z has = contains_later x (xs ++ ys) z (contains_right xs ys z has)
-
-pub contains_either : {A : Type 0} (xs ys : List A) (z : A) → Contains (xs ++ ys) z → Contains xs z ⊎ Contains ys z
-contains_either [] ys z has = inr has
-contains_either (x ∷ xs) ys z has = elim (first_or_later x (xs ++ ys) z has) [
-  | inl same ↦ inl (subst (Contains (x ∷ xs)) same (contains_first x xs))
-  | inr later ↦ elim (contains_either xs ys z later) [
-    | inl left ↦ inl (contains_later x xs z left)
-    | inr right ↦ inr right
-  ]
-]
+pub only_one : {A : Type 0} (x y : A) → Contains (x ∷ []) y → x ≡ y
+only_one x y (zero, within, same) = same
+only_one x y (suc i, within, same) = absurd (omega (arith, within))
 
 pub contains_mapped : {A B : Type 0} (f : A → B) (xs : List A) (x : A) → Contains xs x → Contains (map f xs) (f x)
 contains_mapped f [] x has = absurd (contains_nothing x has)
@@ -78,6 +64,18 @@ contains_filtered p (x ∷ xs) y has passes = by (p x) refl (first_or_later x xs
     by false is (inl same) rest = absurd (true≢false (sym passes ∙ (ap p (sym same) ∙ is)))
     by false is (inr later) rest = rest later
 
+pub found_there : {A : Type 0} (p : A → Bool) (xs : List A) (x : A) → find p xs ≡ Some x → Contains xs x × (p x ≡ true)
+found_there p [] x none = absurd (none-some x none)
+found_there p (y ∷ xs) x found = by (p y) refl found (found_there p xs x)
+  where
+    by : (b : Bool) → p y ≡ b → cond b (Some y) (find p xs) ≡ Some x → (find p xs ≡ Some x → Contains xs x × (p x ≡ true)) → Contains (y ∷ xs) x × (p x ≡ true)
+    by true is same rest = ((0, omega arith, same_Some y x same), subst (λ z. p z ≡ true) (same_Some y x same) is)
+    by false is same rest = let later = rest same in (contains_later y xs x later.0, later.1)
+
+-- a place with one more behind it
+pub short_or_last : {A : Type 0} (xs : List A) (y : A) (k : ℕ) → k < length (xs ++ y ∷ []) → (k < length xs) ⊎ (length xs ≡ k)
+short_or_last xs y k within = let counted = length_push xs y in grind (arith, counted)
+
 -- ---- sorted lists
 
 abbrev pub IsSorted : {A : Type 0} → (A → A → Type 0) → List A → Type 0
@@ -87,12 +85,7 @@ IsSorted {A} R (x ∷ xs) = ((y : A) → Contains xs y → R x y) × IsSorted R 
 pub sorted_pairs : {A : Type 0} (R : A → A → Type 0) (xs : List A) → IsSorted R xs → AllPairs R xs
 sorted_pairs R [] sorted i j d less within = absurd (omega (arith, within))
 sorted_pairs R (x ∷ xs) sorted zero zero d less within = absurd (omega (arith, less))
-sorted_pairs {A} R (x ∷ xs) sorted zero (suc j) d less within = sorted.0 (get_or xs j d) (at xs j d (omega (arith, within)))
-  where
-    at : (ys : List A) (k : ℕ) (e : A) → k < length ys → Contains ys (get_or ys k e)
-    at [] k e short = absurd (omega (arith, short))
-    at (y ∷ ys) zero e short = contains_first y ys
-    at (y ∷ ys) (suc k) e short = contains_later y ys (get_or ys k e) (at ys k e (omega (arith, short)))
+sorted_pairs R (x ∷ xs) sorted zero (suc j) d less within = sorted.0 (get_or xs j d) (Contains-get_or xs j d (omega (arith, within)))
 sorted_pairs R (x ∷ xs) sorted (suc i) zero d less within = absurd (omega (arith, less))
 sorted_pairs R (x ∷ xs) sorted (suc i) (suc j) d less within = sorted_pairs R xs sorted.1 i j d (omega (arith, less)) (omega (arith, within))
 
@@ -106,7 +99,7 @@ sorted_both R [] ys left right across = right
 sorted_both {A} R (x ∷ xs) ys left right across = (first, sorted_both R xs ys left.1 right (λ a b has_a has_b. across a b (contains_later x xs a has_a) has_b))
   where
     first : (z : A) → Contains (xs ++ ys) z → R x z
-    first z has = elim (contains_either xs ys z has) [
+    first z has = elim (Contains-append_cases xs ys z has) [
       | inl in_xs ↦ left.0 z in_xs
       | inr in_ys ↦ across x z (contains_first x xs) in_ys
     ]

@@ -1,6 +1,6 @@
 -- The symbols of a stored module are those of the graph's module.
 use Rattle.std.proofs.Common.{◌≡◌, ℕ, ◌<◌, List, length, inl, inr, Option, None, Some, slice_get, refl, sym, ap, subst, ◌∙◌, arith}
-use Rattle.std.proofs.lemmas.Option.{none-some, slice_get_cases}
+use Rattle.std.proofs.lemmas.Option.{none-some, slice_get_cases, same_Some}
 use Rattle.std.specs.Prelude.{Contains}
 use Rattle.std.specs.Option.{option_map}
 use Rattle.symbols_syntax.specs.declared.ids.ModuleId.{ModuleId}
@@ -25,10 +25,7 @@ stored_exports root module_id table s symbol stored at =
   where
     by : (parent : Option (Option SymbolId)) → Some (symbol_view symbol) ≡ option_map (symbol_made (changes_under root.graph (specifier_in root module_id)) s) parent → exports_in symbol ≡ exports_after (changes_under root.graph (specifier_in root module_id)) s
     by None none = absurd cc
-    by (Some parent) same = ap (λ (view : SymbolView). view.exports) (some_is (symbol_view symbol) (symbol_made (changes_under root.graph (specifier_in root module_id)) s parent) same)
-      where
-        some_is : (a b : SymbolView) → Some a ≡ Some b → a ≡ b
-        some_is a b equal = cc
+    by (Some parent) same = ap (λ (view : SymbolView). view.exports) (same_Some (symbol_view symbol) (symbol_made (changes_under root.graph (specifier_in root module_id)) s parent) same)
 
 -- the names that it exports are its symbol 0's
 pub stored_names : (root : RootView) (module_id : ModuleId) (table : Table) (symbol : Symbol) → IsStoredTable root module_id table → slice_get table.symbols 0 ≡ Some symbol → exports_in symbol ≡ owned_of root.graph (specifier_in root module_id)

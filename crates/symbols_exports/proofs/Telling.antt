@@ -1,8 +1,9 @@
 -- What answers tell of chains and names, as chains grow and a root stores more.
-use Rattle.std.proofs.Common.{◌≡◌, ℕ, ◌<◌, ◌⊎◌, inl, inr, Bool, true, false, ◌||◌, List, [], ◌∷◌, ◌++◌, length, map, get_or, option_and_then, Option, None, Some, refl, sym, ap, ◌∙◌, arith}
+use Rattle.std.proofs.Common.{◌≡◌, ℕ, ◌<◌, inl, inr, Bool, true, false, ◌||◌, List, [], ◌∷◌, ◌++◌, length, map, get_or, option_and_then, Option, None, Some, refl, sym, ap, ◌∙◌, arith}
 use Rattle.std.specs.Prelude.{if◌then◌else◌, ◌&&◌, unwrap_or}
 use Rattle.std.specs.Str.{bytes_eq}
-use Rattle.std.proofs.lemmas.List.{same_from_push, length_push, get_or_append_left, get_or_push}
+use Rattle.std.proofs.lemmas.List.{same_from_push, get_or_append_left, get_or_push}
+use Rattle.std.proofs.lemmas.Option.{same_Some}
 use Rattle.symbols_syntax.specs.declared.ids.ModuleId.{ModuleId}
 use Rattle.symbols_syntax.specs.declared.ids.SymbolId.{SymbolId}
 use Rattle.symbols_syntax.specs.Graph.{GraphView}
@@ -14,13 +15,11 @@ use Rattle.symbols_exports.specs.Taking.{NameView}
 use Rattle.symbols_exports.specs.inner.Taking.{has_name, has_statements, with_name, with_names}
 use Rattle.symbols_exports.specs.Told.{ToldStatement, told_statement, told_chain, told_number, told_name, AreNumbered, IsNumbered, AllNumbered}
 use Rattle.symbols_exports.proofs.Numbers.{number_kept, still_within, same_under}
-
-some_is : (a b : List ℕ) → Some a ≡ Some b → a ≡ b
-some_is a b same = cc
+use Rattle.symbols_exports.proofs.Sorted.{short_or_last}
 
 -- a chain with one more statement
 pub told_push : (graph : GraphView) (start end : List ℕ) (chain : List ℕ) (k : ℕ) → chain_end (statements_of graph) start chain ≡ Some end → told_chain graph start (chain ++ k ∷ []) ≡ told_chain graph start chain ++ told_statement graph (end, k) ∷ []
-told_push graph start end [] k leads = rw (some_is start end leads) refl
+told_push graph start end [] k leads = rw (same_Some start end leads) refl
 told_push graph start end (i ∷ chain) k leads = by (statement_target (statements_of graph) start i) leads (λ v later. told_push graph v end chain k later)
   where
     by : (next : Option (List ℕ)) → option_and_then (λ v. chain_end (statements_of graph) v chain) next ≡ Some end → ((v : List ℕ) → chain_end (statements_of graph) v chain ≡ Some end → told_chain graph v (chain ++ k ∷ []) ≡ told_chain graph v chain ++ told_statement graph (end, k) ∷ [])
@@ -39,9 +38,6 @@ none_numbered root i d within = absurd (omega (arith, within))
 
 pub no_names_numbered : (root : RootView) → AllNumbered root []
 no_names_numbered root i d within = absurd (omega (arith, within))
-
-short_or_last : {A : Type 0} (xs : List A) (y : A) (k : ℕ) → k < length (xs ++ y ∷ []) → (k < length xs) ⊎ (length xs ≡ k)
-short_or_last xs y k within = let counted = length_push xs y in grind (arith, counted)
 
 pub numbered_push : (root : RootView) (statements : List (ModuleId × List ℕ)) (statement : ModuleId × List ℕ) → AreNumbered root statements → statement.0.0 < length root.stored → AreNumbered root (statements ++ statement ∷ [])
 numbered_push root statements statement are within i d i_in = elim (short_or_last statements statement i i_in) [

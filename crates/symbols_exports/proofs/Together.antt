@@ -5,6 +5,7 @@ use Rattle.std.specs.Str.{bytes_eq}
 use Rattle.std.proofs.lemmas.Cmp.{nat_list_eq_equiv}
 use Rattle.std.proofs.lemmas.List.Elements.{filter-append}
 use Rattle.std.proofs.lemmas.Slice.Eq.{bytes_eq-Decides}
+use Rattle.std.proofs.lemmas.Bool.{not-true}
 use Rattle.symbols_exports.specs.Shared.{Shared}
 use Rattle.symbols_exports.specs.Sharing.{grouped_by_name, is_shared_group, shared_only, shared_among}
 use Rattle.symbols_exports.specs.inner.Taking.{with_owner}
@@ -23,10 +24,6 @@ other_name p q other = by (bytes_eq q p) refl
     by : (b : Bool) → bytes_eq q p ≡ b → b ≡ false
     by true is = absurd (true≢false (sym (is_same p q (sym (same_name q p is))) ∙ other))
     by false is = refl
-
-was_false : (b : Bool) → not b ≡ true → b ≡ false
-was_false true is = absurd (true≢false (sym is))
-was_false false is = refl
 
 kept_first : {A : Type 0} (p : A → Bool) (x : A) (xs : List A) → p x ≡ true → filter p (x ∷ xs) ≡ x ∷ filter p xs
 kept_first p x xs is = rw is refl
@@ -51,7 +48,7 @@ module _ {A : Type 0} (name : A → List ℕ) where
       by (inl same) rest = subst (λ (g : Shared A). g.owners ≡ filter (λ y. bytes_eq g.name (name y)) (x ∷ xs)) same (sym (kept_first (λ y. bytes_eq (name x) (name y)) x xs (nat_list_eq_equiv.refl (name x))))
       by (inr later) rest =
           let from = filtered_from (λ (g : Shared A). not (bytes_eq (name x) g.name)) (grouped_by_name name xs) group later in
-          rest from.0 ∙ sym (left_out (λ y. bytes_eq group.name (name y)) x xs (other_name (name x) group.name (was_false (bytes_eq (name x) group.name) from.1)))
+          rest from.0 ∙ sym (left_out (λ y. bytes_eq group.name (name y)) x xs (other_name (name x) group.name (not-true (bytes_eq (name x) group.name) from.1)))
 
   -- each name has a group
   pub has_group : (xs : List A) (x : A) → Contains xs x → (group : Shared A) × Contains (grouped_by_name name xs) group × (group.name ≡ name x)

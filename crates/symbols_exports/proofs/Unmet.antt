@@ -17,13 +17,13 @@ weighed weight met m = if is_among met m.specifier then 0 else weight m.specifie
 abbrev pub unmet : (List ℕ → ℕ) → List (List ℕ) → List ModuleView → ℕ
 unmet weight met modules = sum_by (weighed weight met) modules
 
-module _ (weight : List ℕ → ℕ) (met : List (List ℕ)) (v : List ℕ) where
-  -- with one more that was met
-  among_more : (q : List ℕ) → is_among (met ++ v ∷ []) q ≡ (is_among met q || (bytes_eq q v || false))
-  among_more q = list_any-append (bytes_eq q) met (v ∷ [])
+-- with one more that was met
+pub among_more : (met : List (List ℕ)) (v q : List ℕ) → is_among (met ++ v ∷ []) q ≡ (is_among met q || (bytes_eq q v || false))
+among_more met v q = list_any-append (bytes_eq q) met (v ∷ [])
 
+module _ (weight : List ℕ → ℕ) (met : List (List ℕ)) (v : List ℕ) where
   weighed_no_more : (m : ModuleView) → weighed weight (met ++ v ∷ []) m ≤ weighed weight met m
-  weighed_no_more m = rw (among_more m.specifier) (by (is_among met m.specifier) (bytes_eq m.specifier v))
+  weighed_no_more m = rw (among_more met v m.specifier) (by (is_among met m.specifier) (bytes_eq m.specifier v))
     where
       by : (was is : Bool) → (if was || (is || false) then 0 else weight m.specifier) ≤ (if was then 0 else weight m.specifier)
       by true is = omega arith
@@ -44,7 +44,7 @@ module _ (weight : List ℕ → ℕ) (met : List (List ℕ)) (v : List ℕ) wher
         last false = refl
 
         gone : weighed weight (met ++ v ∷ []) m ≡ 0
-        gone = subst (λ q. (if is_among (met ++ v ∷ []) q then 0 else weight q) ≡ 0) same (rw (among_more v, nat_list_eq_equiv.refl v) (last (is_among met v)))
+        gone = subst (λ q. (if is_among (met ++ v ∷ []) q then 0 else weight q) ≡ 0) same (rw (among_more met v v, nat_list_eq_equiv.refl v) (last (is_among met v)))
 
         was : weighed weight met m ≡ weight v
         was = subst (λ q. (if is_among met q then 0 else weight q) ≡ weight v) same (rw fresh refl)

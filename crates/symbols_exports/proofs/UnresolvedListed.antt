@@ -5,7 +5,7 @@ use Rattle.std.specs.Bool.{Decides}
 use Rattle.std.specs.Str.{bytes_eq}
 use Rattle.std.proofs.lemmas.Bool.{eqb-true, eq-eqb, and_from}
 use Rattle.std.proofs.lemmas.List.{take_all, take_at, length-append}
-use Rattle.std.proofs.lemmas.Option.{none-some}
+use Rattle.std.proofs.lemmas.Option.{none-some, same_Some}
 use Rattle.std.proofs.lemmas.Slice.Eq.{bytes_eq-Decides}
 use Rattle.symbols_syntax.specs.Graph.{GraphView}
 use Rattle.symbols_exports.specs.Chains.{chain_end, IsSimpleChain, IsBefore, IsUpTo, IsLeastChain, IsReached}
@@ -29,10 +29,7 @@ positions : (x y : Option ℕ) → Decides (same_position x y) (x ≡ y)
 positions None None = (λ is. refl, λ same. refl)
 positions None (Some k) = (λ is. absurd (true≢false (sym is)), λ same. absurd (none-some k same))
 positions (Some j) None = (λ is. absurd (true≢false (sym is)), λ same. absurd (none-some j (sym same)))
-positions (Some j) (Some k) = (λ is. ap (λ n. Some n) (eqb-true j k is), λ same. eq-eqb j k (inside same))
-  where
-    inside : Some j ≡ Some k → j ≡ k
-    inside same = cc
+positions (Some j) (Some k) = (λ is. ap (λ n. Some n) (eqb-true j k is), λ same. eq-eqb j k (same_Some j k same))
 
 pub stops : (x y : Way) → Decides (same_stop x y) (◌≡◌ {A = Stop} (stop_of x) (stop_of y))
 stops x y = (λ is. to (bytes_eq x.end y.end) (same_position x.nowhere y.nowhere) refl refl is, λ same. and_from (bytes_eq x.end y.end) (same_position x.nowhere y.nowhere) ((bytes_eq-Decides x.end y.end).1 (ap (λ (s : Stop). s.0) same)) ((positions x.nowhere y.nowhere).1 (ap (λ (s : Stop). s.1) same)))

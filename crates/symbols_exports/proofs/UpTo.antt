@@ -19,10 +19,7 @@ pub up_to_first : (x q : List ℕ) → IsBefore x (q ++ 0 ∷ []) → IsUpTo x q
 up_to_first [] [] before = inl refl
 up_to_first [] (j ∷ q) before = inr tt
 up_to_first (i ∷ x) [] (inl less) = absurd (omega (arith, less))
-up_to_first (i ∷ x) [] (inr rest) = absurd (nothing x rest.1)
-  where
-    nothing : (y : List ℕ) → IsBefore y [] → ⊥
-    nothing y none = none
+up_to_first (i ∷ x) [] (inr rest) = absurd rest.1
 up_to_first (i ∷ x) (j ∷ q) (inl less) = inr (inl less)
 up_to_first (i ∷ x) (j ∷ q) (inr rest) = on (up_to_first x q rest.1)
   where

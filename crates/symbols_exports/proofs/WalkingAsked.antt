@@ -10,7 +10,7 @@ use Rattle.std.proofs.lemmas.List.Elements.{Contains-get_or}
 use Rattle.std.proofs.lemmas.Cmp.{nat_list_eq_equiv}
 use Rattle.std.proofs.lemmas.List.Folds.{list_any_at}
 use Rattle.std.proofs.lemmas.List.Sums.{sum_by-le}
-use Rattle.std.proofs.lemmas.Option.{none-some, slice_get_within, get_or_from_slice_get}
+use Rattle.std.proofs.lemmas.Option.{none-some, slice_get_within, get_or_from_slice_get, same_Some}
 use Rattle.symbols_syntax.specs.declared.ids.ModuleId.{ModuleId}
 use Rattle.symbols_syntax.specs.Graph.{ModuleView}
 use Rattle.symbols_table.specs.declared.info.fault.SymbolsFault.{SymbolsFault}
@@ -91,10 +91,7 @@ gives_none f (Some v) same = absurd cc
 
 gives_some : (f : ModuleId → Option (List ℕ)) (id : ModuleId) (leads : Option (List ℕ)) → option_map f (Some id) ≡ option_map (λ (s : List ℕ). Some s) leads → (v : List ℕ) × (leads ≡ Some v) × (f id ≡ Some v)
 gives_some f id None same = absurd cc
-gives_some f id (Some v) same = (v, refl, is (f id) same)
-  where
-    is : (x : Option (List ℕ)) → Some x ≡ Some (Some v) → x ≡ Some v
-    is x equal = cc
+gives_some f id (Some v) same = (v, refl, same_Some (f id) (Some v) same)
 
 pub ended_past : {A : Type 0} (xs : List A) (n : ℕ) → slice_get xs n ≡ None → length xs ≤ n
 ended_past [] n none = omega arith

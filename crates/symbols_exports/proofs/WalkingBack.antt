@@ -2,6 +2,7 @@
 use Rattle.std.proofs.Common.{◌≡◌, ℕ, ◌+◌, ◌<◌, ◌≤◌, ◌^◌, inr, List, [], ◌∷◌, ◌++◌, length, map, Some, refl, sym, ◌∙◌, arith, false, true≢false}
 use Rattle.std.proofs.lemmas.List.{map-append, length_push, get_or_append_left, get_or_push}
 use Rattle.std.proofs.lemmas.List.Sums.{sum_by_push}
+use Rattle.std.proofs.lemmas.Option.{same_Some}
 use Rattle.symbols_syntax.specs.declared.ids.ModuleId.{ModuleId}
 use Rattle.symbols_root.specs.Roots.{RootView, specifier_in}
 use Rattle.symbols_exports.specs.declared.exports.turn.Turn.{Turn}
@@ -11,7 +12,7 @@ use Rattle.symbols_exports.specs.StarStatements.{statements_of}
 use Rattle.symbols_exports.specs.inner.Taking.{TakenView, turn_told}
 use Rattle.symbols_exports.specs.Told.{told_chain, told_number, AreNumbered}
 use Rattle.symbols_exports.specs.inner.Wanted.{is_done}
-use Rattle.symbols_exports.proofs.Ends.{same_module, leads_back, place_is_there}
+use Rattle.symbols_exports.proofs.Ends.{leads_back, place_is_there}
 use Rattle.symbols_exports.proofs.Missed.{IsThere, LeadsNowhere}
 use Rattle.symbols_exports.proofs.Telling.{told_pop}
 use Rattle.symbols_exports.proofs.Walking.{IsWalking, all_few, fork_in, forks_in, left, left_at, count_met}
@@ -57,7 +58,7 @@ module _ {wanted : Wanted} {old : RootView} {start : ModuleId} {root : RootView}
   led_here =
       let here_leads : chain_end (statements_of old.graph) (specifier_in old start) (chain_of (forks_in root above) ++ turn.position ∷ []) ≡ Some (specifier_in root here) = rw chain_was at (stood_at.stands.are_chains (chain_of (forks_in root above ++ fork_in root turn ∷ [])) (specifier_in root here) stood_at.here_met).leads in
       let from = leads_back (statements_of old.graph) (specifier_in old start) (specifier_in root here) (chain_of (forks_in root above)) turn.position here_leads in
-      let same : from.0 ≡ specifier_in root turn.referrer = same_module from.0 (specifier_in root turn.referrer) (sym from.1 ∙ chain_back) in
+      let same : from.0 ≡ specifier_in root turn.referrer = same_Some from.0 (specifier_in root turn.referrer) (sym from.1 ∙ chain_back) in
       place_is_there (statements_of old.graph) (specifier_in root turn.referrer) (specifier_in root here) turn.position (rw same at from.2)
 
   still_counted : asked + left (statements_of old.graph) (specifier_in root turn.referrer) (turn.position + 1) (forks_in root above) ≡ count_met (statements_of old.graph) walk.met

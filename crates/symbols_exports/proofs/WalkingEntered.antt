@@ -29,9 +29,7 @@ use Rattle.symbols_exports.proofs.Wanting.{newly_done, nothing_told}
 use Rattle.symbols_exports.proofs.Walking.{IsWalking, HasStopped, all_few, names_taken, fork_in, forks_in, left, left_at, count_met, told_at}
 use Rattle.symbols_exports.proofs.WalkingOn.{is_one, leads_to}
 use Rattle.symbols_exports.proofs.Walks.{Fork, chain_of, place_of, IsAt, at_entered}
-
-short_or_last : {A : Type 0} (xs : List A) (y : A) (k : ℕ) → k < length (xs ++ y ∷ []) → (k < length xs) ⊎ (length xs ≡ k)
-short_or_last xs y k within = let counted = length_push xs y in grind (arith, counted)
+use Rattle.symbols_exports.proofs.Sorted.{short_or_last}
 
 -- the turns are those of the same modules where more is stored
 forks_kept : (root : RootView) (needed : Option (List ℕ)) (above : List Turn) → AreNumbered root (map turn_told above) → forks_in (with_stored root needed) above ≡ forks_in root above

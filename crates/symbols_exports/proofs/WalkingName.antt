@@ -29,7 +29,7 @@ use Rattle.symbols_exports.proofs.Least.{met_are_least}
 use Rattle.symbols_exports.proofs.MetModules.{met_modules, met_is_among, among_stored, stored_already}
 use Rattle.symbols_exports.proofs.Missed.{IsThere, AreKept, kept_in_order}
 use Rattle.symbols_exports.proofs.NamedExport.{entry_is, no_entry, found_is_export, is_named, one_found, not_before, within_last}
-use Rattle.symbols_exports.proofs.Order.{never_before_itself, up_to_then_before}
+use Rattle.symbols_exports.proofs.Order.{never_before_itself, up_to_then_before, beginning_up_to}
 use Rattle.symbols_exports.proofs.Places.{Meeting, StandsAt, start_alone, stands_first}
 use Rattle.symbols_exports.proofs.UpTo.{reached_up_to, asked_up_to, reached_all}
 use Rattle.symbols_exports.proofs.Walking.{IsWalking, forks_in}
@@ -42,10 +42,6 @@ use Rattle.symbols_exports.proofs.Wanting.{nothing_told}
 goes_on : (name : Bor (List ℕ)) (names : List NameView) → is_done (OneName name) names ≡ false → (names ≡ []) × (bytes_eq name.now default_name ≡ false)
 goes_on name [] goes = (refl, goes)
 goes_on name (found ∷ names) goes = absurd (true≢false goes)
-
-nothing_is_first : (c : List ℕ) → IsUpTo [] c
-nothing_is_first [] = inl refl
-nothing_is_first (k ∷ c) = inr tt
 
 behind_nothing : (k : ℕ) (c : List ℕ) → c ≡ [] → IsUpTo (k ∷ []) c → ⊥
 behind_nothing k c none up_to = by (subst (IsUpTo (k ∷ [])) none up_to)
@@ -219,4 +215,4 @@ name_broken_first name old start known is_stored = record {
 
     within_any : (last : Option (List ℕ)) (c : List ℕ) → [] ≡ c → IsWithin last c
     within_any None c none = tt
-    within_any (Some last) c none = subst (λ d. IsUpTo d last) none (nothing_is_first last)
+    within_any (Some last) c none = subst (λ d. IsUpTo d last) none (beginning_up_to 0 last)

@@ -1,16 +1,17 @@
 -- A walk along `export *` in chain order: where it stands, by which statements it came there, and what it found.
-use Rattle.std.proofs.Common.{◌≡◌, ℕ, ◌+◌, ◌<◌, ◌≤◌, ◌⊎◌, inl, inr, List, [], ◌∷◌, ◌++◌, length, take, map, get_or, None, Some, refl, sym, ◌∙◌, subst, arith}
+use Rattle.std.proofs.Common.{◌≡◌, ℕ, ◌+◌, ◌<◌, ◌≤◌, inl, inr, List, [], ◌∷◌, ◌++◌, length, take, map, get_or, None, Some, refl, sym, ◌∙◌, subst, arith}
 use Rattle.std.specs.Prelude.{Contains}
 use Rattle.std.proofs.lemmas.List.{length-map, map-append, length_push, get_or_past, get_or_append_left, get_or_push, take-append-le, take_at}
 use Rattle.std.proofs.lemmas.List.Elements.{Contains-push, Contains-append_left}
+use Rattle.std.proofs.lemmas.Option.{same_Some}
 use Rattle.symbols_exports.specs.Chains.{Statements, statement_target, chain_end, IsBefore, AreReached}
 use Rattle.symbols_exports.specs.Exports.{Statement, AreUnresolved}
 use Rattle.symbols_exports.specs.OneName.{AreAskedFor}
-use Rattle.symbols_exports.proofs.Ends.{same_module}
 use Rattle.symbols_exports.proofs.Places.{Meeting, StandsAt, stands_first, stands_next, stands_back, stands_entered}
 use Rattle.symbols_exports.proofs.Least.{met_all, all_before}
 use Rattle.symbols_exports.proofs.Missed.{Kept, IsThere, LeadsNowhere, AreKept, kept_back, are_unresolved}
 use Rattle.symbols_exports.proofs.UpTo.{asked_all}
+use Rattle.symbols_exports.proofs.Sorted.{short_or_last}
 
 -- a statement that led on: its module and its position there
 pub record Fork : Type 0 where
@@ -35,9 +36,6 @@ at_first statements start = record {
   here_met = Contains-push [] ([], start);
   turns_met = λ j d within. absurd (omega (arith, within));
 }
-
-short_or_last : {A : Type 0} (xs : List A) (y : A) (k : ℕ) → k < length (xs ++ y ∷ []) → (k < length xs) ⊎ (length xs ≡ k)
-short_or_last xs y k within = let counted = length_push xs y in grind (arith, counted)
 
 module _ {statements : Statements} {start here : List ℕ} {next : ℕ} {above : List Fork} {met : List Meeting} (at : IsAt statements start here next above met) where
   -- a statement that leads nowhere, or to a module that was met
@@ -82,7 +80,7 @@ module _ {statements : Statements} {start here : List ℕ} {next : ℕ} {above :
     stands_at_end = subst (λ turns. StandsAt statements start (place_of turns next) met) none_above at.stands
 
     start_is : start ≡ here
-    start_is = same_module start here (stands_at_end.are_chains [] here (subst (λ turns. Contains met (chain_of turns, here)) none_above at.here_met)).leads
+    start_is = same_Some start here (stands_at_end.are_chains [] here (subst (λ turns. Contains met (chain_of turns, here)) none_above at.here_met)).leads
 
     start_ended : length (statements start) ≤ next
     start_ended = subst (λ u. length (statements u) ≤ next) (sym start_is) ended

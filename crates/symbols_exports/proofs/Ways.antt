@@ -1,14 +1,12 @@
 -- The ways from a module are exactly its simple chains, and those with one position more that leads nowhere, in chain order.
 use Rattle.std.proofs.Common.{◌≡◌, ℕ, zero, suc, ◌+◌, ◌<◌, ◌≤◌, ◌⊎◌, inl, inr, Bool, true, false, List, [], ◌∷◌, ◌++◌, length, map, get_or, Option, None, Some, refl, sym, ap, subst, arith}
 use Rattle.std.specs.Prelude.{Contains, if◌then◌else◌}
-use Rattle.std.proofs.lemmas.Option.{none-some}
+use Rattle.std.proofs.lemmas.Option.{none-some, same_Some}
+use Rattle.std.proofs.lemmas.List.Elements.{Contains-append_left, Contains-append_right, Contains-append_cases}
 use Rattle.symbols_root.specs.Specifiers.{is_among}
 use Rattle.symbols_exports.specs.Chains.{Statements, IsBefore}
 use Rattle.symbols_exports.specs.Ways.{Way, way_behind, ways_along, ways_from}
-use Rattle.symbols_exports.proofs.Sorted.{IsSorted, first_or_later, contains_first, contains_later, contains_nothing, contains_left, contains_right, contains_either, contains_mapped, mapped_from, sorted_both, sorted_map}
-
-pub some_is : (a b : List ℕ) → Some a ≡ Some b → a ≡ b
-some_is a b same = cc
+use Rattle.symbols_exports.proofs.Sorted.{IsSorted, first_or_later, contains_first, contains_later, contains_nothing, contains_mapped, mapped_from, sorted_both, sorted_map}
 
 -- ---- along the statements of a module
 
@@ -25,7 +23,7 @@ along_from further here p (None ∷ rest) w has = elim (first_or_later (leaf her
   | inl is ↦ (p, 0, omega arith, omega arith, inl (refl, sym is))
   | inr later ↦ let from = along_from further here (p + 1) rest w later in (from.0, suc from.1, omega (arith, from.2), omega (arith, from.3), from.4)
 ]
-along_from further here p (Some v ∷ rest) w has = elim (contains_either (map (way_behind p) (further v)) (ways_along further here (p + 1) rest) w has) [
+along_from further here p (Some v ∷ rest) w has = elim (Contains-append_cases (map (way_behind p) (further v)) (ways_along further here (p + 1) rest) w has) [
   | inl here_on ↦ let from = mapped_from (way_behind p) (further v) w here_on in (p, 0, omega arith, omega arith, inr (v, refl, (from.0, from.1, sym from.2)))
   | inr later ↦ let from = along_from further here (p + 1) rest w later in (from.0, suc from.1, omega (arith, from.2), omega (arith, from.3), from.4)
 ]
@@ -35,7 +33,7 @@ along_leaf further here p [] i k at within none = absurd (omega (arith, within))
 along_leaf further here p (None ∷ rest) zero k at within none = let same : p ≡ k = omega (arith, at) in subst (λ n. Contains (ways_along further here p (None ∷ rest)) (leaf here n)) same (contains_first (leaf here p) (ways_along further here (p + 1) rest))
 along_leaf further here p (None ∷ rest) (suc i) k at within none = contains_later (leaf here p) (ways_along further here (p + 1) rest) (leaf here k) (along_leaf further here (p + 1) rest i k (omega (arith, at)) (omega (arith, within)) none)
 along_leaf further here p (Some v ∷ rest) zero k at within none = absurd (none-some v (sym none))
-along_leaf further here p (Some v ∷ rest) (suc i) k at within none = contains_right (map (way_behind p) (further v)) (ways_along further here (p + 1) rest) (leaf here k) (along_leaf further here (p + 1) rest i k (omega (arith, at)) (omega (arith, within)) none)
+along_leaf further here p (Some v ∷ rest) (suc i) k at within none = Contains-append_right (map (way_behind p) (further v)) (ways_along further here (p + 1) rest) (leaf here k) (along_leaf further here (p + 1) rest i k (omega (arith, at)) (omega (arith, within)) none)
 
 pub along_further : (further : List ℕ → List Way) (here : List ℕ) (p : ℕ) (statements : List (Option (List ℕ))) (i k : ℕ) (v : List ℕ) (m : Way) → k ≡ p + i → get_or statements i None ≡ Some v → Contains (further v) m → Contains (ways_along further here p statements) (way_behind k m)
 along_further further here p [] i k v m at leads has = absurd (none-some v leads)
@@ -43,9 +41,9 @@ along_further further here p (None ∷ rest) zero k v m at leads has = absurd (n
 along_further further here p (None ∷ rest) (suc i) k v m at leads has = contains_later (leaf here p) (ways_along further here (p + 1) rest) (way_behind k m) (along_further further here (p + 1) rest i k v m (omega (arith, at)) leads has)
 along_further further here p (Some u ∷ rest) zero k v m at leads has =
     let same : p ≡ k = omega (arith, at) in
-    let moved : Contains (further u) m = subst (λ q. Contains (further q) m) (sym (some_is u v leads)) has in
-    subst (λ n. Contains (ways_along further here p (Some u ∷ rest)) (way_behind n m)) same (contains_left (map (way_behind p) (further u)) (ways_along further here (p + 1) rest) (way_behind p m) (contains_mapped (way_behind p) (further u) m moved))
-along_further further here p (Some u ∷ rest) (suc i) k v m at leads has = contains_right (map (way_behind p) (further u)) (ways_along further here (p + 1) rest) (way_behind k m) (along_further further here (p + 1) rest i k v m (omega (arith, at)) leads has)
+    let moved : Contains (further u) m = subst (λ q. Contains (further q) m) (sym (same_Some u v leads)) has in
+    subst (λ n. Contains (ways_along further here p (Some u ∷ rest)) (way_behind n m)) same (Contains-append_left (map (way_behind p) (further u)) (ways_along further here (p + 1) rest) (way_behind p m) (contains_mapped (way_behind p) (further u) m moved))
+along_further further here p (Some u ∷ rest) (suc i) k v m at leads has = Contains-append_right (map (way_behind p) (further u)) (ways_along further here (p + 1) rest) (way_behind k m) (along_further further here (p + 1) rest i k v m (omega (arith, at)) leads has)
 
 -- each begins with a position from there on
 along_begins : (further : List ℕ → List Way) (here : List ℕ) (p : ℕ) (statements : List (Option (List ℕ))) (w : Way) → Contains (ways_along further here p statements) w → (j : ℕ) × (c : List ℕ) × (w.chain ≡ j ∷ c) × (p ≤ j)

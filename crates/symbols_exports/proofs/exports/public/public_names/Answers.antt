@@ -1,19 +1,12 @@
-use Rattle.std.proofs.Common.{◌≡◌, ℕ, Result, Ok, Err, IfErr, sym, subst, ◌∙◌}
+use Rattle.std.proofs.Common.{ℕ, sym, subst, ◌∙◌}
 use Rattle.std.specs.Prelude.{◌≢◌, AllPairs}
-use Rattle.std.specs.Result.{IsErrAnd}
-use Rattle.symbols_table.specs.declared.info.fault.SymbolsFault.{SymbolsFault}
-use Rattle.symbols_table.specs.declared.info.fault.SymbolsFault.TheVariants.{OutOfMemory}
 use Rattle.symbols_root.specs.Roots.{specifier_in}
 use Rattle.symbols_exports.specs.Answers.{IsFault}
 use Rattle.symbols_exports.specs.PublicNames.{NameItem}
 use Rattle.symbols_exports.specs.Taking.{names_view}
 use Rattle.symbols_exports.proofs.NameItems.{public_apart, items_told, all_owned, refused_behind}
+use Rattle.symbols_exports.proofs.WalkingCut.{on_memory}
 use Rattle.symbols_exports.proofs.exports.public.public_names.Goals as goal
-
--- a fault that can only be that memory was refused
-on_memory : {A : Type 0} (P : SymbolsFault → Type 0) (r : Result A SymbolsFault) → IsErrAnd r (λ fault. fault ≡ OutOfMemory) → P OutOfMemory → IfErr r P
-on_memory P (Ok x) is held = tt
-on_memory P (Err fault) is held = subst P (sym is) held
 
 pub list_names-requires : goal.list_names-requires
 list_names-requires c =
