@@ -2,13 +2,14 @@
 use Rattle.std.proofs.Common.{◌≡◌, ℕ, zero, suc, ◌+◌, Bool, true, false, List, [], ◌∷◌, ◌++◌, Option, Some, refl, sym, ◌∙◌, subst, arith, true≢false}
 use Rattle.std.specs.Prelude.{Contains, slice_get}
 use Rattle.std.proofs.lemmas.List.Elements.{Contains-append_left, Contains-append_right}
-use Rattle.symbols_paths.specs.Trees.{NamedSymbol, NamedDecl, Missing, LinkHead, Forest, Leaf, definition, unresolved, leaf, no_trees, one_tree, joined_forests, link_to, leaves_in}
+use Rattle.std.proofs.lemmas.Option.{same_Some}
+use Rattle.symbols_paths.specs.Trees.{NamedSymbol, NamedDecl, Missing, LinkHead, Forest, Leaf, definition, unresolved, no_trees, joined_forests, link_to, leaves_in}
 use Rattle.symbols_paths.specs.Leads.{DeclLead, LeadsAt}
 use Rattle.symbols_paths.specs.PartLeads.{Routes}
 use Rattle.symbols_paths.specs.Derived.{defined_at, head_at}
 use Rattle.symbols_paths.specs.Reach.{LeadsFirst, GivesFirst, IsNear, begun, goes, IsNearLeaf}
 use Rattle.symbols_paths.specs.Choice.{is_met, Finds, was_met, is_new, Expands, at_end, step, Follows, by_itself, by_forward, by_running, by_alias, Tries, no_more, first_with, passes, missing_in}
-use Rattle.symbols_paths.proofs.Leaves.{leaves_in-join, leaves_in-link_to}
+use Rattle.symbols_paths.proofs.Leaves.{leaves_in-join, leaves_in-link_to, first_leaf}
 use Rattle.symbols_paths.proofs.MetSymbols.{kept_by_one, one_met, only_one}
 
 -- the declaration is done: where it leads at first is met, and what it gives at first stands there
@@ -42,12 +43,6 @@ both {routes = routes} {a = a} {b = b} {c = c} f g x y = record { kept = λ u h.
 
 linked : {routes : Routes} {a b : List NamedSymbol} (head : LinkHead) (f : Forest) → IsCovering routes a f b → IsCovering routes a (link_to head f) b
 linked head f x = record { kept = x.kept; done = λ u m n j lead st. widen (x.done u m n j lead st) (λ y h. rw (leaves_in-link_to head f) h) (λ v h. h) }
-
-pub some_same : (a b : NamedSymbol) → Some a ≡ Some b → a ≡ b
-some_same a b e = cc
-
-pub first_leaf : (x : Leaf) → Contains (leaves_in (one_tree (leaf x))) x
-first_leaf x = (0, omega arith, refl)
 
 pub missing_stands : (otherwise : Option Missing) (missing : Missing) → otherwise ≡ Some missing → Contains (leaves_in (missing_in otherwise)) (unresolved missing)
 missing_stands otherwise missing e = rw e (first_leaf (unresolved missing))
@@ -95,11 +90,11 @@ mutual
   tries_covers routes limit (no_more {met = met} {otherwise = otherwise}) = (still routes met _, λ t e. cc, λ e missing is. missing_stands otherwise missing is)
   tries_covers routes limit (first_with {after = after} {c = c} x) =
       let h = finds_covers routes limit x in
-      (h.0, λ t e. subst (λ z. is_met after z ≡ true) (some_same c t e) h.1, λ e. cc)
+      (h.0, λ t e. subst (λ z. is_met after z ≡ true) (same_Some c t e) h.1, λ e. cc)
   tries_covers routes limit (passes {after = after} {c = c} {f = f} x y) =
       let h = finds_covers routes limit x in
       let k = tries_covers routes limit y in
-      (both no_trees f h.0 k.0, λ t e. subst (λ z. is_met after z ≡ true) (some_same c t e) (k.0.kept c h.1), λ e. cc)
+      (both no_trees f h.0 k.0, λ t e. subst (λ z. is_met after z ≡ true) (same_Some c t e) (k.0.kept c h.1), λ e. cc)
 
 -- from no met symbols, what is met gives each leaf of first reach
 module _ {routes : Routes} {limit : ℕ} {running : List NamedDecl} {after : List NamedSymbol} {start : NamedSymbol} {f : Forest} (x : Finds routes limit running [] start f after) where

@@ -1,8 +1,8 @@
 -- Paths as entries, and texts that are lent.
-use Rattle.std.proofs.Common.{◌≡◌, ℕ, zero, suc, ◌<◌, false, true≢false, arith, List, [], ◌∷◌, ◌++◌, length, map, Option, None, Some, option_map, refl, sym, ap, subst, ◌∙◌, append_assoc, append-nil}
-use Rattle.std.specs.Prelude.{MatchOption, ◌==◌}
+use Rattle.std.proofs.Common.{◌≡◌, ℕ, ◌<◌, List, [], ◌∷◌, ◌++◌, length, map, Option, None, Some, option_map, refl, sym, ap, subst, ◌∙◌, append_assoc, append-nil}
+use Rattle.std.specs.Prelude.{MatchOption}
 use Rattle.std.specs.Option.{option_map_or}
-use Rattle.std.proofs.lemmas.List.{map-append}
+use Rattle.std.proofs.lemmas.List.{map-append, nil_from_length}
 use Rattle.std.proofs.lemmas.Option.{none-some, same_Some}
 use Rattle.symbols_syntax.specs.declared.ids.ModuleId.{ModuleId}
 use Rattle.symbols_syntax.specs.declared.ids.SymbolId.{SymbolId}
@@ -32,7 +32,7 @@ use Rattle.symbols_paths.specs.inner.DepAnswers.{ArePathsOf}
 use Rattle.symbols_paths.proofs.LeafNeeds.{needed_from, text_part_needed}
 use Rattle.symbols_paths.proofs.Needing.{refused_from}
 use Rattle.symbols_paths.proofs.Trailing.{joined_on}
-use Rattle.symbols_paths.proofs.Walking.{some_parts, no_part_left}
+use Rattle.symbols_paths.proofs.Walking.{some_parts}
 
 -- the entries so far, and the paths that are left
 pub record AreEntriesSo (entries : List ResolvedSymbolDepEntry) (rest paths : List DefinitionPathNode) : Type 0 where
@@ -118,10 +118,6 @@ dep_refused old new m text parts fault grown refused = by (text_target old.graph
 pub target_refused : (old new : RootView) (m text : List ℕ) (fault : SymbolsFault) → new ≡ old → IsRefusal old (text_target old.graph m text) fault → (start : List ℕ) → ((k : List ℕ) → text_target old.graph m text ≡ Some k → IsNeeded old.graph start k) → IsRefused new start fault
 target_refused old new m text fault same refusal start needed = subst (λ root. IsRefused root start fault) (sym same) (record { needed = text_target old.graph m text; is_needed = λ v e. needed v e; refused = refusal })
 
-pub some_left : (n : ℕ) → false ≡ (n == 0) → 0 < n
-some_left zero e = absurd (true≢false (sym e))
-some_left (suc n) e = omega arith
-
 -- ---- the entries of an import type
 
 pub import_answer : (rules : Rules) (graph : GraphView) (m text : List ℕ) (parts : Parts) (paths : Forest) (entries : List EntryView) → 0 < length parts → ArePathsOf rules graph (asked_by_part (later_parts parts) (text_part graph m text (first_part parts) (later_parts parts) (text_target graph m text))) (missing_part (text_part graph m text (first_part parts) (later_parts parts) (text_target graph m text))) paths → entries ≡ entries_in paths
@@ -134,7 +130,7 @@ import_answer rules graph m text parts paths entries some found told =
 
 pub module_answer : (rules : Rules) (graph : GraphView) (m text : List ℕ) (parts : Parts) (entries : List EntryView) → length parts ≡ 0 → entries ≡ other_entries graph m (import_type text [])
     → IsDepAnswer rules graph m (import_type text parts) entries × (entries ≡ entries_of rules graph m (import_type text parts))
-module_answer rules graph m text parts entries none_left told = subst (λ ps. IsDepAnswer rules graph m (import_type text ps) entries × (entries ≡ entries_of rules graph m (import_type text ps))) (sym (no_part_left parts none_left)) (told, told)
+module_answer rules graph m text parts entries none_left told = subst (λ ps. IsDepAnswer rules graph m (import_type text ps) entries × (entries ≡ entries_of rules graph m (import_type text ps))) (sym (nil_from_length parts none_left)) (told, told)
 
 -- the module, or one unresolved entry
 pub module_there : (m text : List ℕ) (found : Option (List ℕ)) (v : List ℕ) (entries : List EntryView) → found ≡ Some v → entries ≡ a_module v ∷ [] → entries ≡ module_entry m text found ∷ []

@@ -1,11 +1,10 @@
 -- The loop over the declarations of a symbol, over a root that stores more.
-use Rattle.std.proofs.Common.{◌≡◌, ℕ, zero, suc, ◌+◌, ◌-◌, ◌*◌, ◌<◌, ◌≤◌, ◌^◌, Bool, true, false, not, cond, ◌||◌, List, [], ◌∷◌, ◌++◌, length, map, Option, None, Some, option_to_list, refl, sym, ap, subst, ◌∙◌, arith, slice_get, true≢false, append-nil}
-use Rattle.std.specs.Prelude.{if◌then◌else◌, Contains}
-use Rattle.std.proofs.lemmas.Option.{get_or_from_slice_get}
-use Rattle.std.specs.List.{IsDistinct, list_any, position_or_len}
+use Rattle.std.proofs.Common.{◌≡◌, ℕ, ◌+◌, ◌-◌, ◌*◌, ◌<◌, ◌≤◌, ◌^◌, true, false, List, [], ◌∷◌, ◌++◌, length, Option, None, Some, option_to_list, refl, sym, ap, subst, ◌∙◌, arith, slice_get, append-nil, option_map}
+use Rattle.std.specs.Prelude.{Contains}
+use Rattle.std.proofs.lemmas.Option.{get_or_from_slice_get, slice_get-map, slice_get_within}
+use Rattle.std.specs.List.{IsDistinct, list_any}
 use Rattle.std.specs.Str.{bytes_eq}
 use Rattle.std.proofs.lemmas.List.{length-append}
-use Rattle.indexmap.specs.IndexSet.{insert_key}
 use Rattle.symbols_syntax.specs.declared.ids.UniqueSymbolId.{UniqueSymbolId}
 use Rattle.symbols_table.specs.DeclViews.{Declaration}
 use Rattle.symbols_root.specs.declared.root.rules.Rules.{Rules}
@@ -29,34 +28,6 @@ use Rattle.symbols_paths.proofs.Told.{stored_both}
 use Rattle.symbols_paths.proofs.Trailing.{told_with_trail, modules_with_trail}
 use Rattle.symbols_paths.proofs.Loops.{join_none, IsExpanding, expanding_first, expanding_next, expanding_last}
 use Rattle.symbols_paths.proofs.SearchSteps.{is_symbol, met_by_name, told_with, numbered_with}
-
--- ---- one symbol more
-
-pub new_symbol : (before after : List UniqueSymbolId) (s : UniqueSymbolId) (is_new : Bool) → is_new ≡ not (list_any (is_symbol s) before) → after ≡ insert_key is_symbol before s → is_new ≡ true → (list_any (is_symbol s) before ≡ false) × (after ≡ before ++ s ∷ [])
-new_symbol before after s is_new said inserted new = by (list_any (is_symbol s) before) (sym said ∙ new) inserted
-  where
-    by : (b : Bool) → not b ≡ true → after ≡ (if b then before else before ++ s ∷ []) → (b ≡ false) × (after ≡ before ++ s ∷ [])
-    by true is same = absurd (true≢false (sym is))
-    by false is same = (refl, same)
-
-pub old_symbol : (before after : List UniqueSymbolId) (s : UniqueSymbolId) (is_new : Bool) → is_new ≡ not (list_any (is_symbol s) before) → after ≡ insert_key is_symbol before s → is_new ≡ false → (list_any (is_symbol s) before ≡ true) × (after ≡ before)
-old_symbol before after s is_new said inserted old = by (list_any (is_symbol s) before) (sym said ∙ old) inserted
-  where
-    by : (b : Bool) → not b ≡ false → after ≡ (if b then before else before ++ s ∷ []) → (b ≡ true) × (after ≡ before)
-    by true is same = (refl, same)
-    by false is same = absurd (true≢false is)
-
--- its place is the number of those before it
-new_place : (before : List UniqueSymbolId) (s : UniqueSymbolId) → list_any (is_symbol s) before ≡ false → position_or_len (is_symbol s) before ≡ length before
-new_place [] s absent = refl
-new_place (m ∷ before) s absent = by (is_symbol s m) absent (new_place before s)
-  where
-    by : (b : Bool) → (b || list_any (is_symbol s) before) ≡ false → (list_any (is_symbol s) before ≡ false → position_or_len (is_symbol s) before ≡ length before) → cond (not b) (1 + position_or_len (is_symbol s) before) 0 ≡ suc (length before)
-    by true is rest = absurd (true≢false is)
-    by false is rest = omega (arith, rest is)
-
-pub new_few : (before : List UniqueSymbolId) (s : UniqueSymbolId) (place : ℕ) → list_any (is_symbol s) before ≡ false → place ≡ position_or_len (is_symbol s) before → place < 2 ^ 64 → length before < 2 ^ 64
-new_few before s place absent at fits = omega (arith, new_place before s absent, at, fits)
 
 -- ---- a symbol that was met
 
@@ -97,12 +68,9 @@ finding_first root running begun symbol numbered within fresh few = record {
 
 -- the declaration at the index leads as it was read
 stands_told : (rules : Rules) (graph : _) (s : NamedSymbol) (index : ℕ) (lead : Lead) → IsDeclarationRead rules graph s index lead → slice_get (leads_of rules graph s) index ≡ Some (lead_told rules graph s lead)
-stands_told rules graph s index lead read = by (declarations_of graph s) index read.stands ∙ ap Some (sym read.leads_so)
-  where
-    by : (decls : List Declaration) (i : ℕ) → slice_get decls i ≡ Some read.decl → slice_get (map (λ (decl : Declaration). lead_of rules graph s decl.range decl.kind) decls) i ≡ Some (lead_of rules graph s read.decl.range read.decl.kind)
-    by [] i e = absurd cc
-    by (decl ∷ decls) zero e = cc
-    by (decl ∷ decls) (suc i) e = by decls i e
+stands_told rules graph s index lead read =
+    let leads = λ (decl : Declaration). lead_of rules graph s decl.range decl.kind in
+    slice_get-map leads (declarations_of graph s) index ∙ (ap (option_map leads) read.stands ∙ ap Some (sym read.leads_so))
 
 -- what was read of a root reads so of each later one
 read_later : {root later : RootView} → HasGrown root later → (symbol : UniqueSymbolId) → symbol.module_id.0 < length root.stored → (index : ℕ) (lead : Lead) → IsDeclarationRead root.rules root.graph (symbol_told root symbol) index lead → IsDeclarationRead later.rules later.graph (symbol_told later symbol) index lead
@@ -114,21 +82,13 @@ same_declarations : {root later : RootView} → HasGrown root later → (symbol 
 same_declarations grown symbol within = λ i. declarations_of (grown.graph i) (record { specifier = same_specifier grown symbol.module_id within i; number = symbol.symbol_id })
 
 past_later : {root later : RootView} → HasGrown root later → (symbol : UniqueSymbolId) → symbol.module_id.0 < length root.stored → (index : ℕ) → slice_get (declarations_of root.graph (symbol_told root symbol)) index ≡ None → slice_get (leads_of later.rules later.graph (symbol_told later symbol)) index ≡ None
-past_later {root = root} {later = later} grown symbol within index past = by later.rules later.graph (symbol_told later symbol) (declarations_of later.graph (symbol_told later symbol)) index (ap (λ decls. slice_get decls index) (same_declarations grown symbol within) ∙ past)
-  where
-    by : (rules : Rules) (graph : _) (s : NamedSymbol) (decls : List Declaration) (i : ℕ) → slice_get decls i ≡ None → slice_get (map (λ (decl : Declaration). lead_of rules graph s decl.range decl.kind) decls) i ≡ None
-    by rules graph s [] i e = refl
-    by rules graph s (decl ∷ decls) zero e = absurd cc
-    by rules graph s (decl ∷ decls) (suc i) e = by rules graph s decls i e
+past_later {later = later} grown symbol within index past =
+    let leads = λ (decl : Declaration). lead_of later.rules later.graph (symbol_told later symbol) decl.range decl.kind in
+    slice_get-map leads (declarations_of later.graph (symbol_told later symbol)) index ∙ ap (option_map leads) (ap (λ decls. slice_get decls index) (same_declarations grown symbol within) ∙ past)
 
 -- the place of what was read
 pub index_within : {rules : _} {graph : _} {s : NamedSymbol} {index : ℕ} {lead : Lead} → IsDeclarationRead rules graph s index lead → index < length (declarations_of graph s)
-index_within {graph = graph} {s = s} {index = index} read = by (declarations_of graph s) index read.stands
-  where
-    by : (decls : List Declaration) (i : ℕ) → slice_get decls i ≡ Some read.decl → i < length decls
-    by [] i e = absurd cc
-    by (decl ∷ decls) zero e = omega arith
-    by (decl ∷ decls) (suc i) e = omega (arith, by decls i e)
+index_within {graph = graph} {s = s} {index = index} read = slice_get_within (declarations_of graph s) index read.decl read.stands
 
 -- the declaration that was read stands there
 pub stands_among : {rules : _} {graph : _} {s : NamedSymbol} {index : ℕ} {lead : Lead} (read : IsDeclarationRead rules graph s index lead) → Contains (declarations_of graph s) read.decl

@@ -1,5 +1,5 @@
 -- What a search that is done gives.
-use Rattle.std.proofs.Common.{◌≡◌, ℕ, zero, suc, Bool, true, false, List, [], ◌∷◌, refl, sym, ◌∙◌, ap, arith, true≢false}
+use Rattle.std.proofs.Common.{◌≡◌, ℕ, Bool, true, false, List, [], ◌∷◌, refl, sym, ◌∙◌, ap, true≢false}
 use Rattle.std.specs.Prelude.{Contains}
 use Rattle.symbols_paths.specs.Trees.{NamedSymbol, Parts, Defined, LinkHead, Forest, Leaf, definition, joined_forests, link_to, leaves_in}
 use Rattle.symbols_paths.specs.Leads.{DeclLead, alias, LeadsAt}
@@ -8,7 +8,7 @@ use Rattle.symbols_paths.specs.Reach.{LeadsFirst, GivesLeaf}
 use Rattle.symbols_paths.specs.Searches.{IsFirstLeaf, IsFirstWalk, IsSymbolReached}
 use Rattle.symbols_paths.specs.Searches as near
 use Rattle.symbols_paths.specs.Choice.{is_met}
-use Rattle.symbols_paths.proofs.Leaves.{leaves_in-link_to}
+use Rattle.symbols_paths.proofs.Leaves.{leaves_in-link_to, only_definition}
 use Rattle.symbols_paths.proofs.Covers.{in_left, in_right}
 use Rattle.symbols_paths.proofs.Reached.{first_leads, TellsFirst, given_told, first_tells}
 
@@ -50,15 +50,8 @@ module _ (routes : Routes) where
   pub record AreFollowed (p : List ℕ) (q : Parts) (xs : List Leaf) (after : List NamedSymbol) : Type 0 where
     pub met_now : (x : Defined) (t : NamedSymbol) → Contains xs (definition x) → routes.part x p q ≡ to t → is_met after t ≡ true
 
-  same_definition : (x y : Defined) → Contains (definition x ∷ []) (definition y) → x ≡ y
-  same_definition x y (zero, lt, e) = let a : x ≡ y = cc in a
-  same_definition x y (suc n, lt, e) = absurd (omega (arith, lt))
-
-  pub to_same : (u v : NamedSymbol) → to u ≡ to v → u ≡ v
-  to_same u v e = cc
-
   pub at_leaf : (x y : Defined) (p : List ℕ) (q : Parts) → Contains (definition x ∷ []) (definition y) → routes.part y p q ≡ routes.part x p q
-  at_leaf x y p q h = ap (λ z. routes.part z p q) (sym (same_definition x y h))
+  at_leaf x y p q h = ap (λ z. routes.part z p q) (sym (only_definition x y h))
 
   -- one search
   module _ (start : NamedSymbol) (parts : Parts) where

@@ -3,6 +3,7 @@ use Rattle.std.proofs.Common.{◌≡◌, ℕ, zero, suc, Bool, true, false, List
 use Rattle.std.specs.Prelude.{Contains, slice_index_or, if◌then◌else◌, ◌&&◌}
 use Rattle.std.specs.Str.{bytes_eq}
 use Rattle.std.specs.List.{filter_map, cons_option}
+use Rattle.std.proofs.lemmas.Option.{same_Some, none-some}
 use Rattle.symbols_syntax.specs.declared.ids.SymbolId.{SymbolId}
 use Rattle.symbols_syntax.specs.declared.tree.arena.SourceRange.{SourceRange}
 use Rattle.symbols_syntax.specs.Graph.{GraphView}
@@ -20,6 +21,8 @@ use Rattle.symbols_paths.specs.Reach.{IsLeaf, given, led, by_alias, IsWalk, no_p
 use Rattle.symbols_paths.specs.Needed.{IsNeeded, begun, imported, passed_on}
 use Rattle.symbols_paths.specs.inner.Needed.{IsStarDeclared}
 use Rattle.symbols_paths.proofs.Owners.{owner_needed}
+use Rattle.symbols_paths.proofs.Leaves.{to_same, leads_same, none_in, only_this}
+use Rattle.symbols_paths.proofs.Targets.{named_entry}
 
 pub needed_from : {graph : GraphView} {a b c : List ℕ} → IsNeeded graph a b → IsNeeded graph b c → IsNeeded graph a c
 needed_from x begun = x
@@ -36,12 +39,9 @@ record IsDeclAt (rules : Rules) (graph : GraphView) (s : NamedSymbol) (lead : De
 decl_there : (rules : Rules) (graph : GraphView) (s : NamedSymbol) (i : ℕ) (lead : DeclLead) → LeadsAt (leads_of rules graph) s i lead → IsDeclAt rules graph s lead
 decl_there rules graph s i lead st = by (declarations_of graph s) i (λ d h. h) st
   where
-    same : (a b : DeclLead) → Some a ≡ Some b → a ≡ b
-    same a b e = cc
-
     by : (decls : List Declaration) (k : ℕ) → ((d : Declaration) → Contains decls d → Contains (declarations_of graph s) d) → slice_get (map (λ (decl : Declaration). lead_of rules graph s decl.range decl.kind) decls) k ≡ Some lead → IsDeclAt rules graph s lead
     by [] k among e = absurd cc
-    by (d ∷ decls) zero among e = record { decl = d; stands = among d (0, omega arith, refl); leads_so = same (lead_of rules graph s d.range d.kind) lead e }
+    by (d ∷ decls) zero among e = record { decl = d; stands = among d (0, omega arith, refl); leads_so = same_Some (lead_of rules graph s d.range d.kind) lead e }
     by (d ∷ decls) (suc k) among e = by decls k (λ x h. among x (suc h.0, omega (arith, h.1), h.2)) e
 
 -- ---- a star import
@@ -52,12 +52,6 @@ IsStarKind kind star = (dep : DepView) → star ≡ Some dep → kind ≡ file_r
 same_star : (a b : SourceRange) (x y : Option DepView) → defines a x ≡ defines b y → x ≡ y
 same_star a b x y e = cc
 
-same_dep : (x y : DepView) → Some x ≡ Some y → x ≡ y
-same_dep x y e = cc
-
-no_dep : (dep : DepView) → None ≡ Some dep → ⊥
-no_dep dep e = cc
-
 no_definition : (forward : Forward) (range : SourceRange) (star : Option DepView) → leads forward ≡ defines range star → ⊥
 no_definition forward range star e = cc
 
@@ -65,9 +59,9 @@ no_alias_definition : (t : NamedSymbol) (ps : Parts) (range : SourceRange) (star
 no_alias_definition t ps range star e = cc
 
 star_kind : (rules : Rules) (graph : GraphView) (s : NamedSymbol) (r range : SourceRange) (star : Option DepView) (kind : DeclKind) → lead_of rules graph s r kind ≡ defines range star → IsStarKind kind star
-star_kind rules graph s r range star (defines_node x) e = λ dep is. absurd (no_dep dep (same_star r range None star e ∙ is))
+star_kind rules graph s r range star (defines_node x) e = λ dep is. absurd (none-some dep (same_star r range None star e ∙ is))
 star_kind rules graph s r range star (file_ref all_names text) e = λ dep is.
-    let same : record { name = all_names; specifier = text } ≡ dep = same_dep (record { name = all_names; specifier = text }) dep (same_star r range (Some (record { name = all_names; specifier = text })) star e ∙ is) in
+    let same : record { name = all_names; specifier = text } ≡ dep = same_Some (record { name = all_names; specifier = text }) dep (same_star r range (Some (record { name = all_names; specifier = text })) star e ∙ is) in
     ap (λ (d : DepView). file_ref d.name d.specifier) same
 star_kind rules graph s r range star (file_ref (one_name name) text) e = absurd (no_definition (import_forward rules graph s name text (text_target graph s.specifier text)) range star e)
 star_kind rules graph s r range star (target id) e = absurd (no_definition (target_forward s (symbol_of_id graph s.specifier id)) range star e)
@@ -87,33 +81,20 @@ star_declared rules graph s i range star st dep is =
 abbrev NeedsAll : GraphView → NamedSymbol → DeclLead → Type 0
 NeedsAll graph s lead = (forward : Forward) → lead ≡ leads forward → (t : NamedSymbol) → Contains forward.candidates t → IsNeeded graph s.specifier t.specifier
 
-same_ways : (a b : Forward) → leads a ≡ leads b → a ≡ b
-same_ways a b e = cc
-
 led_needs : (graph : GraphView) (s : NamedSymbol) (forward : Forward) → ((t : NamedSymbol) → Contains forward.candidates t → IsNeeded graph s.specifier t.specifier) → NeedsAll graph s (leads forward)
-led_needs graph s forward h other e t has = h t (subst (λ (w : Forward). Contains w.candidates t) (sym (same_ways forward other e)) has)
-
-none_there : (t : NamedSymbol) → Contains [] t → ⊥
-none_there t h = omega (arith, h.1)
-
-only_one : (c t : NamedSymbol) → Contains (c ∷ []) t → c ≡ t
-only_one c t (zero, lt, e) = e
-only_one c t (suc k, lt, e) = absurd (omega (arith, lt))
-
-abbrev entered : Entry → NamedSymbol
-entered entry = record { specifier = entry.owner; number = entry.symbol }
+led_needs graph s forward h other e t has = h t (subst (λ (w : Forward). Contains w.candidates t) (sym (leads_same forward other e)) has)
 
 -- an export along `export *` is of a module that is needed
 along_needed : (graph : GraphView) (m name : List ℕ) (c : NamedSymbol) → Contains (exports_along graph m name) c → IsNeeded graph m c.specifier
 along_needed graph m name c has = by (statements_of graph m) (λ k v e. passed_on m k begun e) has
   where
-    one : (v : List ℕ) → IsNeeded graph m v → (found : Option Entry) → export_named graph v name ≡ found → (rest : List NamedSymbol) → Contains (cons_option (option_map entered found) rest) c → (Contains rest c → IsNeeded graph m c.specifier) → IsNeeded graph m c.specifier
+    one : (v : List ℕ) → IsNeeded graph m v → (found : Option Entry) → export_named graph v name ≡ found → (rest : List NamedSymbol) → Contains (cons_option (option_map named_entry found) rest) c → (Contains rest c → IsNeeded graph m c.specifier) → IsNeeded graph m c.specifier
     one v is None e rest h others = others h
     one v is (Some entry) e rest (zero, lt, q) others = subst (λ (s : NamedSymbol). IsNeeded graph m s.specifier) q (owner_needed graph m v name entry is e)
     one v is (Some entry) e rest (suc k, lt, q) others = others (k, omega (arith, lt), q)
 
     by : (statements : List (Option (List ℕ))) → ((k : ℕ) (v : List ℕ) → slice_index_or statements k None ≡ Some v → IsNeeded graph m v) → Contains (filter_map (export_along graph name) statements) c → IsNeeded graph m c.specifier
-    by [] needs h = absurd (none_there c h)
+    by [] needs h = absurd (none_in c h)
     by (None ∷ statements) needs h = by statements (λ k v e. needs (suc k) v e) h
     by (Some v ∷ statements) needs h = one v (needs 0 v refl) (export_named graph v name) refl (filter_map (export_along graph name) statements) h (λ q. by statements (λ k w e. needs (suc k) w e) q)
 
@@ -123,23 +104,23 @@ held_along rules graph m name c = by (passes_name rules name)
   where
     by : (b : Bool) → Contains (if b then exports_along graph m name else []) c → Contains (exports_along graph m name) c
     by true has = has
-    by false has = absurd (none_there c has)
+    by false has = absurd (none_in c has)
 
 module _ (rules : Rules) (graph : GraphView) (s : NamedSymbol) (decl : Declaration) (stands : Contains (declarations_of graph s) decl) where
   into_needs : (name text v : List ℕ) → IsNeeded graph s.specifier v → (owned : Option SymbolId) → NeedsAll graph s (leads (forward_into rules graph s name v owned))
-  into_needs name text v is (Some u) = led_needs graph s (forward_into rules graph s name v (Some u)) (λ t has. subst (λ (x : NamedSymbol). IsNeeded graph s.specifier x.specifier) (only_one (record { specifier = v; number = u }) t has) is)
+  into_needs name text v is (Some u) = led_needs graph s (forward_into rules graph s name v (Some u)) (λ t has. subst (λ (x : NamedSymbol). IsNeeded graph s.specifier x.specifier) (only_this (record { specifier = v; number = u }) t has) is)
   into_needs name text v is None = led_needs graph s (forward_into rules graph s name v None) (λ t has. needed_from is (along_needed graph v name t (held_along rules graph v name t has)))
 
   import_needs : (name text : List ℕ) → decl.kind ≡ file_ref (one_name name) text → (found : Option (List ℕ)) → text_target graph s.specifier text ≡ found → NeedsAll graph s (leads (import_forward rules graph s name text found))
-  import_needs name text kind None e = led_needs graph s (import_forward rules graph s name text None) (λ t has. absurd (none_there t has))
+  import_needs name text kind None e = led_needs graph s (import_forward rules graph s name text None) (λ t has. absurd (none_in t has))
   import_needs name text kind (Some v) e = into_needs name text v (imported s decl (one_name name) text begun stands kind e) (own_export graph v name)
 
   target_needs : (t : Option SymbolId) → NeedsAll graph s (leads (target_forward s t))
-  target_needs None = led_needs graph s (target_forward s None) (λ t has. absurd (none_there t has))
-  target_needs (Some u) = led_needs graph s (target_forward s (Some u)) (λ t has. subst (λ (x : NamedSymbol). IsNeeded graph s.specifier x.specifier) (only_one (record { specifier = s.specifier; number = u }) t has) begun)
+  target_needs None = led_needs graph s (target_forward s None) (λ t has. absurd (none_in t has))
+  target_needs (Some u) = led_needs graph s (target_forward s (Some u)) (λ t has. subst (λ (x : NamedSymbol). IsNeeded graph s.specifier x.specifier) (only_this (record { specifier = s.specifier; number = u }) t has) begun)
 
   alias_needs : (id : IdView) (ps : Parts) (t : Option SymbolId) → NeedsAll graph s (alias_lead s id ps t)
-  alias_needs id ps None = led_needs graph s _ (λ t has. absurd (none_there t has))
+  alias_needs id ps None = led_needs graph s _ (λ t has. absurd (none_in t has))
   alias_needs id ps (Some u) = λ forward e. absurd (alias_ways_apart (record { specifier = s.specifier; number = u }) ps forward e)
     where
       alias_ways_apart : (t : NamedSymbol) (qs : Parts) (w : Forward) → alias t qs ≡ leads w → ⊥
@@ -183,9 +164,6 @@ alias_same rules graph s i t ps st = let there = decl_there rules graph s i (ali
 
 -- ---- where parts lead
 
-same_to : (a b : NamedSymbol) → to a ≡ to b → a ≡ b
-same_to a b e = cc
-
 lacks_to : (m : Missing) (t : NamedSymbol) → lacks m ≡ to t → ⊥
 lacks_to m t e = cc
 
@@ -194,7 +172,7 @@ itself_to t e = cc
 
 module_part_needed : (graph : GraphView) (m p : List ℕ) (ps : Parts) (found : Option Entry) (t : NamedSymbol) → export_named graph m p ≡ found → module_part m p ps found ≡ to t → IsNeeded graph m t.specifier
 module_part_needed graph m p ps None t named e = absurd (lacks_to _ t e)
-module_part_needed graph m p ps (Some entry) t named e = subst (λ (x : NamedSymbol). IsNeeded graph m x.specifier) (same_to (record { specifier = entry.owner; number = entry.symbol }) t e) (owner_needed graph m m p entry begun named)
+module_part_needed graph m p ps (Some entry) t named e = subst (λ (x : NamedSymbol). IsNeeded graph m x.specifier) (to_same (record { specifier = entry.owner; number = entry.symbol }) t e) (owner_needed graph m m p entry begun named)
 
 pub text_part_needed : (graph : GraphView) (m text p : List ℕ) (ps : Parts) (t : NamedSymbol) → text_part graph m text p ps (text_target graph m text) ≡ to t → (v : List ℕ) × (text_target graph m text ≡ Some v) × IsNeeded graph v t.specifier
 text_part_needed graph m text p ps t e = by (text_target graph m text) refl e
@@ -208,7 +186,7 @@ neither true m t q = itself_to t q
 neither false m t q = lacks_to m t q
 
 own_part_needed : (graph : GraphView) (d : NamedDecl) (p : List ℕ) (ps : Parts) (u : Option SymbolId) (t : NamedSymbol) → own_part graph d p ps u ≡ to t → t.specifier ≡ d.symbol.specifier
-own_part_needed graph d p ps (Some u) t e = sym (ap (λ (x : NamedSymbol). x.specifier) (same_to (record { specifier = d.symbol.specifier; number = u }) t e))
+own_part_needed graph d p ps (Some u) t e = sym (ap (λ (x : NamedSymbol). x.specifier) (to_same (record { specifier = d.symbol.specifier; number = u }) t e))
 own_part_needed graph d p ps None t e = absurd (neither (bytes_eq prototype_name p && is_class_at graph d) (record { specifier = d.symbol.specifier; reason = no_part p; parts = p ∷ ps }) t e)
 
 pub part_needed : (graph : GraphView) (y : Defined) (p : List ℕ) (ps : Parts) (t : NamedSymbol) → IsStarDeclared graph y → part_of graph y p ps ≡ to t → IsNeeded graph y.decl.symbol.specifier t.specifier

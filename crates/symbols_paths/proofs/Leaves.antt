@@ -10,6 +10,35 @@ use Rattle.symbols_paths.specs.Reach.{IsLeaf, IsWalk, GivesLeaf, stays, is_itsel
 use Rattle.symbols_paths.specs.Reach as reach
 use Rattle.symbols_paths.specs.Choice.{Finds, was_met, is_new, Expands, at_end, step, Follows, by_itself, by_forward, by_running, by_alias, Tries, no_more, first_with, passes, Walks, no_parts, under, Changes, of_none, of_more, ChangesOne, of_unresolved, of_link, of_definition, of_itself, of_lacking, missing_in}
 
+-- ---- what constructors hold once, and what a list of one thing contains
+
+pub to_same : (u v : NamedSymbol) → to u ≡ to v → u ≡ v
+to_same u v e = cc
+
+pub lacks_same : (x y : Missing) → lacks x ≡ lacks y → x ≡ y
+lacks_same x y e = cc
+
+pub leads_same : (a b : Forward) → leads a ≡ leads b → a ≡ b
+leads_same a b e = cc
+
+pub none_in : {A : Type 0} (x : A) → Contains [] x → ⊥
+none_in x h = omega (arith, h.1)
+
+pub only_this : {A : Type 0} (x y : A) → Contains (x ∷ []) y → x ≡ y
+only_this x y (zero, lt, e) = e
+only_this x y (suc k, lt, e) = absurd (omega (arith, lt))
+
+pub only_definition : (x y : Defined) → Contains (definition x ∷ []) (definition y) → x ≡ y
+only_definition x y h = let e : definition x ≡ definition y = only_this (definition x) (definition y) h in cc
+
+pub not_missing : (m : Missing) (y : Defined) → Contains (unresolved m ∷ []) (definition y) → ⊥
+not_missing m y h = let e : unresolved m ≡ definition y = only_this (unresolved m) (definition y) h in cc
+
+pub first_leaf : (x : Leaf) → Contains (leaves_in (one_tree (leaf x))) x
+first_leaf x = (0, omega arith, refl)
+
+-- ---- leaves of forests
+
 pub leaves_in-join : (f g : Forest) → leaves_in (joined_forests f g) ≡ leaves_in f ++ leaves_in g
 leaves_in-join no_trees g = refl
 leaves_in-join (more_trees t f) g = rw (leaves_in-join f g, append_assoc) refl
@@ -47,11 +76,7 @@ in_link : {P : Leaf → Type 0} (head : LinkHead) (f : Forest) → AllIn P f →
 in_link head f a = record { each = λ x h. a.each x (rw (leaves_in-link_to head f) at h) }
 
 in_one : {P : Leaf → Type 0} (x : Leaf) → P x → AllIn P (one_tree (leaf x))
-in_one {P = P} x p = record { each = λ y h. only y h }
-  where
-    only : (y : Leaf) → Contains (x ∷ []) y → P y
-    only y (zero, lt, e) = subst P e p
-    only y (suc k, lt, e) = absurd (omega (arith, lt))
+in_one {P = P} x p = record { each = λ y h. subst P (only_this x y h) p }
 
 in_missing : {P : Leaf → Type 0} (otherwise : Option Missing) → ((m : Missing) → otherwise ≡ Some m → P (unresolved m)) → AllIn P (missing_in otherwise)
 in_missing None h = in_none
@@ -101,34 +126,24 @@ module _ (routes : Routes) (limit : ℕ) where
 
 -- ---- what a leaf gives under a part
 
-only_leaf : (z x : Leaf) → Contains (z ∷ []) x → z ≡ x
-only_leaf z x (zero, lt, e) = e
-only_leaf z x (suc k, lt, e) = absurd (omega (arith, lt))
-
-alone : (x : Leaf) → Contains (leaves_in (one_tree (leaf x))) x
-alone x = (0, omega arith, refl)
-
-lacks_same : (x y : Missing) → lacks x ≡ lacks y → x ≡ y
-lacks_same x y e = cc
-
 module _ (routes : Routes) (limit : ℕ) where
   at_leaf : {p : List ℕ} {ps : Parts} (z x y : Leaf) → Contains (z ∷ []) x → GivesLeaf routes p ps x y → GivesLeaf routes p ps z y
-  at_leaf {p = p} {ps = ps} z x y h is = subst (λ w. GivesLeaf routes p ps w y) (sym (only_leaf z x h)) is
+  at_leaf {p = p} {ps = ps} z x y h is = subst (λ w. GivesLeaf routes p ps w y) (sym (only_this z x h)) is
 
   given_unresolved : {p : List ℕ} {ps : Parts} {m : Missing} {y : Leaf} → GivesLeaf routes p ps (unresolved m) y → Contains (leaves_in (one_tree (leaf (unresolved m)))) y
-  given_unresolved (stays {m = m}) = alone (unresolved m)
+  given_unresolved (stays {m = m}) = first_leaf (unresolved m)
 
   given_walk : {p : List ℕ} {ps : Parts} {d : Defined} {t : NamedSymbol} {y : Leaf} → routes.part d p ps ≡ to t → GivesLeaf routes p ps (definition d) y → ⊥
   given_walk e (is_itself q) = cc
   given_walk e (lacks_it q) = cc
 
   given_itself : {p : List ℕ} {ps : Parts} {d : Defined} {y : Leaf} → routes.part d p ps ≡ itself → GivesLeaf routes p ps (definition d) y → Contains (leaves_in (one_tree (leaf (definition d)))) y
-  given_itself e (is_itself {y = d} q) = alone (definition d)
+  given_itself e (is_itself {y = d} q) = first_leaf (definition d)
   given_itself e (lacks_it q) = cc
 
   given_lack : {p : List ℕ} {ps : Parts} {d : Defined} {m : Missing} {y : Leaf} → routes.part d p ps ≡ lacks m → GivesLeaf routes p ps (definition d) y → Contains (leaves_in (one_tree (leaf (unresolved m)))) y
   given_lack e (is_itself q) = cc
-  given_lack {m = m} e (lacks_it {m = n} q) = subst (λ z. Contains (leaves_in (one_tree (leaf (unresolved m)))) (unresolved z)) (lacks_same m n (sym e ∙ q)) (alone (unresolved m))
+  given_lack {m = m} e (lacks_it {m = n} q) = subst (λ z. Contains (leaves_in (one_tree (leaf (unresolved m)))) (unresolved z)) (lacks_same m n (sym e ∙ q)) (first_leaf (unresolved m))
 
   mutual
     pub changes_gives : {running : List NamedDecl} {met after : List NamedSymbol} {p : List ℕ} {ps : Parts} {f g : Forest} → Changes routes limit running met p ps f g after → (x y : Leaf) → Contains (leaves_in f) x → GivesLeaf routes p ps x y → Contains (leaves_in g) y

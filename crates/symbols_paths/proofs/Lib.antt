@@ -1,6 +1,7 @@
 mod MetSymbols
 mod MetDecls
 mod Once
+mod Results
 mod Deriving
 mod Leaves
 mod Covers
@@ -21,6 +22,7 @@ mod SharedParts
 mod Unrolling
 mod Targets
 mod SearchSteps
+mod Sets
 mod Ready
 mod Computing
 mod Finding
@@ -33,5 +35,4 @@ mod Owners
 mod Needing
 mod Ends
 mod Listing
-mod Aliases
 mod DepEntries

@@ -1,5 +1,5 @@
 -- The definitions of trails in order; and trails with others in the places of their definitions.
-use Rattle.std.proofs.Common.{◌≡◌, ℕ, zero, suc, ◌+◌, ◌<◌, ◌≤◌, List, [], ◌∷◌, ◌++◌, length, map, drop, get_or, add-one, Option, None, Some, option_to_list, Vec, Box, refl, sym, ap, subst, ◌∙◌, arith, append_assoc, append-nil}
+use Rattle.std.proofs.Common.{◌≡◌, ℕ, suc, ◌+◌, ◌<◌, List, [], ◌∷◌, ◌++◌, length, map, drop, get_or, add-one, Option, None, Some, option_to_list, Vec, Box, sym, ap, subst, ◌∙◌, append_assoc, append-nil}
 use Rattle.std.proofs.Math.Seq.{drop-cons}
 use Rattle.std.specs.Global.{Global}
 use Rattle.std.specs.Option.{option_flatten}
@@ -20,12 +20,6 @@ use Rattle.symbols_paths.proofs.Trailing.{told_to, told_fork, told_with_option, 
 
 pub drop_read : {A : Type 0} (xs : List A) (i : ℕ) (x : A) → i < length xs → x ≡ get_or xs i x → drop i xs ≡ x ∷ drop (i + 1) xs
 drop_read xs i x lt e = rw (add-one, drop-cons xs i x) (ap (λ y. y ∷ drop (suc i) xs) (sym e))
-
-pub drop_all : {A : Type 0} (i : ℕ) (xs : List A) → length xs ≤ i → drop i xs ≡ []
-drop_all zero [] e = refl
-drop_all (suc i) [] e = refl
-drop_all zero (x ∷ xs) e = absurd (omega (arith, e))
-drop_all (suc i) (x ∷ xs) e = drop_all i xs (omega (arith, e))
 
 pub record AreListed (found : List Definition) (rest : List Trail) (begun : List Definition) (trails : List Trail) : Type 0 where
   pub told : (root : RootView) → map (definition_told root) found ++ defined_within (trails_told root rest) ≡ map (definition_told root) begun ++ defined_within (trails_told root trails)

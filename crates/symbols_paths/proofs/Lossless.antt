@@ -2,6 +2,7 @@
 use Rattle.std.proofs.Common.{◌≡◌, ℕ, zero, suc, ◌+◌, inl, inr, Bool, true, false, List, [], ◌∷◌, ◌++◌, Option, Some, refl, sym, ◌∙◌, ap, subst, arith, true≢false}
 use Rattle.std.specs.Prelude.{Contains, slice_get}
 use Rattle.std.proofs.lemmas.List.Elements.{Contains-append_left, Contains-append_right, Contains-append_cases}
+use Rattle.std.proofs.lemmas.Option.{same_Some}
 use Rattle.symbols_paths.specs.Trees.{NamedSymbol, NamedDecl, Parts, Defined, Missing, PathTree, Forest, Leaf, definition, unresolved, no_trees, joined_forests, leaves_of, leaves_in}
 use Rattle.symbols_paths.specs.Leads.{Forward, DeclLead, leads, alias, LeadsAt}
 use Rattle.symbols_paths.specs.PartLeads.{to, Routes}
@@ -12,10 +13,10 @@ use Rattle.symbols_paths.specs.Searches as near
 use Rattle.symbols_paths.specs.Choice.{is_met, is_running, Finds, was_met, is_new, Expands, at_end, step, Follows, by_itself, by_forward, by_running, by_alias, Tries, no_more, first_with, passes, Walks, no_parts, under, Changes, of_none, of_more, ChangesOne, of_unresolved, of_link, of_definition, of_itself, of_lacking}
 use Rattle.symbols_paths.proofs.MetSymbols.{kept_by_one, one_met, only_one}
 use Rattle.symbols_paths.proofs.MetDecls.{running_or_one}
-use Rattle.symbols_paths.proofs.Leaves.{leaves_in-link_to, IsTail, later, here, whole, changes_gives}
-use Rattle.symbols_paths.proofs.Covers.{in_left, in_right, some_same, first_leaf, missing_stands}
-use Rattle.symbols_paths.proofs.Reached.{no_leaf, not_missing, AreReached, finds_reached}
-use Rattle.symbols_paths.proofs.Given.{HasTold, AreTelling, widen_told, telling_still, telling_both, telling_link, AreFollowed, to_same, at_leaf, IsDoneSomehow, CoversUnder, under_still, under_both, under_linked, walk_given}
+use Rattle.symbols_paths.proofs.Leaves.{leaves_in-link_to, IsTail, later, here, whole, changes_gives, to_same, first_leaf, none_in, not_missing}
+use Rattle.symbols_paths.proofs.Covers.{in_left, in_right, missing_stands}
+use Rattle.symbols_paths.proofs.Reached.{AreReached, finds_reached}
+use Rattle.symbols_paths.proofs.Given.{HasTold, AreTelling, widen_told, telling_still, telling_both, telling_link, AreFollowed, at_leaf, IsDoneSomehow, CoversUnder, under_still, under_both, under_linked, walk_given}
 
 module _ (routes : Routes) (limit : ℕ) (asked : NamedSymbol) (asked_under : Parts) (apart : IsApart routes asked asked_under) (once : HasOneRest routes asked asked_under) where
   -- a search of the query, and what is being resolved
@@ -79,11 +80,11 @@ module _ (routes : Routes) (limit : ℕ) (asked : NamedSymbol) (asked_under : Pa
     tries_cover i forward w r st of (no_more {met = met} {otherwise = otherwise}) = (telling_still routes met _, λ t e. cc, λ e missing is. missing_stands otherwise missing is)
     tries_cover {s = s} i forward w r st of (first_with {after = after} {c = c} x) =
         let h = finds_cover w (near.led s i (leads forward) r st (of c (0, omega arith, refl))) x in
-        (h.0, λ t e. subst (λ z. is_met after z ≡ true) (some_same c t e) h.1, λ e. cc)
+        (h.0, λ t e. subst (λ z. is_met after z ≡ true) (same_Some c t e) h.1, λ e. cc)
     tries_cover {s = s} i forward w r st of (passes {after = after} {c = c} {f = f} x y) =
         let h = finds_cover w (near.led s i (leads forward) r st (of c (0, omega arith, refl))) x in
         let k = tries_cover i forward w r st (λ d q. of d (suc q.0, omega (arith, q.1), q.2)) y in
-        (telling_both routes no_trees f h.0 k.0, λ t e. subst (λ z. is_met after z ≡ true) (some_same c t e) (k.0.kept c h.1), λ e. cc)
+        (telling_both routes no_trees f h.0 k.0, λ t e. subst (λ z. is_met after z ≡ true) (same_Some c t e) (k.0.kept c h.1), λ e. cc)
 
     walks_cover : {run running : List NamedDecl} {start : NamedSymbol} {parts r : Parts} {met after : List NamedSymbol} {s : NamedSymbol} {f : Forest} → IsUnderWay run running start parts → IsSymbolReached routes start parts s r → Walks routes limit running met s r f after → CoversUnder routes start parts met f after × (is_met after s ≡ true)
     walks_cover {start = start} {parts = parts} w r (no_parts {met = met} {after = after} {f = f} x) =
@@ -130,7 +131,7 @@ module _ (routes : Routes) (limit : ℕ) (asked : NamedSymbol) (asked_under : Pa
             part_at {a = a} {b = b} {t = t} d q ex = let c : p ≡ a = cc in let o : ps ≡ b = cc in ap (λ n. routes.part d n ps) c ∙ (ap (λ n. routes.part d a n) o ∙ ex)
 
     changes_cover : {run running : List NamedDecl} {start : NamedSymbol} {parts : Parts} {met after : List NamedSymbol} {p : List ℕ} {q : Parts} {f g : Forest} → IsUnderWay run running start parts → ((d : Defined) (t : NamedSymbol) → Contains (leaves_in f) (definition d) → routes.part d p q ≡ to t → IsSymbolReached routes start parts t q) → Changes routes limit running met p q f g after → CoversUnder routes start parts met g after × AreFollowed routes p q (leaves_in f) after
-    changes_cover {start = start} {parts = parts} w r (of_none {met = met}) = (under_still routes start parts met no_trees, record { met_now = λ d t h e. absurd (no_leaf d h) })
+    changes_cover {start = start} {parts = parts} w r (of_none {met = met}) = (under_still routes start parts met no_trees, record { met_now = λ d t h e. absurd (none_in (definition d) h) })
     changes_cover {start = start} {parts = parts} w r (of_more {t = t} {f = f} {g = g} {h = l} x y) =
         let a = change_cover w (λ d v h. r d v (Contains-append_left (leaves_of t) (leaves_in f) (definition d) h)) x in
         let b = changes_cover w (λ d v h. r d v (Contains-append_right (leaves_of t) (leaves_in f) (definition d) h)) y in
@@ -141,7 +142,7 @@ module _ (routes : Routes) (limit : ℕ) (asked : NamedSymbol) (asked_under : Pa
     change_cover {start = start} {parts = parts} w r (of_link {p = p} {ps = ps} {head = head} {g = g} x) = let a = changes_cover w r x in (under_linked routes start parts (under_parts head (p ∷ ps)) g a.0, a.1)
     change_cover {start = start} {parts = parts} w r (of_definition {after = after} {p = p} {ps = ps} {x = y} {t = v} {f = f} e x) =
         let a = walks_cover w (r y v (0, omega arith, refl) e) x in
-        (under_linked routes start parts (part_head y (p ∷ ps)) f a.0, record { met_now = λ d t h ex. subst (λ z. is_met after z ≡ true) (to_same routes v t (sym e ∙ (sym (at_leaf routes y d p ps h) ∙ ex))) a.1 })
+        (under_linked routes start parts (part_head y (p ∷ ps)) f a.0, record { met_now = λ d t h ex. subst (λ z. is_met after z ≡ true) (to_same v t (sym e ∙ (sym (at_leaf routes y d p ps h) ∙ ex))) a.1 })
     change_cover {start = start} {parts = parts} w r (of_itself {met = met} {p = p} {ps = ps} {x = y} e) = (under_still routes start parts met _, record { met_now = λ d t h ex. let z = sym e ∙ (sym (at_leaf routes y d p ps h) ∙ ex) in absurd cc })
     change_cover {start = start} {parts = parts} w r (of_lacking {met = met} {p = p} {ps = ps} {x = y} e) = (under_still routes start parts met _, record { met_now = λ d t h ex. let z = sym e ∙ (sym (at_leaf routes y d p ps h) ∙ ex) in absurd cc })
 

@@ -1,13 +1,13 @@
 -- Aliases that are being resolved, and one more.
 use Rattle.std.proofs.Common.{◌≡◌, Bool, true, false, ◌||◌, List, [], ◌∷◌, ◌++◌, ◌⊎◌, inl, inr, refl, sym, nat_eq, true≢false}
-use Rattle.std.proofs.lemmas.Bool.{eqb-true}
+use Rattle.std.proofs.lemmas.Bool.{eqb-true, and_parts}
 use Rattle.symbols_paths.specs.Trees.{NamedDecl}
 use Rattle.symbols_paths.specs.Choice.{same_symbol, same_decl, is_running}
-use Rattle.symbols_paths.proofs.MetSymbols.{both_true, same_is}
+use Rattle.symbols_paths.proofs.MetSymbols.{same_is}
 
 pub same_decl_is : (d e : NamedDecl) → same_decl d e ≡ true → d ≡ e
 same_decl_is d e h =
-    let b = both_true (same_symbol d.symbol e.symbol) (nat_eq d.index e.index) h in
+    let b = and_parts (same_symbol d.symbol e.symbol) (nat_eq d.index e.index) h in
     let p = same_is d.symbol e.symbol b.0 in
     let q = eqb-true d.index e.index b.1 in
     λ i. record { symbol = p i; index = q i }

@@ -1,20 +1,15 @@
 -- Symbols that were met, and one more.
-use Rattle.std.proofs.Common.{◌≡◌, Bool, true, false, ◌&&◌, ◌||◌, List, [], ◌∷◌, ◌++◌, refl, sym, nat_eq, true≢false}
+use Rattle.std.proofs.Common.{◌≡◌, Bool, true, false, ◌||◌, List, [], ◌∷◌, ◌++◌, refl, sym, nat_eq, true≢false}
 use Rattle.std.specs.Str.{bytes_eq}
-use Rattle.std.proofs.lemmas.Bool.{eqb-true, eq-eqb}
+use Rattle.std.proofs.lemmas.Bool.{eqb-true, eq-eqb, and_parts, or_right}
 use Rattle.std.proofs.lemmas.Cmp.{nat_list_eq_equiv}
 use Rattle.std.proofs.lemmas.Slice.Eq.{bytes_eq-Decides}
 use Rattle.symbols_paths.specs.Trees.{NamedSymbol}
 use Rattle.symbols_paths.specs.Choice.{same_symbol, is_met}
 
-pub both_true : (a b : Bool) → (a && b) ≡ true → (a ≡ true) × (b ≡ true)
-both_true true true e = (refl, refl)
-both_true true false e = absurd (true≢false (sym e))
-both_true false b e = absurd (true≢false (sym e))
-
 pub same_is : (s t : NamedSymbol) → same_symbol s t ≡ true → s ≡ t
 same_is s t e =
-    let h = both_true (bytes_eq s.specifier t.specifier) (nat_eq s.number.0 t.number.0) e in
+    let h = and_parts (bytes_eq s.specifier t.specifier) (nat_eq s.number.0 t.number.0) e in
     let p = (bytes_eq-Decides s.specifier t.specifier).0 h.0 in
     let q = eqb-true s.number.0 t.number.0 h.1 in
     λ i. record { specifier = p i; number = record { 0 = q i } }
@@ -25,10 +20,6 @@ same_self s = rw (nat_list_eq_equiv.refl s.specifier, eq-eqb s.number.0 s.number
 or_kept : (b x y : Bool) → (x ≡ true → y ≡ true) → (b || x) ≡ true → (b || y) ≡ true
 or_kept true x y h e = refl
 or_kept false x y h e = h e
-
-or_right : (b x : Bool) → x ≡ true → (b || x) ≡ true
-or_right true x e = refl
-or_right false x e = e
 
 pub kept_by_one : (met : List NamedSymbol) (s u : NamedSymbol) → is_met met u ≡ true → is_met (met ++ s ∷ []) u ≡ true
 kept_by_one [] s u e = absurd (true≢false (sym e))

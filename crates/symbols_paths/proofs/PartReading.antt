@@ -29,14 +29,6 @@ pub lacks_own : (graph : GraphView) (decl : NamedDecl) (part : List ℕ) (rest :
 lacks_own graph decl part rest found none plain =
     ap (own_part graph decl part rest) none ∙ ap (λ (b : Bool). if b then itself else lacks (record { specifier = decl.symbol.specifier; reason = no_part part; parts = part ∷ rest })) plain
 
-pub not_first : (a b : Bool) → a ≡ false → (a && b) ≡ false
-not_first true b e = absurd cc
-not_first false b e = refl
-
-pub not_second : (a b : Bool) → b ≡ false → (a && b) ≡ false
-not_second true b e = e
-not_second false b e = refl
-
 -- whether two texts are the same, in either order
 pub bytes_swapped : (a b : List ℕ) → bytes_eq a b ≡ false → bytes_eq b a ≡ false
 bytes_swapped a b other = by (bytes_eq b a) refl

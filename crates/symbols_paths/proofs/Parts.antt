@@ -3,6 +3,7 @@ use Rattle.std.proofs.Common.{◌≡◌, ℕ, zero, suc, ◌⊎◌, inl, inr, tr
 use Rattle.std.specs.Prelude.{Contains, slice_get}
 use Rattle.std.specs.Option.{option_map_or}
 use Rattle.std.proofs.lemmas.List.Elements.{Contains-append_cases}
+use Rattle.std.proofs.lemmas.Option.{same_Some}
 use Rattle.symbols_syntax.specs.declared.ids.SymbolId.{SymbolId}
 use Rattle.symbols_syntax.specs.declared.tree.arena.SourceRange.{SourceRange}
 use Rattle.symbols_syntax.specs.Graph.{GraphView}
@@ -10,13 +11,13 @@ use Rattle.symbols_syntax.specs.Ids.{IdView}
 use Rattle.symbols_table.specs.DeclViews.{DeclKind, target, qualified_target, file_ref, definition as defines_node, all_names, one_name, Declaration}
 use Rattle.symbols_root.specs.declared.root.rules.Rules.{Rules}
 use Rattle.symbols_exports.specs.StarStatements.{text_target}
-use Rattle.symbols_paths.specs.Trees.{NamedSymbol, NamedDecl, Defined, Missing, no_symbol, no_module, no_part, LinkHead, Forest, Leaf, definition, unresolved, no_trees, more_trees, joined_forests, link_to, leaves_in}
+use Rattle.symbols_paths.specs.Trees.{NamedSymbol, NamedDecl, Defined, Missing, no_symbol, no_module, no_part, LinkHead, Forest, definition, unresolved, no_trees, more_trees, joined_forests, link_to, leaves_in}
 use Rattle.symbols_paths.specs.Leads.{Forward, DeclLead, Leads, defines, leads, alias, LeadsAt, symbol_of_id, own_export, passed_exports, to_missing, target_forward, alias_lead, import_forward, forward_into, declarations_of, lead_of}
 use Rattle.symbols_paths.specs.PartLeads.{Routes, routes_of}
 use Rattle.symbols_paths.specs.Derived.{decl_at, defined_at, head_at, alias_head}
 use Rattle.symbols_paths.specs.Reach.{is_alias, is_alias_at, outer_leaves_in, IsPartLast}
 use Rattle.symbols_paths.specs.Choice.{is_met, Finds, was_met, is_new, Expands, at_end, step, Follows, by_itself, by_forward, by_running, by_alias, Tries, no_more, first_with, passes, missing_in}
-use Rattle.symbols_paths.proofs.Leaves.{IsTail, later, here, whole}
+use Rattle.symbols_paths.proofs.Leaves.{IsTail, later, here, whole, none_in, leads_same}
 use Rattle.symbols_paths.proofs.Covers.{finds_covers, expands_covers, tries_covers, met_given}
 
 -- ---- leaves behind no alias
@@ -51,9 +52,6 @@ record AreTold (routes : Routes) (f : Forest) (after : List NamedSymbol) : Type 
 -- or it is the entry of these candidates
 record AreTried (routes : Routes) (cs : List NamedSymbol) (otherwise : Option Missing) (f : Forest) (after : List NamedSymbol) : Type 0 where
   all : (m : Missing) → Contains (outer_leaves_in routes.leads f) (unresolved m) → ((otherwise ≡ Some m) × ((c : NamedSymbol) → Contains cs c → is_met after c ≡ true)) ⊎ IsToldBy routes m after
-
-none_in : (x : Leaf) → Contains [] x → ⊥
-none_in x h = omega (arith, h.1)
 
 no_definition : (x : Defined) (m : Missing) → Contains (definition x ∷ []) (unresolved m) → ⊥
 no_definition x m (zero, lt, e) = cc
@@ -136,19 +134,13 @@ led_part : (rules : Rules) (graph : GraphView) (forward : Forward) → ((specifi
 led_part rules graph forward h other specifier name parts e o =
     let same : forward ≡ other = leads_same forward other e in
     subst (λ (w : Forward). w.candidates ≡ passed_exports rules graph specifier name) same (h specifier name parts (ap (λ (w : Forward). w.otherwise) same ∙ o))
-  where
-    leads_same : (a b : Forward) → leads a ≡ leads b → a ≡ b
-    leads_same a b e = cc
 
 -- an unresolved entry of a part
 abbrev entry : List ℕ → List ℕ → List (List ℕ) → Missing
 entry specifier name parts = record { specifier = specifier; reason = no_part name; parts = parts }
 
-some_same : (a b : Missing) → Some a ≡ Some b → a ≡ b
-some_same a b e = cc
-
 same_reason : (a b : Missing) → Some a ≡ Some b → a.reason ≡ b.reason
-same_reason a b e = ap (λ (m : Missing). m.reason) (some_same a b e)
+same_reason a b e = ap (λ (m : Missing). m.reason) (same_Some a b e)
 
 no_id : (id : IdView) (name : List ℕ) → no_symbol id ≡ no_part name → ⊥
 no_id id name e = cc
@@ -173,7 +165,7 @@ alias_part rules graph s id ps (Some t) = aliased_part rules graph (record { spe
 into_part : (rules : Rules) (graph : GraphView) (s : NamedSymbol) (n k : List ℕ) (owned : Option SymbolId) → IsOfPart rules graph (leads (forward_into rules graph s n k owned))
 into_part rules graph s n k (Some u) = led_part rules graph (forward_into rules graph s n k (Some u)) (λ specifier name parts o. absurd cc)
 into_part rules graph s n k None = led_part rules graph (forward_into rules graph s n k None) (λ specifier name parts o.
-    let same = some_same (entry k n []) (entry specifier name parts) o in
+    let same = same_Some (entry k n []) (entry specifier name parts) o in
     let at : k ≡ specifier = ap (λ (m : Missing). m.specifier) same in
     let called : n ≡ name = same_name n name (ap (λ (m : Missing). m.reason) same) in
     λ i. passed_exports rules graph (at i) (called i))
@@ -191,10 +183,7 @@ lead_part rules graph s range (qualified_target id parts) = alias_part rules gra
 
 at_place : (rules : Rules) (graph : GraphView) (s : NamedSymbol) (decls : List Declaration) (i : ℕ) (lead : DeclLead) → slice_get (map (λ (decl : Declaration). lead_of rules graph s decl.range decl.kind) decls) i ≡ Some lead → IsOfPart rules graph lead
 at_place rules graph s [] i lead e = absurd cc
-at_place rules graph s (decl ∷ decls) zero lead e = subst (IsOfPart rules graph) (same (lead_of rules graph s decl.range decl.kind) lead e) (lead_part rules graph s decl.range decl.kind)
-  where
-    same : (a b : DeclLead) → Some a ≡ Some b → a ≡ b
-    same a b e = cc
+at_place rules graph s (decl ∷ decls) zero lead e = subst (IsOfPart rules graph) (same_Some (lead_of rules graph s decl.range decl.kind) lead e) (lead_part rules graph s decl.range decl.kind)
 at_place rules graph s (decl ∷ decls) (suc i) lead e = at_place rules graph s decls i lead e
 
 pub part_last : (rules : Rules) (graph : GraphView) (limit : ℕ) {running : List NamedDecl} {after : List NamedSymbol} {start : NamedSymbol} {f : Forest} → Finds (routes_of rules graph) limit running [] start f after → IsPartLast rules graph f (leaves_in f)

@@ -1,8 +1,8 @@
 -- What a search meets is in its wide reach, and each definition that it gives is told by a symbol there.
-use Rattle.std.proofs.Common.{◌≡◌, ℕ, zero, suc, inl, inr, Bool, true, false, List, [], ◌∷◌, ◌++◌, Option, None, Some, refl, sym, ◌∙◌, subst, arith, true≢false}
+use Rattle.std.proofs.Common.{◌≡◌, ℕ, suc, inl, inr, Bool, true, false, List, [], ◌∷◌, ◌++◌, Option, None, Some, refl, sym, ◌∙◌, subst, arith, true≢false}
 use Rattle.std.specs.Prelude.{Contains, slice_get}
 use Rattle.std.proofs.lemmas.List.Elements.{Contains-append_cases}
-use Rattle.symbols_paths.specs.Trees.{NamedSymbol, NamedDecl, Parts, Defined, Missing, LinkHead, Forest, Leaf, definition, unresolved, no_trees, joined_forests, link_to, leaves_in}
+use Rattle.symbols_paths.specs.Trees.{NamedSymbol, NamedDecl, Parts, Defined, Missing, LinkHead, Forest, Leaf, definition, no_trees, joined_forests, link_to, leaves_in}
 use Rattle.symbols_paths.specs.Leads.{Forward, DeclLead, defines, leads, alias, LeadsAt}
 use Rattle.symbols_paths.specs.PartLeads.{Routes}
 use Rattle.symbols_paths.specs.Derived.{defined_at, head_at, alias_head}
@@ -12,7 +12,7 @@ use Rattle.symbols_paths.specs.Searches.{IsFirstLeaf, IsFirstWalk, TellsLeaf, Is
 use Rattle.symbols_paths.specs.Searches as near
 use Rattle.symbols_paths.specs.Choice.{is_met, Finds, was_met, is_new, Expands, at_end, step, Follows, by_itself, by_forward, by_running, by_alias, Tries, no_more, first_with, passes, missing_in}
 use Rattle.symbols_paths.proofs.MetSymbols.{only_one}
-use Rattle.symbols_paths.proofs.Leaves.{leaves_in-join, leaves_in-link_to, IsTail, later, here, whole, walks_leaf}
+use Rattle.symbols_paths.proofs.Leaves.{leaves_in-join, leaves_in-link_to, IsTail, later, here, whole, walks_leaf, none_in, not_missing, only_this}
 
 pub first_gives : (s : NamedSymbol) (i : ℕ) (lead : DeclLead) (x : Leaf) → GivesFirst s i lead x → MayGive s i lead x
 first_gives s i (defines range star) x h = h
@@ -58,20 +58,9 @@ first_tells routes s i (defines range star) x h = h
 first_tells routes s i (leads forward) x h = h.1
 first_tells routes s i (alias t ps) x h = first_walk_is routes h
 
-pub no_leaf : (y : Defined) → Contains [] (definition y) → ⊥
-no_leaf y h = omega (arith, h.1)
-
-pub not_missing : (m : Missing) (y : Defined) → Contains (unresolved m ∷ []) (definition y) → ⊥
-not_missing m y (zero, lt, e) = cc
-not_missing m y (suc n, lt, e) = omega (arith, lt)
-
 none_missing : (otherwise : Option Missing) (y : Defined) → Contains (leaves_in (missing_in otherwise)) (definition y) → ⊥
-none_missing None y h = no_leaf y h
+none_missing None y h = none_in (definition y) h
 none_missing (Some m) y h = not_missing m y h
-
-only_this : (x y : Leaf) → Contains (x ∷ []) y → y ≡ x
-only_this x y (zero, lt, e) = sym e
-only_this x y (suc n, lt, e) = absurd (omega (arith, lt))
 
 module _ (routes : Routes) (limit : ℕ) (start : NamedSymbol) (parts : Parts) where
   -- the definition is told by a symbol that is reached with these parts
@@ -89,7 +78,7 @@ module _ (routes : Routes) (limit : ℕ) (start : NamedSymbol) (parts : Parts) w
     pub met_now : (u : NamedSymbol) → is_met met u ≡ false → is_met after u ≡ true → IsSymbolReached routes start parts u r
 
   reached_still : (r : Parts) (met : List NamedSymbol) → AreReached r met no_trees met
-  reached_still r met = record { leaves = λ y h. absurd (no_leaf y h); met_now = λ u a b. absurd (true≢false (sym b ∙ a)) }
+  reached_still r met = record { leaves = λ y h. absurd (none_in (definition y) h); met_now = λ u a b. absurd (true≢false (sym b ∙ a)) }
 
   reached_both : {r : Parts} {a b c : List NamedSymbol} (f g : Forest) → AreReached r a f b → AreReached r b g c → AreReached r a (joined_forests f g) c
   reached_both {r = r} {a = a} {b = b} {c = c} f g x y = record {
@@ -120,7 +109,7 @@ module _ (routes : Routes) (limit : ℕ) (start : NamedSymbol) (parts : Parts) w
     expands_reached r w st (step {f = f} {rest = g} x y) = reached_both f g (follows_reached r w (here st) x) (expands_reached r w (later st) y)
 
     follows_reached : {running : List NamedDecl} {met after : List NamedSymbol} {s : NamedSymbol} {i : ℕ} {lead : DeclLead} {f : Forest} (r : Parts) → IsSymbolReached routes start parts s r → LeadsAt routes.leads s i lead → Follows routes limit running met s i lead f after → AreReached r met f after
-    follows_reached r w st (by_itself {met = met} {s = s} {i = i} {range = range} {star = star}) = record { leaves = λ y h. record { s = s; i = i; lead = defines range star; reached = w; stands = st; tells = only_this (definition (defined_at s i range star)) (definition y) h }; met_now = λ u a b. absurd (true≢false (sym b ∙ a)) }
+    follows_reached r w st (by_itself {met = met} {s = s} {i = i} {range = range} {star = star}) = record { leaves = λ y h. record { s = s; i = i; lead = defines range star; reached = w; stands = st; tells = sym (only_this (definition (defined_at s i range star)) (definition y) h) }; met_now = λ u a b. absurd (true≢false (sym b ∙ a)) }
     follows_reached r w st (by_forward {s = s} {i = i} {forward = forward} {f = f} x) = reached_link (head_at s i forward) f (tries_reached r i forward w st (λ c h. h) x)
     follows_reached r w st (by_running {met = met} e) = reached_still r met
     follows_reached r w st (by_alias {met = met} {s = s} {t = t} {i = i} {ps = ps} {f = f} e few fits x) = record { leaves = λ y h. record { s = s; i = i; lead = alias t ps; reached = w; stands = st; tells = (walks_leaf routes limit x).each (definition y) (rw (leaves_in-link_to (alias_head s i ps) f) at h) }; met_now = λ u a b. absurd (true≢false (sym b ∙ a)) }

@@ -45,12 +45,9 @@ stored_exports root module_id table symbol stored first =
     let changes = changes_under root.graph (specifier_in root module_id) in
     by (slice_get (parents_after changes) 0) (sym (ap (option_map symbol_view) first) ∙ stored_symbol root module_id table stored (record { 0 = 0 }))
   where
-    some_is : (a b : SymbolView) → Some a ≡ Some b → a ≡ b
-    some_is a b equal = cc
-
     by : (parent : Option (Option SymbolId)) → Some (symbol_view symbol) ≡ option_map (symbol_made (changes_under root.graph (specifier_in root module_id)) (record { 0 = 0 })) parent → exports_in symbol ≡ owned_of root.graph (specifier_in root module_id)
     by None none = absurd cc
-    by (Some parent) same = ap (λ (view : SymbolView). view.exports) (some_is (symbol_view symbol) (symbol_made (changes_under root.graph (specifier_in root module_id)) (record { 0 = 0 }) parent) same)
+    by (Some parent) same = ap (λ (view : SymbolView). view.exports) (same_Some (symbol_view symbol) (symbol_made (changes_under root.graph (specifier_in root module_id)) (record { 0 = 0 }) parent) same)
 
 -- ---- how many declarations a symbol may have
 
@@ -114,11 +111,8 @@ few_in_text root s info symbol decls stored at same =
     let made : symbol_after changes s.symbol_id ≡ Some (symbol_view symbol) = ap (λ source. symbol_after (source_changes source) s.symbol_id) stored.2.analyzed.source ∙ (sym (stored.2.analyzed.tables.symbols s.symbol_id) ∙ ap (option_map symbol_view) (sym at)) in
     by (slice_get (parents_after changes) s.symbol_id.0) made
   where
-    some_is : (a b : SymbolView) → Some a ≡ Some b → a ≡ b
-    some_is a b equal = cc
-
     by : (parent : Option (Option SymbolId)) → option_map (symbol_made (json_changes info.text.now) s.symbol_id) parent ≡ Some (symbol_view symbol) → length decls < 4294967296
     by None none = absurd cc
     by (Some parent) made =
-        let decls_are : decls_after (json_changes info.text.now) s.symbol_id ≡ decls_in symbol = ap (λ (x : SymbolView). x.decls) (some_is (symbol_made (json_changes info.text.now) s.symbol_id parent) (symbol_view symbol) made) in
+        let decls_are : decls_after (json_changes info.text.now) s.symbol_id ≡ decls_in symbol = ap (λ (x : SymbolView). x.decls) (same_Some (symbol_made (json_changes info.text.now) s.symbol_id parent) (symbol_view symbol) made) in
         omega (arith, counted decls symbol same, ap length decls_are, few_after (json_changes info.text.now) s.symbol_id, few_changes info.text.now)

@@ -1,5 +1,5 @@
 -- No declaration is given twice.
-use Rattle.std.proofs.Common.{◌≡◌, ℕ, zero, suc, ◌+◌, ◌≤◌, ◌⊎◌, inl, inr, Bool, true, false, List, [], ◌∷◌, ◌++◌, Option, None, Some, refl, sym, ◌∙◌, ap, subst, arith, true≢false}
+use Rattle.std.proofs.Common.{◌≡◌, ℕ, suc, ◌+◌, ◌≤◌, ◌⊎◌, inl, inr, Bool, true, false, List, [], ◌∷◌, ◌++◌, Option, None, Some, refl, sym, ◌∙◌, ap, subst, arith, true≢false}
 use Rattle.std.specs.Prelude.{Contains}
 use Rattle.std.proofs.lemmas.List.Elements.{Contains-append_cases}
 use Rattle.symbols_paths.specs.Trees.{NamedSymbol, NamedDecl, Parts, Defined, Missing, LinkHead, Forest, Leaf, definition, unresolved, no_trees, joined_forests, link_to, leaves_in, IsOnce}
@@ -9,7 +9,7 @@ use Rattle.symbols_paths.specs.Searches.{IsSymbolReached, begun, led, MeetsNoAli
 use Rattle.symbols_paths.specs.Derived.{defined_at, head_at}
 use Rattle.symbols_paths.specs.Choice.{is_met, Finds, was_met, is_new, Expands, at_end, step, Follows, by_itself, by_forward, by_running, by_alias, Tries, no_more, first_with, passes, missing_in}
 use Rattle.symbols_paths.proofs.MetSymbols.{kept_by_one, one_met}
-use Rattle.symbols_paths.proofs.Leaves.{leaves_in-join, leaves_in-link_to, IsTail, later, here, whole}
+use Rattle.symbols_paths.proofs.Leaves.{leaves_in-join, leaves_in-link_to, IsTail, later, here, whole, none_in, not_missing, only_definition}
 
 -- met meanwhile
 record IsFresh (met after : List NamedSymbol) (u : NamedSymbol) : Type 0 where
@@ -38,21 +38,10 @@ once_append [] ys a b h = b
 once_append (definition x ∷ xs) ys a b h = (λ y k e. elim (Contains-append_cases xs ys (definition y) k) [ inl p ↦ a.0 y p e | inr p ↦ h x y (0, omega arith, refl) p e ], once_append xs ys a.1 b (λ v y p q. h v y (suc p.0, omega (arith, p.1), p.2) q))
 once_append (unresolved x ∷ xs) ys a b h = once_append xs ys a b (λ v y p q. h v y (suc p.0, omega (arith, p.1), p.2) q)
 
-none_in : (x : Leaf) → Contains [] x → ⊥
-none_in x h = omega (arith, h.1)
-
-only_missing : (m : Missing) (y : Defined) → Contains (unresolved m ∷ []) (definition y) → ⊥
-only_missing m y (zero, lt, e) = cc
-only_missing m y (suc n, lt, e) = omega (arith, lt)
-
-only_this : (x y : Defined) → Contains (definition x ∷ []) (definition y) → y ≡ x
-only_this x y (zero, lt, e) = let a : y ≡ x = cc in a
-only_this x y (suc n, lt, e) = absurd (omega (arith, lt))
-
 -- no definition at all
 left_over : (met : List NamedSymbol) (otherwise : Option Missing) → AreFresh met (missing_in otherwise) met
 left_over met None = record { all = λ y h. absurd (none_in (definition y) h); kept = λ u h. h; once = tt }
-left_over met (Some m) = record { all = λ y h. absurd (only_missing m y h); kept = λ u h. h; once = tt }
+left_over met (Some m) = record { all = λ y h. absurd (not_missing m y h); kept = λ u h. h; once = tt }
 
 linked : {met after : List NamedSymbol} (head : LinkHead) (s : NamedSymbol) (i : ℕ) (f : Forest) → AreFresh met f after → AreOf met s i (link_to head f) after
 linked head s i f x = record {
@@ -110,7 +99,7 @@ module _ (routes : Routes) (limit : ℕ) (start : NamedSymbol) (parts : Parts) (
 
     follows_fresh : {running : List NamedDecl} {met after : List NamedSymbol} {s : NamedSymbol} {i : ℕ} {lead : DeclLead} {f : Forest} (r : Parts) → IsSymbolReached routes start parts s r → LeadsAt routes.leads s i lead → Follows routes limit running met s i lead f after → AreOf met s i f after
     follows_fresh r w st (by_itself {met = met} {s = s} {i = i} {range = range} {star = star}) = record {
-      all = λ y h. let e = only_this (defined_at s i range star) y h in inl (ap (λ z. z.decl.symbol) e, ap (λ z. z.decl.index) e);
+      all = λ y h. let e = sym (only_definition (defined_at s i range star) y h) in inl (ap (λ z. z.decl.symbol) e, ap (λ z. z.decl.index) e);
       kept = λ u h. h;
       once = (λ y h e. none_in (definition y) h, tt);
     }

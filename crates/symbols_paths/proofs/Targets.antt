@@ -1,6 +1,6 @@
 -- What texts and `export *` lead to, in a root that stores it.
-use Rattle.std.proofs.Common.{◌≡◌, ℕ, zero, suc, ◌<◌, inl, inr, List, [], ◌∷◌, length, map, get_or, Option, None, Some, option_map, option_to_list, option_and_then, refl, sym, ap, subst, ◌∙◌, arith, slice_get}
-use Rattle.std.proofs.lemmas.Option.{none-some, same_Some}
+use Rattle.std.proofs.Common.{◌≡◌, ℕ, ◌<◌, inl, inr, List, [], ◌∷◌, length, map, get_or, Option, None, Some, option_map, option_to_list, option_and_then, refl, sym, ap, subst, ◌∙◌, arith, slice_get}
+use Rattle.std.proofs.lemmas.Option.{none-some, same_Some, slice_get-map, get_or_from_slice_get}
 use Rattle.symbols_syntax.specs.declared.ids.ModuleId.{ModuleId}
 use Rattle.symbols_syntax.specs.declared.ids.UniqueSymbolId.{UniqueSymbolId}
 use Rattle.symbols_syntax.specs.Graph.{GraphView}
@@ -22,9 +22,7 @@ use Rattle.symbols_paths.specs.inner.Views.{symbol_told}
 use Rattle.symbols_paths.specs.Needed.{IsNeeded, begun, passed_on, IsRefused}
 
 at_map : {A B : Type 0} (f : A → B) (d : B) (xs : List A) (i : ℕ) (x : A) → slice_get xs i ≡ Some x → get_or (map f xs) i d ≡ f x
-at_map f d [] i x e = absurd cc
-at_map f d (y ∷ ys) zero x e = ap f (same_Some y x e)
-at_map f d (y ∷ ys) (suc i) x e = at_map f d ys i x e
+at_map f d xs i x e = get_or_from_slice_get (map f xs) i (f x) d (slice_get-map f xs i ∙ ap (option_map f) e)
 
 -- ---- what is needed
 

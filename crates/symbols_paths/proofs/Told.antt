@@ -1,5 +1,5 @@
 -- Paths as trees, and what they name, part by part.
-use Rattle.std.proofs.Common.{◌≡◌, ℕ, zero, suc, ◌<◌, List, [], ◌∷◌, ◌++◌, length, true, false, Vec, refl, sym, ◌∙◌, ap, arith, true≢false}
+use Rattle.std.proofs.Common.{◌≡◌, ℕ, zero, suc, ◌<◌, List, [], ◌∷◌, ◌++◌, length, true, false, Vec, refl, sym, ◌∙◌, ap, arith}
 use Rattle.std.specs.Prelude.{String, vec_len, ◌==◌}
 use Rattle.std.proofs.lemmas.Bool.Decides.{nat_tests}
 use Rattle.std.specs.Global.{Global}
@@ -35,7 +35,7 @@ tree_of_step root id s decl parts next texts are =
     ∙ (fold-roll-DefinitionPathLink PathTree PathTree PathTree (node_step root) (resolved_step root) (link_step root) l
     ∙ ap (λ ts. link (head_told root id s decl ts) (forest_told root next.items)) are))))
 
-abbrev Ids : Type 0
+abbrev pub Ids : Type 0
 Ids = List ModuleId
 
 pub modules_of_step : (id : ModuleId) (s : SymbolId) (decl : DeclRef) (parts : Vec (String Global) Global) (next : Vec DefinitionPathNode Global) → modules_of (step_of id s decl parts next) ≡ id ∷ modules_in next.items
@@ -56,18 +56,14 @@ stored_more root id ids first rest zero d within = first
 stored_more root id ids first rest (suc k) d within = rest k d (omega (arith, within))
 
 -- what `is_empty` says
-pub is_some : (paths : Vec DefinitionPathNode Global) → false ≡ (vec_len paths == 0) → length paths.items ≡ 0 → ⊥
-is_some paths said empty = by (vec_len paths) (paths.ok.0) said
-  where
-    by : (n : ℕ) → n ≡ length paths.items → false ≡ (n == 0) → ⊥
-    by zero same e = true≢false (sym e)
-    by (suc n) same e = omega (arith, same, empty)
-
 pub none_at : (n : ℕ) → true ≡ (n == 0) → n ≡ 0
 none_at n e = grind (arith, nat_tests)
 
 pub some_at : (n : ℕ) → false ≡ (n == 0) → 0 < n
 some_at n e = grind (arith, nat_tests)
+
+pub is_some : {A : Type 0} (xs : Vec A Global) → false ≡ (vec_len xs == 0) → length xs.items ≡ 0 → ⊥
+is_some xs said empty = omega (arith, some_at (vec_len xs) said, xs.ok.0, empty)
 
 pub stored_both : (root : RootView) (xs ys : List ModuleId) → AreStored root xs → AreStored root ys → AreStored root (xs ++ ys)
 stored_both root [] ys left right k d within = right k d within

@@ -1,5 +1,5 @@
 -- Trails as paths, and what they name, part by part.
-use Rattle.std.proofs.Common.{◌≡◌, ℕ, zero, suc, ◌<◌, List, [], ◌∷◌, ◌++◌, length, map, Option, None, Some, option_to_list, Vec, Box, true, false, true≢false, refl, sym, ◌∙◌, ap, subst, arith, append_assoc, append-nil}
+use Rattle.std.proofs.Common.{◌≡◌, zero, suc, ◌<◌, List, [], ◌∷◌, ◌++◌, length, map, Option, None, Some, option_to_list, Vec, Box, true, refl, sym, ◌∙◌, ap, subst, arith, append_assoc, append-nil}
 use Rattle.std.specs.Prelude.{vec_len, ◌==◌}
 use Rattle.std.specs.Global.{Global}
 use Rattle.std.proofs.lemmas.List.{map-append}
@@ -22,11 +22,8 @@ use Rattle.symbols_paths.specs.Derived.{under_parts}
 use Rattle.symbols_paths.specs.inner.Rebuilt.{defined_of, defined_within, rebuilt_tree, rebuilt}
 use Rattle.symbols_paths.specs.Views.{leaf_told, module_of_end, all_modules, AreStored}
 use Rattle.symbols_paths.specs.inner.Trails.{parts_told, step_head, heads_under, all_heads, stretch_heads, heads_of, heads_in, below_links, all_forests, trail_step, trail_told, trails_told, trails_of_option, stretch_modules, modules_of_stretch, modules_of_stretches, trail_modules, modules_of_trail, modules_of_trails}
-use Rattle.symbols_paths.proofs.Told.{none_at, stored_both}
+use Rattle.symbols_paths.proofs.Told.{none_at, stored_both, Ids}
 use Rattle.symbols_paths.proofs.Loops.{join_none, join_assoc}
-
-abbrev Ids : Type 0
-Ids = List ModuleId
 
 abbrev Heads : Type 0
 Heads = List LinkHead
@@ -203,13 +200,6 @@ trail_some = ind-Trail IsSome (λ x y is. subst (λ z. IsSome (roll-Trail z)) is
         linked_some (heads_in root xs.items) (joined_forests (all_forests (map (trail_told root) (map (λ (e : (t : Trail) × IsSome t). e.0) others.items))) (trail_told root last.value.0)) (join_some (all_forests (map (trail_told root) (map (λ (e : (t : Trail) × IsSome t). e.0) others.items))) (trail_told root last.value.0) (last.value.1 root)) (sym (fold-roll-Trail Forest (trail_step root) here) ∙ e)
 
 -- what `is_empty` says
-pub is_some : (trails : Vec Trail Global) → false ≡ (vec_len trails == 0) → length trails.items ≡ 0 → ⊥
-is_some trails said empty = by (vec_len trails) (trails.ok.0) said
-  where
-    by : (n : ℕ) → n ≡ length trails.items → false ≡ (n == 0) → ⊥
-    by zero same e = true≢false (sym e)
-    by (suc n) same e = omega (arith, same, empty)
-
 pub is_none : (root : RootView) (trails : Vec Trail Global) → true ≡ (vec_len trails == 0) → trails_told root trails.items ≡ no_trees
 is_none root trails said = by trails.items (sym trails.ok.0 ∙ none_at (vec_len trails) said)
   where

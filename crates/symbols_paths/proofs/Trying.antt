@@ -1,7 +1,7 @@
 -- The loop over the statements `export *` of a module, over a root that stores more.
-use Rattle.std.proofs.Common.{◌≡◌, ℕ, zero, suc, ◌+◌, ◌<◌, ◌≤◌, ◌^◌, List, [], ◌∷◌, length, map, Option, None, Some, option_map, refl, sym, ap, subst, ◌∙◌, arith, slice_get}
+use Rattle.std.proofs.Common.{◌≡◌, ℕ, ◌+◌, ◌<◌, ◌≤◌, ◌^◌, List, [], length, Option, None, Some, option_map, refl, sym, ap, subst, ◌∙◌, arith, slice_get}
 use Rattle.std.specs.Prelude.{IfSome}
-use Rattle.std.proofs.lemmas.Option.{same_Some}
+use Rattle.std.proofs.lemmas.Option.{slice_get-map, slice_get_within}
 use Rattle.symbols_syntax.specs.declared.ids.ModuleId.{ModuleId}
 use Rattle.symbols_syntax.specs.declared.ids.UniqueSymbolId.{UniqueSymbolId}
 use Rattle.symbols_root.specs.Roots.{RootView, specifier_in}
@@ -44,17 +44,6 @@ asking_first root running begun id name numbered = record {
   told = λ later grown. trying_first (routes_in later) search_limit (running_told later running) (met_told later begun) (export_along later.graph name) (statements_of later.graph (specifier_in later id)) (no_export later id name);
 }
 
--- where the statement of a text leads
-leads_at : {A B : Type 0} (f : A → B) (xs : List A) (position : ℕ) (x : A) → slice_get xs position ≡ Some x → slice_get (map f xs) position ≡ Some (f x)
-leads_at f [] position x e = absurd cc
-leads_at f (y ∷ ys) zero x e = ap (λ z. Some (f z)) (same_Some y x e)
-leads_at f (y ∷ ys) (suc position) x e = leads_at f ys position x e
-
-leads_past : {A B : Type 0} (f : A → B) (xs : List A) (position : ℕ) → slice_get xs position ≡ None → slice_get (map f xs) position ≡ None
-leads_past f [] position e = refl
-leads_past f (y ∷ ys) zero e = absurd cc
-leads_past f (y ∷ ys) (suc position) e = leads_past f ys position e
-
 texts_later : {root later : RootView} → HasGrown root later → (id : ModuleId) → id.0 < length root.stored → star_texts later.graph (specifier_in later id) ≡ star_texts root.graph (specifier_in root id)
 texts_later grown id within = λ i. star_texts (grown.graph i) (same_specifier grown id within i)
 
@@ -63,18 +52,15 @@ module _ {old : RootView} {running : List AliasDecl} {begun : List UniqueSymbolI
   asking_within = still_stored is.grown id.0 known
 
   pub position_within : (text : List ℕ) → slice_get (star_texts root.graph (specifier_in root id)) position ≡ Some text → position < length (star_texts root.graph (specifier_in root id))
-  position_within text at = by (star_texts root.graph (specifier_in root id)) position at
-    where
-      by : (xs : List (List ℕ)) (i : ℕ) → slice_get xs i ≡ Some text → i < length xs
-      by [] i e = absurd cc
-      by (x ∷ xs) zero e = omega arith
-      by (x ∷ xs) (suc i) e = omega (arith, by xs i e)
+  position_within text at = slice_get_within (star_texts root.graph (specifier_in root id)) position text at
 
   pub position_before : (text : List ℕ) → slice_get (star_texts root.graph (specifier_in root id)) position ≡ Some text → position < length (star_texts old.graph (specifier_in old id))
   position_before text at = omega (arith, position_within text at, ap length (texts_later is.grown id known))
 
   statement_later : (text : List ℕ) → slice_get (star_texts root.graph (specifier_in root id)) position ≡ Some text → (later : RootView) → HasGrown root later → slice_get (statements_of later.graph (specifier_in later id)) position ≡ Some (text_target later.graph (specifier_in later id) text)
-  statement_later text at later grown = leads_at (text_target later.graph (specifier_in later id)) (star_texts later.graph (specifier_in later id)) position text (ap (λ texts. slice_get texts position) (texts_later grown id asking_within) ∙ at)
+  statement_later text at later grown =
+      let leads = text_target later.graph (specifier_in later id) in
+      slice_get-map leads (star_texts later.graph (specifier_in later id)) position ∙ ap (option_map leads) (ap (λ texts. slice_get texts position) (texts_later grown id asking_within) ∙ at)
 
   -- its candidate, as each later root names it
   candidate_later : {mid : RootView} (text : List ℕ) (candidate : Option UniqueSymbolId) → HasGrown root mid → option_map (symbol_told mid) candidate ≡ export_along root.graph name (text_target root.graph (specifier_in root id) text) → IfSome candidate (λ s. s.module_id.0 < length mid.stored) → (later : RootView) → HasGrown mid later → option_map (symbol_told later) candidate ≡ export_along later.graph name (text_target later.graph (specifier_in later id) text)
@@ -119,7 +105,8 @@ module _ {old : RootView} {running : List AliasDecl} {begun : List UniqueSymbolI
   -- there is no statement more
   pub asking_last : (paths : List Trail) → slice_get (star_texts root.graph (specifier_in root id)) position ≡ None → ((later : RootView) → trails_told later paths ≡ missing_in (no_export later id name)) → IsTried root running begun (forward_along id name) paths met
   asking_last paths past told = λ later grown.
-      let over : slice_get (statements_of later.graph (specifier_in later id)) position ≡ None = leads_past (text_target later.graph (specifier_in later id)) (star_texts later.graph (specifier_in later id)) position (ap (λ texts. slice_get texts position) (texts_later grown id asking_within) ∙ past) in
+      let leads = text_target later.graph (specifier_in later id) in
+      let over : slice_get (statements_of later.graph (specifier_in later id)) position ≡ None = slice_get-map leads (star_texts later.graph (specifier_in later id)) position ∙ ap (option_map leads) (ap (λ texts. slice_get texts position) (texts_later grown id asking_within) ∙ past) in
       subst (λ f. Tries (routes_in later) search_limit (running_told later running) (met_told later begun) (forward_along id name later).candidates (forward_along id name later).otherwise f (met_told later met)) (sym (told later)) (trying_last (routes_in later) search_limit (running_told later running) (is.told later grown) over)
 
   pub last_searched : (paths : List Trail) → AreStored root (modules_of_trails paths) → HasSearched root begun met (modules_of_trails paths)

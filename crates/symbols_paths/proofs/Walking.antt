@@ -3,8 +3,8 @@ use Rattle.std.proofs.Common.{◌≡◌, ℕ, zero, suc, ◌+◌, ◌<◌, ◌�
 use Rattle.std.specs.Prelude.{Contains, All}
 use Rattle.std.specs.List.{IsDistinct, list_any}
 use Rattle.std.specs.Str.{bytes_eq}
-use Rattle.std.proofs.lemmas.List.{length-map, map-append}
-use Rattle.std.proofs.lemmas.List.Elements.{Contains-append_left, Contains-append_right, Contains-append_cases}
+use Rattle.std.proofs.lemmas.List.{length-map, map-append, get_or-map, nil_from_length}
+use Rattle.std.proofs.lemmas.List.Elements.{Contains-append_left, Contains-append_right, Contains-append_cases, Contains-get_or, All-get_or}
 use Rattle.symbols_syntax.specs.declared.ids.ModuleId.{ModuleId}
 use Rattle.symbols_syntax.specs.declared.ids.UniqueSymbolId.{UniqueSymbolId}
 use Rattle.symbols_table.specs.declared.info.fault.SymbolsFault.{SymbolsFault}
@@ -25,17 +25,18 @@ use Rattle.symbols_paths.specs.Computed.{search_limit}
 use Rattle.symbols_paths.specs.inner.Rebuilt.{defined_of, defined_within, rebuilt}
 use Rattle.symbols_paths.specs.Views.{named_in, decl_told, definition_told, missing_told, module_of_definition, AreStored}
 use Rattle.symbols_paths.specs.inner.Views.{symbol_told, first_part, later_parts}
-use Rattle.symbols_paths.specs.inner.Trails.{trails_told, trails_of_option, trail_told, modules_of_trail, modules_of_trails, trails_among}
+use Rattle.symbols_paths.specs.inner.Trails.{trails_told, trails_of_option, trail_told, modules_of_trails, trails_among}
 use Rattle.symbols_paths.specs.Needed.{IsNeeded, IsRefused}
 use Rattle.symbols_paths.specs.inner.Needed.{IsStarDeclared}
 use Rattle.symbols_paths.specs.inner.Searching.{AreSymbolsNumbered, AreAliasesNumbered, met_told, running_told, alias_told, HasSearched, while_running, by_walk, IsFound, IsFoundUnder, IsResolved, IsFoundInPlace, part_told, IsPartStored}
 use Rattle.symbols_paths.proofs.Growing.{all_still_stored}
-use Rattle.symbols_paths.proofs.Told.{head_told, stored_both}
+use Rattle.symbols_paths.proofs.Told.{head_told}
 use Rattle.symbols_paths.proofs.Leaves.{finds_leaf}
 use Rattle.symbols_paths.proofs.LeafNeeds.{leaf_given, part_needed}
 use Rattle.symbols_paths.proofs.Needing.{refused_from}
 use Rattle.symbols_paths.proofs.Loops.{IsStepping, stepping_first, stepping_next, stepping_last}
 use Rattle.symbols_paths.proofs.SearchSteps.{is_alias_decl, running_by_name, running_with, still_aliases}
+use Rattle.symbols_paths.proofs.Trailing.{stored_with_option}
 
 -- ---- parts
 
@@ -43,15 +44,11 @@ pub some_parts : (parts : Parts) → 0 < length parts → parts ≡ first_part p
 some_parts [] some = absurd (omega (arith, some))
 some_parts (x ∷ xs) some = refl
 
-pub no_part_left : (parts : Parts) → length parts ≡ 0 → parts ≡ []
-no_part_left [] e = refl
-no_part_left (x ∷ xs) e = absurd (omega (arith, e))
-
 -- ---- without parts
 
 pub walked_alone : (root : RootView) (running : List AliasDecl) (before after : List UniqueSymbolId) (s : UniqueSymbolId) (parts : Parts) (paths : List Trail) → length parts ≡ 0 → IsFound root running before s paths after → IsFoundUnder root running before s parts paths after
 walked_alone root running before after s parts paths e found = λ later grown.
-    subst (λ ps. Walks (routes_in later) search_limit (running_told later running) (met_told later before) (symbol_told later s) ps (trails_told later paths) (met_told later after)) (sym (no_part_left parts e)) (no_parts (found later grown))
+    subst (λ ps. Walks (routes_in later) search_limit (running_told later running) (met_told later before) (symbol_told later s) ps (trails_told later paths) (met_told later after)) (sym (nil_from_length parts e)) (no_parts (found later grown))
 
 -- ---- what stands in the place of a definition
 
@@ -124,22 +121,6 @@ present_with [] (Some p) = refl
 present_with (None ∷ changed) path = present_with changed path
 present_with (Some q ∷ changed) path = ap (λ ps. q ∷ ps) (present_with changed path)
 
-stored_on : (root : RootView) (xs ys : List Trail) → AreStored root (modules_of_trails xs) → AreStored root (modules_of_trails ys) → AreStored root (modules_of_trails (xs ++ ys))
-stored_on root [] ys a b = b
-stored_on root (x ∷ xs) ys a b =
-    let split = stored_apart root (modules_of_trail x) (modules_of_trails xs) a in
-    stored_both root (modules_of_trail x) (modules_of_trails (xs ++ ys)) split.0 (stored_on root xs ys split.1 b)
-  where
-    stored_apart : (r : RootView) (is js : List ModuleId) → AreStored r (is ++ js) → AreStored r is × AreStored r js
-    stored_apart r [] js h = (λ k d w. absurd (omega (arith, w)), h)
-    stored_apart r (i ∷ is) js h =
-        let rest = stored_apart r is js (λ k d w. h (suc k) d (omega (arith, w))) in
-        (first rest.0, rest.1)
-      where
-        first : AreStored r is → AreStored r (i ∷ is)
-        first others zero d w = h 0 d (omega arith)
-        first others (suc k) d w = others k d (omega (arith, w))
-
 module _ {old : RootView} {running : List AliasDecl} {begun : List UniqueSymbolId} {parts : Parts} {paths : List Trail} {root : RootView} {now : List AliasDecl} {rest : List Definition} {met : List UniqueSymbolId} {changed : List (Option Trail)} where
   pub walking_next : {after : RootView} {mid : List UniqueSymbolId} (x : Definition) → IsWalking old running begun parts paths root now (x ∷ rest) met changed → HasGrown root after → (path : Option Trail) → IsFoundInPlace after now met x parts path mid → (onward : List AliasDecl) → onward ≡ now → HasSearched after met mid (modules_of_trails (option_to_list path)) → IsWalking old running begun parts paths after onward rest mid (changed ++ path ∷ [])
   walking_next {after = after} {mid = mid} x is kept path stepped onward on searched = record {
@@ -148,7 +129,7 @@ module _ {old : RootView} {running : List AliasDecl} {begun : List UniqueSymbolI
     numbered = searched.numbered;
     longer = omega (arith, is.longer, searched.longer);
     few = λ h. searched.few (is.few h);
-    stored = subst (λ ps. AreStored after (modules_of_trails ps)) (sym (present_with changed path)) (stored_on after (trails_among changed) (option_to_list path) (all_still_stored kept (modules_of_trails (trails_among changed)) is.stored) searched.stored);
+    stored = subst (λ ps. AreStored after (modules_of_trails ps)) (sym (present_with changed path)) (stored_with_option after (trails_among changed) path (all_still_stored kept (modules_of_trails (trails_among changed)) is.stored) searched.stored);
     told = λ later grown. subst (λ cs. IsStepping (routes_in later) search_limit (running_told later running) (met_told later begun) (first_part parts) (later_parts parts) (defined_within (trails_told later paths)) (map (definition_told later) rest) (met_told later mid) cs) (sym (map-append (trails_of_option later) changed (path ∷ [])))
         (stepping_next (routes_in later) search_limit (running_told later running) (definition_told later x) (is.told later (grown_on kept grown)) (subst (λ r. IsFoundInPlace after r met x parts path mid) is.same stepped later grown));
   }
@@ -215,14 +196,10 @@ mutual
   ]
 
 at_map : {A B : Type 0} (f : A → B) (xs : List A) (k : ℕ) (d : A) → k < length xs → Contains (map f xs) (f (get_or xs k d))
-at_map f [] k d h = absurd (omega (arith, h))
-at_map f (x ∷ xs) zero d h = (0, omega arith, refl)
-at_map f (x ∷ xs) (suc k) d h = let r = at_map f xs k d (omega (arith, h)) in (suc r.0, omega (arith, r.1), r.2)
+at_map f xs k d h = subst (Contains (map f xs)) (get_or-map f xs k d (f d) h) (Contains-get_or (map f xs) k (f d) (omega (arith, h, length-map xs f)))
 
 at_mapped : {A B : Type 0} (f : A → B) (P : B → Type 0) (xs : List A) (k : ℕ) (d : A) → k < length xs → All P (map f xs) → P (f (get_or xs k d))
-at_mapped f P [] k d h all = absurd (omega (arith, h))
-at_mapped f P (x ∷ xs) zero d h all = all 0 (f x) (omega arith)
-at_mapped f P (x ∷ xs) (suc k) d h all = at_mapped f P xs k d (omega (arith, h)) (λ j e g. all (suc j) e (omega (arith, g)))
+at_mapped f P xs k d h all = subst P (get_or-map f xs k d (f d) h) (All-get_or P (map f xs) k (f d) (omega (arith, h, length-map xs f)) all)
 
 -- those of what was found
 pub given_first : (root : RootView) (running : List AliasDecl) (before after : List UniqueSymbolId) (s : UniqueSymbolId) (paths : List Trail) (xs : List Definition) → IsFound root running before s paths after → map (definition_told root) xs ≡ defined_within (trails_told root paths) → AreStored root (map module_of_definition xs) → AreGiven s root xs

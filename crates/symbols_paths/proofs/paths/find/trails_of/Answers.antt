@@ -1,23 +1,12 @@
-use Rattle.std.proofs.Common.{refl, subst, inl, inr, Result, Ok, Err, IfOk, IfErr}
+use Rattle.std.proofs.Common.{refl, subst, inl, inr}
+use Rattle.std.proofs.lemmas.Result.{IfOk-weaker, IfErr-weaker}
 use Rattle.symbols_syntax.specs.declared.ids.ModuleId.{ModuleId}
-use Rattle.symbols_table.specs.declared.info.fault.SymbolsFault.{SymbolsFault}
 use Rattle.symbols_table.specs.Modules.{lent_table}
 use Rattle.symbols_root.specs.Roots.{specifier_in}
 use Rattle.symbols_paths.specs.Needed.{IsRefused}
 use Rattle.symbols_paths.proofs.Answering.{paths_found, paths_listed, no_symbol_there, symbol_there}
+use Rattle.symbols_paths.proofs.Results.{on_both}
 use Rattle.symbols_paths.proofs.paths.find.trails_of.Goals as goal
-
-on_both : {A : Type 0} {P Q R : A → Type 0} (r : Result A SymbolsFault) → ((x : A) → P x → Q x → R x) → IfOk r P → IfOk r Q → IfOk r R
-on_both (Ok x) f g h = f x g h
-on_both (Err e) f g h = tt
-
-on_answer : {A : Type 0} {P Q : A → Type 0} (r : Result A SymbolsFault) → ((x : A) → P x → Q x) → IfOk r P → IfOk r Q
-on_answer (Ok x) f h = f x h
-on_answer (Err e) f h = tt
-
-on_fault : {A : Type 0} {P Q : SymbolsFault → Type 0} (r : Result A SymbolsFault) → ((e : SymbolsFault) → P e → Q e) → IfErr r P → IfErr r Q
-on_fault (Ok x) f h = tt
-on_fault (Err e) f h = f e h
 
 pub returns-then-is_none-clause-enough : goal.returns-then-is_none-clause-enough
 returns-then-is_none-clause-enough c = λ has wide. absurd (has.1 (no_symbol_there c.args.root.now c.args.module_id (lent_table c.in-Some.info) c.in-Some.ensures.table c.args.symbol_id c.symbol.result c.symbol.ensures c.if-is_none.ensures))
@@ -45,12 +34,12 @@ returns-clause-listed c =
 pub returns-clause-known : goal.returns-clause-known
 returns-clause-known c =
     let has = symbol_there c.args.root.now c.args.module_id (lent_table c.in-Some.info) c.in-Some.ensures.table c.args.symbol_id c.symbol.result c.symbol.ensures c.if-is_none.ensures in
-    on_answer c.find.result (λ trails is. (c.in-Some.ensures.found.0 refl, has)) c.find.ensures.found
+    IfOk-weaker c.find.result _ _ (λ trails is. (c.in-Some.ensures.found.0 refl, has)) c.find.ensures.found
 
 pub returns-clause-stored : goal.returns-clause-stored
-returns-clause-stored c = on_answer c.find.result (λ trails is. is.stored) c.find.ensures.searched
+returns-clause-stored c = IfOk-weaker c.find.result _ _ (λ trails is. is.stored) c.find.ensures.searched
 
 pub returns-clause-faults : goal.returns-clause-faults
 returns-clause-faults c =
     let has = symbol_there c.args.root.now c.args.module_id (lent_table c.in-Some.info) c.in-Some.ensures.table c.args.symbol_id c.symbol.result c.symbol.ensures c.if-is_none.ensures in
-    on_fault c.find.result (λ fault refused. inr (inr (record { known = c.in-Some.ensures.found.0 refl; has_symbol = has; refused = subst (λ (id : ModuleId). IsRefused c.find.new.root (specifier_in c.args.root.now id) fault) c.new-symbol.ensures.module refused }))) c.find.ensures.behind.keeps.refused
+    IfErr-weaker c.find.result _ _ (λ fault refused. inr (inr (record { known = c.in-Some.ensures.found.0 refl; has_symbol = has; refused = subst (λ (id : ModuleId). IsRefused c.find.new.root (specifier_in c.args.root.now id) fault) c.new-symbol.ensures.module refused }))) c.find.ensures.behind.keeps.refused

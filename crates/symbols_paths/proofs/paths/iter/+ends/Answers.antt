@@ -1,6 +1,7 @@
 use Rattle.std.proofs.Common.{◌≡◌, ◌++◌, map, sym, ap, subst, ◌∙◌, arith}
-use Rattle.std.specs.Prelude.{Result, Ok, Err, OnOk}
+use Rattle.std.specs.Prelude.{OnOk}
 use Rattle.std.proofs.lemmas.List.{nil_from_length}
+use Rattle.std.proofs.lemmas.Result.{on_ok_weaker}
 use Rattle.symbols_root.specs.Roots.{RootView}
 use Rattle.symbols_paths.specs.declared.paths.node.DefinitionPathNode.TheOpen as open_node
 use Rattle.symbols_paths.specs.declared.paths.node.DefinitionPathNode.TheVariants as node
@@ -10,10 +11,6 @@ use Rattle.symbols_paths.specs.Trees.{leaves_of, leaves_in}
 use Rattle.symbols_paths.specs.Views.{leaf_told, tree_told, forest_told}
 use Rattle.symbols_paths.proofs.Ends.{AreEndsSo, leaves_of_link, ends_next, ends_last}
 use Rattle.symbols_paths.proofs.paths.iter.+ends.Goals as goal
-
-on_ok : {A E P Q : Type 0} (r : Result A E) → (P → Q) → OnOk r P → OnOk r Q
-on_ok (Ok x) f h = f h
-on_ok (Err e) f h = tt
 
 pub add_ends-returns : goal.add_ends-returns
 add_ends-returns t c =
@@ -26,7 +23,7 @@ add_end-returns-in-Resolved-Link t c =
     let opened : out-DefinitionPathNodeResolved c.in-Resolved-Link.field-0 ≡ open_node.Link c.in-Resolved-Link.link = ap out-DefinitionPathNodeResolved c.in-Resolved-Link.field-0-is ∙ outs-Link c.in-Resolved-Link.link in
     let next : c.next_of.result.items ≡ c.in-Resolved-Link.link.next.items = rw opened at c.next_of.ensures in
     let ended : OnOk c.add_ends.result ((root : RootView) → map (leaf_told root) c.add_ends.new.left.items ≡ map (leaf_told root) c.args.left.now.items ++ leaves_in (forest_told root c.in-Resolved-Link.link.next.items)) = rw next at c.add_ends.ensures in
-    on_ok c.add_ends.result (λ told root. told root ∙ ap (λ xs. map (leaf_told root) c.args.left.now.items ++ xs) (sym (ap (λ path. leaves_of (tree_told root path)) is ∙ leaves_of_link root c.in-Resolved-Link.link))) ended
+    on_ok_weaker c.add_ends.result (λ told root. told root ∙ ap (λ xs. map (leaf_told root) c.args.left.now.items ++ xs) (sym (ap (λ path. leaves_of (tree_told root path)) is ∙ leaves_of_link root c.in-Resolved-Link.link))) ended
 
 pub add_ends-loop-path-preserved : goal.add_ends-loop-path-preserved
 add_ends-loop-path-preserved t c =

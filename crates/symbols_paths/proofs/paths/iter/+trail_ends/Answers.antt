@@ -1,16 +1,12 @@
 use Rattle.std.proofs.Common.{◌++◌, [], ◌∷◌, map, sym, ap, subst, ◌∙◌, arith, append_assoc}
-use Rattle.std.specs.Prelude.{Result, Ok, Err, OnOk}
 use Rattle.std.proofs.lemmas.List.{map-append, nil_from_length}
+use Rattle.std.proofs.lemmas.Result.{on_ok_weaker}
 use Rattle.symbols_paths.specs.Trees.{leaves_in}
 use Rattle.symbols_paths.specs.Views.{leaf_told, module_of_end, AreStored}
 use Rattle.symbols_paths.specs.inner.Trails.{trail_told, trails_told, modules_of_stretches, modules_of_trail, modules_of_trails}
 use Rattle.symbols_paths.proofs.Ends.{AreTrailEndsSo, leaves_to, leaves_fork, trail_ends_first, trail_ends_next, trail_ends_last, end_stored}
 use Rattle.symbols_paths.proofs.Trailing.{modules_to, modules_fork, stored_apart}
 use Rattle.symbols_paths.proofs.paths.iter.+trail_ends.Goals as goal
-
-on_ok : {A E P Q : Type 0} (r : Result A E) → (P → Q) → OnOk r P → OnOk r Q
-on_ok (Ok x) f h = f h
-on_ok (Err e) f h = tt
 
 pub add_trail_ends-loop-trail-init : goal.add_trail_ends-loop-trail-init
 add_trail_ends-loop-trail-init t c = rw c.into_iter-trail-iterator.ensures.into_iter_gives.0 (trail_ends_first c.args.left.now.items c.args.trails.items)
@@ -49,7 +45,7 @@ add_trail_end-returns-in-To-clause-stored t c = λ root a b.
 pub add_trail_end-returns-clause-told : goal.add_trail_end-returns-clause-told
 add_trail_end-returns-clause-told t c =
     let x = c.in-Fork in
-    on_ok c.add_trail_end.result (λ told root.
+    on_ok_weaker c.add_trail_end.result (λ told root.
     let before = map (leaf_told root) c.args.left.now.items in
     let others = leaves_in (trails_told root x.others.items) in
     let last = leaves_in (trail_told root x.last.value) in
@@ -62,7 +58,7 @@ add_trail_end-returns-clause-told t c =
 pub add_trail_end-returns-clause-stored : goal.add_trail_end-returns-clause-stored
 add_trail_end-returns-clause-stored t c =
     let x = c.in-Fork in
-    on_ok c.add_trail_end.result (λ stored root a b.
+    on_ok_weaker c.add_trail_end.result (λ stored root a b.
     let split = stored_apart root (modules_of_stretches x.field-0.items) (modules_of_trails x.others.items ++ modules_of_trail x.last.value) (subst (AreStored root) (ap modules_of_trail x.is ∙ modules_fork x.field-0 x.others x.last) b) in
     let next = stored_apart root (modules_of_trails x.others.items) (modules_of_trail x.last.value) split.1 in
     let mid = c.in_ok-add_trail_ends-in-Fork.ensures.stored root a (subst (λ others. AreStored root (modules_of_trails others.items)) (sym x.others-is) next.0) in

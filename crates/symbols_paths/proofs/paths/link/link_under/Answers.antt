@@ -1,4 +1,5 @@
-use Rattle.std.proofs.Common.{Result, Ok, Err, IfOk, ap, sym, ◌∙◌}
+use Rattle.std.proofs.Common.{ap, sym, ◌∙◌}
+use Rattle.std.proofs.lemmas.Result.{IfOk-weaker}
 use Rattle.symbols_paths.specs.Trees.{link_to}
 use Rattle.symbols_paths.specs.Views.{decl_told}
 use Rattle.symbols_paths.specs.inner.Views.{symbol_told}
@@ -6,10 +7,6 @@ use Rattle.symbols_paths.specs.inner.Trails.{parts_told, trails_told}
 use Rattle.symbols_paths.proofs.Told.{head_told}
 use Rattle.symbols_paths.proofs.Trailing.{is_none}
 use Rattle.symbols_paths.proofs.paths.link.link_under.Goals as goal
-
-on_answer : {A E : Type 0} {P Q : A → Type 0} (r : Result A E) → IfOk r P → ((x : A) → P x → Q x) → IfOk r Q
-on_answer (Ok x) h f = f x h
-on_answer (Err e) h f = tt
 
 pub returns-then-is_empty-clause-told : goal.returns-then-is_empty-clause-told
 returns-then-is_empty-clause-told c = λ root.
@@ -19,5 +16,5 @@ returns-then-is_empty-clause-told c = λ root.
 pub returns-clause-told : goal.returns-clause-told
 returns-clause-told c =
     let s = c.args.symbol in
-    on_answer c.link_by.result c.link_by.ensures.told (λ trail told root.
-    told root ∙ (λ i. link_to (record { symbol = symbol_told root s; decl = decl_told root s.module_id c.args.symbol_decl; parts = c.in_ok-same.ensures i }) (trails_told root c.args.next.items)))
+    IfOk-weaker c.link_by.result _ _ (λ trail told root.
+    told root ∙ (λ i. link_to (record { symbol = symbol_told root s; decl = decl_told root s.module_id c.args.symbol_decl; parts = c.in_ok-same.ensures i }) (trails_told root c.args.next.items))) c.link_by.ensures.told

@@ -1,20 +1,18 @@
-use Rattle.std.proofs.Common.{◌≡◌, arith, false, ◌&&◌, Result, Ok, Err, IfOk, None, sym, subst, ◌∙◌}
+use Rattle.std.proofs.Common.{◌≡◌, arith, false, ◌&&◌, None, sym, subst, ◌∙◌}
 use Rattle.std.specs.Str.{bytes_eq}
 use Rattle.std.specs.Prelude.{string_bytes}
 use Rattle.std.proofs.lemmas.List.{length-map}
+use Rattle.std.proofs.lemmas.Result.{IfOk-weaker}
+use Rattle.std.proofs.lemmas.Bool.{and_left, and_right}
 use Rattle.symbols_root.specs.Roots.{specifier_in}
 use Rattle.symbols_paths.specs.Trees.{no_part}
 use Rattle.symbols_paths.specs.PartLeads.{lacks, prototype_name, is_class_at, export_of_symbol}
 use Rattle.symbols_paths.specs.Views.{decl_told, texts_of}
 use Rattle.symbols_paths.specs.inner.Views.{first_part, later_parts}
-use Rattle.symbols_paths.proofs.PartReading.{first_read, bytes_swapped, lacks_own, not_first, not_second}
+use Rattle.symbols_paths.proofs.PartReading.{first_read, bytes_swapped, lacks_own}
 use Rattle.symbols_paths.proofs.Walking.{some_parts}
 use Rattle.symbols_paths.proofs.paths.parts.own_part.Goals as goal
 use Rattle.symbols_paths.proofs.paths.parts.own_part.Goals.{else-eq-via-then-eq+else-is_class_at, else-eq-via-else-eq}
-
-on_answer : {A E : Type 0} {P Q : A → Type 0} (r : Result A E) → ((x : A) → P x → Q x) → IfOk r P → IfOk r Q
-on_answer (Ok x) f h = f x h
-on_answer (Err e) f h = tt
 
 pub returns-clause-told : goal.returns-clause-told
 returns-clause-told c =
@@ -25,7 +23,7 @@ returns-clause-told c =
     let named = c.in_ok-name.ensures.ok ∙ (c.as_str-2.ensures.value ∙ first_read c.args.parts.now c.index-parts-0-2.result c.requires.some c.index-parts-0-2.is) in
     let none_there : export_of_symbol root.graph decl.symbol (first_part parts) ≡ None = sym (λ i. export_of_symbol root.graph (record { specifier = specifier_in root (c.new-symbol.ensures.«module» i); number = c.new-symbol.ensures.symbol i }) (first_part parts)) ∙ sym c.in_default.ensures in
     let plain : (bytes_eq prototype_name (first_part parts) && is_class_at root.graph decl) ≡ false = elim c.else-eq.branch [
-      | else-eq-via-then-eq+else-is_class_at w ↦ not_second (bytes_eq prototype_name (first_part parts)) (is_class_at root.graph decl) (sym w.if-is_class_at.ensures)
-      | else-eq-via-else-eq w ↦ not_first (bytes_eq prototype_name (first_part parts)) (is_class_at root.graph decl) (bytes_swapped (first_part parts) prototype_name (subst (λ name. bytes_eq name prototype_name ≡ false) first (sym w.if-eq.ensures)))
+      | else-eq-via-then-eq+else-is_class_at w ↦ and_right (bytes_eq prototype_name (first_part parts)) (is_class_at root.graph decl) (sym w.if-is_class_at.ensures)
+      | else-eq-via-else-eq w ↦ and_left (bytes_eq prototype_name (first_part parts)) (is_class_at root.graph decl) (bytes_swapped (first_part parts) prototype_name (subst (λ name. bytes_eq name prototype_name ≡ false) first (sym w.if-eq.ensures)))
     ] in
-    on_answer c.lacking.result (λ way told. told root ∙ ((λ i. lacks (record { specifier = decl.symbol.specifier; reason = no_part (named i); parts = some_parts parts (omega (arith, length-map c.args.parts.now string_bytes, c.requires.some)) i })) ∙ sym (lacks_own root.graph decl (first_part parts) (later_parts parts) _ none_there plain))) c.lacking.ensures.told
+    IfOk-weaker c.lacking.result _ _ (λ way told. told root ∙ ((λ i. lacks (record { specifier = decl.symbol.specifier; reason = no_part (named i); parts = some_parts parts (omega (arith, length-map c.args.parts.now string_bytes, c.requires.some)) i })) ∙ sym (lacks_own root.graph decl (first_part parts) (later_parts parts) _ none_there plain))) c.lacking.ensures.told

@@ -1,4 +1,5 @@
-use Rattle.std.proofs.Common.{Result, Ok, Err, IfOk, ◌∙◌}
+use Rattle.std.proofs.Common.{◌∙◌}
+use Rattle.std.proofs.lemmas.Result.{IfOk-weaker}
 use Rattle.symbols_root.specs.Roots.{specifier_in}
 use Rattle.symbols_root.specs.laws.Calls.{keeps_on}
 use Rattle.symbols_root.specs.laws.Numbers.{target_is}
@@ -7,10 +8,6 @@ use Rattle.symbols_paths.specs.Views.{texts_of}
 use Rattle.symbols_paths.specs.inner.Views.{first_part, later_parts}
 use Rattle.symbols_paths.proofs.PartReading.{text_told, refused_text, refused_behind}
 use Rattle.symbols_paths.proofs.paths.parts.text_part.Goals as goal
-
-on_answer : {A E : Type 0} {P Q : A → Type 0} (r : Result A E) → ((x : A) → P x → Q x) → IfOk r P → IfOk r Q
-on_answer (Ok x) f h = f x h
-on_answer (Err e) f h = tt
 
 pub returns-in-Err-clause-keeps : goal.returns-in-Err-clause-keeps
 returns-in-Err-clause-keeps c =
@@ -27,7 +24,7 @@ returns-in-Ok-Some-clause-told c =
     let mid = c.text_target.new.root in
     let found = text_target old.graph (specifier_in old c.args.module_id) c.args.text.now in
     let leads = target_is mid c.in-Ok-Some.target found (rw c.in-Ok-Some.field-0-is at c.in-Ok-Some.ensures.gives) in
-    on_answer c.module_part.result (λ way told. told ∙ text_told old mid (specifier_in old c.args.module_id) c.args.text.now (first_part (texts_of c.args.parts.now)) (later_parts (texts_of c.args.parts.now)) c.in-Ok-Some.target found c.in-Ok-Some.ensures.keeps.grown leads.is) c.module_part.ensures.told
+    IfOk-weaker c.module_part.result _ _ (λ way told. told ∙ text_told old mid (specifier_in old c.args.module_id) c.args.text.now (first_part (texts_of c.args.parts.now)) (later_parts (texts_of c.args.parts.now)) c.in-Ok-Some.target found c.in-Ok-Some.ensures.keeps.grown leads.is) c.module_part.ensures.told
 
 pub returns-in-Ok-Some-clause-keeps : goal.returns-in-Ok-Some-clause-keeps
 returns-in-Ok-Some-clause-keeps c =

@@ -1,15 +1,12 @@
 use Rattle.std.proofs.Common.{◌≡◌, ◌++◌, ◌+◌, ◌∷◌, [], map, drop, ap, sym, subst, ◌∙◌, arith, append_assoc}
-use Rattle.std.specs.Prelude.{Result, Ok, Err, OnOk}
+use Rattle.std.proofs.lemmas.Result.{on_ok_weaker}
+use Rattle.std.proofs.lemmas.List.{drop_all}
 use Rattle.symbols_paths.specs.inner.Rebuilt.{defined_within}
 use Rattle.symbols_paths.specs.Views.{definition_told, module_of_end, AreStored}
 use Rattle.symbols_paths.specs.inner.Trails.{trail_told, trails_told, modules_of_stretches, modules_of_trail, modules_of_trails}
 use Rattle.symbols_paths.proofs.Trailing.{modules_to, modules_fork, stored_apart}
-use Rattle.symbols_paths.proofs.Listing.{AreListed, drop_all, listed_next, listed_last, drop_read, defined_to, defined_fork}
+use Rattle.symbols_paths.proofs.Listing.{AreListed, listed_next, listed_last, drop_read, defined_to, defined_fork}
 use Rattle.symbols_paths.proofs.paths.rebuild.+listing.Goals as goal
-
-on_ok : {A E P Q : Type 0} (r : Result A E) → OnOk r P → (P → Q) → OnOk r Q
-on_ok (Ok x) h f = f h
-on_ok (Err e) h f = tt
 
 pub list_definitions-loop-trail-preserved : goal.list_definitions-loop-trail-preserved
 list_definitions-loop-trail-preserved t c =
@@ -28,19 +25,19 @@ list_definitions-returns-clause-stored t c = λ root a b. (c.loop-trail.invarian
 pub list_definition-returns-in-To-clause-told : goal.list_definition-returns-in-To-clause-told
 list_definition-returns-in-To-clause-told t c =
     let x = c.in-To in
-    on_ok c.list_end.result c.list_end.ensures.told (λ told root.
-    told root ∙ ap (λ xs. map (definition_told root) c.args.found.now.items ++ xs) (sym (ap (λ trail. defined_within (trail_told root trail)) x.is ∙ defined_to root x.field-0 x.end)))
+    on_ok_weaker c.list_end.result (λ told root.
+    told root ∙ ap (λ xs. map (definition_told root) c.args.found.now.items ++ xs) (sym (ap (λ trail. defined_within (trail_told root trail)) x.is ∙ defined_to root x.field-0 x.end))) c.list_end.ensures.told
 
 pub list_definition-returns-in-To-clause-stored : goal.list_definition-returns-in-To-clause-stored
 list_definition-returns-in-To-clause-stored t c =
     let x = c.in-To in
-    on_ok c.list_end.result c.list_end.ensures.stored (λ stored root a b.
-    stored root a (stored_apart root (modules_of_stretches x.field-0.items) (module_of_end x.end ∷ []) (subst (AreStored root) (ap modules_of_trail x.is ∙ modules_to x.field-0 x.end) b)).1)
+    on_ok_weaker c.list_end.result (λ stored root a b.
+    stored root a (stored_apart root (modules_of_stretches x.field-0.items) (module_of_end x.end ∷ []) (subst (AreStored root) (ap modules_of_trail x.is ∙ modules_to x.field-0 x.end) b)).1) c.list_end.ensures.stored
 
 pub list_definition-returns-in_ok-list_definitions-in-Fork-clause-told : goal.list_definition-returns-in_ok-list_definitions-in-Fork-clause-told
 list_definition-returns-in_ok-list_definitions-in-Fork-clause-told t c =
     let x = c.in-Fork in
-    on_ok c.list_definition.result c.list_definition.ensures.told (λ told root.
+    on_ok_weaker c.list_definition.result (λ told root.
     let before = map (definition_told root) c.args.found.now.items in
     let others = defined_within (trails_told root c.deref.result.now) in
     let last = defined_within (trail_told root c.deref-in-Fork.result.now) in
@@ -48,14 +45,14 @@ list_definition-returns-in_ok-list_definitions-in-Fork-clause-told t c =
     ∙ (ap (λ xs. xs ++ last) (c.in_ok-list_definitions-in-Fork.ensures.told root)
     ∙ (append_assoc before others last
     ∙ ap (λ xs. before ++ xs) ((λ i. defined_within (trails_told root (c.deref.ensures.value i)) ++ defined_within (trail_told root (c.deref-in-Fork.ensures i)))
-    ∙ sym (ap (λ trail. defined_within (trail_told root trail)) x.is ∙ defined_fork root x.field-0 x.others x.last)))))
+    ∙ sym (ap (λ trail. defined_within (trail_told root trail)) x.is ∙ defined_fork root x.field-0 x.others x.last))))) c.list_definition.ensures.told
 
 pub list_definition-returns-in_ok-list_definitions-in-Fork-clause-stored : goal.list_definition-returns-in_ok-list_definitions-in-Fork-clause-stored
 list_definition-returns-in_ok-list_definitions-in-Fork-clause-stored t c =
     let x = c.in-Fork in
-    on_ok c.list_definition.result c.list_definition.ensures.stored (λ stored root a b.
+    on_ok_weaker c.list_definition.result (λ stored root a b.
     let split = stored_apart root (modules_of_stretches x.field-0.items) (modules_of_trails x.others.items ++ modules_of_trail x.last.value) (subst (AreStored root) (ap modules_of_trail x.is ∙ modules_fork x.field-0 x.others x.last) b) in
     let next = stored_apart root (modules_of_trails x.others.items) (modules_of_trail x.last.value) split.1 in
     stored root
     (c.in_ok-list_definitions-in-Fork.ensures.stored root a (subst (λ trails. AreStored root (modules_of_trails trails)) (sym c.deref.ensures.value) next.0))
-    (subst (λ trail. AreStored root (modules_of_trail trail)) (sym c.deref-in-Fork.ensures) next.1))
+    (subst (λ trail. AreStored root (modules_of_trail trail)) (sym c.deref-in-Fork.ensures) next.1)) c.list_definition.ensures.stored

@@ -1,6 +1,7 @@
 use Rattle.std.proofs.Common.{◌++◌, ◌∷◌, [], List, map, ap, sym, subst, ◌∙◌, arith}
-use Rattle.std.specs.Prelude.{Result, Ok, Err, OnOk, IfOk}
+use Rattle.std.specs.Prelude.{Result, Ok, Err, OnOk}
 use Rattle.std.proofs.lemmas.List.{nil_from_length}
+use Rattle.std.proofs.lemmas.Result.{IfOk-weaker}
 use Rattle.symbols_paths.specs.Trees.{Forest}
 use Rattle.symbols_paths.specs.inner.Rebuilt.{rebuilt}
 use Rattle.symbols_paths.specs.Views.{module_of_end, AreStored}
@@ -12,10 +13,6 @@ use Rattle.symbols_paths.proofs.paths.rebuild.+rebuilding.Goals as goal
 always : {A E P : Type 0} (r : Result A E) → P → OnOk r P
 always (Ok x) h = h
 always (Err e) h = tt
-
-on_answer : {A E : Type 0} {P Q : A → Type 0} (r : Result A E) → IfOk r P → ((x : A) → P x → Q x) → IfOk r Q
-on_answer (Ok x) h f = f x h
-on_answer (Err e) h f = tt
 
 pub rebuild-loop-trail-preserved : goal.rebuild-loop-trail-preserved
 rebuild-loop-trail-preserved t c =
@@ -44,11 +41,11 @@ pub rebuild_one-returns-in-To-clause-found : goal.rebuild_one-returns-in-To-clau
 rebuild_one-returns-in-To-clause-found t c =
     let ps = parts_told c.args.parts.now in
     let xs = c.in-To.stretches in
-    on_answer c.under.result c.under.ensures.told (λ found told root.
+    IfOk-weaker c.under.result _ _ (λ found told root.
     let ready = map (trails_of_option root) c.args.changed.now.items in
     told root
     ∙ (ap (below_links (heads_under ps (heads_in root xs.items))) (c.rebuild_end-trail.ensures.found root ps)
-    ∙ (ap (λ (p : Forest × List Forest). p.0) (sym (rebuilt_to root ps xs c.in-To.end ready)) ∙ ap (λ trail. (rebuilt ps (trail_told root trail) ready).0) (sym c.in-To.is))))
+    ∙ (ap (λ (p : Forest × List Forest). p.0) (sym (rebuilt_to root ps xs c.in-To.end ready)) ∙ ap (λ trail. (rebuilt ps (trail_told root trail) ready).0) (sym c.in-To.is)))) c.under.ensures.told
 
 pub rebuild_one-returns-in-To-clause-left : goal.rebuild_one-returns-in-To-clause-left
 rebuild_one-returns-in-To-clause-left t c =
@@ -60,10 +57,10 @@ rebuild_one-returns-in-To-clause-left t c =
 
 pub rebuild_one-returns-in-To-clause-stored : goal.rebuild_one-returns-in-To-clause-stored
 rebuild_one-returns-in-To-clause-stored t c =
-    on_answer c.under.result c.under.ensures.stored (λ found stored root a b.
+    IfOk-weaker c.under.result _ _ (λ found stored root a b.
     let split = stored_apart root (modules_of_stretches c.in-To.stretches.items) (module_of_end c.in-To.end ∷ []) (subst (AreStored root) (ap modules_of_trail c.in-To.is ∙ modules_to c.in-To.stretches c.in-To.end) a) in
     let h = c.rebuild_end-trail.ensures.stored root split.1 b in
-    (stored root split.0 h.0, h.1))
+    (stored root split.0 h.0, h.1)) c.under.ensures.stored
 
 -- ---- a fork
 
@@ -73,12 +70,12 @@ rebuild_one-returns-in_ok-whole-in-Fork-clause-found t c =
     let x = c.in-Fork in
     let next = c.in_ok-next-in-Fork.next.items in
     let last = c.in_ok-last-in-Fork.last in
-    on_answer c.under-in-Fork.result c.under-in-Fork.ensures.told (λ found told root.
+    IfOk-weaker c.under-in-Fork.result _ _ (λ found told root.
     let ready = map (trails_of_option root) c.args.changed.now.items in
     let both = both_rebuilt ps (trails_told root x.others.items) (trail_told root x.last.value) ready (map (trails_of_option root) c.rebuild.new.changed.items) (trails_told root next) (trails_of_option root last) (c.in_ok-next-in-Fork.ensures.found root) (c.in_ok-next-in-Fork.ensures.left root) (c.in_ok-last-in-Fork.ensures.found root ∙ ap (λ trail. (rebuilt ps (trail_told root trail) (map (trails_of_option root) c.rebuild.new.changed.items)).0) c.into_inner.ensures) in
     told root
     ∙ (ap (below_links (heads_under ps (heads_in root x.stretches.items))) (c.in_ok-whole-in-Fork.ensures.told root ∙ (ap (trails_told root) c.in_ok-add-in-Fork.ensures ∙ (told_with_option root next last ∙ both)))
-    ∙ (ap (λ (p : Forest × List Forest). p.0) (sym (rebuilt_fork root ps x.stretches x.others x.last ready)) ∙ ap (λ trail. (rebuilt ps (trail_told root trail) ready).0) (sym x.is))))
+    ∙ (ap (λ (p : Forest × List Forest). p.0) (sym (rebuilt_fork root ps x.stretches x.others x.last ready)) ∙ ap (λ trail. (rebuilt ps (trail_told root trail) ready).0) (sym x.is)))) c.under-in-Fork.ensures.told
 
 pub rebuild_one-returns-in_ok-whole-in-Fork-clause-left : goal.rebuild_one-returns-in_ok-whole-in-Fork-clause-left
 rebuild_one-returns-in_ok-whole-in-Fork-clause-left t c =
@@ -93,10 +90,10 @@ rebuild_one-returns-in_ok-whole-in-Fork-clause-left t c =
 pub rebuild_one-returns-in_ok-whole-in-Fork-clause-stored : goal.rebuild_one-returns-in_ok-whole-in-Fork-clause-stored
 rebuild_one-returns-in_ok-whole-in-Fork-clause-stored t c =
     let x = c.in-Fork in
-    on_answer c.under-in-Fork.result c.under-in-Fork.ensures.stored (λ found stored root a ready.
+    IfOk-weaker c.under-in-Fork.result _ _ (λ found stored root a ready.
     let split = stored_apart root (modules_of_stretches x.stretches.items) (modules_of_trails x.others.items ++ modules_of_trail x.last.value) (subst (AreStored root) (ap modules_of_trail x.is ∙ modules_fork x.stretches x.others x.last) a) in
     let next = stored_apart root (modules_of_trails x.others.items) (modules_of_trail x.last.value) split.1 in
     let first = c.in_ok-next-in-Fork.ensures.stored root next.0 ready in
     let second = c.in_ok-last-in-Fork.ensures.stored root (subst (λ trail. AreStored root (modules_of_trail trail)) (sym c.into_inner.ensures) next.1) first.1 in
     let whole = c.in_ok-whole-in-Fork.ensures.stored root (subst (λ trails. AreStored root (modules_of_trails trails)) (sym c.in_ok-add-in-Fork.ensures) (stored_with_option root c.in_ok-next-in-Fork.next.items c.in_ok-last-in-Fork.last first.0 second.0)) in
-    (stored root split.0 whole, second.1))
+    (stored root split.0 whole, second.1)) c.under-in-Fork.ensures.stored

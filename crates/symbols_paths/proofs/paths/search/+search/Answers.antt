@@ -1,7 +1,7 @@
-use Rattle.std.proofs.Common.{◌≡◌, ◌<◌, ◌^◌, true, false, List, [], ◌∷◌, refl, rules, length, None, Some, Result, Ok, Err, IfOk, IfErr, OnOk, ◌+◌, option_map, sym, ap, subst, ◌∙◌, arith, append-nil}
+use Rattle.std.proofs.Common.{◌≡◌, ◌<◌, ◌^◌, true, false, List, [], ◌∷◌, refl, rules, length, None, Some, ◌+◌, option_map, sym, ap, subst, ◌∙◌, arith, append-nil}
 use Rattle.std.proofs.lemmas.List.{length-append, nil_from_length}
+use Rattle.std.proofs.lemmas.Result.{IfOk-weaker, on_ok_weaker}
 use Rattle.symbols_syntax.specs.declared.ids.ModuleId.{ModuleId}
-use Rattle.symbols_table.specs.declared.info.fault.SymbolsFault.{SymbolsFault}
 use Rattle.symbols_root.specs.Roots.{RootView, specifier_in}
 use Rattle.symbols_root.specs.Calls.{IsStored}
 use Rattle.symbols_root.specs.laws.Calls.{keeps_on}
@@ -18,43 +18,30 @@ use Rattle.symbols_paths.specs.inner.Trails.{parts_told, trails_told, modules_of
 use Rattle.symbols_paths.specs.Needed.{IsNeeded, IsRefused}
 use Rattle.symbols_paths.specs.inner.Searching.{AreSymbolsNumbered, AreAliasesNumbered, IsDeclarationRead, IsFound, IsFoundUnder}
 use Rattle.symbols_paths.proofs.Growing.{still_numbered, all_still_stored}
-use Rattle.symbols_paths.proofs.Told.{none_at, some_at}
-use Rattle.symbols_paths.proofs.Trailing.{is_some, is_none, not_none}
-use Rattle.symbols_paths.proofs.Finding.{new_symbol, old_symbol, new_few, found_old, finding_first, finding_next, finding_last, finding_searched, now_within, index_within, index_before, stands_among, left, fewer_steps, one_met_more, for_alias, one_alias_more, without_parts, one_part_less}
+use Rattle.symbols_paths.proofs.Told.{none_at, some_at, is_some}
+use Rattle.symbols_paths.proofs.Trailing.{is_none, not_none}
+use Rattle.symbols_paths.proofs.Finding.{found_old, finding_first, finding_next, finding_last, finding_searched, now_within, index_within, index_before, stands_among, left, fewer_steps, one_met_more, for_alias, one_alias_more, without_parts, one_part_less}
 use Rattle.symbols_paths.proofs.Following.{followed_itself, followed_alias, followed_nowhere, followed_unmapped, followed_target, followed_import, option_stored, target_later, tried_nowhere, tried_owned, tried_along, tried_held}
 use Rattle.symbols_paths.proofs.Trying.{asking_first, asking_within, position_within, position_before, asking_next, asking_here, here_searched, asking_last, last_searched}
-use Rattle.symbols_paths.proofs.SearchSteps.{still_aliases, aliases_with}
+use Rattle.symbols_paths.proofs.SearchSteps.{still_aliases, aliases_with, is_symbol, is_alias_decl}
 use Rattle.symbols_paths.proofs.Ready.{still_ready, keeps_from, fault_from, keeps_out_of_memory}
-use Rattle.symbols_paths.proofs.Aliases.{new_alias, old_alias, alias_few, popped}
 use Rattle.symbols_paths.proofs.SharedParts.{short_parts}
 use Rattle.symbols_paths.proofs.Walking.{IsWalking, AreGiven, head_in_place, one_less, walked_alone, changed_itself, changed_lacking, changed_on, walking_first, walking_next, walking_last, resolved_open, resolved_walk, first_given, others_given, given_first, refused_given, refused_on}
 use Rattle.symbols_paths.proofs.Needing.{refused_from, needed_import, refused_import, needed_candidate}
+use Rattle.symbols_paths.proofs.Sets.{new_key, old_key, few_before, popped}
 use Rattle.symbols_paths.proofs.paths.search.+search.Goals as goal
-
--- what holds of an answer, or of a fault, if there is one
-on_answer : {A : Type 0} {P Q : A → Type 0} (r : Result A SymbolsFault) → ((x : A) → P x → Q x) → IfOk r P → IfOk r Q
-on_answer (Ok x) f h = f x h
-on_answer (Err e) f h = tt
-
-on_ok : {A : Type 0} {P Q : Type 0} (r : Result A SymbolsFault) → (P → Q) → OnOk r P → OnOk r Q
-on_ok (Ok x) f h = f h
-on_ok (Err e) f h = tt
-
-on_fault : {A : Type 0} {P Q : SymbolsFault → Type 0} (r : Result A SymbolsFault) → ((e : SymbolsFault) → P e → Q e) → IfErr r P → IfErr r Q
-on_fault (Ok x) f h = tt
-on_fault (Err e) f h = f e h
 
 -- ---- the declarations of a symbol
 
 pub find-returns-then-not-is_new-clause-found : goal.find-returns-then-not-is_new-clause-found
 find-returns-then-not-is_new-clause-found t c =
-    let old = old_symbol c.args.met.now.keys c.insert_full.new.self.keys c.args.symbol c.in_ok-is_new.is_new c.in_ok-is_new.ensures.added c.in_ok-is_new.ensures.keys c.if-not-is_new.true in
+    let old = old_key is_symbol c.args.met.now.keys c.insert_full.new.self.keys c.args.symbol c.in_ok-is_new.is_new c.in_ok-is_new.ensures.added c.in_ok-is_new.ensures.keys c.if-not-is_new.true in
     rw (c.new-paths.ensures.items, old.1) (found_old c.args.root.now c.stored_once.ensures c.args.resolving.now.keys c.args.met.now.keys c.args.symbol c.requires.ready.met c.requires.ready.known old.0)
 
 pub find-loop-paths-init : goal.find-loop-paths-init
 find-loop-paths-init t c =
-    let new = new_symbol c.args.met.now.keys c.insert_full.new.self.keys c.args.symbol c.in_ok-is_new.is_new c.in_ok-is_new.ensures.added c.in_ok-is_new.ensures.keys c.if-not-is_new.false in
-    let few = new_few c.args.met.now.keys c.args.symbol c.in_ok-is_new.field-0-0 new.0 c.in_ok-is_new.ensures.index (omega arith) in
+    let new = new_key is_symbol c.args.met.now.keys c.insert_full.new.self.keys c.args.symbol c.in_ok-is_new.is_new c.in_ok-is_new.ensures.added c.in_ok-is_new.ensures.keys c.if-not-is_new.false in
+    let few = few_before is_symbol c.args.met.now.keys c.args.symbol c.in_ok-is_new.field-0-0 new.0 c.in_ok-is_new.ensures.index (omega arith) in
     rw (c.new-paths.ensures.items, new.1) (finding_first c.args.root.now c.args.resolving.now.keys c.args.met.now.keys c.args.symbol c.requires.ready.met c.requires.ready.known new.0 few)
 
 pub find-lead_at-requires : goal.find-lead_at-requires
@@ -202,7 +189,7 @@ import-returns-in-Some-clause-tried t c =
     let leads = target_is mid id (text_target c.args.root.now.graph (specifier_in c.args.root.now c.args.symbol.module_id) c.args.taken.now.text.now) (rw c.in-Ok-Some.field-0-is at c.in-Ok-Some.ensures.gives) in
     let within = still_stored kept c.args.symbol.module_id.0 c.requires.ready.known in
     let there = target_later kept c.args.symbol.module_id c.requires.ready.known c.args.taken.now.text.now ∙ leads.is in
-    on_answer c.find.result (λ paths found. tried_owned mid c.args.resolving.now.keys c.args.met.now.keys c.find.new.met.keys c.args.symbol c.new.result id c.in-Some.owned c.args.taken.now.name.now c.args.taken.now.text.now paths.items within leads.within there (sym c.in-Some.ensures) c.new.ensures.module c.new.ensures.symbol c.find.new.root c.find.ensures.behind.keeps.grown found) c.find.ensures.found
+    IfOk-weaker c.find.result _ _ (λ paths found. tried_owned mid c.args.resolving.now.keys c.args.met.now.keys c.find.new.met.keys c.args.symbol c.new.result id c.in-Some.owned c.args.taken.now.name.now c.args.taken.now.text.now paths.items within leads.within there (sym c.in-Some.ensures) c.new.ensures.module c.new.ensures.symbol c.find.new.root c.find.ensures.behind.keeps.grown found) c.find.ensures.found
 
 pub import-returns-in-Some-clause-behind : goal.import-returns-in-Some-clause-behind
 import-returns-in-Some-clause-behind t c =
@@ -225,7 +212,7 @@ import-returns-in-None-clause-tried t c =
     let within = still_stored kept c.args.symbol.module_id.0 c.requires.ready.known in
     let there = target_later kept c.args.symbol.module_id c.requires.ready.known c.args.taken.now.text.now ∙ leads.is in
     let so : passes_name mid.rules c.args.taken.now.name.now ≡ true = search rules in
-    on_answer c.import_along.result (λ paths tried. tried_along mid c.args.resolving.now.keys c.args.met.now.keys c.import_along.new.met.keys c.args.symbol id c.args.taken.now.name.now c.args.taken.now.text.now paths.items within leads.within there (sym c.in-None.ensures) c.import_along.new.root c.import_along.ensures.behind.keeps.grown so tried) c.import_along.ensures.tried
+    IfOk-weaker c.import_along.result _ _ (λ paths tried. tried_along mid c.args.resolving.now.keys c.args.met.now.keys c.import_along.new.met.keys c.args.symbol id c.args.taken.now.name.now c.args.taken.now.text.now paths.items within leads.within there (sym c.in-None.ensures) c.import_along.new.root c.import_along.ensures.behind.keeps.grown so tried) c.import_along.ensures.tried
 
 pub import-returns-in-None-clause-behind : goal.import-returns-in-None-clause-behind
 import-returns-in-None-clause-behind t c =
@@ -355,17 +342,17 @@ follow-returns-in_ok-add_link_under-in-Ok-resolve-clause-followed t c =
 
 pub resolve-returns-then-not-is_new-clause-resolved : goal.resolve-returns-then-not-is_new-clause-resolved
 resolve-returns-then-not-is_new-clause-resolved t c =
-    let old = old_alias c.args.resolving.now.keys c.insert_full.new.self.keys c.args.alias c.in_ok-is_new.is_new c.in_ok-is_new.ensures.added c.in_ok-is_new.ensures.keys c.if-not-is_new.true in
+    let old = old_key is_alias_decl c.args.resolving.now.keys c.insert_full.new.self.keys c.args.alias c.in_ok-is_new.is_new c.in_ok-is_new.ensures.added c.in_ok-is_new.ensures.keys c.if-not-is_new.true in
     rw c.new.ensures.items (resolved_open c.args.root.now c.stored_once.ensures c.args.resolving.now.keys c.args.alias c.requires.ready.resolving c.requires.alias c.args.target (parts_told c.args.parts.now) old.0)
 
 pub resolve-returns-then-not-is_new-clause-behind : goal.resolve-returns-then-not-is_new-clause-behind
-resolve-returns-then-not-is_new-clause-behind t c = record { keeps = record { grown = grown_not c.args.root.now; refused = tt; enough = λ wide. tt }; same = (old_alias c.args.resolving.now.keys c.insert_full.new.self.keys c.args.alias c.in_ok-is_new.is_new c.in_ok-is_new.ensures.added c.in_ok-is_new.ensures.keys c.if-not-is_new.true).1 }
+resolve-returns-then-not-is_new-clause-behind t c = record { keeps = record { grown = grown_not c.args.root.now; refused = tt; enough = λ wide. tt }; same = (old_key is_alias_decl c.args.resolving.now.keys c.insert_full.new.self.keys c.args.alias c.in_ok-is_new.is_new c.in_ok-is_new.ensures.added c.in_ok-is_new.ensures.keys c.if-not-is_new.true).1 }
 
 pub resolve-walk-requires : goal.resolve-walk-requires
 resolve-walk-requires t c =
     let running = c.args.resolving.now.keys in
-    let new = new_alias running c.insert_full.new.self.keys c.args.alias c.in_ok-is_new.is_new c.in_ok-is_new.ensures.added c.in_ok-is_new.ensures.keys c.if-not-is_new.false in
-    let few = alias_few running c.args.alias c.in_ok-is_new.field-0-0 new.0 c.in_ok-is_new.ensures.index (omega arith) in
+    let new = new_key is_alias_decl running c.insert_full.new.self.keys c.args.alias c.in_ok-is_new.is_new c.in_ok-is_new.ensures.added c.in_ok-is_new.ensures.keys c.if-not-is_new.false in
+    let few = few_before is_alias_decl running c.args.alias c.in_ok-is_new.field-0-0 new.0 c.in_ok-is_new.ensures.index (omega arith) in
     let longer : length c.insert_full.new.self.keys ≡ length running + 1 = ap length new.1 ∙ length-append running (c.args.alias ∷ []) in
     let none_met : length c.new-met.result.keys ≡ 0 = ap length c.new-met.ensures.empty in
     let short = short_parts c.args.parts.now in
@@ -378,8 +365,8 @@ resolve-walk-requires t c =
 pub resolve-returns-clause-resolved : goal.resolve-returns-clause-resolved
 resolve-returns-clause-resolved t c =
     let running = c.args.resolving.now.keys in
-    let new = new_alias running c.insert_full.new.self.keys c.args.alias c.in_ok-is_new.is_new c.in_ok-is_new.ensures.added c.in_ok-is_new.ensures.keys c.if-not-is_new.false in
-    let few = alias_few running c.args.alias c.in_ok-is_new.field-0-0 new.0 c.in_ok-is_new.ensures.index (omega arith) in
+    let new = new_key is_alias_decl running c.insert_full.new.self.keys c.args.alias c.in_ok-is_new.is_new c.in_ok-is_new.ensures.added c.in_ok-is_new.ensures.keys c.if-not-is_new.false in
+    let few = few_before is_alias_decl running c.args.alias c.in_ok-is_new.field-0-0 new.0 c.in_ok-is_new.ensures.index (omega arith) in
     let walked = rw (new.1, c.new-met.ensures.empty) at c.in-Ok.ensures.walked in
     let none_met : length c.new-met.result.keys ≡ 0 = ap length c.new-met.ensures.empty in
     let fits = c.in-Ok.ensures.searched.few (omega (arith, none_met)) in
@@ -388,7 +375,7 @@ resolve-returns-clause-resolved t c =
 pub resolve-returns-clause-behind : goal.resolve-returns-clause-behind
 resolve-returns-clause-behind t c =
     let running = c.args.resolving.now.keys in
-    let new = new_alias running c.insert_full.new.self.keys c.args.alias c.in_ok-is_new.is_new c.in_ok-is_new.ensures.added c.in_ok-is_new.ensures.keys c.if-not-is_new.false in
+    let new = new_key is_alias_decl running c.insert_full.new.self.keys c.args.alias c.in_ok-is_new.is_new c.in_ok-is_new.ensures.added c.in_ok-is_new.ensures.keys c.if-not-is_new.false in
     let keeps = c.in-Ok.ensures.behind.keeps in
     record { keeps = record { grown = keeps.grown; refused = tt; enough = λ wide. tt }; same = popped running c.walk.new.resolving.keys c.pop.new.self.keys c.args.alias c.pop.result (length c.walk.new.resolving.keys) (c.in-Ok.ensures.behind.same ∙ new.1) c.pop.ensures.keys refl c.pop.ensures.found }
 
@@ -417,18 +404,18 @@ pub walk-returns-clause-behind : goal.walk-returns-clause-behind
 walk-returns-clause-behind t c =
     let first = c.in-Ok.ensures.behind in
     let then = c.walk_definitions.ensures.behind in
-    record { keeps = keeps_from c.walk_definitions.result first.keeps.grown c.args.symbol.module_id c.requires.ready.known then.keeps; same = on_ok c.walk_definitions.result (λ same. same ∙ first.same) then.same }
+    record { keeps = keeps_from c.walk_definitions.result first.keeps.grown c.args.symbol.module_id c.requires.ready.known then.keeps; same = on_ok_weaker c.walk_definitions.result (λ same. same ∙ first.same) then.same }
 
 pub walk-returns-clause-walked : goal.walk-returns-clause-walked
 walk-returns-clause-walked t c =
     let same = c.in-Ok.ensures.behind.same in
     let found = subst (λ (r : List AliasDecl). IsFound c.find.new.root r c.args.met.now.keys c.args.symbol c.in-Ok.paths.items c.find.new.met.keys) (sym same) c.in-Ok.ensures.found in
-    on_answer c.walk_definitions.result (λ paths walked. subst (λ (r : List AliasDecl). IsFoundUnder c.walk_definitions.new.root r c.args.met.now.keys c.args.symbol (parts_told c.args.parts.now) paths.items c.walk_definitions.new.met.keys) same (walked c.args.met.now.keys found)) c.walk_definitions.ensures.walked
+    IfOk-weaker c.walk_definitions.result _ _ (λ paths walked. subst (λ (r : List AliasDecl). IsFoundUnder c.walk_definitions.new.root r c.args.met.now.keys c.args.symbol (parts_told c.args.parts.now) paths.items c.walk_definitions.new.met.keys) same (walked c.args.met.now.keys found)) c.walk_definitions.ensures.walked
 
 pub walk-returns-clause-searched : goal.walk-returns-clause-searched
 walk-returns-clause-searched t c =
     let first = c.in-Ok.ensures.searched in
-    on_answer c.walk_definitions.result (λ paths then. record { numbered = then.numbered; longer = omega (arith, first.longer, then.longer); few = λ h. then.few (first.few h); stored = then.stored }) c.walk_definitions.ensures.searched
+    IfOk-weaker c.walk_definitions.result _ _ (λ paths then. record { numbered = then.numbered; longer = omega (arith, first.longer, then.longer); few = λ h. then.few (first.few h); stored = then.stored }) c.walk_definitions.ensures.searched
 
 -- ---- the definitions that a walk found
 

@@ -1,5 +1,6 @@
-use Rattle.std.proofs.Common.{Some, Result, Ok, Err, IfOk, ap, sym, subst, ◌∙◌, arith}
+use Rattle.std.proofs.Common.{Some, ap, sym, subst, ◌∙◌, arith}
 use Rattle.std.proofs.lemmas.List.{nil_from_length}
+use Rattle.std.proofs.lemmas.Result.{IfOk-weaker}
 use Rattle.symbols_paths.specs.Trees.{link_to}
 use Rattle.symbols_paths.specs.Views.{decl_told, forest_told, AreStored}
 use Rattle.symbols_paths.specs.inner.Views.{symbol_told}
@@ -7,10 +8,6 @@ use Rattle.symbols_paths.specs.inner.Trails.{parts_told, heads_of, heads_in, hea
 use Rattle.symbols_paths.proofs.Trailing.{heads_of_step, heads_of_under, under_twice, modules_of_one_step, modules_of_under}
 use Rattle.symbols_paths.proofs.Unrolling.{AreLaid, laid_first, laid_next, laid_last}
 use Rattle.symbols_paths.proofs.paths.unroll.+laying.Goals as goal
-
-on_answer : {A E : Type 0} {P Q : A → Type 0} (r : Result A E) → IfOk r P → ((x : A) → P x → Q x) → IfOk r Q
-on_answer (Ok x) h f = f x h
-on_answer (Err e) h f = tt
 
 pub lay_under-loop-stretch-init : goal.lay_under-loop-stretch-init
 lay_under-loop-stretch-init t c =
@@ -37,26 +34,26 @@ pub lay_one_under-returns-in-Step-clause-told : goal.lay_one_under-returns-in-St
 lay_one_under-returns-in-Step-clause-told t c =
     let step = c.in-Step.step in
     let ps = parts_told c.args.parts.now in
-    on_answer c.link_before.result c.link_before.ensures.told (λ paths told root.
+    IfOk-weaker c.link_before.result _ _ (λ paths told root.
     let next = forest_told root c.args.next.items in
     told root
     ∙ ((λ i. link_to (record { symbol = symbol_told root step.symbol; decl = decl_told root step.symbol.module_id step.symbol_decl; parts = c.in_ok-same-in-Step.ensures i }) next)
-    ∙ ap (λ heads. below_links (heads_under ps heads) next) (sym (ap (heads_of root) c.in-Step.is ∙ heads_of_step root step))))
+    ∙ ap (λ heads. below_links (heads_under ps heads) next) (sym (ap (heads_of root) c.in-Step.is ∙ heads_of_step root step)))) c.link_before.ensures.told
 
 pub lay_one_under-returns-in-Step-clause-stored : goal.lay_one_under-returns-in-Step-clause-stored
 lay_one_under-returns-in-Step-clause-stored t c =
-    on_answer c.link_before.result c.link_before.ensures.stored (λ paths stored root a b.
-    stored root (subst (AreStored root) (ap modules_of_stretch c.in-Step.is ∙ modules_of_one_step c.in-Step.step) a 0 c.in-Step.step.symbol.module_id (omega arith)) b)
+    IfOk-weaker c.link_before.result _ _ (λ paths stored root a b.
+    stored root (subst (AreStored root) (ap modules_of_stretch c.in-Step.is ∙ modules_of_one_step c.in-Step.step) a 0 c.in-Step.step.symbol.module_id (omega arith)) b) c.link_before.ensures.stored
 
 pub lay_one_under-returns-clause-told : goal.lay_one_under-returns-clause-told
 lay_one_under-returns-clause-told t c =
     let ps = parts_told c.args.parts.now in
     let x = c.in-Under in
-    on_answer c.lay_under.result c.lay_under.ensures.told (λ paths told root.
+    IfOk-weaker c.lay_under.result _ _ (λ paths told root.
     told root
-    ∙ ap (λ heads. below_links heads (forest_told root c.args.next.items)) (sym (ap (λ stretch. heads_under ps (heads_of root stretch)) x.is ∙ (ap (heads_under ps) (heads_of_under root x.field-0 x.inner) ∙ under_twice ps (parts_told x.field-0) (heads_in root x.inner.items)))))
+    ∙ ap (λ heads. below_links heads (forest_told root c.args.next.items)) (sym (ap (λ stretch. heads_under ps (heads_of root stretch)) x.is ∙ (ap (heads_under ps) (heads_of_under root x.field-0 x.inner) ∙ under_twice ps (parts_told x.field-0) (heads_in root x.inner.items))))) c.lay_under.ensures.told
 
 pub lay_one_under-returns-clause-stored : goal.lay_one_under-returns-clause-stored
 lay_one_under-returns-clause-stored t c =
     let x = c.in-Under in
-    on_answer c.lay_under.result c.lay_under.ensures.stored (λ paths stored root a b. stored root (subst (AreStored root) (ap modules_of_stretch x.is ∙ modules_of_under x.field-0 x.inner) a) b)
+    IfOk-weaker c.lay_under.result _ _ (λ paths stored root a b. stored root (subst (AreStored root) (ap modules_of_stretch x.is ∙ modules_of_under x.field-0 x.inner) a) b) c.lay_under.ensures.stored

@@ -1,18 +1,11 @@
-use Rattle.std.proofs.Common.{◌≡◌, [], sym, subst, ◌∙◌, Result, Ok, Err, IfErr}
-use Rattle.std.specs.Prelude.{IsErrAnd}
-use Rattle.symbols_table.specs.declared.info.fault.SymbolsFault.{SymbolsFault}
-use Rattle.symbols_table.specs.declared.info.fault.SymbolsFault.TheVariants.{OutOfMemory}
+use Rattle.std.proofs.Common.{[], sym, subst, ◌∙◌}
 use Rattle.symbols_paths.specs.PartLeads.{routes_in}
 use Rattle.symbols_paths.specs.Answers.{ArePaths, IsPathsFault}
 use Rattle.symbols_paths.specs.Views.{named_in}
 use Rattle.symbols_paths.proofs.Answering.{memory_refused}
 use Rattle.symbols_paths.proofs.Once.{chosen_once}
+use Rattle.symbols_paths.proofs.Results.{on_memory}
 use Rattle.symbols_paths.proofs.paths.find.RootSymbolFindDefinitions.find_definition_paths.Goals as goal
-
--- a fault that can only be that memory was refused
-on_memory : {A : Type 0} (P : SymbolsFault → Type 0) (r : Result A SymbolsFault) → IsErrAnd r (λ fault. fault ≡ OutOfMemory) → P OutOfMemory → IfErr r P
-on_memory P (Ok x) is held = tt
-on_memory P (Err fault) is held = subst P (sym is) held
 
 pub returns-in-Err-clause-only : goal.returns-in-Err-clause-only
 returns-in-Err-clause-only c = chosen_once (routes_in c.args.self.now) (named_in c.args.self.now c.args.module_id c.args.symbol_id) []

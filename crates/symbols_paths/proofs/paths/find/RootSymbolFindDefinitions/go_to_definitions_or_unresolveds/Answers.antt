@@ -1,17 +1,10 @@
-use Rattle.std.proofs.Common.{◌≡◌, sym, ap, subst, ◌∙◌, Result, Ok, Err, IfErr}
-use Rattle.std.specs.Prelude.{IsErrAnd}
-use Rattle.symbols_table.specs.declared.info.fault.SymbolsFault.{SymbolsFault}
-use Rattle.symbols_table.specs.declared.info.fault.SymbolsFault.TheVariants.{OutOfMemory}
+use Rattle.std.proofs.Common.{ap, ◌∙◌}
 use Rattle.symbols_paths.specs.Trees.{leaves_in}
 use Rattle.symbols_paths.specs.Answers.{IsPathsFault}
 use Rattle.symbols_paths.specs.inner.Trails.{trails_told}
 use Rattle.symbols_paths.proofs.Answering.{memory_refused}
+use Rattle.symbols_paths.proofs.Results.{on_memory}
 use Rattle.symbols_paths.proofs.paths.find.RootSymbolFindDefinitions.go_to_definitions_or_unresolveds.Goals as goal
-
--- a fault that can only be that memory was refused
-on_memory : {A : Type 0} (P : SymbolsFault → Type 0) (r : Result A SymbolsFault) → IsErrAnd r (λ fault. fault ≡ OutOfMemory) → P OutOfMemory → IfErr r P
-on_memory P (Ok x) is held = tt
-on_memory P (Err fault) is held = subst P (sym is) held
 
 pub returns-in_ok-ends_of-in-Ok-clause-answers : goal.returns-in_ok-ends_of-in-Ok-clause-answers
 returns-in_ok-ends_of-in-Ok-clause-answers c =
