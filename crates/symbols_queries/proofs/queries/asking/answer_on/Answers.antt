@@ -1,15 +1,10 @@
-use Rattle.std.proofs.Common.{Result, Ok, Err, IfErr}
+use Rattle.std.proofs.lemmas.Result.{IfErr-weaker}
 use Rattle.symbols_syntax.specs.Ids.{id_view}
-use Rattle.symbols_table.specs.declared.info.fault.SymbolsFault.{SymbolsFault}
 use Rattle.symbols_root.specs.Roots.{specifier_in}
 use Rattle.symbols_root.specs.laws.Growing.{grown_not}
 use Rattle.symbols_answers.specs.Questions.{asks_name, asks_deps}
 use Rattle.symbols_queries.proofs.Asking.{no_refusal, module_given, symbol_given}
 use Rattle.symbols_queries.proofs.queries.asking.answer_on.Goals as goal
-
-on_fault : {A : Type 0} {P Q : SymbolsFault → Type 0} (r : Result A SymbolsFault) → IfErr r P → ((e : SymbolsFault) → P e → Q e) → IfErr r Q
-on_fault (Ok x) h f = tt
-on_fault (Err e) h f = f e h
 
 pub returns-in-Module-clause-keeps : goal.returns-in-Module-clause-keeps
 returns-in-Module-clause-keeps c = record { grown = grown_not c.args.root.now; refused = tt; enough = λ wide. tt }
@@ -28,7 +23,7 @@ returns-in-Name-clause-keeps c =
     record {
       grown = grown_not c.args.root.now;
       refused = rw c.in-Name.is c.name_answer.ensures.faults;
-      enough = λ wide. on_fault c.name_answer.result c.name_answer.ensures.faults (λ f is. no_refusal c.args.root.now (specifier_in c.args.root.now c.args.module_id) (asks_name c.in-Name.symbol) f (λ v w. w) is);
+      enough = λ wide. IfErr-weaker c.name_answer.result _ _ (λ f is. no_refusal c.args.root.now (specifier_in c.args.root.now c.args.module_id) (asks_name c.in-Name.symbol) f (λ v w. w) is) c.name_answer.ensures.faults;
     }
 
 pub returns-in-Deps-clause-keeps : goal.returns-in-Deps-clause-keeps
@@ -36,5 +31,5 @@ returns-in-Deps-clause-keeps c =
     record {
       grown = grown_not c.args.root.now;
       refused = rw c.in-Deps.is c.deps_answer.ensures.faults;
-      enough = λ wide. on_fault c.deps_answer.result c.deps_answer.ensures.faults (λ f is. no_refusal c.args.root.now (specifier_in c.args.root.now c.args.module_id) (asks_deps c.in-Deps.symbol c.in-Deps.mode) f (λ v w. w) is);
+      enough = λ wide. IfErr-weaker c.deps_answer.result _ _ (λ f is. no_refusal c.args.root.now (specifier_in c.args.root.now c.args.module_id) (asks_deps c.in-Deps.symbol c.in-Deps.mode) f (λ v w. w) is) c.deps_answer.ensures.faults;
     }

@@ -1,19 +1,11 @@
-use Rattle.std.proofs.Common.{sym, subst, ◌∙◌, Result, Ok, Err, IfOk, IfErr}
-use Rattle.symbols_table.specs.declared.info.fault.SymbolsFault.{SymbolsFault}
+use Rattle.std.proofs.Common.{sym, subst, ◌∙◌}
+use Rattle.std.proofs.lemmas.Result.{IfOk-weaker, IfErr-weaker}
 use Rattle.symbols_root.specs.laws.Growing.{grown_on}
 use Rattle.symbols_queries.specs.declared.queries.answers.Answer.{Answer}
 use Rattle.symbols_queries.specs.Queries.{query_view}
 use Rattle.symbols_queries.specs.AnswerViews.{answer_view}
 use Rattle.symbols_queries.proofs.Running.{asked_first, none_given, query_given, query_refused, module_refused}
 use Rattle.symbols_queries.proofs.queries.asking.RootSymbolAnswerQueries.answer.Goals as goal
-
-on_answer : {A : Type 0} {P Q : A → Type 0} (r : Result A SymbolsFault) → IfOk r P → ((x : A) → P x → Q x) → IfOk r Q
-on_answer (Ok x) h f = f x h
-on_answer (Err e) h f = tt
-
-on_fault : {A : Type 0} {P Q : SymbolsFault → Type 0} (r : Result A SymbolsFault) → IfErr r P → ((e : SymbolsFault) → P e → Q e) → IfErr r Q
-on_fault (Ok x) h f = tt
-on_fault (Err e) h f = f e h
 
 pub returns-in-Err-clause-faults : goal.returns-in-Err-clause-faults
 returns-in-Err-clause-faults c = module_refused c.args.self.now c.module_from_specifier.new.self c.specifier.result.now (query_view c.args.query.now) c.in-Err.fault c.specifier.ensures c.in-Err.ensures.unchanged c.in-Err.ensures.keeps.refused
@@ -36,22 +28,22 @@ returns-in-Ok-Some-clause-kept c = grown_on c.in-Ok-Some.ensures.keeps.grown c.a
 pub returns-in-Ok-Some-clause-answers : goal.returns-in-Ok-Some-clause-answers
 returns-in-Ok-Some-clause-answers c =
     let asked = asked_first c.args.self.now c.module_from_specifier.new.self c.in-Ok-Some.module_id c.specifier.result.now (query_view c.args.query.now) c.specifier.ensures c.in-Ok-Some.ensures.stored (rw c.in-Ok-Some.field-0-is at c.in-Ok-Some.ensures.gives) in
-    on_answer c.answer_on.result c.answer_on.ensures.given (λ (given : Answer) is. (query_given c.args.self.now c.module_from_specifier.new.self c.answer_on.new.root c.in-Ok-Some.module_id (query_view c.args.query.now) (answer_view given) asked c.answer_on.ensures.keeps.grown is).answers)
+    IfOk-weaker c.answer_on.result _ _ (λ (given : Answer) is. (query_given c.args.self.now c.module_from_specifier.new.self c.answer_on.new.root c.in-Ok-Some.module_id (query_view c.args.query.now) (answer_view given) asked c.answer_on.ensures.keeps.grown is).answers) c.answer_on.ensures.given
 
 pub returns-in-Ok-Some-clause-means : goal.returns-in-Ok-Some-clause-means
 returns-in-Ok-Some-clause-means c =
     let asked = asked_first c.args.self.now c.module_from_specifier.new.self c.in-Ok-Some.module_id c.specifier.result.now (query_view c.args.query.now) c.specifier.ensures c.in-Ok-Some.ensures.stored (rw c.in-Ok-Some.field-0-is at c.in-Ok-Some.ensures.gives) in
-    on_answer c.answer_on.result c.answer_on.ensures.given (λ (given : Answer) is. (query_given c.args.self.now c.module_from_specifier.new.self c.answer_on.new.root c.in-Ok-Some.module_id (query_view c.args.query.now) (answer_view given) asked c.answer_on.ensures.keeps.grown is).means)
+    IfOk-weaker c.answer_on.result _ _ (λ (given : Answer) is. (query_given c.args.self.now c.module_from_specifier.new.self c.answer_on.new.root c.in-Ok-Some.module_id (query_view c.args.query.now) (answer_view given) asked c.answer_on.ensures.keeps.grown is).means) c.answer_on.ensures.given
 
 pub returns-in-Ok-Some-clause-stored : goal.returns-in-Ok-Some-clause-stored
 returns-in-Ok-Some-clause-stored c =
     let asked = asked_first c.args.self.now c.module_from_specifier.new.self c.in-Ok-Some.module_id c.specifier.result.now (query_view c.args.query.now) c.specifier.ensures c.in-Ok-Some.ensures.stored (rw c.in-Ok-Some.field-0-is at c.in-Ok-Some.ensures.gives) in
-    on_answer c.answer_on.result c.answer_on.ensures.given (λ (given : Answer) is. (query_given c.args.self.now c.module_from_specifier.new.self c.answer_on.new.root c.in-Ok-Some.module_id (query_view c.args.query.now) (answer_view given) asked c.answer_on.ensures.keeps.grown is).stored)
+    IfOk-weaker c.answer_on.result _ _ (λ (given : Answer) is. (query_given c.args.self.now c.module_from_specifier.new.self c.answer_on.new.root c.in-Ok-Some.module_id (query_view c.args.query.now) (answer_view given) asked c.answer_on.ensures.keeps.grown is).stored) c.answer_on.ensures.given
 
 pub returns-in-Ok-Some-clause-faults : goal.returns-in-Ok-Some-clause-faults
 returns-in-Ok-Some-clause-faults c =
     let asked = asked_first c.args.self.now c.module_from_specifier.new.self c.in-Ok-Some.module_id c.specifier.result.now (query_view c.args.query.now) c.specifier.ensures c.in-Ok-Some.ensures.stored (rw c.in-Ok-Some.field-0-is at c.in-Ok-Some.ensures.gives) in
-    on_fault c.answer_on.result c.answer_on.ensures.keeps.refused (λ fault is. query_refused c.args.self.now c.module_from_specifier.new.self c.answer_on.new.root c.in-Ok-Some.module_id (query_view c.args.query.now) fault asked c.answer_on.ensures.keeps.grown is)
+    IfErr-weaker c.answer_on.result _ _ (λ fault is. query_refused c.args.self.now c.module_from_specifier.new.self c.answer_on.new.root c.in-Ok-Some.module_id (query_view c.args.query.now) fault asked c.answer_on.ensures.keeps.grown is) c.answer_on.ensures.keeps.refused
 
 pub returns-in-Ok-Some-clause-enough : goal.returns-in-Ok-Some-clause-enough
 returns-in-Ok-Some-clause-enough c = λ wide. c.answer_on.ensures.keeps.enough (c.in-Ok-Some.ensures.keeps.grown.limits ∙ wide)
