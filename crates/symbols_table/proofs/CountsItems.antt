@@ -21,7 +21,7 @@ use Rattle.symbols_table.specs.PlacedEvents.{PlacedEvents, events_if_there, even
 use Rattle.symbols_table.specs.MemberEvents.{member_at, member_nodes}
 use Rattle.symbols_table.specs.DeclarationEvents.{declaration_form, whole_range, is_exported, declaring_events, own_name, declaration_events}
 use Rattle.symbols_table.specs.ModuleEvents.{import_name, importing_events, import_events, import_at, named_export, orig_name, orig_kind, specifier_events, export_events, export_at, binds_if, default_decl_events, default_at, default_expr, assignment_events, alias_kind, alias_events, import_equals_events, expando_events, module_events}
-use Rattle.symbols_table.specs.TreeEvents.{Namespace, namespace_at, exported_namespace, namespace_of, declares_items, inner_scope, Block, part_events, body_events, body_within, body_at, namespace_events, exported_events, other_item_events, item_or, item_events, item_within, block_within, module_scope, tree_events}
+use Rattle.symbols_table.specs.TreeEvents.{Namespace, as_namespace, exported_namespace, namespace_of, declares_items, inner_scope, Block, part_events, body_events, body_within, body_at, namespace_events, exported_events, other_item_events, item_or, item_events, item_within, block_within, module_scope, tree_events}
 use Rattle.symbols_table.proofs.CountsWeights.{weights, weights-append}
 use Rattle.symbols_table.proofs.CountsFields.{body_weighs, body_node_weighs, decl_weighs}
 use Rattle.symbols_table.proofs.CountsEvents.{count, count-append}
@@ -161,7 +161,7 @@ module _ (tree : Tree) (w : ℕ → ℕ) (weighs : (n : ℕ) (kind : Kind) → k
     light_found scope exported n =
         light_on (kinds tree n) (namespace_events block scope (record { exported = exported; decl = node_at tree n })) (w n) (λ kind is. light_namespace scope exported n kind is)
 
-    light_plain : (scope : Scope) (exported : Option TreeNode) (n k : ℕ) (kind : Kind) (other : PlacedEvents) → w n ≤ k → IsLight other k → IsLight (item_or (namespace_at exported (node_at tree n) kind) (namespace_walk scope) other) k
+    light_plain : (scope : Scope) (exported : Option TreeNode) (n k : ℕ) (kind : Kind) (other : PlacedEvents) → w n ≤ k → IsLight other k → IsLight (item_or (as_namespace exported (node_at tree n) kind) (namespace_walk scope) other) k
     light_plain scope exported n k (Kind.Decl (Decl.TsModuleDecl _ _ _)) other le rest = light_up (namespace_walk scope (record { exported = exported; decl = node_at tree n })) (w n) k le (light_found scope exported n)
     light_plain scope exported n k _ other le rest = rest
 
@@ -170,7 +170,7 @@ module _ (tree : Tree) (w : ℕ → ℕ) (weighs : (n : ℕ) (kind : Kind) → k
     light_exported_namespace scope n None other le rest = rest
     light_exported_namespace scope n (Some c) other le rest = by (ltb c (length tree.nodes.items))
       where
-        of_kind : (o : Option Kind) → IsLight (item_or (option_and_then (namespace_at (Some (node_at tree n)) (node_at tree c)) o) (namespace_walk scope) other) (w n)
+        of_kind : (o : Option Kind) → IsLight (item_or (option_and_then (as_namespace (Some (node_at tree n)) (node_at tree c)) o) (namespace_walk scope) other) (w n)
         of_kind None = rest
         of_kind (Some kind) = light_plain scope (Some (node_at tree n)) c (w n) kind other (omega arith) rest
 

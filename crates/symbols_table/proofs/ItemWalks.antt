@@ -28,7 +28,7 @@ use Rattle.symbols_table.specs.Changes.{Change, exports, has_child, parents_afte
 use Rattle.symbols_table.specs.Events.{Event, Row, row_of_changes, declare, export, child, declare_row, row_of, changes_of, symbol_at, rows_after}
 use Rattle.symbols_table.specs.PlacedEvents.{PlacedEvents, no_placed_events, events_if_there, range_in, sym_in}
 use Rattle.symbols_table.specs.DeclarationEvents.{declaration_form, whole_range, is_exported, adding_events, declaring_events}
-use Rattle.symbols_table.specs.TreeEvents.{declares_items, body_at, Namespace, namespace_at, exported_namespace, namespace_of, Block, part_events, body_events, body_within, namespace_events, other_item_events, item_or, item_events, item_within, block_within, part_first}
+use Rattle.symbols_table.specs.TreeEvents.{declares_items, body_at, Namespace, as_namespace, exported_namespace, namespace_of, Block, part_events, body_events, body_within, namespace_events, other_item_events, item_or, item_events, item_within, block_within, part_first}
 use Rattle.symbols_table.specs.inner.Levels.{AreAbove, ReadsPart}
 use Rattle.symbols_table.specs.inner.Tables.{IsTableOf, ReadsAll, ReadsPlaced}
 use Rattle.symbols_table.proofs.Rows.{rows_after-step, rows_after-nil, rows_after-append, length-rows_after, symbol_at_kept, symbol_at-push, symbol_at_after, parents_after_grow}
@@ -285,11 +285,11 @@ pub record IsAtItem (node : TreeNode) (found : Namespace) : Type 0 where
   pub same_tree : found.decl.tree ≡ node.tree
   pub from : node.number ≤ found.decl.number
 
-plain_at : (node decl : TreeNode) (exported : Option TreeNode) (found : Namespace) (kind : Kind) → Some found ≡ namespace_at exported decl kind → found.decl ≡ decl
+plain_at : (node decl : TreeNode) (exported : Option TreeNode) (found : Namespace) (kind : Kind) → Some found ≡ as_namespace exported decl kind → found.decl ≡ decl
 plain_at node decl exported found (Kind.Decl (Decl.TsModuleDecl id is_declared body)) e = let same : found ≡ (let n : Namespace = record { exported = exported; decl = decl } in n) = cc in ap (λ (n : Namespace). n.decl) same
 plain_at node decl exported found kind e = absurd (let f : ⊥ = cc in f)
 
-exported_at : (node : TreeNode) (found : Namespace) (decl : TreeNode) (kinds : Option Kind) → Some found ≡ option_and_then (namespace_at (Some node) decl) kinds → found.decl ≡ decl
+exported_at : (node : TreeNode) (found : Namespace) (decl : TreeNode) (kinds : Option Kind) → Some found ≡ option_and_then (as_namespace (Some node) decl) kinds → found.decl ≡ decl
 exported_at node found decl None e = absurd (let f : ⊥ = cc in f)
 exported_at node found decl (Some kind) e = plain_at node decl (Some node) found kind e
 

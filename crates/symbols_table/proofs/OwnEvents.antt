@@ -27,7 +27,7 @@ use Rattle.symbols_table.specs.Patterns.{pattern_leaves}
 use Rattle.symbols_table.specs.MemberEvents.{member_nodes, one_member, param_events, param_at, simple_member, member_events, member_at}
 use Rattle.symbols_table.specs.DeclarationEvents.{declaration_form, unexported_form, whole_range, is_exported, variable_form, export_if, adding_events, declaring_events, Variables, binding_events, binding_at, declarator_events, declarator_at, variables_events, named_form, own_name, named_events, declaration_events}
 use Rattle.symbols_table.specs.ModuleEvents.{import_name, importing_events, import_events, import_at, named_export, orig_name, orig_kind, specifier_events, export_events, export_at, binds_if, default_decl_events, default_at, default_expr, assignment_events, alias_kind, alias_events, import_equals_events, expando_events, module_events}
-use Rattle.symbols_table.specs.TreeEvents.{Namespace, namespace_at, exported_namespace, namespace_of, declares_items, inner_scope, Block, part_events, body_events, body_within, body_at, namespace_events, exported_events, other_item_events, item_or, item_events, item_within, block_within, module_scope, root_of, root_decl, tree_events}
+use Rattle.symbols_table.specs.TreeEvents.{Namespace, as_namespace, exported_namespace, namespace_of, declares_items, inner_scope, Block, part_events, body_events, body_within, body_at, namespace_events, exported_events, other_item_events, item_or, item_events, item_within, block_within, module_scope, root_of, root_decl, tree_events}
 use Rattle.symbols_table.proofs.CountsParts.{node_at, kinds}
 
 -- the declaration of an event, or its `export *`, is of the tree
@@ -344,7 +344,7 @@ module _ (tree : Tree) where
         (own_node (option_and_then body_node_of (kinds tree n)) (body_at block (node_at tree n) ambient) (λ c here. own_body n inside ambient (length tree.nodes.items) c))))
 
     own_found : (scope : Scope) (exported : Option TreeNode) (n : ℕ) → IfSome exported (IsNodeOf tree) → IsInside n → (kind : Kind) (other : PlacedEvents) → IsOwn tree other
-        → IsOwn tree (item_or (namespace_at exported (node_at tree n) kind) (namespace_walk scope) other)
+        → IsOwn tree (item_or (as_namespace exported (node_at tree n) kind) (namespace_walk scope) other)
     own_found scope exported n is inside (Kind.Decl (Decl.TsModuleDecl _ _ _)) other rest = own_namespace scope exported n is inside
     own_found scope exported n is inside _ other rest = rest
 
@@ -353,7 +353,7 @@ module _ (tree : Tree) where
     own_exported_found scope n inside None other rest = rest
     own_exported_found scope n inside (Some c) other rest = by (ltb c (length tree.nodes.items)) refl
       where
-        of_kind : IsInside c → (o : Option Kind) → IsOwn tree (item_or (option_and_then (namespace_at (Some (node_at tree n)) (node_at tree c)) o) (namespace_walk scope) other)
+        of_kind : IsInside c → (o : Option Kind) → IsOwn tree (item_or (option_and_then (as_namespace (Some (node_at tree n)) (node_at tree c)) o) (namespace_walk scope) other)
         of_kind here None = rest
         of_kind here (Some kind) = own_found scope (Some (node_at tree n)) c (refl, inside) here kind other rest
 

@@ -22,16 +22,16 @@ pub record Namespace : Type 0 where
   pub exported : Option TreeNode
   pub decl : TreeNode
 
-abbrev pub namespace_at : Option TreeNode → TreeNode → Kind → Option Namespace
-namespace_at exported node (Kind.Decl (Decl.TsModuleDecl _ _ _)) = Some (record { exported = exported; decl = node })
-namespace_at exported node _ = None
+abbrev pub as_namespace : Option TreeNode → TreeNode → Kind → Option Namespace
+as_namespace exported node (Kind.Decl (Decl.TsModuleDecl _ _ _)) = Some (record { exported = exported; decl = node })
+as_namespace exported node _ = None
 
 abbrev pub exported_namespace : TreeNode → TreeNode → Option Namespace
-exported_namespace node decl = option_and_then (namespace_at (Some node) decl) (kind_of decl)
+exported_namespace node decl = option_and_then (as_namespace (Some node) decl) (kind_of decl)
 
 abbrev pub namespace_of : TreeNode → Kind → Option Namespace
 namespace_of node (Kind.Item (Item.ExportDecl _)) = option_and_then (exported_namespace node) (child_of node decl_of)
-namespace_of node kind = namespace_at None node kind
+namespace_of node kind = as_namespace None node kind
 
 -- `declare` before a namespace makes its items ambient
 abbrev pub declares_items : Kind → Bool

@@ -9,7 +9,7 @@ ghost use Rattle.symbols_table.specs.inner.NamespaceViews.{namespace_view};
 ghost use Rattle.symbols_table.specs.PlacedEvents.{events_if_there, sym_in};
 ghost use Rattle.symbols_table.specs.inner.Levels.{AreAbove, ReadsPart};
 ghost use Rattle.symbols_table.specs.Events.{Row, symbol_at, changes_of};
-ghost use Rattle.symbols_table.specs.TreeEvents.{namespace_at, namespace_of, declares_items, part_first, body_within, body_at, namespace_events, other_item_events, item_within, block_within};
+ghost use Rattle.symbols_table.specs.TreeEvents.{as_namespace, namespace_of, declares_items, part_first, body_within, body_at, namespace_events, other_item_events, item_within, block_within};
 
 use crate::builder::declarations::{declared_as, is_exported, whole_range};
 use crate::builder::scope::Scope;
@@ -27,8 +27,8 @@ pub(crate) struct Namespace<'a> {
 }
 
 /// The namespace that a node is.
-fn namespace_at<'a>(exported: Option<NodeRef<'a>>, node: NodeRef<'a>) -> Option<Namespace<'a>>
-    ensures { option_map namespace_view result ≡ option_and_then (namespace_at (option_map node_view exported.entry) (node_view node.entry))
+fn as_namespace<'a>(exported: Option<NodeRef<'a>>, node: NodeRef<'a>) -> Option<Namespace<'a>>
+    ensures { option_map namespace_view result ≡ option_and_then (as_namespace (option_map node_view exported.entry) (node_view node.entry))
         (kind_of (node_view node.entry)) }
 {
     match node.kind() {
@@ -45,8 +45,8 @@ fn namespace_of<'a>(node: NodeRef<'a>) -> Option<Namespace<'a>>
     ensures { option_map namespace_view result ≡ option_and_then (namespace_of (node_view node.entry)) (kind_of (node_view node.entry)) }
 {
     match node.kind() {
-        Kind::Item(Item::ExportDecl { .. }) => namespace_at(Some(node), node.decl()?),
-        _ => namespace_at(None, node),
+        Kind::Item(Item::ExportDecl { .. }) => as_namespace(Some(node), node.decl()?),
+        _ => as_namespace(None, node),
     }
 }
 
