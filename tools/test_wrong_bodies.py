@@ -14,7 +14,9 @@ from tested import told
 from wrong import record, shown
 from wrong.crates import Crate, kit, libraries_of, write
 from wrong.outcomes import run_named, try_crate
-from wrong.rooms import Lanes, words_of
+from wrong.rooms import TO_NO_GOAL, Lanes, Room, with_answer_to_no_goal, words_of
+from wrong.trying import tried_all
+from wrong.verdicts import judged
 
 HERE = os.path.dirname(os.path.abspath(__file__))
 
@@ -413,6 +415,35 @@ def tests_of_contracts(folder):
     yield 'a function that is not proved without its edit', (found, len(wrong)), ({}, 1)
 
 
+def tests_of_whole_checks(folder):
+    """A check that isn't whole offers no answers, refuses what a whole one refuses, and says of no function that it is proved: a whole one does."""
+    crate = lay(folder, SOURCE)
+    edits, _ = crate.edits(['one_more', 'against_a_law_of_its_type', 'of_a_function_without_a_promise'])
+    room = Room(crate, words_of(crate, kit(), None), os.path.join(folder, 'room'), Lanes())
+    wanted = {False: ['refused', 'refused', 'undecided'], True: ['refused', 'refused', 'let through']}
+    for is_whole, how in wanted.items():
+        said = room.check(edits, [it.function for it in edits], (), is_whole)
+        yield 'how edits end by a check, whole or not', (is_whole, [judged(crate, said, it).how for it in edits]), (is_whole, how)
+        yield 'answers are offered by whole checks alone', 'check again: each hole' in said, is_whole
+        yield 'an answer to no goal is not told as refused', ': error: `%s`' % TO_NO_GOAL in said, False
+    checks = room.checks
+    yield 'what none says is tried by a whole check', [it.how for it in tried_all(room, edits).values()], wanted[True]
+    yield 'and by one alone', room.checks - checks, 2
+
+
+def tests_of_answers_to_no_goal(folder):
+    """An answer to no goal goes behind those of the function, or of its cycle of calls, and nowhere where the proof is written as a whole."""
+    crate = lay(folder, SOURCE)
+    by_name = {it.name(): it for it in crate.functions}
+    files = {**crate.other_files(), 'proofs/second/Proof.antt': ''}
+    found = {name: with_answer_to_no_goal(crate.name, by_name[name], files) for name in ('next', 'second', 'doubled', 'below', 'far_below')}
+    own = '\npub to-no-goal : goal.to-no-goal\nto-no-goal c = ?\n'
+    yield 'a function without answers', found['next'], ('proofs/next/Answers.antt', 'use Rattle.small.proofs.next.Goals as goal\n' + own)
+    yield 'a proof written as a whole', found['second'], None
+    yield 'answers by hand stay', found['doubled'], ('proofs/doubled/Answers.antt', DOUBLED + own)
+    yield 'a cycle has one', (found['below'], found['far_below']), (('proofs/+down/Answers.antt', ANSWERS + own),) * 2
+
+
 def tests_of_what_names_nothing(folder):
     """An edit that breaks a proof by hand fails where it names nothing that shows it wrong, though a test would fail with it."""
     crate = lay(folder, SOURCE)
@@ -444,8 +475,9 @@ def tests():
         yield from tests_of_the_record(folder)
     with tempfile.TemporaryDirectory() as folder:
         yield from tests_of_contracts(folder)
-    with tempfile.TemporaryDirectory() as folder:
-        yield from tests_of_what_names_nothing(folder)
+    for own in (tests_of_what_names_nothing, tests_of_whole_checks, tests_of_answers_to_no_goal):
+        with tempfile.TemporaryDirectory() as folder:
+            yield from own(folder)
     yield from tests_of_breaks()
     yield 'a test that ran out of its time tells nothing', shown.told_of_tests(SAID), {'numbers::adds': False, 'numbers::counts': True}
 

@@ -29,7 +29,8 @@ what their contracts promise, and which bear its name: so each of them may have 
                     by a line 'shown: tests/cases/NAME' or 'shown: CRATE/TEST'
     let through     where the function is proved with the edit, also without answers by hand that are no fit
     not reached     where the text doesn't apply, or the batch doesn't compile: it is halved until the edit is found
-    undecided       where neither a goal was named nor the function proved; such an edit is tried once more, alone
+    undecided       where neither a goal was named nor the function proved; such an edit is tried once more, alone. No other check
+                    lets an edit through: each has for each function an answer to no goal, for which the check offers no answers
 
 and only the first, and the second where it names something, pass. What edits name is run, for all of them at each run: the
 case or test has to fail with the edit, in a build that isn't proved, and to hold without it. One build of a program, or of a

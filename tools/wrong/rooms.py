@@ -16,6 +16,8 @@ MEMORY = 4_000_000_000
 SIGNATURE = re.compile(r'(?:pub |abbrev |unfoldable )*([^\s:=(){}\[\],|]+) :')
 # the files of a function's proof
 OF_FUNCTIONS = ('Answers.antt', 'Invariants.antt', 'Proof.antt')
+# the name of an answer to no goal
+TO_NO_GOAL = 'to-no-goal'
 
 
 def words_of(crate, kit_folder, built):
@@ -114,6 +116,27 @@ def proof_folder(function):
     return ['%s/%s/' % (at, name), '%s/+%s/' % (at, function.cycle or name)]
 
 
+def with_answer_to_no_goal(crate, function, files):
+    """The file of answers of a function that is asked for, and its text with an answer to no goal behind the others; none where its proof is
+    written as a whole. A check that refuses such an answer searches and tells as it else does, but writes out no answers for the goals that stay
+    open, which takes it as long as a fifth of the rest."""
+    own, shared = proof_folder(function)
+    folder = shared if function.cycle or any(it.startswith(shared) for it in files) else own
+    if folder + 'Proof.antt' in files:
+        return None
+    use = 'use Rattle.%s.%sGoals as goal\n' % (crate, folder.replace('/', '.'))
+    text = files.get(folder + 'Answers.antt', use)
+    answer = '\npub {0} : goal.{0}\n{0} c = ?\n'.format(TO_NO_GOAL)
+    return folder + 'Answers.antt', text.rstrip('\n') + '\n' + answer
+
+
+def without_its_refusal(said):
+    """What a check says but of answers to no goal."""
+    # (a message goes on in lines that are indented)
+    texts = re.split(r'\n(?!\s)', said)
+    return '\n'.join(it for it in texts if ': error: `%s`' % TO_NO_GOAL not in it.split('\n')[0])
+
+
 class Room:
     """A copy of a crate in which edits are tried. What checks keep stays from check to check."""
 
@@ -185,19 +208,22 @@ class Room:
         found.update({it.proofs() + '/Proof.antt': hole(self.crate, it) for it in others})
         return found
 
-    def lay(self, edits, asked, dropped):
-        """Lays the crate with these edits."""
-        room = os.path.join(self.folder, 'crate')
+    def lay(self, edits, asked, dropped, is_whole):
+        """Lays the crate with these edits, and unless the check is to be whole with an answer to no goal for each function that is asked for."""
+        room, found = os.path.join(self.folder, 'crate'), self.laid(edits, asked, dropped)
+        if not is_whole:
+            found = {**found, **dict(filter(None, (with_answer_to_no_goal(self.crate.name, it, found) for it in asked)))}
         shutil.rmtree(room, ignore_errors=True)
-        for path, text in self.laid(edits, asked, dropped).items():
+        for path, text in found.items():
             write(os.path.join(room, path), text)
         return room
 
-    def check(self, edits, asked, dropped=()):
-        """What a check with these edits says of the functions that are asked for."""
-        room = self.lay(edits, asked, dropped)
+    def check(self, edits, asked, dropped=(), is_whole=False):
+        """What a check with these edits says of the functions that are asked for. Unless it is whole, it says of none that it is proved."""
+        room = self.lay(edits, asked, dropped, is_whole)
         only = [word for it in asked for word in ('--only', it.name())]
         how = {'cwd': room, 'stdin': subprocess.DEVNULL, 'stdout': subprocess.PIPE, 'stderr': subprocess.STDOUT}
         self.checks += 1
         with self.lanes.taken():
-            return subprocess.run([*self.words, *only], text=True, errors='replace', **how).stdout
+            said = subprocess.run([*self.words, *only], text=True, errors='replace', **how).stdout
+        return without_its_refusal(said)

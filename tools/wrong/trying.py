@@ -29,20 +29,20 @@ def mates_of(batch, first):
     return [it for it in first if it.function.cycle_key() in cycles and it.function.path not in own]
 
 
-def tried(room, batch, first=()):
-    """The verdict on each edit of a batch, which is halved where it doesn't compile."""
+def tried(room, batch, first=(), is_whole=False):
+    """The verdict on each edit of a batch, which is halved where it doesn't compile. Only by whole checks is an edit let through."""
     mates = mates_of(batch, first)
-    said = room.check([*batch, *mates], [it.function for it in batch])
+    said = room.check([*batch, *mates], [it.function for it in batch], (), is_whole)
     if reached_prover(said):
         found = {it: judged(room.crate, said, it) for it in batch}
-        return {**found, **without_misfits(room, found, mates)}
+        return {**found, **without_misfits(room, found, mates, is_whole)}
     if len(batch) == 1:
         return {batch[0]: Verdict('not reached', first_error(said))}
     half = len(batch) // 2
-    return {**tried(room, batch[:half], first), **tried(room, batch[half:], first)}
+    return {**tried(room, batch[:half], first, is_whole), **tried(room, batch[half:], first, is_whole)}
 
 
-def without_misfits(room, found, mates):
+def without_misfits(room, found, mates, is_whole):
     """The verdicts on those edits of a batch to whose change answers by hand are no fit, by checks without these answers: a goal that the
     prover closes without them, or shows to be false, is told as such."""
     dropped, left, verdicts = set(), {it: verdict for it, verdict in found.items() if verdict.misfits}, {}
@@ -50,7 +50,7 @@ def without_misfits(room, found, mates):
         if not left:
             break
         dropped |= {(edit.function, goal) for edit, verdict in left.items() for goal in verdict.misfits}
-        said = room.check([*left, *mates_of(left, [*found, *mates])], [it.function for it in left], dropped)
+        said = room.check([*left, *mates_of(left, [*found, *mates])], [it.function for it in left], dropped, is_whole)
         own = {it: frozenset(goal for function, goal in dropped if function == it.function) for it in left}
         again = {it: judged(room.crate, said, it, own[it]) for it in left} if reached_prover(said) else {}
         verdicts.update(again)
@@ -59,7 +59,9 @@ def without_misfits(room, found, mates):
 
 
 def tried_all(room, edits):
-    """The verdict on each edit: the first batch alone, since the others begin with what it kept, and they side by side, each in a room of its own."""
+    """The verdict on each edit: the first batch alone, since the others begin with what it kept, and they side by side, each in a room of its own.
+    An edit of which a goal neither stays open nor has an answer that is no fit is tried once more, alone, by whole checks: these tell whether the
+    function is proved with it."""
     first, *batches = batches_of(edits)
     found = tried(room, first)
     rooms = [room.beside('batch-%d' % n) for n in range(len(batches))]
@@ -69,13 +71,13 @@ def tried_all(room, edits):
     room.checks += sum(it.checks for it in rooms)
     for edit, verdict in found.items():
         if verdict.how == 'undecided':
-            found[edit] = tried(room, [edit])[edit]
+            found[edit] = tried(room, [edit], is_whole=True)[edit]
     return found
 
 
 def proved_without(room, functions):
     """What is wrong with the functions where no edit is made: nothing, in a proved crate."""
-    said = room.check([], functions)
+    said = room.check([], functions, is_whole=True)
     if not reached_prover(said):
         return ['the crate without edits: ' + first_error(said)]
     wrong = [it for it in functions if not is_proved(said, room.crate.name, it)]
