@@ -1,5 +1,5 @@
 #!/usr/bin/env python3
-"""Holds what the docs say of how many wrong bodies there are to those that are there.
+"""Holds what the docs say of how many wrong bodies there are to those that are there, and each of these to the text that it changes.
 
     python3 tools/edit_counts.py
 
@@ -46,6 +46,13 @@ def counted(top):
     return {'all': count, 'named': named, 'nameless': count - named, **{name: len(own) for name, own in texts.items() if own}}
 
 
+def unfit(top):
+    """Why edits can't be made, by their crates and names: as a rule since an old text doesn't stand in its file just once."""
+    libraries = libraries_of(top)
+    crates = [Crate(top, name, libraries) for name in libraries]
+    return {'%s/%s' % (it.name, name): why for it in crates for name, why in it.edits(it.names())[1].items()}
+
+
 def numbers_in(text, pattern):
     """The numbers of the one sentence of this form, on one line or more; none where there isn't one."""
     found = re.findall(pattern, ' '.join(text.split()))
@@ -62,6 +69,7 @@ def checks(top):
     for words, name in OF_CRATES.items():
         yield name, by_crates.pop(words, 0), counts.pop(name, 0)
     yield 'no other crate is told of', by_crates, {}
+    yield 'each edit can be made', unfit(top), {}
     yield 'each crate with edits is told of', sorted(set(counts) - {'all', 'named', 'nameless'}), []
 
 
