@@ -2,6 +2,7 @@ pub mod OneMore
 pub mod Inside
 pub mod Named
 pub mod LocalNames
+pub mod SymbolSets
 pub mod OneChange
 pub mod Rows
 pub mod Views

@@ -20,8 +20,8 @@ empty_tables = record { exports = []; children = []; members = [] }
 abbrev pub tables_view : Option (Box Maps Global) → TablesView
 tables_view maps = option_map_or (λ (maps : Box Maps Global). record {
   exports = exports_view maps.value.exports.entries;
-  children = maps.value.child_ids.keys;
-  members = maps.value.members.keys;
+  children = maps.value.child_ids;
+  members = maps.value.members;
 }) maps empty_tables
 
 -- an export whose name is lent

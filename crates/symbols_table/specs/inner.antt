@@ -6,6 +6,7 @@ pub mod NamespaceViews
 pub mod Symbols
 pub mod NamePaths
 pub mod LocalNames
+pub mod SymbolSets
 pub mod Tables
 pub mod Keeping
 pub mod Levels

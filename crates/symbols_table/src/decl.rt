@@ -5,6 +5,7 @@ mod dep;
 mod exports;
 mod symbol;
 mod symbol_decl;
+mod symbol_set;
 mod tables;
 
 pub use child_ids::ChildIds;

@@ -10,7 +10,8 @@ ghost use Rattle.symbols_table.specs.TableViews.{empty_tables, tables_view};
 
 use crate::decl::child_ids::ChildIds;
 use crate::decl::exports::Exports;
-use indexmap::{IndexMap, IndexSet};
+use crate::decl::symbol_set::SymbolSet;
+use indexmap::IndexMap;
 use std::alloc::{AllocError, AllocFailed, Global};
 use std::marker::Model;
 use symbols_syntax::ids::SymbolId;
@@ -19,8 +20,8 @@ use symbols_syntax::ids::SymbolId;
 #[derive(Drop)]
 struct Maps {
     exports: IndexMap<String, SymbolId>,
-    child_ids: IndexSet<SymbolId>,
-    members: IndexSet<SymbolId>,
+    child_ids: SymbolSet,
+    members: SymbolSet,
 }
 
 /// What a symbol exports, its children and its members. Most symbols have none of these, so there
@@ -48,8 +49,8 @@ fn fill(maps: &mut Option<Box<Maps>>, alloc: Global) -> Result<(), AllocFailed<M
             alloc,
             Maps {
                 exports: IndexMap::new(alloc),
-                child_ids: IndexSet::new(alloc),
-                members: IndexSet::new(alloc),
+                child_ids: SymbolSet::new(alloc),
+                members: SymbolSet::new(alloc),
             },
         )?);
     }
@@ -109,7 +110,7 @@ impl Tables {
         ensures { result ≡ list_any (same_symbol_id symbol) self.now.members }
     {
         match &self.maps {
-            Some(maps) => maps.members.contains(&symbol),
+            Some(maps) => maps.members.contains(symbol),
             None => false,
         }
     }
@@ -124,8 +125,11 @@ impl Tables {
         ensures { OnOk result (self.new ≡ record self.old { exports = insert_entry bytes_eq self.old.exports (string_bytes name) symbol }) }
     {
         fill(&mut self.maps, alloc)?;
-        if let Some(maps) = &mut self.maps {
-            maps.exports.insert(name, symbol)?;
+        match &mut self.maps {
+            Some(maps) => {
+                maps.exports.insert(name, symbol)?;
+            }
+            None => unreachable!(),
         }
         Ok(())
     }
@@ -135,8 +139,11 @@ impl Tables {
         ensures { OnOk result (self.new ≡ record self.old { children = with_first self.old.children symbol }) }
     {
         fill(&mut self.maps, alloc)?;
-        if let Some(maps) = &mut self.maps {
-            maps.child_ids.insert(symbol)?;
+        match &mut self.maps {
+            Some(maps) => {
+                maps.child_ids.insert(alloc, symbol)?;
+            }
+            None => unreachable!(),
         }
         Ok(())
     }
@@ -146,8 +153,11 @@ impl Tables {
         ensures { OnOk result (self.new ≡ record self.old { members = with_first self.old.members symbol }) }
     {
         fill(&mut self.maps, alloc)?;
-        if let Some(maps) = &mut self.maps {
-            maps.members.insert(symbol)?;
+        match &mut self.maps {
+            Some(maps) => {
+                maps.members.insert(alloc, symbol)?;
+            }
+            None => unreachable!(),
         }
         Ok(())
     }
