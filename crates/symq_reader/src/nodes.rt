@@ -1,12 +1,13 @@
 //! Nodes and trees.
 
-ghost use Rattle.std.specs.Prelude.{◌≡◌, codes, map, option_map};
+ghost use Rattle.std.specs.Prelude.{◌≡◌, ◌++◌, ◌∷◌, [], IfErr, IfOk, Some, codes, map, option_map};
 ghost use Rattle.serde_json.specs.Data.{array};
 ghost use Rattle.symq_reader.specs.inner.Objects.{whole_numbers, object_data, found_data};
 ghost use Rattle.symq_reader.specs.JsonData.{data_of};
-ghost use Rattle.symq_reader.specs.inner.Reading.{Gives};
+ghost use Rattle.symq_reader.specs.inner.Reading.{Gives, IsFaultOf};
 ghost use Rattle.symq_reader.specs.UnderKeys.{required_under, optional_under, list_under};
 ghost use Rattle.symq_reader.specs.GraphText.{as_range, as_node, as_tree, node_shape, tree_shape};
+ghost use Rattle.symbols_syntax.specs.declared.tree.arena.Node.{Node as SpecNode};
 
 use crate::entries::Entry;
 use crate::faults::FormatFault;
@@ -69,14 +70,22 @@ fn range(object: &Object<'_, '_>) -> Result<SourceRange, FormatFault>
     }
 }
 
-/// A node: its kind and its range.
+/// Puts a node, its kind and its range, behind those that were found.
 #[tactic(auto, unfolding(crate::specs::GraphText::as_node))]
-pub(crate) fn node(alloc: Global, object: &Object<'_, '_>) -> Result<Node, FormatFault>
-    ensures { Gives node_shape result (as_node (object_data object.now)) }
+pub(crate) fn add_node(
+    alloc: Global,
+    object: &Object<'_, '_>,
+    found: &mut Vec<Node>,
+) -> Result<(), FormatFault>
+    ensures added { IfOk result (λ _. (node : SpecNode)
+        × (as_node (object_data object.now) ≡ Some (node_shape node))
+        × (found.new.items ≡ found.old.items ++ node ∷ [])) }
+    ensures refused { IfErr result (λ fault. IsFaultOf (as_node (object_data object.now)) fault) }
 {
     let kind = kinds::kind(alloc, object)?;
     let range = range(object)?;
-    Ok(Node { kind, range })
+    found.push(Node { kind, range })?;
+    Ok(())
 }
 
 /// The nodes of a tree, in order.
@@ -89,7 +98,7 @@ fn nodes(alloc: Global, value: &Value<'_>) -> Result<Vec<Node>, FormatFault>
     };
     let mut nodes = Vec::with_capacity(alloc, items.len())?;
     for item in items {
-        nodes.push(node(alloc, &Object::Value(item))?)?;
+        add_node(alloc, &Object::Value(item), &mut nodes)?;
     }
     Ok(nodes)
 }

@@ -1,11 +1,12 @@
 //! Trees, node by node.
 
-ghost use Rattle.std.specs.Prelude.{◌≡◌, [], IfOk, Option, codes, map, option_map, Some};
+ghost use Rattle.std.specs.Prelude.{◌≡◌, ◌++◌, ◌∷◌, [], IfOk, Option, codes, map, option_map, Some};
 ghost use Rattle.json.specs.Json as spec;
 ghost use Rattle.json.specs.Value.{members_view};
 ghost use Rattle.symq_reader.specs.GraphText.{as_node, as_tree, node_shape, tree_shape};
 ghost use Rattle.symq_reader.specs.JsonData.{json_data};
 ghost use Rattle.symq_reader.specs.inner.Streams.{Around, ReadsValue, ReadsItems, ReadsMembers, list_at, optional_at};
+ghost use Rattle.symbols_syntax.specs.declared.tree.arena.Node.{Node as SpecNode};
 
 use crate::entries::Entry;
 use crate::fields::Object;
@@ -15,19 +16,24 @@ use json::{Reader, Token, Value};
 use std::alloc::Global;
 use symbols_syntax::tree::{Node, Tree};
 
-/// A node, by its members, which are kept in place of those that were kept.
-fn node<'a>(
+/// Puts a node behind those that were found, by its members, which are kept in place of those that
+/// were kept.
+fn add_node<'a>(
     alloc: Global,
     reader: &mut Reader<'a>,
     kept: &mut Vec<(&'a str, Entry<'a>)>,
-) -> Result<Node, GiveUp>
-    ensures { IfOk result (λ node. ReadsValue 122 reader.old reader.new as_node (node_shape node)) }
+    found: &mut Vec<Node>,
+) -> Result<(), GiveUp>
+    ensures { IfOk result (λ _. (node : SpecNode)
+        × ReadsValue 122 reader.old reader.new as_node (node_shape node)
+        × (found.new.items ≡ found.old.items ++ node ∷ [])) }
 {
     let Some(Token::BeginObject) = reader.next() else {
         return Err(GiveUp::Odd);
     };
     entries::take_all(alloc, reader, kept)?;
-    Ok(nodes::node(alloc, &Object::Entries(kept.as_slice()))?)
+    nodes::add_node(alloc, &Object::Entries(kept.as_slice()), found)?;
+    Ok(())
 }
 
 /// The nodes of a list whose bracket was taken.
@@ -38,7 +44,7 @@ fn node_items<'a>(alloc: Global, reader: &mut Reader<'a>) -> Result<Vec<Node>, G
     let mut found = Vec::new(alloc);
     let mut kept = Vec::new(alloc);
     'items: while !reader.take_end_array() {
-        found.push(node(alloc, reader, &mut kept)?)?;
+        add_node(alloc, reader, &mut kept, &mut found)?;
     }
     found.shrink_to_fit();
     Ok(found)

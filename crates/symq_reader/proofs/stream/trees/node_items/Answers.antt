@@ -11,7 +11,7 @@ items-init c = (no_items, took_no_items 122 c.args.reader.now, refl, ap (λ xs. 
 pub items-smaller : goal.items-smaller
 items-smaller c =
     let stays : (after_end_array c.items.reader ≡ None) × (c.take_end_array.new.self ≡ c.items.reader) = grind arith in
-    let less : length c.node.new.reader < length c.take_end_array.new.self = reads_shorter 122 _ _ as_node _ c.in_ok-node.ensures in
+    let less : length c.add_node.new.reader < length c.take_end_array.new.self = reads_shorter 122 _ _ as_node _ c.in_ok-add_node.ensures.1 in
     let same : length c.take_end_array.new.self ≡ length c.items.reader = ap length stays.1 in
     omega arith
 
@@ -19,8 +19,8 @@ pub items-preserved : goal.items-preserved
 items-preserved c =
     let l = c.items in
     let stays : (after_end_array l.reader ≡ None) × (c.take_end_array.new.self ≡ l.reader) = grind arith in
-    items_turn as_node node_shape 122 c.args.reader.now l.reader c.take_end_array.new.self c.node.new.reader l.invariant.0 l.found.items c.push.new.self.items c.in_ok-node.field-0 l.invariant.1 l.invariant.2 l.invariant.3 stays.0 stays.1
-    c.in_ok-node.ensures (search rules)
+    items_turn as_node node_shape 122 c.args.reader.now l.reader c.take_end_array.new.self c.add_node.new.reader l.invariant.0 l.found.items c.add_node.new.found.items c.in_ok-add_node.ensures.0 l.invariant.1 l.invariant.2 l.invariant.3 stays.0 stays.1
+    c.in_ok-add_node.ensures.1 c.in_ok-add_node.ensures.2
 
 pub returns : goal.returns
 returns c =
