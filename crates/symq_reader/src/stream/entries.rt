@@ -96,12 +96,10 @@ fn list<'a>(alloc: Global, reader: &mut Reader<'a>) -> Result<Entry<'a>, GiveUp>
         ReadsValue 121 (SpecToken.begin_array ∷ reader.old) reader.new
         (λ d. Some d) (entry_data entry)) }
 {
-    if reader.take_end_array() {
-        return Ok(Entry::List(Vec::new(alloc)));
-    }
     match reader.next() {
         Some(Token::Number(digits)) => list_of_wholes(alloc, reader, digits),
         Some(Token::String(name)) => list_of_name(reader, name),
+        Some(Token::EndArray) => Ok(Entry::List(Vec::new(alloc))),
         _ => Err(GiveUp::Odd),
     }
 }

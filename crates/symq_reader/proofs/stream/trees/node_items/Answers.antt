@@ -1,4 +1,4 @@
-use Rattle.std.proofs.Common.{◌≡◌, ◌<◌, length, map, Some, None, refl, sym, ap, ◌∙◌, arith, rules}
+use Rattle.std.proofs.Common.{◌≡◌, ◌<◌, length, map, Some, None, refl, sym, ap, ◌∙◌, arith}
 use Rattle.json.specs.Json.{after_end_array, no_items}
 use Rattle.symq_reader.specs.GraphText.{as_node, node_shape}
 use Rattle.symq_reader.proofs.Taking.{took_no_items}
