@@ -10,6 +10,7 @@ pub mod Streamed
 pub mod Texts
 pub mod Entered
 pub mod Digits
+pub mod KindTexts
 pub mod ListTokens
 pub mod BracedWords
 pub mod ClosedStrings

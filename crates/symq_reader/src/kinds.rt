@@ -17,10 +17,14 @@ use crate::fields::{self, Object};
 use std::alloc::Global;
 use symbols_syntax::tree::Kind;
 
-/// An object read as the kind of this text; those that most nodes have are tried first.
+/// An object read as the kind of this text; those that most nodes have are tried first, and before
+/// them the one kind of a type's that many nodes have.
 fn kind_named(alloc: Global, kind: &str, object: &Object<'_, '_>) -> Result<Kind, FormatFault>
     ensures { Gives kind_shape result (read_named kind.now (object_data object.now)) }
 {
+    if kind == "TsTypeAnn" {
+        return Ok(Kind::Ty(tys::ts_type_ann(object)?));
+    }
     if let Some(expr) = exprs::expr(alloc, kind, object)? {
         return Ok(Kind::Expr(expr));
     }

@@ -1,4 +1,3 @@
-use Rattle.std.proofs.Common.{rules}
 use Rattle.symq_reader.specs.GraphText.{as_node, node_shape}
 use Rattle.symq_reader.proofs.Turns.{each_turn}
 use Rattle.symq_reader.proofs.nodes.nodes.Goals as goal
