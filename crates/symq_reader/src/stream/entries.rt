@@ -3,6 +3,7 @@
 ghost use Rattle.std.specs.Prelude.{◌≡◌, ◌∷◌, ◌++◌, ℕ, List, map, IfOk, Some};
 ghost use Rattle.json.specs.Json as spec;
 ghost use Rattle.json.specs.Token.{Token as SpecToken};
+ghost use Rattle.json.specs.Reads.{token_of};
 ghost use Rattle.json.specs.Value.{members_view};
 ghost use Rattle.serde_json.specs.Find.{as_u64};
 ghost use Rattle.serde_json.specs.Read.{number_of};
@@ -123,6 +124,24 @@ fn object<'a>(alloc: Global, reader: &mut Reader<'a>) -> Result<Vec<(&'a str, Va
     }
 }
 
+/// The value that begins with this token, if it is null, a flag or an object, as few are.
+#[inline(never)]
+fn rare_entry<'a>(
+    alloc: Global,
+    reader: &mut Reader<'a>,
+    token: Token<'a>,
+) -> Result<Entry<'a>, GiveUp>
+    ensures { IfOk result (λ entry. ReadsValue 121 (token_of token.entry ∷ reader.old) reader.new
+        (λ d. Some d) (entry_data entry)) }
+{
+    match token {
+        Token::BeginObject => Ok(Entry::Object(object(alloc, reader)?)),
+        Token::Null => Ok(Entry::Null),
+        Token::Bool(b) => Ok(Entry::Flag(b)),
+        _ => Err(GiveUp::Odd),
+    }
+}
+
 /// The value that comes next, if it is of one of the forms that fields have, or an object.
 #[inline(always)]
 fn next_entry<'a>(alloc: Global, reader: &mut Reader<'a>) -> Result<Entry<'a>, GiveUp>
@@ -133,10 +152,8 @@ fn next_entry<'a>(alloc: Global, reader: &mut Reader<'a>) -> Result<Entry<'a>, G
         Some(Token::Number(digits)) => Ok(Entry::Whole(whole(digits)?)),
         Some(Token::String(text)) => Ok(Entry::Text(text)),
         Some(Token::BeginArray) => list(alloc, reader),
-        Some(Token::BeginObject) => Ok(Entry::Object(object(alloc, reader)?)),
-        Some(Token::Null) => Ok(Entry::Null),
-        Some(Token::Bool(b)) => Ok(Entry::Flag(b)),
-        _ => Err(GiveUp::Odd),
+        Some(token) => rare_entry(alloc, reader, token),
+        None => Err(GiveUp::Odd),
     }
 }
 

@@ -1,8 +1,6 @@
-use Rattle.std.proofs.Common.{◌≡◌, ◌∷◌, refl, arith}
+use Rattle.std.proofs.Common.{◌≡◌, ◌∷◌, arith}
 use Rattle.json.specs.Token.{Token}
-use Rattle.json.specs.Json as json
-use Rattle.json.proofs.Grammar.{value_is}
-use Rattle.symq_reader.proofs.Entered.{scalar_read, whole_read, text_read}
+use Rattle.symq_reader.proofs.Entered.{whole_read, text_read}
 use Rattle.symq_reader.proofs.stream.entries.next_entry.Goals as goal
 
 pub returns-in_ok-whole-in-Some-Number : goal.returns-in_ok-whole-in-Some-Number
@@ -15,14 +13,3 @@ pub returns-in-Some-String : goal.returns-in-Some-String
 returns-in-Some-String c =
     let begins : c.args.reader.now ≡ Token.string c.in-Some-String.text.now ∷ c.next.new.self = grind arith in
     text_read 121 c.args.reader.now c.next.new.self c.in-Some-String.text.now begins
-
-pub returns-in-Some-Null : goal.returns-in-Some-Null
-returns-in-Some-Null c =
-    let begins : c.args.reader.now ≡ Token.null ∷ c.next.new.self = grind arith in
-    scalar_read 121 c.args.reader.now c.next.new.self Token.null json.null begins (value_is 121 _) refl
-
-pub returns-in-Some-Bool : goal.returns-in-Some-Bool
-returns-in-Some-Bool c =
-    let t = Token.boolean c.in-Some-Bool.b in
-    let begins : c.args.reader.now ≡ t ∷ c.next.new.self = grind arith in
-    scalar_read 121 c.args.reader.now c.next.new.self t (json.boolean c.in-Some-Bool.b) begins (value_is 121 _) refl
