@@ -17,8 +17,8 @@ use crate::fields::{self, Object};
 use std::alloc::Global;
 use symbols_syntax::tree::Kind;
 
-/// An object read as the kind of this text; those that most nodes have are tried first, and before
-/// them the one kind of a type's that many nodes have.
+/// An object read as the kind of this text; those that most nodes have are tried first, and a type
+/// annotation, which many nodes are, before all others.
 fn kind_named(alloc: Global, kind: &str, object: &Object<'_, '_>) -> Result<Kind, FormatFault>
     ensures { Gives kind_shape result (read_named kind.now (object_data object.now)) }
 {
