@@ -34,7 +34,7 @@ fn ts_type_param_instantiation(alloc: Global, object: &Object<'_, '_>) -> Result
     Ok(Ty::TsTypeParamInstantiation { params })
 }
 
-pub(crate) fn ts_type_ann(object: &Object<'_, '_>) -> Result<Ty, FormatFault>
+fn ts_type_ann(object: &Object<'_, '_>) -> Result<Ty, FormatFault>
     ensures { Gives ty_shape result (read_as_kind Name.TsTypeAnn (object_data object.now)) }
 {
     let ty = fields::child(object, "ty")?;
