@@ -1,5 +1,5 @@
 -- What an answer says, by the definitions of exports, of shared names, of paths and of the entries of a reference.
-use Rattle.std.specs.Prelude.{◌≡◌, ◌≢◌, ℕ, List, map, flat_map, AllPairs, Option, Some, MatchOption}
+use Rattle.std.specs.Prelude.{◌≡◌, ◌≢◌, ℕ, List, map, flat_map, AllPairs, Some, MatchOption}
 use Rattle.std.specs.Option.{option_map}
 use Rattle.symbols_syntax.specs.declared.ids.SymbolId.{SymbolId}
 use Rattle.symbols_syntax.specs.Graph.{GraphView}
@@ -15,7 +15,7 @@ use Rattle.symbols_exports.specs.Shared.{Shared, AreShared}
 use Rattle.symbols_exports.specs.Sharing.{told_shared}
 use Rattle.symbols_exports.specs.StarStatements.{statements_of, owned_of}
 use Rattle.symbols_exports.specs.Told.{told_export, told_statement}
-use Rattle.symbols_paths.specs.Trees.{Leaf, Forest, leaves_in, definitions_in}
+use Rattle.symbols_paths.specs.Trees.{Forest, leaves_in, definitions_in}
 use Rattle.symbols_paths.specs.Answers.{ArePaths}
 use Rattle.symbols_paths.specs.DepAnswers.{EntryView, IsDepAnswer}
 use Rattle.symbols_answers.specs.Questions.{QuestionView, asks_module, asks_exports, asks_names, asks_symbol, asks_name, asks_deps, asks_paths, asks_definitions, asks_leaves, asks_entries, QueryView}

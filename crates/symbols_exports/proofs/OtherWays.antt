@@ -1,5 +1,5 @@
 -- The ways of a name behind its first, in lists by the places of names in a map.
-use Rattle.std.proofs.Common.{append-nil, append_assoc, slice_index_or, slice_set, ◌≡◌, ℕ, zero, suc, ◌+◌, ◌<◌, ◌≤◌, Bool, true, false, not, cond, List, [], ◌∷◌, ◌++◌, length, map, Option, None, Some, is_some, string_bytes, String, refl, sym, ap, ◌∙◌, arith, true≢false}
+use Rattle.std.proofs.Common.{append-nil, append_assoc, slice_index_or, slice_set, ◌≡◌, ℕ, zero, suc, ◌+◌, ◌<◌, ◌≤◌, Bool, true, false, not, cond, List, [], ◌∷◌, ◌++◌, length, map, None, Some, is_some, string_bytes, String, refl, sym, ap, ◌∙◌, arith, true≢false}
 use Rattle.std.specs.Prelude.{if◌then◌else◌, nat_lt, Vec}
 use Rattle.std.specs.Global.{Global}
 use Rattle.std.specs.List.{position, position_or_len}

@@ -108,6 +108,13 @@ impl<'a> Taken<'a> {
         Ok(())
     }
 
+    /// Makes room for so many names more.
+    fn reserve(&mut self, more: usize) -> Result<(), AllocError>
+        ensures { self.new ≡ self.old }
+    {
+        self.resolved.reserve(more)
+    }
+
     /// Takes the names that a module exports itself, in order.
     #[tactic(auto, using(crate::proofs::Offering::owned_first, crate::proofs::Offering::nothing_owned))]
     fn take_all(
@@ -119,6 +126,7 @@ impl<'a> Taken<'a> {
     ) -> Result<(), AllocError>
         ensures { OnOk result (self.new ≡ with_owned (map turn_told above.now) owner own.entry self.old) }
     {
+        self.reserve(own.len())?;
         for (name, symbol_id) in own {
             let export = ResolvedExport {
                 module: owner,

@@ -1,4 +1,4 @@
-use Rattle.std.proofs.Common.{◌≡◌, ◌<◌, length, not, ap, ◌∙◌, arith}
+use Rattle.std.proofs.Common.{◌<◌, length, not, ap, ◌∙◌, arith}
 use Rattle.symbols_table.specs.declared.info.fault.SymbolsFault.TheVariants.{OutOfMemory}
 use Rattle.symbols_exports.proofs.WalkingAsked.{begun_cut}
 use Rattle.symbols_exports.proofs.WalkingCut.{Broken, on_memory, broken_off}
