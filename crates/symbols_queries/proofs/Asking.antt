@@ -1,5 +1,5 @@
 -- The answers to questions, by what the calls of the library say.
-use Rattle.std.proofs.Common.{◌≡◌, ◌≢◌, ℕ, ◌<◌, ◌≤◌, ◌⊎◌, inl, inr, List, [], ◌∷◌, length, map, slice_get, Option, None, Some, option_map, refl, sym, ap, subst, ◌∙◌, arith}
+use Rattle.std.proofs.Common.{◌≡◌, ◌≢◌, ℕ, ◌<◌, ◌⊎◌, inl, inr, List, [], length, map, slice_get, Option, None, Some, option_map, refl, sym, ap, subst, ◌∙◌, arith}
 use Rattle.std.specs.Prelude.{All, AllPairs, Contains, IsSome, Result, Ok, Err, IfErr, string_bytes}
 use Rattle.std.specs.Result.{IsErrAnd}
 use Rattle.std.proofs.lemmas.List.Elements.{All-nil, All-cons}
@@ -27,9 +27,7 @@ use Rattle.symbols_root.specs.Roots.{RootView, IsRefusal, IsStoredTable, specifi
 use Rattle.symbols_root.specs.laws.Growing.{grown_not}
 use Rattle.symbols_root.specs.laws.StoredTables.{stored_symbol}
 use Rattle.symbols_exports.specs.Answers.{IsAnswer, IsFault, AreListed}
-use Rattle.symbols_exports.specs.Chains.{IsReached}
 use Rattle.symbols_exports.specs.PublicNames.{NameItem, IsNamesAnswer}
-use Rattle.symbols_exports.specs.StarStatements.{statements_of}
 use Rattle.symbols_exports.specs.Taking.{NameView}
 use Rattle.symbols_exports.specs.Told.{ToldExport, ToldStatement, told_name, told_number}
 use Rattle.symbols_exports.specs.Shared.{Shared}
@@ -47,7 +45,7 @@ use Rattle.symbols_answers.specs.Meanings.{TellsPaths, IsModuleAnswer}
 use Rattle.symbols_answers.specs.Stored.{modules_told, IsOnExports, HasStored}
 use Rattle.symbols_queries.specs.inner.Given.{IsGiven}
 use Rattle.symbols_queries.specs.QueryFaults.{IsNeededFor, IsNeededByQuestion}
-use Rattle.symbols_queries.specs.inner.QueryFaults.{IsNoSymbol, IsQuestionRefused, IsQuestionFault}
+use Rattle.symbols_queries.specs.inner.QueryFaults.{IsQuestionRefused, IsQuestionFault}
 use Rattle.symbols_queries.proofs.Storing.{number_stored, still_there, reached_stored, reached_there, exports_there}
 
 -- ---- a symbol of a stored module

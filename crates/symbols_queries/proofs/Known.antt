@@ -12,7 +12,6 @@ use Rattle.symbols_exports.specs.Told.{AreNumbered}
 use Rattle.symbols_paths.specs.declared.paths.node.DefinitionPathLink.{DefinitionPathLink}
 use Rattle.symbols_paths.specs.declared.paths.node.DefinitionPathNode.{DefinitionPathNode, the_lemmas}
 use Rattle.symbols_paths.specs.declared.paths.node.DefinitionPathNode.TheVariants as node
-use Rattle.symbols_paths.specs.declared.paths.node.DefinitionPathNodeResolved.{DefinitionPathNodeResolved}
 use Rattle.symbols_paths.specs.declared.paths.node.DefinitionPathNodeResolved.TheVariants as resolved
 use Rattle.symbols_paths.specs.declared.paths.definition.Definition.{Definition}
 use Rattle.symbols_paths.specs.declared.paths.unresolved.DefinitionUnresolved.{DefinitionUnresolved}

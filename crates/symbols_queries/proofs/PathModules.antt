@@ -15,9 +15,8 @@ use Rattle.symbols_paths.specs.declared.paths.iter.DefinitionOrUnresolved.{Defin
 use Rattle.symbols_paths.specs.declared.paths.iter.DefinitionOrUnresolved.TheVariants as end
 use Rattle.symbols_paths.specs.declared.paths.resolve.ResolvedSymbolDepEntry.{ResolvedSymbolDepEntry}
 use Rattle.symbols_paths.specs.declared.paths.resolve.ResolvedSymbolDepEntry.TheVariants as entry
-use Rattle.symbols_paths.specs.declared.paths.unresolved.DefinitionUnresolved.{DefinitionUnresolved}
 use Rattle.symbols_paths.specs.DepAnswers.{entry_told, modules_of_entry, modules_of_entries}
-use Rattle.symbols_paths.specs.Trees.{Defined, Missing, PathTree, leaf, definition, unresolved}
+use Rattle.symbols_paths.specs.Trees.{PathTree, leaf, definition, unresolved}
 use Rattle.symbols_paths.specs.Views.{definition_told, missing_told, forest_in, node_step, resolved_step, link_step, tree_told, forest_told, all_modules, node_modules, resolved_modules, link_modules, modules_of, modules_in, module_of_definition, leaf_told, module_of_end, AreStored}
 use Rattle.symbols_answers.specs.Stored.{module_of_defined, module_of_leaf, modules_of_tree, modules_of_forest, modules_of_standing}
 use Rattle.symbols_queries.proofs.Known.{all_front, all_back}

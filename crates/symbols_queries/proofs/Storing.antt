@@ -1,5 +1,5 @@
 -- Which modules are stored, by their specifiers.
-use Rattle.std.proofs.Common.{◌≡◌, ℕ, ◌<◌, ◌||◌, Bool, true, false, List, [], ◌∷◌, ◌++◌, length, map, Option, None, Some, refl, sym, ap, subst, ◌∙◌, arith, true≢false}
+use Rattle.std.proofs.Common.{◌≡◌, ℕ, ◌<◌, ◌||◌, Bool, true, false, List, [], ◌∷◌, ◌++◌, length, map, Some, refl, sym, subst, arith, true≢false}
 use Rattle.std.specs.Prelude.{All, Contains, flat_map, if◌then◌else◌}
 use Rattle.std.specs.Str.{bytes_eq}
 use Rattle.std.proofs.lemmas.List.Elements.{All-nil, All-cons, All-head, All-tail, All-append, All-weaker, All-contains, Contains-get_or, Contains-append_left, Contains-append_right, Contains-push}
@@ -19,7 +19,7 @@ use Rattle.symbols_exports.specs.Shared.{Shared}
 use Rattle.symbols_exports.specs.Sharing.{told_sharing, AllShareNumbered}
 use Rattle.symbols_exports.specs.Taking.{NameView}
 use Rattle.symbols_exports.specs.Told.{told_name, told_number, AreNumbered, IsNumbered, AllNumbered}
-use Rattle.symbols_answers.specs.Answers.{AnswerView, tells_exports}
+use Rattle.symbols_answers.specs.Answers.{tells_exports}
 use Rattle.symbols_answers.specs.QueryAnswers.{by_strict}
 use Rattle.symbols_answers.specs.Stored.{referrer_of, modules_of_export, modules_of_shared, modules_of_sharing, modules_told}
 

@@ -1,6 +1,5 @@
-use Rattle.std.proofs.Common.{ℕ, List, map, refl, sym, ap, subst, ◌∙◌, rules}
+use Rattle.std.proofs.Common.{map, refl, sym, ap, subst, ◌∙◌, rules}
 use Rattle.std.specs.Prelude.{All, Contains}
-use Rattle.symbols_syntax.specs.Graph.{GraphView}
 use Rattle.symbols_root.specs.Roots.{specifier_in}
 use Rattle.symbols_paths.specs.Trees.{Forest, leaves_in}
 use Rattle.symbols_paths.specs.Views.{ends_left}

@@ -1,6 +1,5 @@
-use Rattle.std.proofs.Common.{ℕ, List, refl, sym, ap, subst, ◌∙◌, rules}
+use Rattle.std.proofs.Common.{refl, sym, ap, subst, ◌∙◌, rules}
 use Rattle.std.specs.Prelude.{All, Contains}
-use Rattle.symbols_syntax.specs.Graph.{GraphView}
 use Rattle.symbols_root.specs.Roots.{specifier_in}
 use Rattle.symbols_paths.specs.Trees.{Forest}
 use Rattle.symbols_paths.specs.Views.{forest_told}

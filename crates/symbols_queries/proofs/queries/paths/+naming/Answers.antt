@@ -1,4 +1,4 @@
-use Rattle.std.proofs.Common.{◌≡◌, ◌+◌, ap, subst, arith}
+use Rattle.std.proofs.Common.{ap, subst, arith}
 use Rattle.symbols_paths.specs.declared.paths.node.DefinitionPathNode.{DefinitionPathNode}
 use Rattle.symbols_paths.specs.declared.paths.node.DefinitionPathNode.TheVariants as node
 use Rattle.symbols_paths.specs.declared.paths.node.DefinitionPathNodeResolved.{DefinitionPathNodeResolved}

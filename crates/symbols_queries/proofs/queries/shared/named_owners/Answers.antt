@@ -1,4 +1,4 @@
-use Rattle.std.proofs.Common.{◌≡◌, ◌<◌, length, get_or, ap, sym, subst, ◌∙◌, arith}
+use Rattle.std.proofs.Common.{sym, subst, arith}
 use Rattle.std.specs.Prelude.{string_bytes}
 use Rattle.symbols_exports.specs.Taking.{path_view}
 use Rattle.symbols_exports.specs.Told.{told_name, IsNumbered}

@@ -1,6 +1,5 @@
-use Rattle.std.proofs.Common.{map}
 use Rattle.symbols_exports.specs.Sharing.{told_sharing, AllShareNumbered}
-use Rattle.symbols_exports.specs.Taking.{shared_view as lent_view, shared_views}
+use Rattle.symbols_exports.specs.Taking.{shared_views}
 use Rattle.symbols_queries.specs.AnswerViews.{named_shared_view}
 use Rattle.symbols_queries.proofs.Naming.{AreNamed}
 use Rattle.symbols_queries.proofs.queries.shared.named_sharing.Given as goal

@@ -1,4 +1,4 @@
-use Rattle.std.proofs.Common.{sym, subst, ◌∙◌}
+use Rattle.std.proofs.Common.{◌∙◌}
 use Rattle.std.proofs.lemmas.Result.{IfOk-weaker, IfErr-weaker}
 use Rattle.symbols_root.specs.laws.Growing.{grown_on}
 use Rattle.symbols_queries.specs.declared.queries.answers.Answer.{Answer}
