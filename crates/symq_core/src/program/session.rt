@@ -34,27 +34,33 @@ pub(crate) struct Session<'g> {
     line: Vec<u8>,
     /// Answers that aren't written yet.
     answers: Vec<u8>,
+    /// The text of the last answer, kept for its room alone.
+    text: Vec<u8>,
     /// What reading a line needs, kept for its room alone.
     scratch: Scratch,
     ghost widest: { root.limits ≡ widest_limits },
 }
 
-/// Adds the answer to a line to those that wait, and ends its line.
+/// Adds the answer to a line to those that wait, and ends its line. What the text held before is
+/// let go, and its room used again.
 fn add_answer(
     alloc: Global,
     scratch: &mut Scratch,
     root: &mut RootSymbol<'_>,
     line: &[u8],
+    text: &mut Vec<u8>,
     answers: &mut Vec<u8>,
 ) -> Result<(), AllocError>
     requires { root.old.limits ≡ widest_limits }
     ensures kept { HasGrown root.old root.new }
     ensures added { OnOk result (answers.new.items ≡ answers.old.items ++ (line_answer root.old line.now ++ line_end ∷ [])) }
 {
-    let waiting = mem::replace(answers, Vec::new(alloc));
-    let mut told = answer(alloc, scratch, root, line, waiting)?;
-    told.push(b'\n')?;
-    *answers = told;
+    text.clear();
+    let begun = mem::replace(text, Vec::new(alloc));
+    let told = answer(alloc, scratch, root, line, begun)?;
+    answers.extend_from_slice(told.as_slice())?;
+    answers.push(b'\n')?;
+    *text = told;
     Ok(())
 }
 
@@ -74,6 +80,7 @@ impl<'g> Session<'g> {
             root: RootSymbol::with_rules(alloc, graph, rules, limits),
             line: Vec::new(alloc),
             answers: Vec::new(alloc),
+            text: Vec::new(alloc),
             scratch: Scratch::new(alloc),
         }
     }
@@ -105,6 +112,7 @@ impl<'g> Session<'g> {
                 &mut self.scratch,
                 &mut self.root,
                 tail,
+                &mut self.text,
                 &mut self.answers,
             );
         }
@@ -114,6 +122,7 @@ impl<'g> Session<'g> {
             &mut self.scratch,
             &mut self.root,
             self.line.as_slice(),
+            &mut self.text,
             &mut self.answers,
         )?;
         self.line.clear();
