@@ -160,6 +160,15 @@ impl<'a> RootSymbol<'a> {
     {
         let specifier = graph_module.specifier();
         let Limits { modules, symbols } = self.limits;
+        // (who asks for one module after the other finds it behind the last)
+        if let Some((_, last)) = self.last {
+            let next = last.0 as usize + 1;
+            if let Some((own, _)) = self.modules.get_index(next) {
+                if *own == specifier {
+                    return Ok(ModuleId(next as u32));
+                }
+            }
+        }
         if let Some(index) = self.modules.get_index_of(&specifier) {
             return Ok(ModuleId(index as u32));
         }

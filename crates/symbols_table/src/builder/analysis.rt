@@ -68,6 +68,7 @@ fn build<'a>(
     let program = NodeRef { tree, number: 0 };
     let decl = SymbolDecl::definition(SymbolNodeRef::Module(program), program.range());
     let mut builder = begin(setting, decl)?;
+    builder.symbols.reserve(tree.nodes.len() / 8)?;
     let scope = Scope {
         ambient: tree.declaration,
         is_module: true,

@@ -1,7 +1,11 @@
-use Rattle.std.proofs.Common.{◌≡◌, [], ◌∷◌, length, refl, sym, ap, ◌∙◌, subst, arith}
+use Rattle.std.proofs.Common.{◌≡◌, [], ◌∷◌, List, length, refl, sym, ap, ◌∙◌, subst, arith}
+use Rattle.std.specs.Global.{Vec}
 use Rattle.symbols_syntax.specs.NodeRefs.{list_of}
 use Rattle.symbols_syntax.specs.ChildFields.{body_of}
+use Rattle.symbols_table.specs.declared.builder.table.Builder.{Builder}
 use Rattle.symbols_table.specs.declared.builder.table.Setting.{Setting}
+use Rattle.symbols_table.specs.declared.decl.symbol.Symbol.{Symbol}
+use Rattle.symbols_table.specs.Changes.{Change}
 use Rattle.symbols_table.specs.DeclViews.{decl_view}
 use Rattle.symbols_table.specs.Events.{changes_of}
 use Rattle.symbols_table.specs.TreeEvents.{root_of, root_decl}
@@ -16,6 +20,23 @@ use Rattle.symbols_table.proofs.Lawful.{are_lawful, are_names, are_declared, are
 use Rattle.symbols_table.proofs.Built.{begun_with, root_decl_is, module_place, tree_read, tree_full, shown, is_within, tree_none_fits, err_if, has_root}
 use Rattle.symbols_table.proofs.builder.analysis.build.Goals as goal
 
+-- room for more symbols changes no table
+with_room : (b : Builder) (symbols : Vec Symbol) {changes : List Change} → symbols.items ≡ b.symbols.items → IsTableOf b changes → IsTableOf (record b { symbols = symbols }) changes
+with_room b symbols same is = record {
+  count = rw same is.count;
+  symbols = rw same is.symbols;
+  others = rw same is.others;
+  ids = is.ids;
+  child_names = is.child_names;
+  member_names = is.member_names;
+  stars = is.stars;
+  few = rw same is.few;
+  sound = rw same is.sound;
+  apart = is.apart;
+  parents = is.parents;
+  declared = rw same is.declared;
+}
+
 pub walk_items-requires-clause-above : goal.walk_items-requires-clause-above
 walk_items-requires-clause-above c =
     let root = root_of c.args.tree.now in
@@ -26,13 +47,13 @@ pub walk_items-requires-clause-filled : goal.walk_items-requires-clause-filled
 walk_items-requires-clause-filled c =
     let tree = c.args.tree.now in
     let decl = root_decl_is tree (decl_view c.definition-decl.result) c.range.result (rw c.range.ensures refl) c.definition-decl.ensures in
-    (changes_of (first_row (root_decl tree) ∷ []), begun_with c.in_ok-builder.builder (decl_view c.definition-decl.result) (root_decl tree) decl c.in_ok-builder.ensures.table)
+    (changes_of (first_row (root_decl tree) ∷ []), with_room _ c.reserve.new.self c.in_ok-reserve.ensures.items (begun_with c.in_ok-builder.builder (decl_view c.definition-decl.result) (root_decl tree) decl c.in_ok-builder.ensures.table))
 
 pub returns-clause-table : goal.returns-clause-table
 returns-clause-table c =
     let tree = c.args.tree.now in
     let decl = root_decl_is tree (decl_view c.definition-decl.result) c.range.result (rw c.range.ensures refl) c.definition-decl.ensures in
-    let begun = begun_with c.in_ok-builder.builder (decl_view c.definition-decl.result) (root_decl tree) decl c.in_ok-builder.ensures.table in
+    let begun = with_room _ c.reserve.new.self c.in_ok-reserve.ensures.items (begun_with c.in_ok-builder.builder (decl_view c.definition-decl.result) (root_decl tree) decl c.in_ok-builder.ensures.table) in
     let read = c.in_ok-walk_items.ensures.table (length tree.nodes.items) (omega arith) (first_row (root_decl tree) ∷ []) 0 begun (module_place (root_decl tree)) in
     let built = c.walk_items.new.self in
     let is : IsTableOf built (tree_changes tree) = tree_read tree c.body.result.now built c.body.ensures read in
@@ -54,7 +75,7 @@ pub returns-in_err-walk_items-clause-too_many : goal.returns-in_err-walk_items-c
 returns-in_err-walk_items-clause-too_many c =
     let tree = c.args.tree.now in
     let decl = root_decl_is tree (decl_view c.definition-decl.result) c.range.result (rw c.range.ensures refl) c.definition-decl.ensures in
-    let begun = begun_with c.in_ok-builder.builder (decl_view c.definition-decl.result) (root_decl tree) decl c.in_ok-builder.ensures.table in
+    let begun = with_room _ c.reserve.new.self c.in_ok-reserve.ensures.items (begun_with c.in_ok-builder.builder (decl_view c.definition-decl.result) (root_decl tree) decl c.in_ok-builder.ensures.table) in
     err_if c.from_residual-in_err-walk_items.result c.in_err-walk_items.field-0.0 c.from_residual-in_err-walk_items.ensures.1 (λ many.
     let over = c.in_err-walk_items.ensures.table (length tree.nodes.items) (omega arith) (first_row (root_decl tree) ∷ []) 0 begun (module_place (root_decl tree)) many in
     tree_full tree c.body.result.now c.args.setting.limit c.body.ensures (rw (← ap (λ (s : Setting). s.limit) c.in_ok-builder.ensures.setting) over))
@@ -66,7 +87,7 @@ pub invariant_of-result : goal.invariant_of-result
 invariant_of-result c =
     let tree = c.args.tree.now in
     let decl = root_decl_is tree (decl_view c.definition-decl.result) c.range.result (rw c.range.ensures refl) c.definition-decl.ensures in
-    let begun = begun_with c.in_ok-builder.builder (decl_view c.definition-decl.result) (root_decl tree) decl c.in_ok-builder.ensures.table in
+    let begun = with_room _ c.reserve.new.self c.in_ok-reserve.ensures.items (begun_with c.in_ok-builder.builder (decl_view c.definition-decl.result) (root_decl tree) decl c.in_ok-builder.ensures.table) in
     let read = c.in_ok-walk_items.ensures.table (length tree.nodes.items) (omega arith) (first_row (root_decl tree) ∷ []) 0 begun (module_place (root_decl tree)) in
     let built = c.walk_items.new.self in
     let is : IsTableOf built (tree_changes tree) = tree_read tree c.body.result.now built c.body.ensures read in
@@ -75,7 +96,7 @@ invariant_of-result c =
     record {
       well_formed = c.requires.well_formed;
       faultless = c.requires.faultless;
-      has_module = rw c.without_room.ensures (omega (arith, c.in_ok-walk_items.ensures.keeps.longer, c.in_ok-builder.ensures.module));
+      has_module = rw c.without_room.ensures (omega (arith, c.in_ok-walk_items.ensures.keeps.longer, c.in_ok-reserve.ensures.len, c.in_ok-builder.ensures.module));
       lawful = rw c.without_room.ensures (subst (λ (s : Setting). AreLawful s.module_id built.symbols.items) kept (are_lawful built (tree_changes tree) is));
       few = rw c.without_room.ensures (are_few_of tree built is c.args.text.now c.requires.faultless c.requires.well_formed);
       named = rw c.without_room.ensures (are_names built (tree_changes tree) is);

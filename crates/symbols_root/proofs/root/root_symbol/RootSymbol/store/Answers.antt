@@ -1,9 +1,11 @@
-use Rattle.std.proofs.Common.{◌≡◌, ℕ, ◌<◌, ◌≤◌, Some, false, true, is_some, List, [], ◌∷◌, ◌++◌, slice_get, length, refl, sym, ap, ◌∙◌, subst, arith}
+use Rattle.std.proofs.Common.{◌≡◌, ℕ, ◌+◌, ◌<◌, ◌≤◌, Some, false, true, is_some, List, [], ◌∷◌, ◌++◌, slice_get, option_map, length, refl, sym, ap, ◌∙◌, subst, arith}
 use Rattle.std.specs.Prelude.{IfSome}
 use Rattle.std.specs.Borrow.{Bor}
 use Rattle.std.specs.List.{IsDistinct}
 use Rattle.std.specs.Str.{bytes_eq}
+use Rattle.std.specs.Map.Iter.{deref_pair}
 use Rattle.std.proofs.lemmas.List.{length_push}
+use Rattle.std.proofs.lemmas.Option.{slice_get-map}
 use Rattle.std.proofs.lemmas.Map.Keys.{IsDistinct-push}
 use Rattle.indexmap.specs.IndexMap.{insert_entry}
 use Rattle.symbols_table.specs.Analysis.{IsAnalysis}
@@ -15,31 +17,59 @@ use Rattle.symbols_root.specs.StoredModules.{StoredModule, stored_specifiers}
 use Rattle.symbols_root.specs.inner.StoredModules.{StandsUnder}
 use Rattle.symbols_root.specs.Growing.{HasGrown}
 use Rattle.symbols_root.specs.laws.Growing.{grown_not, grown_by_one}
-use Rattle.symbols_root.proofs.Among.{laws, place_among}
+use Rattle.symbols_root.proofs.Among.{laws, place_among, same_bytes}
 use Rattle.symbols_root.proofs.Storing.{stored_is, place_stored, length-stored, stored_push, insert_last, get_last, whole_push, with_old, with_new, none_missing, refused_analysis, table_under, last_kept}
 use Rattle.symbols_root.proofs.Enough.{room_within}
 use Rattle.symbols_root.proofs.root.root_symbol.RootSymbol.store.Goals as goal
 
+-- the specifier of the module at a place
+named_at : (entries : List StoredModule) (i : ℕ) (entry : StoredModule) → slice_get entries i ≡ Some entry → slice_get (stored_specifiers entries) i ≡ Some entry.0.now
+named_at entries i entry at = slice_get-map (λ (e : StoredModule). e.0.now) entries i ∙ ap (option_map (λ (e : StoredModule). e.0.now)) at
+
 -- ---- it is stored already
 
-pub returns-in-Some-clause-gives : goal.returns-in-Some-clause-gives
-returns-in-Some-clause-gives c =
-    let at = place_stored c.self.inside.modules.entries c.specifier-specifier.result.now c.in-Some.index (sym c.get_index_of.ensures.index ∙ c.in-Some.is) in
-    subst (λ (r : RootView). slice_get r.stored c.in-Some.index ≡ Some c.args.graph_module.now.specifier) c.self.view_is (at ∙ ap Some c.specifier-specifier.ensures)
+pub returns-in-Some-get_index_of-clause-gives : goal.returns-in-Some-get_index_of-clause-gives
+returns-in-Some-get_index_of-clause-gives c =
+    let at = place_stored c.self.inside.modules.entries c.specifier-specifier.result.now c.in-Some-get_index_of.index (sym c.get_index_of.ensures.index ∙ c.in-Some-get_index_of.is) in
+    subst (λ (r : RootView). slice_get r.stored c.in-Some-get_index_of.index ≡ Some c.args.graph_module.now.specifier) c.self.view_is (at ∙ ap Some c.specifier-specifier.ensures)
 
-pub returns-in-Some-clause-stored : goal.returns-in-Some-clause-stored
-returns-in-Some-clause-stored c =
+pub returns-in-Some-get_index_of-clause-stored : goal.returns-in-Some-get_index_of-clause-stored
+returns-in-Some-get_index_of-clause-stored c =
     let q = c.args.graph_module.now.specifier in
-    let at = place_stored c.self.inside.modules.entries c.specifier-specifier.result.now c.in-Some.index (sym c.get_index_of.ensures.index ∙ c.in-Some.is) in
-    let old = place_among (stored_specifiers c.self.inside.modules.entries) c.in-Some.index q (at ∙ ap Some c.specifier-specifier.ensures) in
+    let at = place_stored c.self.inside.modules.entries c.specifier-specifier.result.now c.in-Some-get_index_of.index (sym c.get_index_of.ensures.index ∙ c.in-Some-get_index_of.is) in
+    let old = place_among (stored_specifiers c.self.inside.modules.entries) c.in-Some-get_index_of.index q (at ∙ ap Some c.specifier-specifier.ensures) in
     with_old c.args.self.now q (subst (λ (r : RootView). is_among r.stored q ≡ true) c.self.view_is old)
 
-pub returns-in-Some-clause-allowed : goal.returns-in-Some-clause-allowed
-returns-in-Some-clause-allowed c =
+pub returns-in-Some-get_index_of-clause-allowed : goal.returns-in-Some-get_index_of-clause-allowed
+returns-in-Some-get_index_of-clause-allowed c =
     let q = c.args.graph_module.now.specifier in
-    let at = place_stored c.self.inside.modules.entries c.specifier-specifier.result.now c.in-Some.index (sym c.get_index_of.ensures.index ∙ c.in-Some.is) in
-    let old = place_among (stored_specifiers c.self.inside.modules.entries) c.in-Some.index q (at ∙ ap Some c.specifier-specifier.ensures) in
+    let at = place_stored c.self.inside.modules.entries c.specifier-specifier.result.now c.in-Some-get_index_of.index (sym c.get_index_of.ensures.index ∙ c.in-Some-get_index_of.is) in
+    let old = place_among (stored_specifiers c.self.inside.modules.entries) c.in-Some-get_index_of.index q (at ∙ ap Some c.specifier-specifier.ensures) in
     λ s. none_missing c.args.self.now q s (subst (λ (r : RootView). is_among r.stored q ≡ true) c.self.view_is old)
+
+-- ---- it is behind the one that was asked for last
+
+pub returns-then-eq-clause-gives : goal.returns-then-eq-clause-gives
+returns-then-eq-clause-gives c =
+    let entry : StoredModule = (c.in-Some-get_index.own.now, c.in-Some-get_index.field-0-1.now) in
+    let at : slice_get c.self.inside.modules.entries (c.in-Some.last.0 + 1) ≡ Some entry = sym c.get_index.ensures.entry ∙ ap (option_map deref_pair) c.in-Some-get_index.is in
+    let same = same_bytes c.in-Some-get_index.own.now.now c.specifier-specifier.result.now (sym c.eq.ensures ∙ c.if-eq.true) in
+    subst (λ (r : RootView). slice_get r.stored (c.in-Some.last.0 + 1) ≡ Some c.args.graph_module.now.specifier) c.self.view_is (named_at c.self.inside.modules.entries (c.in-Some.last.0 + 1) entry at ∙ ap Some (same ∙ c.specifier-specifier.ensures))
+
+pub returns-then-eq-clause-stored : goal.returns-then-eq-clause-stored
+returns-then-eq-clause-stored c =
+    let q = c.args.graph_module.now.specifier in
+    let at = returns-then-eq-clause-gives c in
+    with_old c.args.self.now q (place_among c.args.self.now.stored (c.in-Some.last.0 + 1) q at)
+
+pub returns-then-eq-clause-allowed : goal.returns-then-eq-clause-allowed
+returns-then-eq-clause-allowed c =
+    let q = c.args.graph_module.now.specifier in
+    let at = returns-then-eq-clause-gives c in
+    λ s. none_missing c.args.self.now q s (place_among c.args.self.now.stored (c.in-Some.last.0 + 1) q at)
+
+pub returns-then-eq-clause-kept : goal.returns-then-eq-clause-kept
+returns-then-eq-clause-kept c = grown_not c.args.self.now
 
 -- ---- it is refused
 
@@ -47,7 +77,7 @@ pub returns-then-count-modules-clause-refused : goal.returns-then-count-modules-
 returns-then-count-modules-clause-refused c =
     let entries = c.self.inside.modules.entries in
     let q = c.args.graph_module.now.specifier in
-    let new = stored_is entries c.specifier-specifier.result.now q false (sym c.get_index_of.ensures.found ∙ ap is_some c.in_default.is) c.specifier-specifier.ensures in
+    let new = stored_is entries c.specifier-specifier.result.now q false (sym c.get_index_of.ensures.found ∙ ap is_some c.in_default-get_index_of.is) c.specifier-specifier.ensures in
     let full : c.self.inside.limits.modules ≤ length (stored_specifiers entries) = omega (arith, length-stored entries, c.len-count.ensures.len, c.if-count-modules.true) in
     subst (λ (r : RootView). (x : List ℕ) × IsNotStored r (Some q) x × (r.limits.modules ≤ length r.stored)) c.self.view_is (q, (refl, new), full)
 
@@ -55,7 +85,7 @@ pub returns-in-Err-clause-refused : goal.returns-in-Err-clause-refused
 returns-in-Err-clause-refused c =
     let entries = c.self.inside.modules.entries in
     let m = c.args.graph_module.now in
-    let new = stored_is entries c.specifier-specifier.result.now m.specifier false (sym c.get_index_of.ensures.found ∙ ap is_some c.in_default.is) c.specifier-specifier.ensures in
+    let new = stored_is entries c.specifier-specifier.result.now m.specifier false (sym c.get_index_of.ensures.found ∙ ap is_some c.in_default-get_index_of.is) c.specifier-specifier.ensures in
     let room : length (stored_specifiers entries) < c.self.inside.limits.modules = omega (arith, length-stored entries, c.len-count.ensures.len, c.if-count-modules.false) in
     let before : RootView = record { graph = c.self.inside.graph.now; rules = c.self.inside.rules; limits = c.self.inside.limits; stored = stored_specifiers entries } in
     let under : module_under before.graph m.specifier ≡ Some m = subst (λ (r : RootView). module_under r.graph m.specifier ≡ Some m) (sym c.self.view_is) c.requires.under in
@@ -69,7 +99,7 @@ invariant_of-self-2 c =
     let s = c.specifier-specifier.result in
     let m = c.args.graph_module.now in
     let info = c.in-Ok-Some.info in
-    let new = stored_is entries s.now s.now false (sym c.get_index_of.ensures.found ∙ ap is_some c.in_default.is) refl in
+    let new = stored_is entries s.now s.now false (sym c.get_index_of.ensures.found ∙ ap is_some c.in_default-get_index_of.is) refl in
     let inserted : c.insert.new.self.entries ≡ insert_entry (λ (x y : Bor (List ℕ)). bytes_eq x.now y.now) entries s info = c.in_ok-insert.ensures.entries in
     let pushed = inserted ∙ insert_last c.self.inside.modules s info new in
     let count : c.len-count.result ≡ length entries = c.len-count.ensures.len in
@@ -90,7 +120,7 @@ returns-clause-gives c =
     let entries = c.self.inside.modules.entries in
     let s = c.specifier-specifier.result in
     let q = c.args.graph_module.now.specifier in
-    let new = stored_is entries s.now s.now false (sym c.get_index_of.ensures.found ∙ ap is_some c.in_default.is) refl in
+    let new = stored_is entries s.now s.now false (sym c.get_index_of.ensures.found ∙ ap is_some c.in_default-get_index_of.is) refl in
     let inserted : c.insert.new.self.entries ≡ insert_entry (λ (x y : Bor (List ℕ)). bytes_eq x.now y.now) entries s c.in-Ok-Some.info = c.in_ok-insert.ensures.entries in
     let after = stored_after entries c.insert.new.self.entries s q c.in-Ok-Some.info (inserted ∙ insert_last c.self.inside.modules s c.in-Ok-Some.info new) c.specifier-specifier.ensures in
     let count : c.len-count.result ≡ length (stored_specifiers entries) = c.len-count.ensures.len ∙ sym (length-stored entries) in
@@ -101,8 +131,8 @@ returns-clause-stored c =
     let entries = c.self.inside.modules.entries in
     let s = c.specifier-specifier.result in
     let q = c.args.graph_module.now.specifier in
-    let own = stored_is entries s.now s.now false (sym c.get_index_of.ensures.found ∙ ap is_some c.in_default.is) refl in
-    let new = stored_is entries s.now q false (sym c.get_index_of.ensures.found ∙ ap is_some c.in_default.is) c.specifier-specifier.ensures in
+    let own = stored_is entries s.now s.now false (sym c.get_index_of.ensures.found ∙ ap is_some c.in_default-get_index_of.is) refl in
+    let new = stored_is entries s.now q false (sym c.get_index_of.ensures.found ∙ ap is_some c.in_default-get_index_of.is) c.specifier-specifier.ensures in
     let inserted : c.insert.new.self.entries ≡ insert_entry (λ (x y : Bor (List ℕ)). bytes_eq x.now y.now) entries s c.in-Ok-Some.info = c.in_ok-insert.ensures.entries in
     let after = stored_after entries c.insert.new.self.entries s q c.in-Ok-Some.info (inserted ∙ insert_last c.self.inside.modules s c.in-Ok-Some.info own) c.specifier-specifier.ensures in
     let before : RootView = record { graph = c.self.inside.graph.now; rules = c.self.inside.rules; limits = c.self.inside.limits; stored = stored_specifiers entries } in
@@ -115,7 +145,7 @@ pub returns-then-count-modules-clause-enough : goal.returns-then-count-modules-c
 returns-then-count-modules-clause-enough c =
     let entries = c.self.inside.modules.entries in
     let m = c.args.graph_module.now in
-    let new = stored_is entries c.specifier-specifier.result.now m.specifier false (sym c.get_index_of.ensures.found ∙ ap is_some c.in_default.is) c.specifier-specifier.ensures in
+    let new = stored_is entries c.specifier-specifier.result.now m.specifier false (sym c.get_index_of.ensures.found ∙ ap is_some c.in_default-get_index_of.is) c.specifier-specifier.ensures in
     let full : c.self.inside.limits.modules ≤ length (stored_specifiers entries) = omega (arith, length-stored entries, c.len-count.ensures.len, c.if-count-modules.true) in
     λ few wide. absurd (room_within c.self.inside.graph.now c.self.inside.rules c.self.inside.limits entries c.args.self.now m c.self.view_is c.self.invariant.0 c.self.invariant.2 wide few c.requires.under new full)
 
@@ -129,8 +159,8 @@ returns-in-Err-clause-enough c = λ few wide.
 pub returns-clause-kept : goal.returns-clause-kept
 returns-clause-kept c = subst (HasGrown c.args.self.now) (sym (returns-clause-stored c)) (grown_by_one c.args.self.now (Some c.args.graph_module.now.specifier))
 
-pub returns-in-Some-clause-kept : goal.returns-in-Some-clause-kept
-returns-in-Some-clause-kept c = grown_not c.args.self.now
+pub returns-in-Some-get_index_of-clause-kept : goal.returns-in-Some-get_index_of-clause-kept
+returns-in-Some-get_index_of-clause-kept c = grown_not c.args.self.now
 
 pub returns-then-count-modules-clause-kept : goal.returns-then-count-modules-clause-kept
 returns-then-count-modules-clause-kept c = grown_not c.args.self.now
