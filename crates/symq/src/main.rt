@@ -8,7 +8,13 @@ use std::rt::{Env, Files};
 use symbols_tree::check::ModuleGraph;
 use symq_core::program::{ReaderInput, Stop, WriterOutput, read_words, serve_with};
 
+/// The length of a list that is let go before anything is read. The system's allocator then keeps lists up
+/// to this length, which is the longest that glibc does, and gives out their memory again.
+const KEPT: usize = 33_000_000;
+
 fn run<R: Files + Env + AllocGlobal + Input + Print>(rt: &R) -> Result<(), Stop> {
+    // (so tables are made in the memory that reading needed, and not in pages that the system has to clear)
+    drop(Vec::<u8>::with_capacity(rt.alloc(), KEPT));
     let (rules, raw) = read_words(rt)?;
     // never let go: the process ends behind it, and all its memory with it
     let graph = ManuallyDrop::new(ModuleGraph::new(rt.alloc(), raw).map_err(Stop::Graph)?);
