@@ -13,7 +13,7 @@ help:
 	@echo 'make try GRAPH=g.json QUERIES=q  the answers to the lines of q on a graph of your own, by that build: a minute'
 	@echo 'make symq                        proves and builds the program, as ./symq: 45 minutes on four processors'
 	@echo 'make lib                         proves and builds the library for C, Rust and Python into lib/: docs/LIBRARY.md'
-	@echo 'make test                        the whole gate; the last line is N passed, M failed: over an hour'
+	@echo 'make test                        the whole gate; the last line is N passed, M failed: an hour and a half'
 	@echo 'make wrong                       tries all wrong bodies, not those alone that are due, and records them: hours'
 	@echo 'make packages                    holds symdir to the checker of TypeScript on packages of Debian: minutes'
 	@echo 'make evidence [SEEDS=0..2000]    the program beside a model that was written apart, on random graphs: evidence/README.md'
