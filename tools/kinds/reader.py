@@ -46,8 +46,10 @@ def head_lines(start, given, result):
 def kind_lines(enum, kind):
     """The function that reads a kind."""
     said = ['/// What the text calls a `%s`.' % kind.text] if kind.text != kind.name else []
+    if kind.is_first:
+        said.append('/// Tried before all other kinds, by `kinds`.')
     given = ["object: &Object<'_, '_>"]
-    head = head_lines('fn ' + kind.reader, ['alloc: Global', *given] if asks(kind) else given, enum.name)
+    head = head_lines(('pub(crate) fn ' if kind.is_first else 'fn ') + kind.reader, ['alloc: Global', *given] if asks(kind) else given, enum.name)
     promise = 'ensures { Gives %s_shape result (read_as_kind Name.%s (object_data object.now)) }' % (enum.small(), kind.name)
     return [*said, *head, '    ' + promise, '{', *space_all(4, body_lines(kind)), '}']
 

@@ -2,7 +2,7 @@
 from .blocks import BadTable
 
 # what may stand in a block beside its name and its comment: behind its name, and in its lines as a name with a value
-BESIDE = {'enum': (), 'kind': ('written', 'read by'), 'set': (), 'category': (), 'field': ()}
+BESIDE = {'enum': (), 'kind': ('written', 'read by', 'tried'), 'set': (), 'category': (), 'field': ()}
 VALUES = {'enum': ('reader',), 'field': ('matched in', 'in contracts')}
 
 # the children of a node are told in a list of so many places
@@ -30,6 +30,8 @@ def wrong_blocks(blocks):
             yield '%s %s: %s stands twice' % (block.what, block.name, it)
         if block.what == 'enum' and 'reader' not in values:
             yield 'enum %s has no reader' % block.name
+        if block.said.get('tried', 'first') != 'first':
+            yield '%s %s: a kind is tried first, or as all others' % (block.what, block.name)
         if not block.comment and block.what not in ('category', 'field'):
             yield '%s %s has no comment' % (block.what, block.name)
 

@@ -30,13 +30,14 @@ class Field:
 
 @dataclass(frozen=True)
 class Kind:
-    """A kind: its enum, its text in a graph, the function that reads it, and its fields in order."""
+    """A kind: its enum, its text in a graph, the function that reads it, whether it is tried before all others, and its fields in order."""
 
     enum: str
     name: str
     comment: str
     text: str
     reader: str
+    is_first: bool
     fields: tuple
 
     def children(self):
@@ -144,7 +145,7 @@ def take_kind(table, block):
     fields = tuple(field_of(*it) for it in block.lines)
     text, reader = block.said.get('written', block.name), block.said.get('read by', small(block.name))
     enum = table.enums[-1]
-    enum.kinds.append(Kind(enum.name, block.name, block.comment, text, reader, fields))
+    enum.kinds.append(Kind(enum.name, block.name, block.comment, text, reader, 'tried' in block.said, fields))
 
 
 def take(table, block):

@@ -1,10 +1,9 @@
 //! The kinds of nodes: an object read as the kind that it says that it is.
 
 ghost use Rattle.std.specs.Prelude.{◌≡◌};
-ghost use Rattle.symbols_syntax.specs.declared.tree.names.KindName.TheVariants as Name;
 ghost use Rattle.symq_reader.specs.inner.Objects.{object_data};
 ghost use Rattle.symq_reader.specs.inner.Reading.{Gives};
-ghost use Rattle.symq_reader.specs.KindShapes.{read_as_kind, read_kind, kind_shape, read_named, ty_shape};
+ghost use Rattle.symq_reader.specs.KindShapes.{read_kind, kind_shape, read_named};
 
 mod decls;
 mod exprs;
@@ -16,15 +15,7 @@ mod tys;
 use crate::faults::FormatFault;
 use crate::fields::{self, Object};
 use std::alloc::Global;
-use symbols_syntax::tree::{Kind, Ty};
-
-/// A type annotation, as `tys` reads it, too.
-fn ts_type_ann(object: &Object<'_, '_>) -> Result<Ty, FormatFault>
-    ensures { Gives ty_shape result (read_as_kind Name.TsTypeAnn (object_data object.now)) }
-{
-    let ty = fields::child(object, "ty")?;
-    Ok(Ty::TsTypeAnn { ty })
-}
+use symbols_syntax::tree::Kind;
 
 /// An object read as the kind of this text; those that most nodes have are tried first, and a type
 /// annotation, which many nodes are, before all others.
@@ -32,7 +23,7 @@ fn kind_named(alloc: Global, kind: &str, object: &Object<'_, '_>) -> Result<Kind
     ensures { Gives kind_shape result (read_named kind.now (object_data object.now)) }
 {
     if kind == "TsTypeAnn" {
-        return Ok(Kind::Ty(ts_type_ann(object)?));
+        return Ok(Kind::Ty(tys::ts_type_ann(object)?));
     }
     if let Some(expr) = exprs::expr(alloc, kind, object)? {
         return Ok(Kind::Expr(expr));

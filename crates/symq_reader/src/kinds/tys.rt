@@ -34,7 +34,8 @@ fn ts_type_param_instantiation(alloc: Global, object: &Object<'_, '_>) -> Result
     Ok(Ty::TsTypeParamInstantiation { params })
 }
 
-fn ts_type_ann(object: &Object<'_, '_>) -> Result<Ty, FormatFault>
+/// Tried before all other kinds, by `kinds`.
+pub(crate) fn ts_type_ann(object: &Object<'_, '_>) -> Result<Ty, FormatFault>
     ensures { Gives ty_shape result (read_as_kind Name.TsTypeAnn (object_data object.now)) }
 {
     let ty = fields::child(object, "ty")?;
