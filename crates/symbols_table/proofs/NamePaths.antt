@@ -1,5 +1,5 @@
 -- Paths of symbols, and the names along them.
-use Rattle.std.proofs.Common.{◌≡◌, inl, inr, ℕ, zero, suc, ◌<◌, length, get_or, arith, subst, List, [], ◌∷◌, ◌++◌, Option, None, Some, refl, sym, ap, ◌∙◌, append_assoc, append-nil}
+use Rattle.std.proofs.Common.{◌≡◌, inl, inr, ℕ, zero, suc, ◌<◌, Bool, true, false, not, if◌then◌else◌, codes, length, get_or, arith, subst, List, [], ◌∷◌, ◌++◌, Option, None, Some, refl, sym, ap, ◌∙◌, append_assoc, append-nil}
 use Rattle.std.specs.Prelude.{slice_get}
 use Rattle.std.specs.Cow.{cow_str_bytes}
 use Rattle.std.specs.Global.{Global}
@@ -11,9 +11,10 @@ use Rattle.symbols_syntax.specs.declared.ids.SymbolId.{SymbolId}
 use Rattle.symbols_table.specs.declared.decl.symbol.Symbol.{Symbol}
 use Rattle.symbols_table.specs.declared.info.qualified_name.Named.{Named}
 use Rattle.symbols_table.specs.Laws.{IsParentOf, AreLawful}
-use Rattle.symbols_table.specs.inner.NamePaths.{text_told, IsNamed, IsNamedPart}
-use Rattle.symbols_table.specs.SymbolViews.{SymbolView, symbol_view, symbol_name, symbol_numbered}
-use Rattle.symbols_table.specs.QualifiedNames.{SymbolAt, name_over, path_name, path_within, path_to, unless_empty, qualified_name}
+use Rattle.symbols_table.specs.inner.NamePaths.{text_told, named_text, IsNamed, IsNamedPart}
+use Rattle.symbols_nodes.specs.NodeTests.{is_class}
+use Rattle.symbols_table.specs.SymbolViews.{SymbolView, symbol_view, symbol_name, symbol_test, symbol_numbered}
+use Rattle.symbols_table.specs.QualifiedNames.{SymbolAt, holds_member, inner_suffix, name_over, escaped_text, path_name, path_within, path_to, unless_empty, qualified_name}
 
 -- a path ends below the module
 pub path_ends : (symbols : SymbolAt) (n : ℕ) (s : SymbolId) (symbol : SymbolView) → symbols s ≡ Some symbol → symbol.parent ≡ None → path_within symbols (suc n) s ≡ []
@@ -39,6 +40,40 @@ no_name_first symbol (inner ∷ lower) none = by (path_name (inner ∷ lower)) r
     by : (o : Option (List ℕ)) → path_name (inner ∷ lower) ≡ o → option_and_then (λ (text : List ℕ). option_map (name_over symbol inner.number text) (symbol_name symbol)) o ≡ None
     by None e = refl
     by (Some text) e = rw none refl
+
+-- ---- a symbol above a part that has a name
+
+over_text : (symbol : SymbolView) (inner : SymbolId) (text name : List ℕ) → 0 < length text → name_over symbol inner text name ≡ name ++ inner_suffix symbol inner text
+over_text symbol inner [] name some = absurd (omega (arith, some))
+over_text symbol inner (b ∷ text) name some = refl
+
+more_behind : (xs ys : List ℕ) → 0 < length ys → 0 < length (xs ++ ys)
+more_behind [] ys some = some
+more_behind (x ∷ xs) ys some = omega arith
+
+some_suffix : (symbol : SymbolView) (inner : SymbolId) (text : List ℕ) → 0 < length (inner_suffix symbol inner text)
+some_suffix symbol inner text = by (holds_member symbol inner) (symbol_test is_class symbol)
+  where
+    by : (is_member of_class : Bool) → 0 < length (if not is_member then codes "." ++ text else if of_class then codes ".prototype." ++ text else codes "[\"" ++ (escaped_text text ++ codes "\"]"))
+    by false of_class = omega arith
+    by true true = omega arith
+    by true false = omega arith
+
+name_of_both : (symbol inner : SymbolView) (lower path : List SymbolView) (text name : List ℕ) → path ≡ inner ∷ lower → path_name path ≡ Some text → symbol_name symbol ≡ Some name → path_name (symbol ∷ path) ≡ Some (name_over symbol inner.number text name)
+name_of_both symbol inner lower path text name is inner_is is_named = rw (is, sym (ap path_name is) ∙ inner_is, is_named) refl
+
+pub part_above : (symbol : SymbolView) (path : List SymbolView) (inner named : Named) (name : List ℕ) → IsNamedPart inner path → symbol_name symbol ≡ Some name → named.number ≡ symbol.number
+    → named_text named ≡ name ++ inner_suffix symbol inner.number (named_text inner) → IsNamedPart named (symbol ∷ path)
+part_above symbol path inner named name part is_named number text =
+    let over = over_text symbol inner.number (named_text inner) name part.some in
+    let some = some_suffix symbol inner.number (named_text inner) in
+    record {
+      first = (symbol, path, refl, sym number);
+      name =
+          name_of_both symbol part.first.0 part.first.1 path (named_text inner) name part.first.2 part.name is_named
+          ∙ ap Some (ap (λ n. name_over symbol n (named_text inner) name) part.first.3 ∙ (over ∙ sym text));
+      some = subst (λ (t : List ℕ). 0 < length t) (sym text) (more_behind name (inner_suffix symbol inner.number (named_text inner)) some);
+    }
 
 -- one piece more is the first of the text
 pub piece_first : (pieces : List (CowStr Global)) (piece : CowStr Global) → text_told (pieces ++ piece ∷ []) ≡ cow_str_bytes piece ++ text_told pieces
@@ -113,10 +148,10 @@ any_text [] some = absurd (omega (arith, some))
 any_text (b ∷ text) some = refl
 
 pub whole_name : (symbols : List Symbol) (asked number : SymbolId) (d : Symbol) (inner : Option Named) (named : Named) → (get_or symbols number.0 d).parent_id ≡ None → IsReadTo symbols asked number inner → inner ≡ Some named
-    → Some (text_told named.pieces.items) ≡ qualified_name (symbol_numbered symbols) asked
+    → Some (named_text named) ≡ qualified_name (symbol_numbered symbols) asked
 whole_name symbols asked number d inner named none is has =
     let part : IsNamedPart named is.1 = subst (λ (o : Option Named). IsNamed o is.1) has is.5 in
-    sym (ap (option_and_then unless_empty) (ap path_name (all_read symbols asked number d inner none is) ∙ part.name) ∙ any_text (text_told named.pieces.items) part.some)
+    sym (ap (option_and_then unless_empty) (ap path_name (all_read symbols asked number d inner none is) ∙ part.name) ∙ any_text (named_text named) part.some)
 
 pub no_path : (symbols : List Symbol) (asked number : SymbolId) (d : Symbol) (inner : Option Named) → (get_or symbols number.0 d).parent_id ≡ None → IsReadTo symbols asked number inner → inner ≡ None → None ≡ qualified_name (symbol_numbered symbols) asked
 no_path symbols asked number d inner none is has = by (subst (λ (o : Option Named). IsNamed o is.1) has is.5)

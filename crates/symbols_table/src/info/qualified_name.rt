@@ -9,7 +9,7 @@ ghost use Rattle.symbols_table.specs.Laws.{AreLawful};
 ghost use Rattle.symbols_table.specs.SymbolViews.{SymbolView, symbol_view, symbol_name, symbol_test, symbol_numbered};
 ghost use Rattle.symbols_table.specs.Modules.{lent_table, symbol_in};
 ghost use Rattle.symbols_table.specs.QualifiedNames.{escaped_char, escaped_text, inner_suffix, unless_empty, qualified_name, IsQualifiedNameFault};
-ghost use Rattle.symbols_table.specs.inner.NamePaths.{text_told, IsNamed};
+ghost use Rattle.symbols_table.specs.inner.NamePaths.{text_told, named_text, IsNamed};
 
 use crate::decl::Symbol;
 use crate::info::fault::SymbolsFault;
@@ -17,6 +17,13 @@ use crate::info::module_info::ModuleInfoRef;
 use std::alloc::{AllocError, Global};
 use std::borrow::CowStr;
 use symbols_syntax::ids::SymbolId;
+
+/// Up to how many bytes of a name are copied behind the one above it; a longer one stays in pieces, so
+/// that a path of any length is told in the time of its text.
+const COPIED: usize = 128;
+
+/// The length of the longest sign between two names.
+const LONGEST_SIGN: usize = 11;
 
 fn push_escaped(text: &mut String, c: char) -> Result<(), AllocError>
     ensures { OnOk result (string_bytes text.new ≡ string_bytes text.old ++ encode_utf8_all (escaped_char c)) }
@@ -72,12 +79,13 @@ fn text_of(alloc: Global, pieces: Vec<CowStr<'_>>) -> Result<String, AllocError>
     Ok(text)
 }
 
-/// What the lower part of a path is called, which isn't empty, in pieces from the last to the first,
-/// and the first symbol of that part.
+/// What the lower part of a path is called, which isn't empty: its first piece and those behind it,
+/// from the last to the second, and the first symbol of that part.
 #[derive(Drop)]
 pub(crate) struct Named<'a> {
     pub(crate) number: SymbolId,
-    pub(crate) pieces: Vec<CowStr<'a>>,
+    pub(crate) first: CowStr<'a>,
+    pub(crate) behind: Vec<CowStr<'a>>,
 }
 
 /// The pieces with one before them.
@@ -113,21 +121,96 @@ fn in_brackets<'a>(alloc: Global, pieces: Vec<CowStr<'a>>) -> Result<Vec<CowStr<
     with_piece(pieces, CowStr::Owned(made))
 }
 
-/// The pieces behind the name of a symbol that say what a symbol in it is called.
-fn behind<'a>(
+/// The pieces behind the name of a symbol that say what a symbol in it is called, from the pieces of
+/// that one's name.
+fn pieces_behind<'a>(
     alloc: Global,
     symbol: &Symbol<'a>,
-    inner: Named<'a>,
+    number: SymbolId,
+    inner: Vec<CowStr<'a>>,
 ) -> Result<Vec<CowStr<'a>>, AllocError>
-    ensures { IfOk result (λ pieces. text_told pieces.items ≡ inner_suffix (symbol_view symbol.now) inner.entry.number (text_told inner.entry.pieces.items)) }
+    ensures { IfOk result (λ pieces. text_told pieces.items ≡ inner_suffix (symbol_view symbol.now) number (text_told inner.entry.items)) }
 {
-    if !symbol.tables.has_member(inner.number) {
-        return with_piece(inner.pieces, CowStr::Borrowed("."));
+    if !symbol.tables.has_member(number) {
+        return with_piece(inner, CowStr::Borrowed("."));
     }
     if is_class(symbol) {
-        return with_piece(inner.pieces, CowStr::Borrowed(".prototype."));
+        return with_piece(inner, CowStr::Borrowed(".prototype."));
     }
-    in_brackets(alloc, inner.pieces)
+    in_brackets(alloc, inner)
+}
+
+/// Adds what stands behind the name of a symbol where a symbol in it is called so.
+fn push_behind(
+    text: &mut String,
+    symbol: &Symbol<'_>,
+    number: SymbolId,
+    inner: &str,
+) -> Result<(), AllocError>
+    ensures { OnOk result (string_bytes text.new ≡ string_bytes text.old ++ inner_suffix (symbol_view symbol.now) number inner.now) }
+{
+    if !symbol.tables.has_member(number) {
+        text.push_str(".")?;
+        return text.push_str(inner);
+    }
+    if is_class(symbol) {
+        text.push_str(".prototype.")?;
+        return text.push_str(inner);
+    }
+    text.push_str("[\"")?;
+    push_all_escaped(text, inner)?;
+    text.push_str("\"]")
+}
+
+/// The name of a symbol with what stands behind it where a symbol in it is called so, as one text.
+fn with_inner(
+    alloc: Global,
+    symbol: &Symbol<'_>,
+    name: &str,
+    number: SymbolId,
+    inner: &str,
+) -> Result<String, AllocError>
+    ensures { IfOk result (λ text. string_bytes text ≡ name.now ++ inner_suffix (symbol_view symbol.now) number inner.now) }
+{
+    let room = name.len().saturating_add(inner.len());
+    let mut text = String::with_capacity(alloc, room.saturating_add(LONGEST_SIGN))?;
+    text.push_str(name)?;
+    push_behind(&mut text, symbol, number, inner)?;
+    Ok(text)
+}
+
+/// What a path is called that begins one symbol higher. A short name is put behind the new one at
+/// once.
+fn name_above<'a>(
+    alloc: Global,
+    symbol: &Symbol<'a>,
+    name: CowStr<'a>,
+    inner: Named<'a>,
+) -> Result<Named<'a>, AllocError>
+    ensures number { IfOk result (λ named. named.number ≡ (symbol_view symbol.now).number) }
+    ensures text { IfOk result (λ named. named_text named ≡ cow_str_bytes name.entry ++ inner_suffix (symbol_view symbol.now) inner.entry.number (named_text inner.entry)) }
+{
+    let number = symbol.symbol_id;
+    if inner.behind.is_empty() && inner.first.as_str().len() <= COPIED {
+        let text = with_inner(
+            alloc,
+            symbol,
+            name.as_str(),
+            inner.number,
+            inner.first.as_str(),
+        )?;
+        return Ok(Named {
+            number,
+            first: CowStr::Owned(text),
+            behind: inner.behind,
+        });
+    }
+    let pieces = with_piece(inner.behind, inner.first)?;
+    Ok(Named {
+        number,
+        first: name,
+        behind: pieces_behind(alloc, symbol, inner.number, pieces)?,
+    })
 }
 
 /// What a path that begins one symbol higher is called; nothing where that is empty.
@@ -146,13 +229,27 @@ fn name_from<'a>(
             if name.as_str().is_empty() {
                 return Ok(None);
             }
-            let pieces = with_piece(Vec::new(alloc), name)?;
-            Ok(Some(Named { number, pieces }))
+            Ok(Some(Named {
+                number,
+                first: name,
+                behind: Vec::new(alloc),
+            }))
         }
-        Some(inner) => {
-            let pieces = with_piece(behind(alloc, symbol, inner)?, name)?;
-            Ok(Some(Named { number, pieces }))
-        }
+        Some(inner) => Ok(Some(name_above(alloc, symbol, name, inner)?)),
+    }
+}
+
+/// What a path is called, as one text.
+fn whole_text(alloc: Global, named: Named<'_>) -> Result<String, AllocError>
+    ensures { IfOk result (λ text. string_bytes text ≡ named_text named.entry) }
+{
+    let Named { first, behind, .. } = named;
+    if !behind.is_empty() {
+        return text_of(alloc, with_piece(behind, first)?);
+    }
+    match first {
+        CowStr::Owned(text) => Ok(text),
+        CowStr::Borrowed(text) => String::from_str(alloc, text),
     }
 }
 
@@ -177,7 +274,7 @@ fn name_along(
         number = parent;
     }
     match inner {
-        Some(named) => Ok(Some(text_of(alloc, named.pieces)?)),
+        Some(named) => Ok(Some(whole_text(alloc, named)?)),
         None => Ok(None),
     }
 }

@@ -17,8 +17,8 @@ returns-in_default-2 c =
     let none = sym c.in_ok-name.ensures ∙ ap (option_map cow_str_bytes) c.in_default-2.is in
     unnamed c.args.symbols.now c.args.symbol_id c.loop-number.number c.in-Some.parent c.index-symbols-number.result _ c.loop-number.inner c.index-symbols-number.is c.in-Some.is none c.loop-number.invariant
 
-pub returns-in_ok-text_of-in-Some-inner : goal.returns-in_ok-text_of-in-Some-inner
-returns-in_ok-text_of-in-Some-inner c = ap Some c.in_ok-text_of-in-Some-inner.ensures ∙ whole_name c.args.symbols.now c.args.symbol_id c.loop-number.number _ c.loop-number.inner c.in-Some-inner.named c.in_default.is c.loop-number.invariant c.in-Some-inner.is
+pub returns-in_ok-whole_text-in-Some-inner : goal.returns-in_ok-whole_text-in-Some-inner
+returns-in_ok-whole_text-in-Some-inner c = ap Some c.in_ok-whole_text-in-Some-inner.ensures ∙ whole_name c.args.symbols.now c.args.symbol_id c.loop-number.number _ c.loop-number.inner c.in-Some-inner.named c.in_default.is c.loop-number.invariant c.in-Some-inner.is
 
 pub returns-in-None : goal.returns-in-None
 returns-in-None c = no_path c.args.symbols.now c.args.symbol_id c.loop-number.number _ c.loop-number.inner c.in_default.is c.loop-number.invariant c.in-None.is
