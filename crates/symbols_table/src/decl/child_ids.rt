@@ -1,7 +1,8 @@
 //! The children of a symbol, one after another.
 
-ghost use Rattle.std.specs.Prelude.{◌≡◌, length};
-ghost use Rattle.std.specs.Iterator.{YieldsFirst, item_count};
+ghost use Rattle.std.specs.Prelude.{◌≡◌, IfSome, Some, length};
+ghost use Rattle.std.specs.Iterator.{YieldsFirst, at_most, item_count, UpTo};
+ghost use Rattle.std.specs.Iterator.SizeHint.{IsWithinCount};
 
 use std::iter::FusedIterator;
 use std::marker::Model;
@@ -51,7 +52,11 @@ impl<'a> Iterator for ChildIds<'a> {
         Some(*first)
     }
 
-    fn size_hint(&self) -> (usize, Option<usize>) {
+    fn size_hint(&self) -> (usize, Option<usize>)
+        ensures lower { IsWithinCount result.0 (at_most (length self.now)) }
+        ensures upper { IfSome result.1 (UpTo (at_most (length self.now))) }
+        ensures exact { result ≡ (length self.now, Some (length self.now)) }
+    {
         let len = self.rest.len();
         (len, Some(len))
     }

@@ -1,7 +1,8 @@
 //! The exports of a symbol, one after another.
 
-ghost use Rattle.std.specs.Prelude.{◌≡◌, [], length};
-ghost use Rattle.std.specs.Iterator.{YieldsFirstBy, item_count};
+ghost use Rattle.std.specs.Prelude.{◌≡◌, [], IfSome, Some, length};
+ghost use Rattle.std.specs.Iterator.{YieldsFirstBy, at_most, item_count, UpTo};
+ghost use Rattle.std.specs.Iterator.SizeHint.{IsWithinCount};
 ghost use Rattle.symbols_table.specs.DeclViews.{exports_view};
 ghost use Rattle.symbols_table.specs.TableViews.{export_view};
 
@@ -57,7 +58,11 @@ impl<'a> Iterator for Exports<'a> {
         Some((name.as_str(), *symbol_id))
     }
 
-    fn size_hint(&self) -> (usize, Option<usize>) {
+    fn size_hint(&self) -> (usize, Option<usize>)
+        ensures lower { IsWithinCount result.0 (at_most (length self.now)) }
+        ensures upper { IfSome result.1 (UpTo (at_most (length self.now))) }
+        ensures exact { result ≡ (length self.now, Some (length self.now)) }
+    {
         let len = self.rest.len();
         (len, Some(len))
     }
