@@ -381,6 +381,54 @@ def tests_of_breaks():
     yield 'a break counts behind a comment, in a text and in a proof, and nowhere else', same, {'in a source', 'beside a quote'}
 
 
+# a file with what crates above can call, and the words of what they can't
+FACE = """use std::fmt;
+
+/// Own.
+#[tactic(auto)]
+fn own(x: u32) -> u32
+    ensures { result ≡ x }
+{
+    x
+}
+
+pub(crate) fn of_the_crate() {}
+
+pub struct Seen {
+    own_field: u32,
+}
+
+impl Seen {
+    fn own_call(&self) -> u32 {
+        1
+    }
+
+    pub fn call(&self) -> u32 {
+        2
+    }
+}
+
+impl fmt::Display for Seen {
+    fn fmt(&self) -> u32 {
+        3
+    }
+}
+
+pub trait Tells {
+    fn tell(&self) -> u32;
+}
+
+pub fn open() {}
+"""
+
+
+def tests_of_faces():
+    """Of a crate below what it alone can call isn't in a sum."""
+    seen = record.without_own_functions('src/a.rt', FACE)
+    words = ('fn own(', 'Own.', 'tactic', 'result', 'of_the_crate', 'own_field', 'own_call', 'fn call', 'fn fmt', 'fn tell', 'fn open', '}\n\npub trait')
+    yield 'what crates above can read', [it for it in words if it in seen], ['own_field', 'fn call', 'fn fmt', 'fn tell', 'fn open', '}\n\npub trait']
+
+
 def tests_of_kits(crate, edits, passed):
     """What is recorded by one kit is due by another, and stays recorded for its own as long as it fits."""
     path, own = record.path_of(crate), record.recorded(crate)
@@ -479,6 +527,7 @@ def tests():
         with tempfile.TemporaryDirectory() as folder:
             yield from own(folder)
     yield from tests_of_breaks()
+    yield from tests_of_faces()
     yield 'a test that ran out of its time tells nothing', shown.told_of_tests(SAID), {'numbers::adds': False, 'numbers::counts': True}
 
 

@@ -3,7 +3,7 @@ import hashlib
 import os
 import re
 
-from .crates import Crate, files_below, kit, libraries_below, read, write
+from .crates import Crate, functions_of, kit, libraries_below, read, write
 from .rooms import OF_FUNCTIONS, Room
 
 # the rest of the edits is tried in so many turns
@@ -31,10 +31,31 @@ def read_of(laid):
     return sorted((path, without_breaks(path, text)) for path, text in laid.items())
 
 
+def is_of_the_crate(lines, function):
+    """Whether none but its own crate can call the function of a file of these lines."""
+    if function.trait or lines[function.first].lstrip().startswith('pub '):
+        return False
+    # (who sees a trait can call its functions)
+    around = next((it for it in reversed(lines[: function.first]) if it.strip() and it[0] not in ' })'), '')
+    return not lines[function.first].startswith(' ') or around.startswith('impl')
+
+
+def without_own_functions(file, text):
+    """The text of a file of src/ without the functions that none but its crate can call."""
+    lines = text.split('\n')
+    for function in reversed([it for it in functions_of(file, text, {}) if is_of_the_crate(lines, it)]):
+        first = function.first
+        while first and re.match(r' *(#\[|///)', lines[first - 1]):
+            first -= 1
+        del lines[first : function.last + 1]
+    return '\n'.join(lines)
+
+
 def face_of(crate):
-    """The sum of what a crate above can read of the crate: its text without bodies, its definitions and its lemmas."""
-    laid = Room(crate, [], '', None).laid([], [])
-    return digest(read_of({path: text for path, text in laid.items() if not path.endswith(OF_FUNCTIONS)}))
+    """The sum of what a crate above can read of the crate: its text without bodies and without functions that it alone can call, its definitions
+    and its lemmas."""
+    laid = {path: text for path, text in Room(crate, [], '', None).laid([], []).items() if not path.endswith(OF_FUNCTIONS)}
+    return digest(read_of({path: without_own_functions(path, text) if path.endswith('.rt') else text for path, text in laid.items()}))
 
 
 def tool_texts():
