@@ -317,7 +317,8 @@ impl<'a> Builder<'a> {
         requires filled { IsFilled self.old }
         requires holder { holder.0 < length self.old.symbols.items }
         ensures keeps { KeepsTable result self.old self.new }
-        ensures table { ReadsPlaced result self.old self.new (events_if_there (kind_of (node_view expr.entry)) (assignment_events (node_view expr.entry))) holder }
+        ensures table { ReadsPlaced result self.old self.new
+            (events_if_there (kind_of (node_view expr.entry)) (assignment_events (node_view expr.entry))) holder }
     {
         match expr.kind() {
             Kind::Expr(Expr::Ident { sym }) => {

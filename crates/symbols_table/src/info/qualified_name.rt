@@ -188,7 +188,8 @@ fn name_above<'a>(
     inner: Named<'a>,
 ) -> Result<Named<'a>, AllocError>
     ensures number { IfOk result (λ named. named.number ≡ (symbol_view symbol.now).number) }
-    ensures text { IfOk result (λ named. named_text named ≡ cow_str_bytes name.entry ++ inner_suffix (symbol_view symbol.now) inner.entry.number (named_text inner.entry)) }
+    ensures text { IfOk result (λ named. named_text named
+        ≡ cow_str_bytes name.entry ++ inner_suffix (symbol_view symbol.now) inner.entry.number (named_text inner.entry)) }
 {
     let number = symbol.symbol_id;
     if inner.behind.is_empty() && inner.first.as_str().len() <= COPIED {
