@@ -422,11 +422,23 @@ pub fn open() {}
 """
 
 
-def tests_of_faces():
-    """Of a crate below what it alone can call isn't in a sum."""
+def face_with(folder, old, new):
+    """The sum of what crates above can read of a crate whose source has another text."""
+    write(os.path.join(folder, 'crates', 'seen', 'src', 'lib.rt'), FACE.replace(old, new))
+    return record.face_of(Crate(folder, 'seen', {'seen': []}))
+
+
+def tests_of_faces(folder):
+    """Of a crate below what it alone can call isn't in a sum, and all else is."""
     seen = record.without_own_functions('src/a.rt', FACE)
     words = ('fn own(', 'Own.', 'tactic', 'result', 'of_the_crate', 'own_field', 'own_call', 'fn call', 'fn fmt', 'fn tell', 'fn open', '}\n\npub trait')
     yield 'what crates above can read', [it for it in words if it in seen], ['own_field', 'fn call', 'fn fmt', 'fn tell', 'fn open', '}\n\npub trait']
+    changes = {'a contract of its own': ('result ≡ x', 'x ≡ result'), 'a call of its own': ('fn own_call(&self)', 'fn own_call(self)')}
+    changes |= {'a public body': ('        2\n', '        3\n'), 'a public call': ('fn call(&self)', 'fn call(self)'), 'a type': ('own_field: u32', 'own_field: u8')}
+    changes |= {'of a trait': ('fn tell(&self)', 'fn tell(self)'), 'of an impl of one': ('fn fmt(&self)', 'fn fmt(self)')}
+    whole = face_with(folder, '', '')
+    same = {name for name, change in changes.items() if face_with(folder, *change) == whole}
+    yield 'what may change unseen', same, {'a contract of its own', 'a call of its own', 'a public body'}
 
 
 def tests_of_kits(crate, edits, passed):
@@ -523,11 +535,10 @@ def tests():
         yield from tests_of_the_record(folder)
     with tempfile.TemporaryDirectory() as folder:
         yield from tests_of_contracts(folder)
-    for own in (tests_of_what_names_nothing, tests_of_whole_checks, tests_of_answers_to_no_goal):
+    for own in (tests_of_what_names_nothing, tests_of_whole_checks, tests_of_answers_to_no_goal, tests_of_faces):
         with tempfile.TemporaryDirectory() as folder:
             yield from own(folder)
     yield from tests_of_breaks()
-    yield from tests_of_faces()
     yield 'a test that ran out of its time tells nothing', shown.told_of_tests(SAID), {'numbers::adds': False, 'numbers::counts': True}
 
 
