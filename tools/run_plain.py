@@ -15,9 +15,13 @@ eight times the text by its value, and under five by its tokens: the program may
 
 Nor that a list of modules is read in pieces. One reader for the whole text takes as much more as the text is long: where the modules
 come first, as symdir writes them, the program may take six times the text, within which memory is refused where they come last.
+
+Nor that lists leave no rooms behind in which they grew. For one module of twice as many declarations the program may take 2.1 times
+the memory at the peak, as `bench/reading.py` has it.
 The last line is 'N passed, M failed'.
 """
 import json
+import math
 import os
 import resource
 import subprocess
@@ -26,7 +30,13 @@ import tempfile
 
 from run_cases import ROOT, TESTS
 
+sys.path.insert(1, os.path.join(ROOT, 'bench'))
+
+from made import declarations, write
+from reading import GROWTH, apart, run
+
 SIZE, TIMES, TIMES_OF_ONE_NODE, TIMES_IN_PIECES = 6_000_000, 8, 6.5, 6
+DECLARATIONS = 50_000
 
 
 def stored_modules():
@@ -122,14 +132,31 @@ def status(program, path, memory=None):
     return run.returncode
 
 
+def growth_of_one_module(program):
+    """By how much the memory at the peak grows from a module of declarations to one of twice as many."""
+    peaks = []
+    with tempfile.TemporaryDirectory() as folder:
+        for n in (DECLARATIONS, 2 * DECLARATIONS):
+            path = os.path.join(folder, '%d.json' % n)
+            apart(lambda: write(path, {'modules': [declarations('m', n)]}))
+            if status(program, path) != 0:
+                return math.inf
+            peaks.append(run(program, path)[1])
+    return peaks[1] / peaks[0]
+
+
 def main(words):
     program = os.path.abspath(words[0] if words else os.path.join(ROOT, 'crates', 'symq', 'out', 'symq'))
+    # (first, since what this process takes of memory would count as the program's)
+    grown = growth_of_one_module(program)
+    if grown > GROWTH:
+        print('one module of declarations: twice as many take %.2f times the memory, over %.1f' % (grown, GROWTH))
     graph = large_graph()
     sorts = [(text, [(TIMES, 0)]) for text in plain_texts(graph)]
     sorts += [(text, [(None, 0), (TIMES, 7)]) for text in odd_texts(graph)]
     sorts += [((name, text), [(TIMES_IN_PIECES, want)]) for name, text, want in in_pieces(graph)]
     sorts.append((('one node of many children', one_node()), [(TIMES_OF_ONE_NODE, 5)]))
-    passed, failed = 0, 0
+    passed, failed = int(grown <= GROWTH), int(grown > GROWTH)
     for (name, text), wants in sorts:
         with tempfile.TemporaryDirectory() as folder:
             path = os.path.join(folder, 'graph.json')

@@ -16,6 +16,21 @@ use json::{Reader, Token, Value};
 use std::alloc::Global;
 use symbols_syntax::tree::{Node, Tree};
 
+/// Gives a list that has become long room for many more nodes at once. The C library's allocator takes
+/// so much from the system in pages of its own: they count where they are written to, and a list in
+/// them grows without being copied. One that doubles among others leaves the rooms that it had behind.
+fn widen(found: &mut Vec<Node>)
+    ensures { found.new.items ≡ found.old.items }
+{
+    const LONG: usize = 16_384;
+    // (34 MB, since a node takes 104 bytes)
+    const MANY: usize = 327_680;
+    if found.len() == LONG {
+        // (where so much is refused, the list grows as it would)
+        let _ = found.try_reserve_exact(MANY);
+    }
+}
+
 /// Puts a node behind those that were found, by its members, which are kept in place of those that
 /// were kept.
 fn add_node<'a>(
@@ -44,6 +59,7 @@ fn node_items<'a>(alloc: Global, reader: &mut Reader<'a>) -> Result<Vec<Node>, G
     let mut found = Vec::new(alloc);
     let mut kept = Vec::new(alloc);
     'items: while !reader.take_end_array() {
+        widen(&mut found);
         add_node(alloc, reader, &mut kept, &mut found)?;
     }
     found.shrink_to_fit();

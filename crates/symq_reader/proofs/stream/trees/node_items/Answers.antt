@@ -19,7 +19,8 @@ pub items-preserved : goal.items-preserved
 items-preserved c =
     let l = c.items in
     let stays : (after_end_array l.reader ≡ None) × (c.take_end_array.new.self ≡ l.reader) = grind arith in
-    items_turn as_node node_shape 122 c.args.reader.now l.reader c.take_end_array.new.self c.add_node.new.reader l.invariant.0 l.found.items c.add_node.new.found.items c.in_ok-add_node.ensures.0 l.invariant.1 l.invariant.2 l.invariant.3 stays.0 stays.1
+    let same : c.widen.new.found.items ≡ l.found.items = c.widen.ensures in
+    items_turn as_node node_shape 122 c.args.reader.now l.reader c.take_end_array.new.self c.add_node.new.reader l.invariant.0 c.widen.new.found.items c.add_node.new.found.items c.in_ok-add_node.ensures.0 l.invariant.1 l.invariant.2 (l.invariant.3 ∙ ap (λ xs. Some (map node_shape xs)) (sym same)) stays.0 stays.1
     c.in_ok-add_node.ensures.1 c.in_ok-add_node.ensures.2
 
 pub returns : goal.returns
