@@ -24,7 +24,7 @@ sys.path.insert(1, os.path.join(os.path.dirname(HERE), 'model'))
 from differ.words import command_of, seeds_of
 from graphs.cases import case_of_seed
 from graphs.texts import compact
-from known import PANIC, has_opaque_pattern, without_known, without_recursion
+from known import PANIC, has_opaque_pattern, is_own, without_known, without_recursion
 from rules.answers import run
 from rules.checker import check_graph
 from rules.raw_graph import graph_of_value
@@ -107,9 +107,9 @@ class RandomGraphs:
 
     def compare(self, seed) -> None:
         case = case_of_seed(seed, accepted_only=True, strict=False)
-        value = without_known(case.value)
-        found = self.differences(value, case.lines) + ([] if self.program else self.table_differences(value))
-        self.queries += len(case.lines)
+        value, lines = without_known(case.value), [line for line in case.lines if not is_own(line)]
+        found = self.differences(value, lines) + ([] if self.program else self.table_differences(value))
+        self.queries += len(lines)
         self.passed, self.failed = self.passed + (not found), self.failed + bool(found)
         if found and self.failed <= SHOWN:
             print('seed %d, %d answers\n%s' % (seed, len(found), told(*found[0])), flush=True)

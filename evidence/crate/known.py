@@ -2,15 +2,28 @@
 import copy
 
 from graphs.broken import child_fields
+from rules.faults import BadQuery
 from rules.identifiers import is_identifier
 from rules.kinds import CATEGORIES, FIELDS
+from rules.queries import read_query
 from rules.symbols import WHITE_SPACE
 
 PANIC = b'{"fault":"panic"}'
 
+# the forms of queries that the crate has no call for
+OWN_FORMS = ('names',)
+
 # the fields of kinds in which a pattern stands
 PATTERN_FIELDS = {(kind, name) for kind, fields in FIELDS.items() for name, _, allowed in fields
                   if allowed and 'ExprPat' in allowed and allowed != CATEGORIES['ANY']}
+
+
+def is_own(line) -> bool:
+    """Whether a line is a query that the crate has no call for."""
+    try:
+        return read_query(line).form in OWN_FORMS
+    except BadQuery:
+        return False
 
 
 def trees(value) -> 'list[list[dict]]':
