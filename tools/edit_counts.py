@@ -11,6 +11,7 @@ import sys
 
 from tested import told
 from wrong.crates import TOP, Crate, libraries_of, read
+from wrong.record import lines_by_kit
 
 # how docs/WRONG_BODIES.md calls what the edits of a crate are of
 OF_CRATES = {
@@ -33,17 +34,21 @@ SENTENCES = (
     ('docs/WRONG_BODIES.md', r'Of the (\d+) edits (\d+) name a case or test', 'all', 'named'),
     ('docs/WRONG_BODIES.md', r'The (\d+) that name nothing', 'nameless'),
     ('README.md', r'tried with wrong bodies, (\d+) edits', 'all'),
-    ('README.md', r'(\d+) have to leave a goal of a clause open; of the other (\d+) most', 'nameless', 'named'),
+    ('docs/WRONG_BODIES.md', r'Of these (\d+) break a proof by hand', 'broken'),
+    ('README.md', r'(\d+) have to leave a goal of a clause open; the other (\d+) each', 'nameless', 'named'),
+    ('README.md', r'at each gate does: (\d+) of these break a proof by hand', 'broken'),
 )
 
 
 def counted(top):
-    """How many edits there are: all, those that name what shows them wrong, the others, and by crates."""
+    """How many edits there are: all, those that name what shows them wrong, the others, those that break a proof by the record, and by crates."""
     libraries = libraries_of(top)
+    lines = {name: [it for own in lines_by_kit(Crate(top, name, libraries)).values() for it in own.items()] for name in libraries}
+    broken = len({(name, edit) for name, own in lines.items() for edit, line in own if line.endswith(' broken')})
     texts = {name: [read(os.path.join(top, 'crates', name, 'wrong', it + '.edit')) for it in Crate(top, name, libraries).names()] for name in libraries}
     named = sum('\nshown: ' in text for own in texts.values() for text in own)
     count = sum(len(own) for own in texts.values())
-    return {'all': count, 'named': named, 'nameless': count - named, **{name: len(own) for name, own in texts.items() if own}}
+    return {'all': count, 'named': named, 'nameless': count - named, 'broken': broken, **{name: len(own) for name, own in texts.items() if own}}
 
 
 def unfit(top):
@@ -70,7 +75,7 @@ def checks(top):
         yield name, by_crates.pop(words, 0), counts.pop(name, 0)
     yield 'no other crate is told of', by_crates, {}
     yield 'each edit can be made', unfit(top), {}
-    yield 'each crate with edits is told of', sorted(set(counts) - {'all', 'named', 'nameless'}), []
+    yield 'each crate with edits is told of', sorted(set(counts) - {'all', 'named', 'nameless', 'broken'}), []
 
 
 if __name__ == '__main__':
