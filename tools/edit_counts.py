@@ -28,27 +28,33 @@ OF_CRATES = {
     'of the calls of the static library': 'symq_c',
 }
 
+# of those that name a run, which ones
+IN_PARTS = ('named', 'broken', 'broken without a clause', 'broken with a clause')
 # the sentences, each with what its numbers are
 SENTENCES = (
     ('docs/WRONG_BODIES.md', r'There are (\d+): ', 'all'),
-    ('docs/WRONG_BODIES.md', r'Of the (\d+) edits (\d+) name a case or test', 'all', 'named'),
+    ('docs/WRONG_BODIES.md', r'Of the (\d+) edits (\d+) name a run;', 'all', 'named'),
+    ('docs/WRONG_BODIES.md', r'Of the (\d+), (\d+) break a proof by hand: (\d+) name a case of `symq` alone, and (\d+) a clause', *IN_PARTS),
     ('docs/WRONG_BODIES.md', r'The (\d+) that name nothing', 'nameless'),
     ('README.md', r'tried with wrong bodies, (\d+) edits', 'all'),
-    ('docs/WRONG_BODIES.md', r'Of these (\d+) break a proof by hand', 'broken'),
-    ('README.md', r'(\d+) have to leave a goal of a clause open; the other (\d+) each', 'nameless', 'named'),
-    ('README.md', r'at each gate does: (\d+) of these break a proof by hand', 'broken'),
+    ('README.md', r'for (\d+) a check leaves a goal of a clause open; (\d+) break a proof by hand', 'refused', 'broken'),
+    ('README.md', r'at every gate, (\d+) make a run of `symq` end as no contract allows, and (\d+) fail a test', *IN_PARTS[2:]),
 )
 
 
 def counted(top):
-    """How many edits there are: all, those that name what shows them wrong, the others, those that break a proof by the record, and by crates."""
+    """How many edits there are: all, those that name a run and those that don't, those that break a proof by the record, with a clause or without,
+    and those that don't, and by crates."""
     libraries = libraries_of(top)
     lines = {name: [it for own in lines_by_kit(Crate(top, name, libraries)).values() for it in own.items()] for name in libraries}
-    broken = len({(name, edit) for name, own in lines.items() for edit, line in own if line.endswith(' broken')})
-    texts = {name: [read(os.path.join(top, 'crates', name, 'wrong', it + '.edit')) for it in Crate(top, name, libraries).names()] for name in libraries}
-    named = sum('\nshown: ' in text for own in texts.values() for text in own)
-    count = sum(len(own) for own in texts.values())
-    return {'all': count, 'named': named, 'nameless': count - named, 'broken': broken, **{name: len(own) for name, own in texts.items() if own}}
+    broken = {(name, edit) for name, own in lines.items() for edit, line in own if line.endswith(' broken')}
+    texts = {name: {it: read(os.path.join(top, 'crates', name, 'wrong', it + '.edit')) for it in Crate(top, name, libraries).names()} for name in libraries}
+    shown = {(name, it): text.partition('\nshown: ')[2] for name, own in texts.items() for it, text in own.items()}
+    counts = {'all': len(shown), 'named': sum(map(bool, shown.values())), 'broken': len(broken)}
+    counts['broken with a clause'] = sum(' by ' in shown.get(it, '') for it in broken)
+    counts['broken without a clause'] = counts['broken'] - counts['broken with a clause']
+    counts |= {'nameless': counts['all'] - counts['named'], 'refused': counts['all'] - counts['broken']}
+    return counts, {name: len(own) for name, own in texts.items() if own}
 
 
 def unfit(top):
@@ -66,16 +72,16 @@ def numbers_in(text, pattern):
 
 def checks(top):
     """Each sentence with its numbers and what they have to be, and each crate that has edits with its own."""
-    counts = counted(top)
+    counts, of_crates = counted(top)
     for page, pattern, *names in SENTENCES:
         yield '%s: %s' % (page, pattern), numbers_in(read(os.path.join(top, page)), pattern), [counts[it] for it in names]
     told_of = re.search(r'There are \d+: (.*?)\. ', ' '.join(read(os.path.join(top, 'docs/WRONG_BODIES.md')).split()) + ' ')
     by_crates = dict((words, int(n)) for n, words in re.findall(r'(\d+) ([^,]+)', told_of[1] if told_of else ''))
     for words, name in OF_CRATES.items():
-        yield name, by_crates.pop(words, 0), counts.pop(name, 0)
+        yield name, by_crates.pop(words, 0), of_crates.pop(name, 0)
     yield 'no other crate is told of', by_crates, {}
     yield 'each edit can be made', unfit(top), {}
-    yield 'each crate with edits is told of', sorted(set(counts) - {'all', 'named', 'nameless', 'broken'}), []
+    yield 'each crate with edits is told of', sorted(of_crates), []
 
 
 if __name__ == '__main__':

@@ -10,9 +10,10 @@ import sys
 import tempfile
 from dataclasses import replace
 
+import run_cases
 from tested import told
-from wrong import record, shown
-from wrong.crates import Crate, kit, libraries_of, write
+from wrong import clauses, record, shown
+from wrong.crates import TOP, Crate, Edit, Function, kit, libraries_of, write
 from wrong.outcomes import run_named, try_crate
 from wrong.rooms import TO_NO_GOAL, Lanes, Room, with_answer_to_no_goal, words_of
 from wrong.trying import tried_all
@@ -42,6 +43,9 @@ pub fn second(x: u8) -> u8
     next(next(x))
 }
 
+/// Nothing.
+pub struct Unit;
+
 /// A number below ten.
 pub struct Digit {
     value: u8,
@@ -53,6 +57,13 @@ pub fn as_digit(x: u8) -> Digit
     requires { x ≤ 9 }
 {
     Digit { value: x }
+}
+
+/// The number, for this crate alone.
+fn hidden(x: u8) -> u8
+    ensures { result ≡ x }
+{
+    x
 }
 
 /// At most the number.
@@ -159,6 +170,15 @@ IsRefusal x fault.Broken = Unit {0}
 TESTS = '''//! Tests of the small crate.
 #![tactic(auto)]
 
+ghost use Rattle.std.specs.Prelude.{◌≡◌};
+
+/// The number.
+pub fn own(x: u8) -> u8
+    ensures { result ≡ x }
+{
+    x
+}
+
 #[cfg(test)]
 mod numbers;
 '''
@@ -262,22 +282,25 @@ EDITS = [
     ('a_fault_that_is_not_allowed', [('return Err(fault)', 'return Err(Fault::Zero)')], 'proof broken', ''),
     # right, but nothing proves it
     ('twice_in_other_words', [('    x + x', '    2 * x')], 'proof broken', ''),
-    ('twice_and_one', [('    x + x', '    x + x + 1')], 'named', 'small_tests/numbers::doubles'),
+    ('twice_and_one', [('    x + x', '    x + x + 1')], 'named', 'small_tests/numbers::doubles by small::doubled'),
     ('twice_and_two', [('    x + x', '    x + x + 2')], 'named', ''),
-    ('twice_and_three', [('    x + x', '    x + x + 3')], 'named', 'small_tests/numbers::counts'),
-    ('twice_and_four', [('    x + x', '    x + x + 4')], 'named', 'small_tests/numbers::miscounts'),
-    ('twice_and_five', [('    x + x', '    x + x + 5')], 'named', 'small_tests/numbers::absent'),
-    ('twice_of_a_name_that_is_not_there', [('    x + x', '    y + x')], 'not reached', 'small_tests/numbers::doubles'),
-    ('twice_by_another_head', [('pub fn doubled(x: u8) -> u8', 'pub fn doubled(mut x: u8) -> u8'), ('    x + x', '    x += x; x + 1')], 'named', 'small_tests/numbers::doubles'),
-    ('next_and_five', [('    x + 1', '    x + 5')], 'refused', 'small_tests/numbers::counts'),
+    ('twice_and_three', [('    x + x', '    x + x + 3')], 'named', 'small_tests/numbers::counts by small::doubled'),
+    ('twice_and_four', [('    x + x', '    x + x + 4')], 'named', 'small_tests/numbers::miscounts by small::doubled'),
+    ('twice_and_five', [('    x + x', '    x + x + 5')], 'named', 'small_tests/numbers::absent by small::doubled'),
+    ('twice_and_six', [('    x + x', '    x + x + 6')], 'named', 'small_tests/numbers::doubles by small::doubled kept'),
+    ('twice_of_a_name_that_is_not_there', [('    x + x', '    y + x')], 'not reached', 'small_tests/numbers::doubles by small::doubled'),
+    ('twice_by_another_head', [('pub fn doubled(x: u8) -> u8', 'pub fn doubled(mut x: u8) -> u8'), ('    x + x', '    x += x; x + 1')], 'named', 'small_tests/numbers::doubles by small::doubled'),
+    ('next_and_five', [('    x + 1', '    x + 5')], 'refused', 'small_tests/numbers::counts by small::next'),
 ]
 # what the runs say of those that name something: nothing where a test shows the edit wrong
 RUNS = {
     'twice_and_one': '',
-    'twice_and_two': '',
+    # (what shows it wrong is found, and not by which clause)
+    'twice_and_two': 'it names no clause that fixes what small_tests/numbers::doubles looks at',
     'twice_and_three': 'numbers::counts does not fail with it',
     'twice_and_four': 'numbers::miscounts does not hold without an edit',
     'twice_and_five': 'numbers::absent does not hold without an edit',
+    'twice_and_six': 'there is no clause small::doubled kept',
     'twice_of_a_name_that_is_not_there': 'no build with it runs',
     'twice_by_another_head': 'it changes more than the lines of a body',
     'next_and_five': '',
@@ -338,7 +361,48 @@ def tests_of_runs(folder):
             yield 'the run of ' + name, found.get(name, 'no run')[: len(why) or None], why
         wrong = sum(bool(it) for it in wanted.values())
         yield 'runs are counted', (runs.passed_count(), runs.failures()), (len(wanted) - wrong, wrong)
+    named = ('small::doubled', 'small::positive refused', 'small::Digit few', 'small_tests::own')
+    others = ('small::positive', 'small::positive kept', 'small::any', 'small::hidden', 'small::Digit many', 'small::Unit few', 'small_tests::doubled', 'big::doubled')
+    yield 'a clause has to be there', [it for it in named + others if clauses.has_clause(crate, it)], list(named)
+    above = Crate(folder, 'small_tests', libraries_of(folder))
+    yield 'a crate above has no clause for one below', [it for it in named if clauses.has_clause(above, it)], ['small_tests::own']
+    yield 'what fixes a run has to be there', (clauses.missing_clauses(TOP), clauses.missing_clauses(folder)), ([], list(clauses.FIXING))
     yield 'an edit that changes nothing is none that a test fails with', shown.all_that_show(crate, unchanged(crate, 'twice_and_one'), Lanes()), []
+
+
+def tests_of_cases():
+    """What a case says of an edit, by how it ends with it: contracts leave open when memory is refused."""
+    case = run_cases.Case('cases/a', 'symq', None, None, b'', run_cases.Outcome(0, b'1\n', b''))
+    other, refused = case.want._replace(output=b'2\n'), run_cases.Outcome(7, b'', b'symq: out of memory\n')
+    fault, deep = (case.want._replace(status='fault', error=b'checked: fault kind=%s in=a' % kind) for kind in (b'panic', b'stack'))
+    yield 'another answer shows an edit wrong', shown.why_not_case(case, True, other), ''
+    yield 'so does a place that is never reached', shown.why_not_case(case, True, fault), ''
+    yield 'the answer that is wanted does not', shown.why_not_case(case, True, case.want), 'cases/a does not fail with it'
+    yield 'nor does a run without an outcome', shown.why_not_case(case, True, None), 'cases/a does not fail with it'
+    yield 'nor does want of memory', shown.why_not_case(case, True, refused), 'cases/a ends with it in a way that says nothing of contracts'
+    yield 'nor does the end of the stack', shown.why_not_case(case, True, deep), 'cases/a ends with it in a way that says nothing of contracts'
+    yield 'nor a case that fails in any way', shown.why_not_case(case, False, other), 'cases/a does not hold without an edit'
+    yield from tests_of_what_is_fixed()
+
+
+# what an edit of a file may name, and what is said of it, in this repository
+NAMED = (
+    ('symq_core', 'src/program/lines.rt', 'tests/cases/empty_line', ''),
+    ('symq_core', 'src/program/streams.rt', 'tests/cases/empty_line', 'it names no clause that fixes what tests/cases/empty_line looks at'),
+    ('symq_core', 'src/program/start.rt', 'tests/cases/empty_line', 'it names no clause that fixes what tests/cases/empty_line looks at'),
+    ('symbols_table', 'src/builder/table.rt', 'tests/tables/overloads', 'it names no clause that fixes what tests/tables/overloads looks at'),
+    ('symbols_table', 'src/builder/table.rt', 'tests/tables/overloads by symbols_table::analyze table', ''),
+    ('symbols_table', 'src/builder/table.rt', 'tests/tables/absent by symbols_table::analyze table', 'there is no tests/tables/absent'),
+    ('symbols_table', 'src/builder/table.rt', 'tests/tables/overloads by symbols_nodes::SymbolNodeRef::deps', 'there is no clause symbols_nodes::SymbolNodeRef::deps'),
+)
+
+
+def tests_of_what_is_fixed():
+    """Contracts fix how a run of symq ends, and of no other run, and nothing of what is read from files and streams."""
+    edits = [(number, Edit(crate, 'an_edit', Function(file, 0, 0, ('f',), '', ''), (), shown_by)) for number, (crate, file, shown_by, _) in enumerate(NAMED)]
+    bad = shown.sorted_out(TOP, edits)[1]
+    for number, (crate, file, shown_by, why) in enumerate(NAMED):
+        yield 'an edit of %s/%s that names %s' % (crate, file, shown_by), bad.get(number, ''), why
 
 
 def unchanged(crate, name):
@@ -357,6 +421,10 @@ def tests_of_the_record(folder):
     turns = [{it.name for it in record.due(crate, edits, turn)} for turn in range(record.TURNS)]
     yield 'an edit that is not recorded is due in each turn', [never - it for it in turns], [set()] * record.TURNS
     yield 'each edit is due within the turns', set().union(*turns), {it.name for it in edits}
+    by_run = [[it.name for it in record.due(crate, [replace(it, shown='tests/cases/a') for it in edits], turn)] for turn in range(record.TURNS)]
+    yield 'what a run refuses is due where it is not recorded', [set(it) for it in by_run], [never] * record.TURNS
+    by_clause = [{it.name for it in record.due(crate, [replace(it, shown='tests/tables/a by small::next') for it in edits], turn)} for turn in range(record.TURNS)]
+    yield 'what names a clause is due in turn', by_clause, turns
     yield 'in one turn alone, where it is recorded', sorted(it for turn in turns for it in turn - never), sorted(passed)
     yield 'a turn comes again', {it.name for it in record.due(crate, edits, record.TURNS)}, turns[0]
     path = record.path_of(crate)
@@ -514,16 +582,22 @@ def tests_of_what_names_nothing(folder):
     yield 'where nothing is looked for, none is written into it', crate.edit('twice_and_two').shown, ''
 
 
-# what `rt try --test` says of a test that holds, one that fails and one that ran out of its time
-SAID = '''tests: 3
+# what `rt try --test` says of a test that holds, two that fail, one that a fault ended and one that ran out of its time
+SAID = '''tests: 5
 test numbers::adds ... ok
 test numbers::counts ... FAILED
     assertion `left == right` failed
     src/lib.rt:30:9: the test was killed by signal 6 (SIGABRT)
+test numbers::halves ... FAILED
+    Error: "the half"
+    the test failed: its result gives status 1
+    the test exited with status 101
+test numbers::sinks ... FAILED
+    the test was killed by signal 11 (SIGSEGV)
 test numbers::waits ... FAILED
     checked: no-answer: the program did not end within the time limit
     run=no-answer
-test result: FAILED. 1 passed; 2 failed; 0 ignored; 0 filtered out
+test result: FAILED. 1 passed; 4 failed; 0 ignored; 0 filtered out
 '''
 
 
@@ -539,7 +613,9 @@ def tests():
         with tempfile.TemporaryDirectory() as folder:
             yield from own(folder)
     yield from tests_of_breaks()
-    yield 'a test that ran out of its time tells nothing', shown.told_of_tests(SAID), {'numbers::adds': False, 'numbers::counts': True}
+    yield from tests_of_cases()
+    wanted = {'numbers::adds': False, 'numbers::counts': True, 'numbers::halves': True}
+    yield 'a test that a fault ended, or that ran out of its time, tells nothing', shown.told_of_tests(SAID), wanted
 
 
 if __name__ == '__main__':

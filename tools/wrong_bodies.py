@@ -1,5 +1,6 @@
 #!/usr/bin/env python3
-"""Tries wrong bodies of the crates' functions, many in one check, and wants each refused by a goal of a clause, or shown wrong by a run.
+"""Tries wrong bodies of the crates' functions, many in one check, and wants each refused by a goal of a clause, or by a run that its contract
+doesn't allow.
 
     python3 tools/wrong_bodies.py                       the edits of every crate, crates side by side
     python3 tools/wrong_bodies.py CRATE ..              those of some crates
@@ -25,20 +26,23 @@ what their contracts promise, and which bear its name: so each of them may have 
                     law of its type. Where the function has a proof by hand, a goal counts only if the prover gives values
                     at which it is false, or proves that clause by itself where no edit is made
     proof broken    where answers by hand are no fit to the change, or a loop's invariant isn't, and no such goal is open
-                    without them. That is no refusal: a right body may break a proof. The edit names what shows it wrong,
-                    by a line 'shown: tests/cases/NAME' or 'shown: CRATE/TEST'
+                    without them. That is no refusal: a right body may break a proof. The edit names a run that its contract
+                    doesn't allow, by a line 'shown: tests/cases/NAME' or 'shown: CRATE/TEST by CRATE::FUNCTION CLAUSE'
     let through     where the function is proved with the edit, also without answers by hand that are no fit
     not reached     where the text doesn't apply, or the batch doesn't compile: it is halved until the edit is found
     undecided       where neither a goal was named nor the function proved; such an edit is tried once more, alone. No other check
                     lets an edit through: each has for each function an answer to no goal, for which the check offers no answers
 
 and only the first, and the second where it names something, pass. What edits name is run, for all of them at each run: the
-case or test has to fail with the edit, in a build that isn't proved, and to hold without it. One build of a program, or of a
-crate of tests, has all of these edits in it: a function that has some asks which one is chosen.
+case or test has to fail with the edit, in a build that isn't proved, and to hold without it. How a run of symq ends is fixed by
+the contracts of its calls, but for status 7, by which it tells that memory was refused; of any other case or test the edit
+names the clause, or the law of a type, that doesn't allow what is found there. One build of a program, or of a crate of tests,
+has all of these edits in it: a function that has some asks which one is chosen.
 
 The file wrong/refused of a crate records the edits that pass by a check, each with a sum of all that its verdict rests on: the
 kit, these programs, the crate as a check of the edit reads it, and what can be read of the libraries below. Due are the edits
-whose sum isn't recorded, and of the others each sixth, in turn: `--turn` takes the number of commits. `--record` writes it, and
+whose sum isn't recorded, and each sixth of the others, in turn, but for those that name a case of symq alone, which their run
+refuses: `--turn` takes the number of commits. `--record` writes it, and
 writes into edits that broke a proof and name nothing what shows them wrong, if anything does. With `--base` the functions that
 are changed must all be proved without an edit, in the setting in which edits are tried. `make wrong` does both, with all edits.
 

@@ -8,7 +8,7 @@ from .verdicts import Verdict
 # the outcomes of a check that may pass, each with its last word in the record, and how each is told; the second passes where what the
 # edit names shows it wrong
 PASSES = {'refused': '', 'named': 'broken'}
-TOLD = {'named': 'proof broken, names what shows it wrong'}
+TOLD = {'named': 'proof broken, names a run'}
 
 
 @dataclass
@@ -44,7 +44,7 @@ class Outcome:
 
     def count(self, seconds):
         words = (self.crate.name, len(self.passed()), len(self.verdicts), len(self.named()), self.left, self.checks, seconds)
-        return '%s: %d of %d edits refused, %d name what shows them wrong, %d more by the record, by %d checks in %d s' % words
+        return '%s: %d of %d edits refused, %d name a run, %d more by the record or a run, by %d checks in %d s' % words
 
 
 def told_broken(crate, edit, verdict, lanes, may_name):

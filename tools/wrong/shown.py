@@ -1,5 +1,9 @@
-"""What shows an edit wrong, where the prover can't: a stored case or a test that fails in a build with the edit, which isn't proved, and holds
-where no edit is chosen. A build has all edits that are asked for."""
+"""What shows that an edit doesn't meet its contract, where the prover can't: a stored case or a test that fails in a build with the edit, which
+isn't proved, and holds where no edit is chosen. A build has all edits that are asked for.
+
+All other functions are proved from the contracts of what they call. If the edited one met its own, so would each call above it. These fix how a run
+of `symq` ends and what it writes, but for when memory is refused; of any other case or test the edit names a clause that doesn't allow what is
+found there."""
 import os
 import re
 import shutil
@@ -10,10 +14,19 @@ from contextlib import suppress
 import run_cases
 
 from .choosing import CRATE, choices_of, test_name, tests_of, with_edits, word_of
+from .clauses import has_clause, missing_clauses
 from .crates import Crate, libraries_of, read, write
 
 # the sorts of cases in the order in which they are looked through, each with the program that runs them
-SORTS = (('cases', 'symq'), ('tables', 'symq_tables'), ('forms', 'symq'))
+SORTS = (('cases', 'symq'), ('forms', 'symq'), ('tables', 'symq_tables'))
+# the program of which the contracts of its calls fix how a run ends, but for this status, by which it tells that memory was refused
+FIXED, MEMORY_REFUSED = 'symq', 7
+# the files of functions that may do much: no contract knows what words a program is given, and what its files and streams hold
+UNKNOWN = ('symq/src/main.rt', 'symq_core/src/program/start.rt', 'symq_core/src/program/streams.rt')
+# the faults of runs that count, in the words of `rt try`: a proof says that there is none
+FAULTS = re.compile(rb'fault kind=(?:index-out-of-bounds|panic) ')
+# how a test fails by what it finds, in the same words
+FOUND = re.compile(r'^    (?:the test failed: its result gives status|assertion )', re.M)
 
 
 def environment(folder):
@@ -26,9 +39,20 @@ def environment(folder):
     return {**os.environ, 'PATH': bin_folder + os.pathsep + os.environ['PATH'], 'RT_ALLOW_C': CRATE}
 
 
-def case_of(cases, shown):
-    """The stored case that an edit names, in its own order; none where there is none."""
-    return next((it for it in cases if 'tests/' + it.name == shown), None)
+def named_by(edit):
+    """What an edit names: a case or a test, and, behind 'by', a clause that fixes what is looked at there, or nothing."""
+    name, _, clause = edit.shown.partition(' by ')
+    return name, clause
+
+
+def is_fixed(edit):
+    """Whether the contracts of the program's calls fix what a run shows of the edited function."""
+    return '%s/%s' % (edit.crate, edit.function.file) not in UNKNOWN
+
+
+def case_of(cases, name):
+    """The stored case of this name, in its own order; none where there is none."""
+    return next((it for it in cases if 'tests/' + it.name == name), None)
 
 
 def by_cases(folder, program, asked):
@@ -42,7 +66,7 @@ def by_cases(folder, program, asked):
         return None, said
     holds = {case.name: found.get(at) == case.want for at, case in enumerate(cases)}
     outcomes = [(number, case, found.get(len(cases) + at)) for at, (number, case) in enumerate(asked)]
-    return {number: why_not(case.name, holds[case.name], outcome and outcome != case.want) for number, case, outcome in outcomes}, said
+    return {number: why_not_case(case, holds[case.name], outcome) for number, case, outcome in outcomes}, said
 
 
 def why_not(name, holds, fails):
@@ -52,11 +76,23 @@ def why_not(name, holds, fails):
     return '' if fails else '%s does not fail with it' % name
 
 
+def says_nothing(outcome):
+    """Whether contracts may allow such an end of a run: memory was refused, or it ended by a fault that doesn't count, as where the stack ends."""
+    return outcome.status == MEMORY_REFUSED or outcome.status == 'fault' and not FAULTS.search(outcome.error)
+
+
+def why_not_case(case, holds, outcome):
+    """Why a case that has this outcome with the edit, if it has any, doesn't show it wrong; nothing where it does."""
+    fails = outcome and outcome != case.want
+    nothing = '%s ends with it in a way that says nothing of contracts' % case.name
+    return nothing if holds and fails and says_nothing(outcome) else why_not(case.name, holds, fails)
+
+
 def told_of_tests(said):
-    """By the name of each test whether it failed, in what `rt try --test` says. One that ran out of its time is told as failed, too, and says
-    nothing of the edit: it is left out."""
+    """By the name of each test whether it failed, in what `rt try --test` says. One that ended by a fault, or ran out of its time, is told as failed,
+    too, and says nothing of the edit: it is left out."""
     found = re.findall(r'^test (\S+) \.\.\. (\w+)\n((?: .*\n)*)', said, re.M)
-    return {name: how == 'FAILED' for name, how, why in found if 'run=no-answer\n' not in why}
+    return {name: how == 'FAILED' for name, how, why in found if how != 'FAILED' or FOUND.search(why)}
 
 
 def said_of_tests(folder, crate):
@@ -75,17 +111,25 @@ def by_tests(folder, crate, asked):
 
 def sorted_out(top, edits):
     """What is run for numbered edits: for each program, or crate of tests, a function and the edits, each with its case or test; and why what
-    some edits name can't be run."""
+    some edits name can't be run, or says nothing of their contracts."""
     libraries, (cases, _), runs, bad = libraries_of(top), run_cases.all_cases(), {}, {}
+    missing = missing_clauses(top)
     for number, edit in edits:
-        crate, _, test = edit.shown.partition('/')
-        case = case_of(cases, edit.shown)
-        if case:
+        name, clause = named_by(edit)
+        crate, _, test = name.partition('/')
+        case = case_of(cases, name)
+        if not case and not (crate in libraries and test):
+            bad[number] = 'there is no %s' % name
+        elif clause and not has_clause(Crate(top, edit.crate, libraries), clause):
+            bad[number] = 'there is no clause %s' % clause
+        elif not clause and not (case and case.program == FIXED and is_fixed(edit)):
+            bad[number] = 'it names no clause that fixes what %s looks at' % name
+        elif not clause and missing:
+            bad[number] = 'nothing fixes how a run ends, without the clause ' + missing[0]
+        elif case:
             runs.setdefault((by_cases, case.program), []).append((number, case))
-        elif crate in libraries and test:
-            runs.setdefault((by_tests, crate), []).append((number, test))
         else:
-            bad[number] = 'there is no %s' % edit.shown
+            runs.setdefault((by_tests, crate), []).append((number, test))
     return runs, bad
 
 
@@ -126,7 +170,7 @@ def not_shown(top, edits, lanes):
 
 def name_what_shows(crate, edit, lanes):
     """Writes into an edit the case or test that shows it wrong: of the first sort of which some fail with it the one whose name is like its own,
-    or else the first. Returns it; nothing where none fails."""
+    or else the first. Returns it; nothing where none fails. By which clause, where it has to name one, isn't found out."""
     found = all_that_show(crate, edit, lanes)
     words = set(edit.name.split('_'))
     best = max(found, key=lambda it: len(words & set(re.split(r'/|::|_', it))), default='')
@@ -144,7 +188,7 @@ def all_that_show(crate, edit, lanes):
         for sort, program in SORTS if 'symq' in libraries else ():
             own = [it for it in cases if it.name.startswith(sort + '/') and ',' not in it.name]
             found, _ = run_cases.tried_outcomes(program, own, folder, [word_of(1)] * len(own), environment(folder))
-            failed = sorted('tests/' + own[at].name for at, outcome in found.items() if outcome != own[at].want)
+            failed = sorted('tests/' + own[at].name for at, outcome in found.items() if not why_not_case(own[at], True, outcome))
             if failed:
                 return failed
         for name in sorted({name for _, name, _ in tests}):

@@ -360,15 +360,41 @@ fn tells_unknown_symbols_by_each_form(rt: HostRuntime) -> Checked {
 /// A name that isn't there stores the asked module alone, though its statement `export *` leads on.
 fn tells_an_unknown_symbol_of_a_web(root: &mut RootSymbol<'_>) -> Checked {
     let query = Query::Name("a", SymbolId::from_number(99));
-    if !matches!(root.answer(&query), Err(SymbolsFault::UnknownSymbol)) {
-        return Err("name");
-    }
+    let is_unknown = matches!(root.answer(&query), Err(SymbolsFault::UnknownSymbol));
     holds!(root.has_analyzed("a"), "a is stored");
     holds!(!root.has_analyzed("b"), "b isn't stored");
+    holds!(is_unknown, "the fault, where a is stored");
     Ok(())
 }
 
 #[test]
 fn stores_the_asked_module_alone_for_an_unknown_symbol(rt: HostRuntime) -> Checked {
     of_root(rt.alloc(), GRAPH, tells_an_unknown_symbol_of_a_web)
+}
+
+/// The module `b`, and then a symbol that `a` doesn't have.
+fn known_and_unknown(alloc: Global) -> Result<Vec<Query<'static>>, AllocError> {
+    let mut queries = Vec::new(alloc);
+    queries.push(Query::Module("b"))?;
+    queries.push(Query::Name("a", SymbolId::from_number(99)))?;
+    Ok(queries)
+}
+
+/// The query before the one that has no answer is answered, so what it needs is stored.
+fn stores_before(root: &mut RootSymbol<'_>) -> Checked {
+    let Ok(queries) = known_and_unknown(root.alloc()) else {
+        return Err("no memory");
+    };
+    holds!(
+        matches!(root.run(&queries), Err(SymbolsFault::UnknownSymbol)),
+        "the fault"
+    );
+    holds!(root.has_analyzed("b"), "b is stored");
+    holds!(root.has_analyzed("a"), "a is stored");
+    Ok(())
+}
+
+#[test]
+fn stores_what_stands_before_a_fault(rt: HostRuntime) -> Checked {
+    of_root(rt.alloc(), GRAPH, stores_before)
 }

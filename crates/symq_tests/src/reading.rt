@@ -172,6 +172,16 @@ fn takes_whole_numbers_alone(rt: HostRuntime) -> Checked {
     Ok(())
 }
 
+/// A number past all bounds has no value.
+#[test]
+fn takes_no_number_without_a_value(rt: HostRuntime) -> Checked {
+    holds!(
+        is_value(rt.alloc(), "[1e999]") == Some(false),
+        "a number past all bounds"
+    );
+    Ok(())
+}
+
 #[test]
 fn reads_lists_of_the_plain_form() -> Checked {
     for (text, wanted) in [

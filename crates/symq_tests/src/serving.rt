@@ -1,7 +1,7 @@
 //! Whole runs of the engine over memory, over streams and over devices that fail. The graph is empty, and no line is a
 //! query: what a query gives is told by runs of the program.
 
-ghost use Rattle.std.specs.Prelude.{◌<◌};
+ghost use Rattle.std.specs.Prelude.{◌<◌, Some};
 ghost use Rattle.symq_core.specs.Devices.{COUNT_LIMIT};
 
 use crate::Checked;
@@ -68,6 +68,8 @@ struct Piecewise<'a> {
 }
 
 impl Input for Piecewise<'_> {
+    ghost remaining = { λ s. Some s.rest.now };
+
     ghost failures = { λ s. s.failed };
 
     fn has_room(&self) -> bool {
