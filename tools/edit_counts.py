@@ -10,7 +10,8 @@ import re
 import sys
 
 from tested import told
-from wrong.crates import TOP, Crate, libraries_of, read
+from wrong.clauses import named_by
+from wrong.crates import TOP, Crate, edit_parts, libraries_of, read
 from wrong.record import lines_by_kit
 
 # how docs/WRONG_BODIES.md calls what the edits of a crate are of
@@ -49,9 +50,9 @@ def counted(top):
     lines = {name: [it for own in lines_by_kit(Crate(top, name, libraries)).values() for it in own.items()] for name in libraries}
     broken = {(name, edit) for name, own in lines.items() for edit, line in own if line.endswith(' broken')}
     texts = {name: {it: read(os.path.join(top, 'crates', name, 'wrong', it + '.edit')) for it in Crate(top, name, libraries).names()} for name in libraries}
-    shown = {(name, it): text.partition('\nshown: ')[2] for name, own in texts.items() for it, text in own.items()}
+    shown = {(name, it): edit_parts(text)[2] for name, own in texts.items() for it, text in own.items()}
     counts = {'all': len(shown), 'named': sum(map(bool, shown.values())), 'broken': len(broken)}
-    counts['broken with a clause'] = sum(' by ' in shown.get(it, '') for it in broken)
+    counts['broken with a clause'] = sum(bool(named_by(shown.get(it, ''))[1]) for it in broken)
     counts['broken without a clause'] = counts['broken'] - counts['broken with a clause']
     counts |= {'nameless': counts['all'] - counts['named'], 'refused': counts['all'] - counts['broken']}
     return counts, {name: len(own) for name, own in texts.items() if own}

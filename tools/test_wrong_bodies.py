@@ -422,9 +422,11 @@ def tests_of_the_record(folder):
     yield 'an edit that is not recorded is due in each turn', [never - it for it in turns], [set()] * record.TURNS
     yield 'each edit is due within the turns', set().union(*turns), {it.name for it in edits}
     by_run = [[it.name for it in record.due(crate, [replace(it, shown='tests/cases/a') for it in edits], turn)] for turn in range(record.TURNS)]
-    yield 'what a run refuses is due where it is not recorded', [set(it) for it in by_run], [never] * record.TURNS
+    yield 'what a run refuses is due in no turn', by_run, [[]] * record.TURNS
     by_clause = [{it.name for it in record.due(crate, [replace(it, shown='tests/tables/a by small::next') for it in edits], turn)} for turn in range(record.TURNS)]
     yield 'what names a clause is due in turn', by_clause, turns
+    by_table = [{it.name for it in record.due(crate, [replace(it, shown='tests/tables/a') for it in edits], turn)} for turn in range(record.TURNS)]
+    yield 'what names a run that fixes nothing is due in turn', by_table, turns
     yield 'in one turn alone, where it is recorded', sorted(it for turn in turns for it in turn - never), sorted(passed)
     yield 'a turn comes again', {it.name for it in record.due(crate, edits, record.TURNS)}, turns[0]
     path = record.path_of(crate)

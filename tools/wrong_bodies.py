@@ -41,10 +41,10 @@ has all of these edits in it: a function that has some asks which one is chosen.
 
 The file wrong/refused of a crate records the edits that pass by a check, each with a sum of all that its verdict rests on: the
 kit, these programs, the crate as a check of the edit reads it, and what can be read of the libraries below. Due are the edits
-whose sum isn't recorded, and each sixth of the others, in turn, but for those that name a case of symq alone, which their run
-refuses: `--turn` takes the number of commits. `--record` writes it, and
-writes into edits that broke a proof and name nothing what shows them wrong, if anything does. With `--base` the functions that
-are changed must all be proved without an edit, in the setting in which edits are tried. `make wrong` does both, with all edits.
+whose sum isn't recorded, and each sixth of the others, in turn, but in no turn those that name a case of symq alone, which their
+run refuses: `--turn` takes the number of commits. `--record` writes the record, and into edits that broke a proof and name nothing
+what shows them wrong, if anything does. With `--base` the functions that are changed must all be proved without an edit, in the
+setting in which edits are tried. `make wrong` does both, with all edits.
 
 The libraries below a crate must be built: where no folder is named, those in their out/, as `rt check` of the crate
 leaves them. A line an edit, with what refused it, and one for each run; the last line is 'N passed, M failed'.

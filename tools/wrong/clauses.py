@@ -15,6 +15,13 @@ FIXING = (
 )
 
 
+def named_by(shown):
+    """What an edit names by what stands behind its 'shown': a case or a test, and, behind 'by', a clause that fixes what is looked at there, or
+    nothing."""
+    name, _, clause = shown.partition(' by ')
+    return name, clause
+
+
 def ensures(own, path, name, is_public):
     """Whether a function of a crate, of this path's end, ensures a clause of this name, or the only one, without a name."""
     named = [(it, own.texts[it.file].split('\n')) for it in own.functions if list(it.path[-len(path) :]) == path]

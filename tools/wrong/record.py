@@ -3,6 +3,7 @@ import hashlib
 import os
 import re
 
+from .clauses import named_by
 from .crates import Crate, functions_of, kit, libraries_below, read, write
 from .rooms import OF_FUNCTIONS, Room
 
@@ -134,11 +135,13 @@ def place_of(crate, edit):
 
 def is_run_alone(edit):
     """Whether the edit names a case of symq and no clause: how that case ends at each gate refuses it (`shown.py`)."""
-    return edit.shown.startswith(('tests/cases/', 'tests/forms/')) and ' by ' not in edit.shown
+    name, clause = named_by(edit.shown)
+    return name.startswith(('tests/cases/', 'tests/forms/')) and not clause
 
 
 def due(crate, edits, turn):
-    """The edits to try in a turn by a check: those whose sum isn't recorded, and every so many of the others, other ones in each turn, but for those
-    that a run refuses at each gate."""
-    fits = fitting(crate, edits)
-    return [it for it in edits if it.name not in fits or not is_run_alone(it) and (place_of(crate, it) + turn) % TURNS == 0]
+    """The edits to try in a turn by a check: but for those that a run refuses at each gate, those whose sum isn't recorded, and every so many of
+    the others, other ones in each turn."""
+    tried = [it for it in edits if not is_run_alone(it)]
+    fits = fitting(crate, tried)
+    return [it for it in tried if it.name not in fits or (place_of(crate, it) + turn) % TURNS == 0]

@@ -14,7 +14,7 @@ from contextlib import suppress
 import run_cases
 
 from .choosing import CRATE, choices_of, test_name, tests_of, with_edits, word_of
-from .clauses import has_clause, missing_clauses
+from .clauses import has_clause, missing_clauses, named_by
 from .crates import Crate, libraries_of, read, write
 
 # the sorts of cases in the order in which they are looked through, each with the program that runs them
@@ -37,12 +37,6 @@ def environment(folder):
     with suppress(FileExistsError):
         os.symlink(shutil.which('true'), os.path.join(bin_folder, 'sh'))
     return {**os.environ, 'PATH': bin_folder + os.pathsep + os.environ['PATH'], 'RT_ALLOW_C': CRATE}
-
-
-def named_by(edit):
-    """What an edit names: a case or a test, and, behind 'by', a clause that fixes what is looked at there, or nothing."""
-    name, _, clause = edit.shown.partition(' by ')
-    return name, clause
 
 
 def is_fixed(edit):
@@ -115,7 +109,7 @@ def sorted_out(top, edits):
     libraries, (cases, _), runs, bad = libraries_of(top), run_cases.all_cases(), {}, {}
     missing = missing_clauses(top)
     for number, edit in edits:
-        name, clause = named_by(edit)
+        name, clause = named_by(edit.shown)
         crate, _, test = name.partition('/')
         case = case_of(cases, name)
         if not case and not (crate in libraries and test):
