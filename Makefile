@@ -6,17 +6,18 @@ FOLDER ?= examples/first
 SYMQ ?= crates/symq/out/symq
 SEEDS ?= 0..2000
 
-.PHONY: help run try test symq lib wrong packages evidence crate clean setup
+.PHONY: help run try check test symq lib wrong packages evidence crate clean setup
 
 help:
-	@echo 'make run [FOLDER=src]            the public names of a folder, by a build that waits for no proof: a minute'
-	@echo 'make try GRAPH=g.json QUERIES=q  the answers to the lines of q on a graph of your own, by that build: a minute'
-	@echo 'make symq                        proves and builds the program, as ./symq: 45 minutes on four processors'
+	@echo 'make run [FOLDER=DIR]            the public names of a directory, else of examples/first, by an unverified build: a minute or two once'
+	@echo 'make try GRAPH=g.json QUERIES=q  the answers to the lines of q on a graph, by that build'
+	@echo 'make check                       all tests that need no proof, on an unverified build: ten minutes'
+	@echo 'make symq                        proves and builds the program, as ./symq: 43 minutes on four processors'
 	@echo 'make lib                         proves and builds the library for C, Rust and Python into lib/: docs/LIBRARY.md'
-	@echo 'make test                        the whole gate; the last line is N passed, M failed: an hour and a half'
-	@echo 'make wrong                       tries all wrong bodies, not those alone that are due, and records them: hours'
-	@echo 'make packages                    holds symdir to the checker of TypeScript on packages of Debian: minutes'
-	@echo 'make evidence [SEEDS=0..2000]    the program beside a model that was written apart, on random graphs: evidence/README.md'
+	@echo 'make test                        the full check; the last line is N passed, M failed: an hour and a half'
+	@echo 'make wrong                       tries all mutants, and not only those that are due, and records them: hours'
+	@echo 'make packages                    compares symdir with the checker of TypeScript on packages of Debian: minutes'
+	@echo 'make evidence [SEEDS=0..2000]    compares the program with an independent model on random graphs: evidence/README.md'
 	@echo 'make crate FROM=FOLDER           the Rust crate as a program with the same lines, to compare with'
 	@echo 'make clean                       removes what these made'
 
@@ -26,14 +27,16 @@ setup:
 
 run: setup
 	@python3 tools/set_up.py node tsc
-	@echo 'symq is compiled without waiting for its proofs, which takes about a minute.' >&2
-	@node symdir/bin/symdir.js api --unproved $(FOLDER)
-	@echo 'By a build that is not the proved one, is far slower, and is not kept. `make symq` proves and builds ./symq.' >&2
+	@node symdir/bin/symdir.js api --unproved $(FOLDER) || test $$? -eq 1
+	@echo 'By an unverified build, which is kept and far slower. `make symq` proves and builds ./symq.' >&2
 
 try: setup
 	@test -n '$(GRAPH)' && test -n '$(QUERIES)' || { echo 'make try GRAPH=graph.json QUERIES=file: a line of the file is a query'; exit 2; }
-	@echo 'symq is compiled without waiting for its proofs, which takes about a minute.' >&2
 	@tools/unproved_symq.sh '$(GRAPH)' < '$(QUERIES)'
+
+# all tests that need no proof, on programs that are built without one
+check: setup
+	@python3 tools/check.py
 
 test: setup
 	@python3 tools/gate.py
@@ -47,12 +50,10 @@ packages:
 	@python3 tools/run_symdir.py --packages
 
 symq: setup
-	@cd crates/symq && rt run -- ../../examples/first/graph.json < /dev/null
-	@cp crates/symq/out/symq symq
+	@python3 tools/prove.py symq
 
 lib: setup
-	@cd crates/symq_c && rt lib
-	@python3 tools/pack_library.py lib
+	@python3 tools/prove.py lib
 
 evidence:
 	@test -x '$(SYMQ)' || { echo '$(SYMQ) is not there: `make symq` builds it, or say SYMQ=PROGRAM'; exit 1; }
@@ -63,4 +64,4 @@ crate:
 	@python3 evidence/crate/build.py '$(FROM)'
 
 clean:
-	@rm -rf symq lib bindings/rust/target crates/*/out symdir/node_modules evidence/crate/out
+	@rm -rf symq lib out bindings/rust/target crates/*/out symdir/node_modules evidence/crate/out

@@ -7,33 +7,33 @@
 
 It prints a table with a row for each graph and stage. The stages are
 
-    read      a run on the graph with a module's specifier twice, which is refused before its trees are looked at
+    read      a run on the graph with a module's specifier twice, which is refused before its trees are checked
     check     a run without queries, less read
     analyse   a run with a query for each module, less one without queries
-    depend    a run with a query for what the first symbol of each module depends on, less one with the queries of
-              analyse: of the graph of references; of graphs of files what each symbol does, in both modes
-    export    a run with a query for what each module exports, less one with the queries of analyse: of the graph of
-              webs, which is taken of 4n too, and of graphs of files
+    depend    a run with a query for the dependencies of the first symbol of each module, less one with the queries of
+              analyse: of the graph of references; of graphs of files the dependencies of each symbol, in both modes
+    export    a run with a query for the exports of each module, less one with the queries of analyse: of the graph of
+              webs, which is measured for 4n too, and of graphs of files
     path      a run with a query for the paths of a symbol, of graphs of files of each, less one without queries: of
-              re-exports in a row, of candidates of an import, of aliases in a chain and of an alias of many parts, which it
-              analyses on the way
+              re-exports in a row, of candidates of an import, of aliases in a chain and of an alias of many parts, including
+              their analysis
     ends      a run with a query for the definitions at the ends of such paths, less one with the queries of analyse: of
               aliases in a chain and of an alias of many parts
-    call      a run with a query for what the innermost of namespaces in a nest is called, less one with the queries of analyse
+    call      a run with a query for the full name of the innermost of nested namespaces, less one with the queries of analyse
     name      a run with a query for the paths of an import along one `export *`, less one without queries: of one name of
-              many webs, of which half are gone through
-    whole     of the same graph a run with a query for all that is exported there, less one without queries
+              many webs, of which half are visited
+    whole     of the same graph a run with a query for all exports there, less one without queries
 
-and what is counted of a run:
+and the counts of a run are:
 
     instructions   in millions, by valgrind's cachegrind, which is some 25 times slower than the program:
                    so a made graph has a tenth of the stated size there
     pages          of 4096 bytes, that were touched for the first time (minor faults, the least of three runs); not
-                   taken of the other program's analyse
+                   counted for the other program's analyse
 
-'growth' is the figure of 2n by that of n, and that of 4n by that of 2n. 'of other' is by the figure of the other program, for
-n and for 2n: its read is its whole run without queries, which starts, reads the file, makes the graph and lets all go, where
-ours leaves the graph to the system; its other stages are taken like ours; it has no checker. A dash stands where the count to divide by is below 100.
+'growth' is the ratio of the figure of 2n to that of n, and of 4n to that of 2n. 'of other' is the ratio to the figure of the other
+program, for n and for 2n. Its read is its whole run without queries, which starts, reads the file, builds the graph and frees
+everything; ours leaves the graph to the system. Its other stages are measured like ours; it has no checker. A dash replaces a ratio to a count below 100.
 """
 import argparse
 import json
@@ -62,8 +62,8 @@ APART = ('path', 'name', 'whole')
 
 
 class Files:
-    """A graph's files in a folder, and lines that ask each of its modules something. Of a graph that counts its symbols
-    by module the paths of each are asked, and what each depends on; else the paths of the first module's first."""
+    """A graph's files in a directory, and query lines for each of its modules. If a graph counts its symbols by module, the paths and the
+    dependencies of each are queried; otherwise the paths of the first module's first symbol."""
 
     def __init__(self, folder, graph, symbols=None):
         modules = graph['modules']
@@ -89,7 +89,7 @@ def namespaces_in(module):
 
 
 def symbols_of(program, path, graph):
-    """How many symbols each module has, as far as it is known by its own specifier."""
+    """Returns how many symbols each module has, if it is found by its own specifier."""
     found, left, size = {}, [m['specifier'] for m in graph['modules']], 64
     while left:
         lines = b''.join(line('name', m, found.get(m, 0) + k) for m in left for k in range(size))
@@ -104,7 +104,7 @@ def symbols_of(program, path, graph):
 
 
 def pages(command, lines=b''):
-    """The pages that a run touches: the least of some runs."""
+    """Returns the pages that a run touches: the least of some runs."""
     found = []
     for _ in range(PAGES):
         before = resource.getrusage(resource.RUSAGE_CHILDREN).ru_minflt
@@ -120,7 +120,7 @@ def instructions(command, lines=b''):
 
 
 def counts(count, program, other, files, stages):
-    """By stage, the program's count and the other's."""
+    """Returns the counts of the program and the other, by stage."""
     further = [it for it in stages if it in files.asked]
     read = count([program, files.refused])
     idle = count([program, files.path])
@@ -139,7 +139,7 @@ def counts(count, program, other, files, stages):
 
 
 def cells(form, stage, sizes):
-    """The program's figure for n, its growth, and its parts of the other's; empty texts where there is none."""
+    """Returns the program's figure for n, its growth, and its ratios to the other's; empty texts for missing ones."""
     def part(figure, divisor):
         return '%.2f' % (figure / divisor) if divisor >= 100 else '-'
 
@@ -152,7 +152,7 @@ def cells(form, stage, sizes):
 
 
 def measure(a, name, makers, small, stages):
-    """Prints the rows of a graph of some sizes; `small` has smaller ones to count instructions on."""
+    """Prints the rows of a graph of some sizes. `small` has smaller ones for counting instructions."""
     with tempfile.TemporaryDirectory() as top:
         def files(make):
             return Files(tempfile.mkdtemp(dir=top), *make())

@@ -1,20 +1,20 @@
 #!/usr/bin/env python3
-"""Counts what one program takes for other questions beside `exports` by Deno's rules: public names, and strict rules.
+"""Counts the cost of other queries beside `exports` by Deno's rules: public names, and strict rules.
 
     python3 bench/forms.py PROGRAM [--graph GRAPH ..] [--size 2000]
 
-Of each graph each module is asked
+The queries on each module of a graph are
 
-    exports   what it exports
-    names     which names it gives to the world
-    strict    what it exports, by strict rules; not of a program that has none
+    exports   its exports
+    names     its public names
+    strict    its exports by strict rules; not of a program without them
 
-and a figure is that of a run with these questions, less that of a run by the same rules that asks each module for a symbol, so
+and a figure is that of a run with these queries, less that of a run by the same rules that queries a symbol of each module, so
 that it is analysed. The graphs are made ones of the stated size, twice and four times that, and graphs of files, as those of
-declaration files. In webs of ten modules each re-exports all others, and no name is shared; in tens that share names one
-re-exports nine others, which each own the same five names. Instructions, in millions, and pages are counted as in counts.py,
-instructions on made graphs of a tenth of the size; 'growth' is the figure of 2n by that of n, and that of 4n by that of 2n,
-and 'of exports' the part of the figure of `exports`, for each size.
+declaration files. In webs of ten modules each has `export *` from all others, and no name is shared. In tens that share names
+one has `export *` from nine others, which each export the same five names locally. Instructions, in millions, and pages are counted as in counts.py,
+instructions on made graphs of a tenth of the size; 'growth' is the ratio of the figure of 2n to that of n, and of 4n to that
+of 2n; 'of exports' is the ratio to the figure of `exports`, for each size.
 """
 import argparse
 import json
@@ -28,7 +28,7 @@ from made import line, sharing_of, webs_of
 
 MADE = {'webs of ten modules': webs_of, 'tens that share names': sharing_of}
 
-# the form that is asked, and the words before the graph
+# the form of the queries, and the arguments before the graph
 FORMS = {'exports': ('exports', []), 'names': ('names', []), 'strict': ('exports', ['--strict'])}
 
 
@@ -42,7 +42,7 @@ def asked(form, graph) -> bytes:
 
 
 def figures(count, program, graph) -> 'dict[str, int]':
-    """By form, what it takes beyond analysing."""
+    """Returns the cost of each form beyond analysing."""
     found = {}
     with tempfile.TemporaryDirectory() as folder:
         files = Files(folder, graph)

@@ -5,8 +5,8 @@
 
 A run and a call both read the graph anew and answer the same lines: a run starts a process, reads a file, and writes to a pipe; a
 call, from Python, has the text and the buffer in memory. A session has read the graph before, and answers the lines. Graphs are
-a small one, webs of ten modules, and those of files; lines ask each module for its exports. A figure is processor time in
-milliseconds, the least of some runs, which are taken in turn. The answers have to be the same.
+a small one, webs of ten modules, and those of files; the lines query the exports of each module. A figure is processor time
+in milliseconds, the least of some runs, which are made in turn. The answers have to be the same.
 """
 import argparse
 import ctypes
@@ -32,7 +32,7 @@ class Kept(ctypes.Structure):
 
 
 class Library:
-    """The calls of a library, from Python."""
+    """The functions of a library, called from Python."""
 
     def __init__(self, path):
         found = ctypes.CDLL(path)
@@ -47,7 +47,7 @@ class Library:
 
 
 def told(call, room, *given):
-    """The processor time of a call, and what it hands out."""
+    """Returns the processor time of a call, and its output."""
     needed, out = ctypes.c_size_t(), ctypes.create_string_buffer(room)
     before = time.process_time()
     status = call(*given, out, room, needed)
@@ -58,7 +58,7 @@ def told(call, room, *given):
 
 
 def run_time(program, path, lines):
-    """The processor time of a run, and its answers."""
+    """Returns the processor time of a run, and its answers."""
     before = resource.getrusage(resource.RUSAGE_CHILDREN)
     done = subprocess.run([program, path], input=lines, stdout=subprocess.PIPE, check=True)
     after = resource.getrusage(resource.RUSAGE_CHILDREN)
@@ -66,7 +66,7 @@ def run_time(program, path, lines):
 
 
 def row(program, library, path):
-    """What each takes for the exports of each module."""
+    """Returns the times for the exports of each module."""
     with open(path, 'rb') as file:
         text = file.read()
     lines = b''.join(line('exports', it['specifier']) for it in json.loads(text)['modules'])

@@ -1,9 +1,9 @@
-"""Graphs that are made for measuring: of many modules, of one large module, of webs, rows and nests; each of any size n."""
+"""Generates graphs for measuring: of many modules, of one large module, of webs, rows and nests; each of any size n."""
 import json
 
 
 class Tree:
-    """Nodes, made a parent before its children; each has its own range in a text of spaces."""
+    """A tree whose nodes are added a parent before its children. Each has its own range in a text of spaces."""
 
     def __init__(self):
         self.nodes = []
@@ -55,7 +55,7 @@ def declarations(specifier, n):
 
 
 def class_of(n):
-    """A class of n members, half of them static, each name twice."""
+    """Returns a class of n members, half of them static, each name twice."""
     tree = Tree()
     at = tree.add('ExportDecl')
     decl = tree.add('ClassDecl')
@@ -81,7 +81,7 @@ def interface_of(n):
 
 
 def references_of(n):
-    """An alias of n references: names, names with parts, imported names, and names behind a `typeof`."""
+    """Returns an alias of n references: names, names with parts, imported names, and names after a `typeof`."""
     tree = Tree()
     at = tree.add('TsTypeAliasDecl')
     tree.nodes[at].update(id=tree.add('Ident', sym=['T', 1]), type_ann=tree.add('Type'))
@@ -107,7 +107,7 @@ def reference(tree, i):
 
 
 def web(specifiers, names):
-    """Modules that each own some names, and re-export all the others."""
+    """Returns modules that each export some names locally, and have `export *` from all the others."""
     modules = []
     for specifier in specifiers:
         tree = Tree()
@@ -118,14 +118,14 @@ def web(specifiers, names):
 
 
 def webs_of(n):
-    """n modules in webs of ten, of which each owns five names."""
+    """Returns n modules in webs of ten, each of which exports five names locally."""
     webs = [['m%d' % i for i in range(at, at + 10)] for at in range(0, n, 10)]
     resolutions = [[m, it, it] for specifiers in webs for m in specifiers for it in specifiers if it != m]
     return {'modules': [it for specifiers in webs for it in web(specifiers, 5)], 'resolutions': resolutions}
 
 
 def sharing_of(n):
-    """n modules in tens: a module that re-exports nine others, which each own the same five names."""
+    """Returns n modules in tens: a module with `export *` from nine others, which each export the same five names."""
     modules = []
     for at in range(0, n, 10):
         first, owners = Tree(), ['m%d' % i for i in range(at + 1, at + 10)]
@@ -137,7 +137,7 @@ def sharing_of(n):
 
 
 def taking(specifier, statement, name, src):
-    """A module that imports or re-exports a name from a text."""
+    """Returns a module that imports or re-exports a name from a specifier."""
     tree = Tree()
     at = tree.add(statement, src=src)
     tree.nodes[at]['specifiers'] = [tree.add(name)]
@@ -156,19 +156,19 @@ def owner(specifier):
 
 
 def resolved(modules):
-    """A graph in which each text of a module stands for the module of that specifier."""
+    """Returns a graph in which each specifier in a module resolves to the module with this specifier."""
     texts = [(m, node['src']) for m in modules for node in m['tree']['nodes'] if 'src' in node]
     return {'modules': modules, 'resolutions': [[m['specifier'], text, text] for m, text in texts]}
 
 
 def row_of(n):
-    """n modules in a row, each of which re-exports a name from the next; the last owns it."""
+    """Returns n modules in a row, each of which re-exports a name from the next; the last exports it locally."""
     return resolved([passing('m%d' % i, 'm%d' % (i + 1)) for i in range(n - 1)] + [owner('m%d' % (n - 1))])
 
 
 def candidates_of(n):
-    """A name that is imported from a module with n statements `export *`. Each but the last leads to a name that is
-    re-exported from a module that re-exports it from there."""
+    """Returns an import of a name from a module with n statements `export *`. Each but the last resolves to a module that re-exports the name from a
+    module that re-exports it from there."""
     tree = Tree()
     stars = [tree.add('ExportAll', src=it) for it in ['to%d' % i for i in range(n - 1)] + ['last']]
     modules = [taking('first', 'Import', 'ImportNamed', 'middle'), tree.module('middle', stars), owner('last')]
@@ -178,7 +178,7 @@ def candidates_of(n):
 
 
 def namespaces(tree, n):
-    """A namespace `N`, and n more of that name, each exported by the one around it."""
+    """Returns a namespace `N`, and n more of that name, each exported by the one around it."""
     outer = decl = tree.add('TsModuleDecl')
     tree.nodes[decl]['id'] = tree.add('Ident', sym=['N', 1])
     for k in range(n):
@@ -192,7 +192,7 @@ def namespaces(tree, n):
 
 
 def alias(tree, name, first, parts):
-    """An alias of a name with so many parts `N` behind it."""
+    """Returns an alias of a name with this number of parts `N` after it."""
     at = tree.add('TsImportEqualsDecl')
     tree.nodes[at]['id'] = tree.add('Ident', sym=[name, 1])
     names = [tree.add('TsQualifiedName', right='N') for _ in range(parts)] + [tree.add('Ident', sym=[first, 1])]
@@ -203,27 +203,27 @@ def alias(tree, name, first, parts):
 
 
 def aliases_of(n):
-    """n aliases in a chain, each of the one behind it with one part, the last of the outermost of namespaces in a nest."""
+    """Returns n aliases in a chain, each of the next one with one part, the last of the outermost of nested namespaces."""
     tree = Tree()
     aliases = [alias(tree, 'A%d' % k, 'A%d' % (k + 1) if k + 1 < n else 'N', 1) for k in range(n)]
     return {'modules': [tree.module('m', aliases + [namespaces(tree, n)])]}
 
 
 def parts_of(n):
-    """An alias of a name with n parts, of namespaces in a nest."""
+    """Returns an alias of a name with n parts, of nested namespaces."""
     tree = Tree()
     return {'modules': [tree.module('m', [alias(tree, 'A', 'N', n), namespaces(tree, n)])]}
 
 
 def nest_of(n):
-    """Namespaces in a nest, n deep."""
+    """Returns namespaces nested n deep."""
     tree = Tree()
     return {'modules': [tree.module('m', [namespaces(tree, n - 1)])]}
 
 
 def hub_of(n):
-    """n modules in webs of ten, a module with an `export *` for each web, and an import of a name that a web in the
-    middle owns, along one `export *` of that module."""
+    """Returns n modules in webs of ten, a module with an `export *` for each web, and an import of a name that a web in the middle exports, along one
+    `export *` of that module."""
     graph = webs_of(n)
     hub, middle = Tree(), Tree()
     webs = [hub.add('ExportAll', src='m%d' % at) for at in range(0, n, 10)]
@@ -234,7 +234,7 @@ def hub_of(n):
     return {key: added[key] + graph[key] for key in ('modules', 'resolutions')}
 
 
-# a graph's name, its n, how it is made, what is asked beyond the stages, and the multiples of n
+# a graph's name, its n, its generator, the queries beyond the stages, and the multiples of n
 MADE = [
     ('many modules', 2000, lambda n: {'modules': [declarations('m%d' % i, 20) for i in range(n)]}, (), (1, 2)),
     ('one module of declarations', 50000, lambda n: {'modules': [declarations('m', n)]}, (), (1, 2)),

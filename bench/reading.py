@@ -5,20 +5,20 @@
     python3 bench/reading.py PROGRAM --beside OTHER --graph GRAPH .. on graphs of files too
     python3 bench/reading.py PROGRAM --before OLD                    refused graphs beside an earlier program
 
-A run without queries starts, reads the file, makes the graph and checks it, and leaves the graph to the system; the other
-program doesn't check, and lets the graph go. It prints a table with a row for each graph: the text in megabytes, then of a run
+A run without queries starts, reads the file, builds the graph and checks it, and leaves the graph to the system; the other
+program doesn't check, and frees the graph. It prints a table with a row for each graph: the text in megabytes, then of a run
 
-    ms             processor time, the least of some runs; those of all programs and of n and 2n are taken in turn, so
-                   that a slow minute of the machine falls on each. It illustrates: it varies with what else the machine does
-    MB             of memory at the peak
+    ms             processor time, the least of some runs. Those of all programs and of n and 2n are made in turn, so
+                   that a slow minute of the machine affects each. It varies with the load of the machine
+    MB             of peak memory
     instructions   in millions, by valgrind's cachegrind, on a made graph of a tenth of the stated size; not of files
 
-each by the other program's figure, of n and of 2n, and with its growth from n to 2n. Beside an earlier program there is a
-row for each graph and way to be refused: a text that is cut at its end, one whose last module is no module, and one with
+each as a ratio to the other program's figure, of n and of 2n, and with its growth from n to 2n. Beside an earlier program there
+is a row for each graph and kind of refusal: a text that is cut at its end, one whose last module is no module, and one with
 a module's specifier twice, which is a fault of the graph.
 
-It ends with status 1 where a run takes more than 0.45 of the other's time or 0.3 of its memory, where memory or instructions
-grow by more than 2.1, or where a refused graph takes more than 1.5 of the earlier program's time.
+It ends with status 1 if a run takes more than 0.45 of the other's time or 0.3 of its memory, if memory or instructions
+grow by more than 2.1, or if a refused graph takes more than 1.5 of the earlier program's time.
 """
 import argparse
 import json
@@ -34,7 +34,7 @@ from made import class_of, declarations, interface_of, write
 
 RUNS = 11
 
-# a graph's name, its n, and how it is made
+# a graph's name, its n, and its generator
 MADE = [
     ('many modules', 2000, lambda n: {'modules': [declarations('m%d' % i, 20) for i in range(n)]}),
     ('one module of declarations', 50000, lambda n: {'modules': [declarations('m', n)]}),
@@ -42,12 +42,12 @@ MADE = [
     ('one interface of members', 40000, interface_of),
 ]
 
-# how much of the other's time and memory a run may take, how a figure may grow, and a refused graph's part of the earlier
+# the allowed ratios of a run's time and memory to the other's, of growth, and of a refused graph's time to the earlier program's
 TIME, MEMORY, GROWTH, REFUSED = 0.45, 0.3, 2.1, 1.5
 
 
 def apart(work):
-    """Does some work in a process of its own: what this one takes of memory counts as the peak of what it starts."""
+    """Runs work in a process of its own. The peak memory of this process would count for processes that it starts."""
     child = os.fork()
     if not child:
         work()
@@ -57,7 +57,7 @@ def apart(work):
 
 
 def run(program, path):
-    """The processor time of a run in milliseconds, and its memory at the peak in megabytes."""
+    """Returns the processor time of a run in milliseconds, and its peak memory in megabytes."""
     started = subprocess.Popen([program, path], stdin=subprocess.DEVNULL, stdout=subprocess.DEVNULL,
                                stderr=subprocess.DEVNULL)
     _, status, used = os.wait4(started.pid, 0)
@@ -66,7 +66,7 @@ def run(program, path):
 
 
 def in_turn(commands):
-    """Of each program on each text the least time and memory of some runs."""
+    """Returns for each program on each text the least time and memory of some runs."""
     found = [[] for _ in commands]
     for _ in range(RUNS):
         for command, figures in zip(commands, found):
@@ -95,7 +95,7 @@ class Bounds:
 
 
 def row(bounds, name, program, other, paths, small):
-    """Prints the row of a graph of some sizes; `small` has smaller ones to count instructions on."""
+    """Prints the row of a graph of some sizes. `small` has smaller ones for counting instructions."""
     figures = in_turn([(it, path) for path in paths for it in (program, other)])
     ours, theirs = figures[0::2], figures[1::2]
     counted = [[instructions([it, path]) for path in small] for it in (program, other)]
@@ -114,7 +114,7 @@ def row(bounds, name, program, other, paths, small):
 
 
 def write_refused(folder, graph):
-    """Writes the texts of a graph that are refused, each by the name of its way."""
+    """Writes the refused texts of a graph, each under the name of its fault."""
     modules = graph['modules']
     lasts = {'no module': {}, 'specifier twice': {'specifier': modules[0]['specifier'], 'kind': 'external'}}
     for name, last in lasts.items():

@@ -1,15 +1,15 @@
-// From sources to answers, beside TypeScript's own checker: what each module of a folder exports, where each exported name is
-// defined, and where each imported one.
+// Times the way from sources to answers, beside TypeScript's own checker: the exports of each module of a directory, where each
+// exported name is defined, and where each imported one.
 //
 //   node bench/sources.mjs [--rounds N] [--symq FILE] [--environment as-is] FOLDER..
 //
-// In each round four processes run one after the other: the checker; symdir with an empty cache; symdir with no trees kept, but
-// with TypeScript's compiled form, as any earlier run on any folder keeps it; and symdir with the trees and the graph of the run
-// before. None of them reads further certificates, as Node does before it starts where NODE_EXTRA_CA_CERTS names some, unless the
+// In each round four processes run one after the other: the checker; symdir with an empty cache; symdir without cached trees, but
+// with TypeScript's compiled form, which any earlier run on any directory caches; and symdir with the trees and the graph of the
+// run before. None of them reads further certificates, as Node does before it starts if NODE_EXTRA_CA_CERTS names some, unless the
 // environment is left as it is.
-// Told are the least of the rounds on the clock and of the processors, in seconds, the latter with all that the process started
-// and on Linux alone; and their ratios to the checker's. Both read the same files, the modules of TypeScript below the folder, and
-// both say how many names they found.
+// It prints the least times of the rounds on the clock and of the processors, in seconds, and their ratios to the checker's. The
+// latter include child processes and are measured on Linux only. Both read the same files, the modules of TypeScript below the
+// directory, and both print how many names they found.
 import { spawnSync } from 'node:child_process';
 import { existsSync, mkdtempSync, readFileSync, readdirSync, rmSync } from 'node:fs';
 import { createRequire } from 'node:module';
@@ -19,13 +19,14 @@ import { fileURLToPath } from 'node:url';
 import { parseArgs } from 'node:util';
 
 import { begin } from '../symdir/lib/folder/begin.js';
-import { Files } from '../symdir/lib/folder/files.js';
+import { Files, isFolder } from '../symdir/lib/folder/files.js';
 import { isJavaScript } from '../symdir/lib/language.js';
 import { findTypeScript } from '../symdir/lib/typescript.js';
 
 const SELF = fileURLToPath(import.meta.url);
+const USAGE = 'usage: node bench/sources.mjs [--rounds N] [--symq FILE] [--environment as-is] FOLDER..';
 
-/** @param {string} folder @returns {string[]} the modules of TypeScript in it */
+/** @param {string} folder @returns {string[]} its modules of TypeScript */
 function modules(folder) {
   return new Files(folder, []).code().filter((it) => !isJavaScript(it));
 }
@@ -62,7 +63,7 @@ function askChecker(folder) {
   return count;
 }
 
-/** @param {string} folder @param {string} symq what symdir finds */
+/** @param {string} folder @param {string} symq the result of symdir */
 async function askSymdir(folder, symq) {
   const begun = await begin({
     folder, skip: [/\.[mc]?jsx?$/], bodies: false, ambient: true, javascript: true, packages: false, cache: true, progress: () => {},
@@ -76,12 +77,12 @@ async function askSymdir(folder, symq) {
   const imports = specifiers.flatMap((specifier) => (opened.sources.modules.get(specifier)?.parsed.references ?? [])
     .filter((it) => it.how === 'import').flatMap(({ text, names }) => names.filter(([name]) => name !== '*').map(([name]) => ['resolve', specifier, ['import', text, [name]]])));
   const [leaves] = await Promise.all([opened.leaves(exports.map((it) => [it.module, it.symbol])), opened.ask(imports)]);
-  for (const it of leaves.flat()) if (isDefinition(it)) opened.declaration(it.module, it.start, it.end);
+  for (const it of leaves.flat()) if (isDefinition(it)) opened.declaration(it);
   await opened.close();
   return { exports: exports.length, imports: imports.length };
 }
 
-/** @returns {number} the seconds of processors of all processes that this one started and that have ended */
+/** @returns {number} the processor time in seconds of all ended child processes */
 function processors() {
   if (!existsSync('/proc/self/stat')) return NaN;
   const [user, system] = readFileSync('/proc/self/stat', 'utf8').split(') ')[1].split(' ').slice(13, 15);
@@ -112,7 +113,7 @@ function timeText(time, other) {
   return `clock ${text('clock')}, processors ${text('processors')}`;
 }
 
-/** @param {string} folder a cache, whose trees and graphs go */
+/** @param {string} folder a cache, whose trees and graphs are removed */
 function forgetTrees(folder) {
   for (const it of readdirSync(folder)) if (/\.(trees|graph)$/.test(it)) rmSync(path.join(folder, it));
 }
@@ -145,11 +146,33 @@ function compare(folder, rounds, symq) {
   for (const it of counts) console.log(`  ${it}`);
 }
 
-const { values, positionals } = parseArgs({ allowPositionals: true, options: {
-  rounds: { type: 'string', default: '5' }, symq: { type: 'string', default: fileURLToPath(new URL('../crates/symq/out/symq', import.meta.url)) }, ask: { type: 'string' },
-  environment: { type: 'string', default: 'plain' } } });
-if (!['plain', 'as-is'].includes(String(values.environment))) throw new Error('--environment is plain or as-is');
+/** @param {string} text what is wrong with the arguments @returns {never} */
+function usageError(text) {
+  console.error(`sources.mjs: ${text}\n${USAGE}`);
+  process.exit(2);
+}
+
+function argumentsOf() {
+  try {
+    return parseArgs({ allowPositionals: true, options: {
+      rounds: { type: 'string', default: '5' }, symq: { type: 'string', default: fileURLToPath(new URL('../crates/symq/out/symq', import.meta.url)) }, ask: { type: 'string' },
+      environment: { type: 'string', default: 'plain' }, help: { type: 'boolean', short: 'h' } } });
+  } catch (error) {
+    return usageError(/** @type {Error} */ (error).message.split('. To specify')[0]);
+  }
+}
+
+const { values, positionals } = argumentsOf();
 const folders = positionals.map((it) => path.resolve(it));
+if (values.help) {
+  console.log(USAGE);
+  process.exit(0);
+}
+if (!['plain', 'as-is'].includes(String(values.environment))) usageError('--environment is plain or as-is');
+if (!(Number(values.rounds) >= 1)) usageError('--rounds is a number from 1');
+if (folders.length === 0) usageError('which directories?');
+for (const it of folders) if (!isFolder(it)) usageError(`no directory ${it}`);
+if (!existsSync(String(values.symq))) usageError(`no program ${values.symq}: \`make symq\` builds it, --symq FILE names it`);
 if (values.ask === 'checker') console.log(JSON.stringify(askChecker(folders[0])));
 else if (values.ask) console.log(JSON.stringify(await askSymdir(folders[0], String(values.symq))));
 else for (const it of folders) compare(it, Number(values.rounds), String(values.symq));

@@ -3,20 +3,20 @@
 
     python3 bench/stages.py PROGRAM --beside OTHER --graph GRAPH ..
 
-A program is started on the graph and asked stage by stage; of each the processor time is taken, of the program alone. The
+A program is started on the graph and queried stage by stage. The processor time of the program alone is measured for each. The
 stages are
 
-    load          until the first answer, which stands for no module: read, check and keep the graph
-    analyse       which module each specifier stands for, so that each module is analysed
-    exports       what each module exports
-    names         what each symbol is called in full
-    dependencies  what each symbol depends on, in both modes
+    load          until the first answer, for a specifier without a module: read, check and store the graph
+    analyse       which module each specifier resolves to, so that each module is analysed
+    exports       the exports of each module
+    names         the fully qualified name of each symbol
+    dependencies  the dependencies of each symbol, in both modes
     paths, definitions, leaves     of each symbol
-    references    what each reference stands for that the dependencies told
-    end           behind the last answer: all is let go
-    everything    from the start to the end, and the memory at the peak
+    references    what each reference in the dependencies resolves to
+    end           after the last answer: everything is freed
+    everything    from the start to the end, and the peak memory
 
-Both programs are run in turn, and the least of their runs (--runs) is told: of the milliseconds of PROGRAM, and their part of
+Both programs are run in turn, and the least of their runs (--runs) is reported: the milliseconds of PROGRAM, and their ratio to
 OTHER's. The answers of both have to be the same, byte for byte; else the status is 1.
 """
 import argparse
@@ -37,18 +37,18 @@ OF_SYMBOLS = {'names': (('name',),), 'dependencies': (('deps', 'types'), ('deps'
 
 
 def processor_time(process) -> float:
-    """What a process took of the processors, in milliseconds: its clock, by the number that Linux gives it."""
+    """Returns the processor time of a process in milliseconds: its clock, by the number that Linux gives it."""
     return 1000 * time.clock_gettime((~process.pid << 3) | 2)
 
 
 def peak(process) -> float:
-    """The memory of a process at its peak so far, in megabytes; that of who started it isn't in it."""
+    """Returns the peak memory of a process so far, in megabytes, without that of its parent."""
     with open('/proc/%d/status' % process.pid, encoding='utf-8') as status:
         return next(int(it.split()[1]) / 1024 for it in status if it.startswith('VmHWM'))
 
 
 class Run:
-    """A program that answers: what each stage took, a digest of the answers, and the memory at the peak in megabytes."""
+    """A run of a program: the time of each stage, a digest of the answers, and the peak memory in megabytes."""
 
     def __init__(self, program, path, stages):
         self.took, self.answers = {}, hashlib.sha256()
@@ -66,7 +66,7 @@ class Run:
         self.took['end'] = self.took['everything'] - before
 
     def ask(self, lines: bytes) -> None:
-        """Writes the lines beside reading the answers, so that no pipe fills up; behind them all answers are there."""
+        """Writes the lines while it reads the answers, so that no pipe fills up. It returns when all answers are there."""
         writer = threading.Thread(target=self.write, args=(lines,))
         writer.start()
         for _ in range(lines.count(b'\n')):
@@ -79,7 +79,7 @@ class Run:
 
 
 def references(program, path, lines: bytes) -> bytes:
-    """A query for each reference that the answers to queries for dependencies tell."""
+    """Returns a query for each reference in the answers to queries for dependencies."""
     answers = subprocess.run([program, path], input=lines, stdout=subprocess.PIPE).stdout
     found = {}
     for asked, answer in zip(lines.split(b'\n'), answers.split(b'\n')):
@@ -91,7 +91,7 @@ def references(program, path, lines: bytes) -> bytes:
 
 
 def stages_of(program, path) -> 'dict[str, bytes]':
-    """The lines of each stage."""
+    """Returns the lines of each stage."""
     with open(path, encoding='utf-8') as file:
         graph = json.load(file)
     specifiers, symbols = [module['specifier'] for module in graph['modules']], symbols_of(program, path, graph)
@@ -104,7 +104,7 @@ def stages_of(program, path) -> 'dict[str, bytes]':
 
 
 def rows(a, path) -> bool:
-    """Prints the rows of a graph; returns whether the answers are the same."""
+    """Prints the rows of a graph. Returns whether the answers are the same."""
     stages = stages_of(a.program, path)
     programs = [a.program] + ([a.beside] if a.beside else [])
     runs = [[] for _ in programs]

@@ -1,15 +1,15 @@
 #!/usr/bin/env python3
-"""The whole gate: every proof from nothing, the wrong bodies, the borrows that the library allows, the tables of kinds and
-of public names, the counts of wrong bodies, and the stored cases on the proved programs.
+"""Runs the full check: every proof from nothing, the mutants, the borrows that the library allows, the tables of kinds and
+of public names, the words of names, the counts of mutants, the documents, and the stored cases on the proved programs.
 
     python3 tools/gate.py
 
-`rt ci` proves the crates from the lowest on. The wrong bodies of a crate are tried while it goes on, as soon as the
-libraries below the crate are proved, over copies of what it built of them: those that are due, as `wrong_bodies.py` says,
-by the number of commits. Beside them the model of `evidence/` is held to what it was read from, and the static library is built and
-called from other languages. What needs the proved programs comes last: random graphs, the command over folders, calls that are refused
-in turn, long ways, the cases. Behind all stands a line for each part of what it took, on the clock and of the
-processors, and then the lines of what failed, once more; the last line is 'N passed, M failed'.
+`rt ci` proves the crates from the lowest on. The mutants of a crate are tried meanwhile, as soon as the libraries below
+the crate are proved, over copies of their builds: those that are due, as `wrong_bodies.py` says, by the number of
+commits. Beside them the model of `evidence/` is compared with its sources, and the static library is built and called
+from other languages. The checks that need the proved programs come last: random graphs, the command over directories,
+calls that fail in turn, long chains, and the cases. At the end each part has a line with its time on the clock and of the
+processors. The lines of the failures are repeated; the last line is 'N passed, M failed'.
 """
 import os
 import re
@@ -21,6 +21,7 @@ import threading
 import time
 from concurrent.futures import ThreadPoolExecutor
 
+from kept import keep, sum_of
 from run_borrows import with_borrows
 from wrong.crates import TOP, Crate, libraries_below, libraries_of
 
@@ -52,21 +53,21 @@ class Proofs:
             self.changed.notify_all()
 
     def has(self, names):
-        """Waits until these crates are proved, or nothing more will be, and returns whether they are."""
+        """Waits until these crates are proved, or nothing more will be. Returns whether they are proved."""
         with self.changed:
             self.changed.wait_for(lambda: self.ended or self.proved.issuperset(names))
             return self.proved.issuperset(names)
 
 
 class Part:
-    """A command of the gate: what its last line counted, and what it took, in minutes."""
+    """A command of the full check: the counts of its last line, and its time in minutes."""
 
     def __init__(self, name, may_be_empty=False):
         self.name, self.may_be_empty, self.passed, self.failed = name, may_be_empty, 0, 1
         self.clock, self.processors, self.told = 0.0, 0.0, []
 
     def run(self, command, read=None):
-        """Runs the command, whose lines are passed on as they come where someone reads them, and else at its end."""
+        """Runs the command. Its lines are passed on as they come if they are read, and otherwise at its end."""
         began, lines = time.time(), []
         how = {'stdout': subprocess.PIPE, 'stderr': subprocess.STDOUT, 'text': True, 'errors': 'replace'}
         started = subprocess.Popen(command, cwd=TOP, **how)
@@ -87,7 +88,7 @@ class Part:
         return self
 
     def count(self, last, status):
-        """Takes the counts of a last line; another last line is a failure, and where nothing passed, unless nothing may be there."""
+        """Adds the counts of a last line. Another last line is a failure, and so is a part where nothing passed, unless it may be empty."""
         found = re.fullmatch(r'(\d+) passed, (\d+) failed\s*', last)
         if found:
             self.passed, self.failed = int(found[1]), int(found[2])
@@ -99,20 +100,30 @@ def tool(name, *words):
 
 
 def proofs_part(proofs):
-    part = Part('proofs, tests in Rust and programs (rt ci)')
+    """Proves everything from nothing, and stores the program for `make symq`."""
+    part, made_from = Part('proofs, tests in Rust and programs (rt ci)'), sum_of('symq')
     try:
-        return part.run(['rt', 'ci'], proofs.read)
+        part.run(['rt', 'ci'], proofs.read)
     finally:
         proofs.end()
+    if not part.failed:
+        keep('symq', os.path.join(TOP, 'crates', 'symq', 'out', 'symq'), made_from)
+    return part
 
 
 def commits():
-    """How many commits there are: which wrong bodies are due goes by it."""
-    return subprocess.run(['git', 'rev-list', '--count', 'HEAD'], cwd=TOP, stdout=subprocess.PIPE, text=True, check=True).stdout.strip()
+    """Returns how many commits there are, which decides which mutants are due."""
+    try:
+        done = subprocess.run(['git', 'rev-list', '--count', 'HEAD'], cwd=TOP, stdout=subprocess.PIPE, stderr=subprocess.DEVNULL, text=True)
+    except OSError:
+        done = None
+    if done is None or done.returncode != 0:
+        sys.exit('the gate needs git and a clone of the repository: which wrong bodies are due goes by the number of commits')
+    return done.stdout.strip()
 
 
 def wrong_bodies_part(name, libraries, proofs, lanes, turn):
-    """Tries the wrong bodies of a crate that are due, once the libraries below it are proved; the proofs go first."""
+    """Tries the mutants of a crate that are due, once the libraries below it are proved. The proofs have priority."""
     part = Part('wrong bodies: ' + name, may_be_empty=True)
     if not proofs.has(libraries_below(name, libraries)):
         return part
@@ -121,7 +132,7 @@ def wrong_bodies_part(name, libraries, proofs, lanes, turn):
 
 
 def shown_part(lanes):
-    """Runs what wrong bodies name that break a proof by hand."""
+    """Runs the cases and tests that mutants name which break a proof by hand."""
     return Part('wrong bodies: shown by runs').run(['nice', '-n', '5', *tool('wrong_bodies.py', '--runs', '--lanes', lanes)])
 
 
@@ -146,12 +157,12 @@ def tests_part(name):
 
 
 def model_part(what):
-    """Holds the model to its rows and readings, or the program to the model."""
+    """Compares the model with its rows and readings, or the program with the model."""
     return Part('evidence: ' + what).run([sys.executable, os.path.join(TOP, 'evidence', 'model', 'gate.py'), what])
 
 
 def laid(folder, name, files=0):
-    """A folder in the folder, with so many empty files: one for each check of wrong bodies that may run at once."""
+    """Makes a directory with so many empty files: one for each check of mutants that may run at once."""
     path = os.path.join(folder, name)
     os.mkdir(path)
     for n in range(files):
@@ -161,21 +172,24 @@ def laid(folder, name, files=0):
 
 
 def all_parts():
-    """Runs the parts: `rt ci` by at least two proofs at once, and checks of wrong bodies beside it, at lower priority, since
-    the proofs are for the most part a chain."""
+    """Runs the parts: `rt ci`, and checks of mutants beside it. These have lower priority, since the proofs are mostly a chain. On less than four
+    processors `rt ci` has two proofs at once, with one job each. On more it distributes them itself, and a crate on that chain gets more than one
+    job."""
     processors, libraries, turn = len(os.sched_getaffinity(0)), libraries_of(TOP), commits()
-    os.environ.setdefault('RT_JOBS', str(max(2, processors // 2)))
+    if processors < 4:
+        os.environ.setdefault('RT_JOBS', '2')
     edits = {name: len(Crate(TOP, name, libraries).names()) for name in libraries}
     names = sorted((name for name in libraries if edits[name]), key=lambda it: -edits[it])
     with tempfile.TemporaryDirectory(prefix='gate-') as folder, ThreadPoolExecutor(len(names) + 8) as pool:
         proofs, lanes = Proofs(laid(folder, 'built')), laid(folder, 'lanes', max(2, processors - 1))
         tasks = [pool.submit(proofs_part, proofs), pool.submit(borrows_part, proofs), pool.submit(bindings_part, proofs)]
-        tasks += [pool.submit(tests_part, name) for name in ('wrong_bodies.py', 'public_names.py', 'kinds.py')]
+        tasks += [pool.submit(tests_part, name) for name in ('wrong_bodies.py', 'public_names.py', 'kinds.py', 'prove.py', 'docs.py', 'words.py')]
         tasks += [pool.submit(model_part, 'model'), pool.submit(shown_part, lanes)]
         tasks += [pool.submit(wrong_bodies_part, name, libraries, proofs, lanes, turn) for name in names]
         parts = [it.result() for it in tasks]
     parts += [Part('table of kinds').run(tool('kinds.py')), Part('public names').run(tool('public_names.py'))]
-    parts.append(Part('counts of wrong bodies').run(tool('edit_counts.py')))
+    parts += [Part('counts of wrong bodies').run(tool('edit_counts.py')), Part('quotes of the sources').run(tool('quotes.py'))]
+    parts += [Part('words of names').run(tool('words.py')), Part('documents').run(tool('docs.py'))]
     parts.append(Part('plain graphs').run(tool('run_plain.py')))
     parts += [model_part('program'), Part('symdir').run(tool('run_symdir.py'))]
     parts += [Part('refused calls').run(tool('run_refusing.py')), Part('long ways').run(tool('run_deep.py'))]

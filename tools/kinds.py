@@ -1,15 +1,15 @@
 #!/usr/bin/env python3
-"""Compares what follows from the table of kinds, tools/kinds/kinds.txt, with what stands there.
+"""Compares the parts that are generated from the table of kinds, tools/kinds/kinds.txt, with the present files.
 
     python3 tools/kinds.py                    compares
-    python3 tools/kinds.py --write            writes what follows, and compares
+    python3 tools/kinds.py --write            writes the generated parts, and compares
     python3 tools/kinds.py [--write] FOLDER   in another repository, with its tools/kinds/kinds.txt, crates/, docs/ and symdir/
 
-What follows are files, and parts of files: enums, functions, rows of contracts and of documents. A part is found by its first line, so
-that nothing in the files marks it. What is free in it stays as it stands there: in the documents what a kind is, and the order of categories. The
-table that the converter of folders has, symdir/lib/check/kinds.js, is compared, and not written.
+Generated are files of code and of contracts, whose first line says so, and the tables of the page on graphs, each between two comments. Code is
+formatted by `rt fmt`. The free parts of a table stay: the description of a kind, and the order of categories. The table of the directory converter,
+symdir/lib/check/kinds.js, is compared, and not written.
 
-For each file how many of its lines follow, and where it differs from what the table makes of it; each part counts. The last line is
+For each file it prints how many of its lines are generated, and where it differs from the table; each part counts. The last line is
 'N passed, M failed'.
 """
 import argparse

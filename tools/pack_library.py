@@ -1,7 +1,7 @@
 #!/usr/bin/env python3
-"""Puts the library for C, Rust and Python together: `python3 tools/pack_library.py FOLDER [ARCHIVE]`.
+"""Packs the library for C, Rust and Python: `python3 tools/pack_library.py FOLDER [ARCHIVE]`.
 
-ARCHIVE is what `rt lib` builds of the crate `symq_c`, crates/symq_c/out/libsymq_c.a. FOLDER gets `libsymq.a`, which has with it the
+ARCHIVE is the library that `rt lib` builds from the crate `symq_c`, crates/symq_c/out/libsymq_c.a. FOLDER gets `libsymq.a`, which has with it the
 kit's three functions for memory, `libsymq.so` of the same, and `symq.h`.
 """
 import os
@@ -17,12 +17,12 @@ HEADER = os.path.join(TOP, 'bindings', 'c', 'symq.h')
 
 
 def kit_folder():
-    """The folder of the Rattle kit, in which the command `rt` stands."""
+    """Returns the directory of the Rattle kit, which has the command `rt`."""
     return os.path.dirname(os.path.dirname(os.path.realpath(shutil.which('rt') or sys.exit('the Rattle kit is needed: its command rt was not found'))))
 
 
 def pack(folder, archive=ARCHIVE):
-    """Puts the library into a folder."""
+    """Puts the library into a directory."""
     if not os.path.exists(archive):
         sys.exit('%s is not there: `make lib` builds it' % archive)
     ensure(['cc', 'ar'])

@@ -3,23 +3,25 @@
 
     python3 tools/public_names.py                   this repository
     python3 tools/public_names.py FOLDER            another one, with its crates.txt, crates/ and docs/
-    python3 tools/public_names.py --move [FOLDER]   puts rows that say 'not there yet' where their names stand by now
+    python3 tools/public_names.py --write [FOLDER]  makes its tables from the sources, and compares
+    python3 tools/public_names.py --move [FOLDER]   moves rows that say 'not there yet' to the locations of their names
 
-docs/PUBLIC.md says what a row is. A row is wrong
+docs/PUBLIC.md says what a row is. All but its beginning and its part 'Left out' is generated, in the order of modules: for each item a row with its
+fields or variants and the first sentence of its comment, one with its methods and one with its traits. A row is wrong
 
-    where it names a place at which no such public item, part or trait stands
-    where it says 'not there yet' or 'left out', and the name is there
-    where it says 'left out', and docs/DIFFERENCES.md doesn't have the name
-    where another row has the same name, or its line can't be read
+    if it names a location without such a public item, part or trait
+    if it says 'not there yet' or 'left out', and the name exists
+    if it says 'left out', and docs/DIFFERENCES.md doesn't have the name
+    if another row has the same name, or its line can't be read
 
-and a public name of a library is without a row where no row names it at one of its places. Libraries are the crates of
-crates.txt that have src/lib.rt. Public is what a user can write: `pub` items that `pub mod` and `pub use` lead to from
-the crate's root, their `pub` fields and methods, variants, what a trait asks for, and traits that are implemented by
-hand. What only contracts speak of isn't: `ghost` parts, and the trait `Model`, which says what they are about.
+and a public name of a library lacks a row if no row names it at one of its locations. Libraries are the crates of
+crates.txt that have src/lib.rt, except for those whose names end in `_test_support`, which only tests use. Public is what a user can write: `pub` items that are reachable by `pub mod`
+and `pub use` from the crate's root, their `pub` fields and methods, variants, the items of a trait, and traits that are
+implemented by hand. Items for contracts alone aren't public: `ghost` parts, and the trait `Model`.
 
-The sources are read in the layout of `rt fmt`, and what can't be read there fails too: `pub use` of all names, or of one
-that isn't there, a module within a file, two items of one name in a crate. A line for each row that is wrong and each
-name without a row, such as the table needs it; the last line is 'N passed, M failed'.
+The page also has to be as it is generated. The sources are read in the layout of `rt fmt`, and unsupported forms fail too: `pub use` of all names, or of
+one that doesn't exist, a module within a file, two items of one name in a crate. Each wrong row has a line, and each name
+without a row has the row that it needs; the last line is 'N passed, M failed'.
 """
 import os
 import re
@@ -29,6 +31,12 @@ from dataclasses import dataclass, field
 from wrong.crates import IMPL, TOP, read, write
 
 NOT_YET, LEFT_OUT = 'not there yet', 'left out'
+# where the part that isn't generated begins again
+END = '## Left out'
+# the end of the names of libraries that only tests use
+OF_TESTS = '_test_support'
+# enums whose variants have their fields in docs/GRAPH.md
+TREES = 'deno_symbols::tree'
 
 LINK = re.compile(r'\[([^]]*)\]\([^)]*\)')
 ROW = re.compile(r'\| `([^`]+)` \| ([^|]+?) \|.*')
@@ -40,6 +48,8 @@ FIELD = re.compile(r'    pub (?!ghost )(\w+):')
 VARIANT = re.compile(r'    (\w+)(?: \{(.*)\})?[,({ ]*')
 ASKED = re.compile(r'    (?:const |unsafe )*(?:fn|type|const) (\w+)')
 UNREAD = re.compile(r'pub (?!ghost )|impl\b')
+# a comment of an item, the attributes below it, and the item
+COMMENT = re.compile(r'((?:^///.*\n)+)(?:^#\[.*\n(?:^[ )].*\n)*)*^pub (?:const |unsafe |extern "C" )*(?:struct|enum|trait|fn|type|const|static) (\w+)', re.M)
 METHOD = re.compile(r'    pub (?:(?:const |unsafe )*fn|const) (\w+)')
 LIFETIME = re.compile(r"(?<=&)'\w+ ")
 
@@ -50,6 +60,9 @@ class Item:
 
     name: str
     parts: set = field(default_factory=set)
+    # the parts in the order of the sources, and the first sentence of its comment
+    order: list = field(default_factory=list)
+    about: str = ''
     fields: dict = field(default_factory=dict)
     traits: set = field(default_factory=set)
     derived: set = field(default_factory=set)
@@ -68,7 +81,7 @@ class Module:
 
 @dataclass(frozen=True)
 class Row:
-    """A row of the table: a type or function, or some of its parts, or a trait of it."""
+    """A row of the table: a type or function, some of its parts, or its traits."""
 
     line: int
     name: str
@@ -77,11 +90,11 @@ class Row:
     whole: bool = True
     parts: tuple = ()
     fields: tuple = ()
-    trait: str = ''
+    traits: tuple = ()
 
 
 def chunks(text):
-    """The items of a file with their lines: each begins at the margin with a word or an attribute."""
+    """Returns the items of a file with their lines: each begins at the margin with a word or an attribute."""
     found = []
     for line in text.split('\n'):
         if re.match(r'[\w#]', line):
@@ -92,7 +105,7 @@ def chunks(text):
 
 
 def used(tree, before=()):
-    """The paths that a `use` names, as pairs of the new name and the path."""
+    """Returns the paths that a `use` names, as pairs of the new name and the path."""
     tree = tree.strip()
     if '{' in tree:
         head, rest = tree.split('{', 1)
@@ -105,7 +118,7 @@ def used(tree, before=()):
 
 
 def split_list(text):
-    """The parts of a list between commas, where those within braces part nothing."""
+    """Splits a list at commas, except within braces."""
     parts, depth = [''], 0
     for letter in text:
         depth += (letter == '{') - (letter == '}')
@@ -116,26 +129,38 @@ def split_list(text):
     return [part.strip() for part in parts if part.strip()]
 
 
+def add_parts(item, parts):
+    """Adds parts to an item, each once."""
+    item.order += [it for it in parts if it not in item.parts]
+    item.parts.update(parts)
+
+
+def first_sentence(comment):
+    """Returns the first sentence of a comment, without remarks in parentheses on the Rust crate."""
+    text = ' '.join(it[3:].strip() for it in comment.strip().split('\n')).split('  ')[0]
+    return re.split(r'(?<=[.:])\s+(?=[A-Z])', re.sub(r' ?\((?:own|extension|as deno_graph)[^()]*\)', '', text))[0].rstrip(':').replace('|', '/')
+
+
 def read_parts(item, kind, lines):
-    """Takes the public parts of a struct, an enum or a trait from its lines."""
+    """Adds the public parts of a struct, an enum or a trait from its lines."""
     if kind == 'struct' and lines[0].rstrip().endswith(');'):
         held = split_list(lines[0][lines[0].index('(') + 1 : lines[0].rindex(')')])
-        item.parts |= {'.%d' % n for n, text in enumerate(held) if text.startswith('pub ')}
+        add_parts(item, ['.%d' % n for n, text in enumerate(held) if text.startswith('pub ')])
     variant = ''
     for line in lines[1:]:
         form = {'struct': FIELD, 'enum': VARIANT, 'trait': ASKED}.get(kind)
         found = form and form.match(line)
         if found:
-            item.parts.add(('.' if kind == 'struct' else '::') + found[1])
+            add_parts(item, [('.' if kind == 'struct' else '::') + found[1]])
         if found and kind == 'enum':
             variant = found[1]
-            item.fields[variant] = set(re.findall(r'(\w+):', found[2] or ''))
+            item.fields[variant] = re.findall(r'(\w+):', found[2] or '')
         elif kind == 'enum' and re.match(r' {8}\w+:(?!:)', line):
-            item.fields[variant].add(line.split(':')[0].strip())
+            item.fields[variant].append(line.split(':')[0].strip())
 
 
 def read_impl(module, lines):
-    """Notes what an `impl` gives its type: methods, or a trait."""
+    """Records what an `impl` adds to its type: methods, or a trait."""
     head = IMPL.match(lines[0])
     trait = LIFETIME.sub('', re.sub(r'^(\w+::)+', '', head['trait'] or ''))
     methods = [] if trait else ['::' + found[1] for found in map(METHOD.match, lines) if found]
@@ -145,12 +170,12 @@ def read_impl(module, lines):
 
 
 def read_module(text):
-    module, derived = Module(), set()
+    module, derived, about = Module(), set(), {name: first_sentence(comment) for comment, name in COMMENT.findall(text)}
     for lines in chunks(text):
         whole = '\n'.join(lines)
         item, child, use = ITEM.match(whole), MODULE.match(whole), USE.match(whole)
         if item:
-            made = Item(item[2], derived=derived)
+            made = Item(item[2], derived=derived, about=about.get(item[2], ''))
             read_parts(made, item[1], lines)
             module.items[item[2]] = made
         elif child:
@@ -167,13 +192,13 @@ def read_module(text):
 
 
 class Sources:
-    """The libraries of a repository: modules by their paths, and where each public item stands."""
+    """The libraries of a repository: modules by their paths, and the locations of each public item."""
 
     def __init__(self, folder):
         self.modules, self.places, self.unread = {}, {}, []
         listed = re.findall(r'^(\w+):', read(os.path.join(folder, 'crates.txt')), re.M)
         paths = {name: os.path.join(folder, 'crates', name, 'src') for name in listed}
-        libraries = [name for name in listed if os.path.exists(os.path.join(paths[name], 'lib.rt'))]
+        libraries = [name for name in listed if os.path.exists(os.path.join(paths[name], 'lib.rt')) and not name.endswith(OF_TESTS)]
         for name in libraries:
             self.read_file((name,), os.path.join(paths[name], 'lib.rt'), paths[name])
             self.give_impls(name)
@@ -187,7 +212,7 @@ class Sources:
             self.read_file(path + (child,), os.path.join(folder, child + '.rt'), os.path.join(folder, child))
 
     def give_impls(self, crate):
-        """Gives the types of a crate what its `impl`s have for them, wherever they stand."""
+        """Adds to the types of a crate what its `impl`s have for them, wherever these are."""
         own = [module for path, module in self.modules.items() if path[0] == crate]
         items, names = {}, [name for module in own for name in module.items]
         self.unread += ['%s: %s is a name of two items' % (crate, name) for name in set(names) if names.count(name) > 1]
@@ -196,11 +221,11 @@ class Sources:
         for module in own:
             for name, trait, methods in module.impls:
                 if name in items:
-                    items[name].parts.update(methods)
+                    add_parts(items[name], methods)
                     items[name].traits.update({trait} - {'', 'Model'})
 
     def target(self, module, path):
-        """What a path in a module leads to: an item, or the path of a module; nothing outside the libraries."""
+        """Returns what a path in a module resolves to: an item, or the path of a module; None outside the libraries."""
         if path[0] in ('crate', 'self', 'super'):
             module = {'crate': module[:1], 'self': module, 'super': module[:-1]}[path[0]]
         elif path[0] in self.modules[module].children:
@@ -222,7 +247,7 @@ class Sources:
         return module
 
     def visit(self, place, path):
-        """Notes the place of each public item below a module that can be reached under this path."""
+        """Records the location of each public item below a module that is reachable under this path."""
         module = self.modules[path]
         found = {name: path + (name,) for name, is_public in module.children.items() if is_public}
         found.update({name: self.target(path, used) for name, used in module.uses.items()})
@@ -244,9 +269,11 @@ class Sources:
 
 
 def row_of(number, name, place):
-    """The row of a name and a place; nothing where the name isn't in the form of one."""
+    """Returns the row of a name and a location; None if the name doesn't have the form."""
     if trait := re.fullmatch(r'(\w+): (\w.*)', name):
-        return Row(number, name, place, trait[1], whole=False, trait=trait[2])
+        return Row(number, name, place, trait[1], whole=False, traits=tuple(re.split(r', (?=\w)(?![^<]*>)', trait[2])))
+    if methods := re.fullmatch(r'(\w+)::\{(.*)\}', name):
+        return Row(number, name, place, methods[1], whole=False, parts=tuple('::' + it for it in split_list(methods[2])))
     if part := re.fullmatch(r'(\w+)((?:::|\.)\w+)', name):
         return Row(number, name, place, part[1], whole=False, parts=(part[2],))
     if group := re.fullmatch(r'(\w+) \{ (.*) \}', name):
@@ -258,7 +285,7 @@ def row_of(number, name, place):
 
 
 def rows_of(text):
-    """The rows of the table, by the numbers of their lines, and the lines that look like rows and are none."""
+    """Returns the rows of the table, by the numbers of their lines, and the lines that look like rows and are none."""
     rows, odd = [], []
     for number, line in enumerate(text.split('\n'), 1):
         found = ROW.fullmatch(line)
@@ -271,16 +298,16 @@ def rows_of(text):
 
 
 def lacking(row, item):
-    """What a row names that the item doesn't have."""
-    if row.trait:
-        return [] if row.trait in item.traits | item.derived else [row.trait]
-    wrong = [name for name, fields in row.fields if name in item.fields and item.fields[name] != fields]
+    """Returns what a row names that the item doesn't have."""
+    if row.traits:
+        return [it for it in row.traits if it not in item.traits | item.derived]
+    wrong = [name for name, fields in row.fields if name in item.fields and set(item.fields[name]) != fields]
     lacks = [part.lstrip(':.') for part in row.parts if part not in item.parts]
     return lacks + ['%s with these fields' % name for name in wrong]
 
 
 def fault_of(row, sources, differences):
-    """What is wrong with a row, if anything."""
+    """Returns what is wrong with a row, if anything."""
     if row.place not in (NOT_YET, LEFT_OUT):
         items = sources.items_at(row.place, row.base)
         lacks = lacking(row, items[0]) if items else [row.base]
@@ -294,12 +321,12 @@ def fault_of(row, sources, differences):
 
 
 def names_without(item, place, rows):
-    """The names of an item that no row has, as the rows would have them."""
+    """Returns the names of an item that no row has, as the rows would have them."""
     own = [row for row in rows if row.base == place[1]]
     covered = {part for row in own for part in row.parts}
     missing = [] if any(row.whole for row in own) else [place[1]]
     missing += [place[1] + part for part in sorted(item.parts - covered)]
-    return missing + ['%s: %s' % (place[1], it) for it in sorted(item.traits - {row.trait for row in own})]
+    return missing + ['%s: %s' % (place[1], it) for it in sorted(item.traits - {it for row in own for it in row.traits})]
 
 
 def all_names(item):
@@ -307,7 +334,7 @@ def all_names(item):
 
 
 def check(folder):
-    """How many rows and names are right, and a line for each that isn't."""
+    """Returns how many rows and names are right, and a line for each that isn't."""
     sources, text = Sources(folder), read(os.path.join(folder, 'docs', 'PUBLIC.md'))
     differences = read(os.path.join(folder, 'docs', 'DIFFERENCES.md'))
     rows, faults = rows_of(text)
@@ -327,8 +354,45 @@ def check(folder):
     return passed, faults
 
 
+def unlike(folder):
+    """Returns the lines of the page that differ from the generated ones, and those that it lacks."""
+    text = read(os.path.join(folder, 'docs', 'PUBLIC.md'))
+    lines, others = text.split('\n'), made(folder, text).split('\n')
+    found = ['isn\'t made so: ' + it for it in lines if it not in others] + ['is made so: ' + it for it in others if it not in lines]
+    return found or ([] if lines == others else ['the lines are made in another order'])
+
+
+def with_fields(item, part, place):
+    """Returns a variant with its fields, unless they are those of a kind, or a field of a struct."""
+    fields = item.fields.get(part.lstrip(':'), ()) if place != TREES else ()
+    return part.lstrip(':.') + (' { %s }' % ', '.join(fields) if fields else '')
+
+
+def rows_for(item, place, name):
+    """Returns the rows of an item at its location: itself with its fields or variants, numbered fields, methods, traits."""
+    held = [it for it in item.order if it[0] == '.' and not it[1:].isdigit() or it.startswith('::') and it[2:3].isupper()]
+    methods = [it[2:] for it in item.order if it.startswith('::') and not it[2:3].isupper()]
+    names = [name + (' { %s }' % ', '.join(with_fields(item, it, place) for it in held) if held else '')]
+    names += [name + it for it in item.order if it[0] == '.' and it[1:].isdigit()]
+    names += ['%s::{%s}' % (name, ', '.join(methods))] if methods else []
+    names += ['%s: %s' % (name, ', '.join(sorted(item.traits)))] if item.traits else []
+    return ['| `%s` | `%s` | %s |' % (it, place, '' if n else item.about) for n, it in enumerate(names)]
+
+
+def made(folder, text):
+    """Returns the page as generated from the sources: its beginning, the table, and the part 'Left out' unchanged."""
+    sources, parts = Sources(folder), {}
+    for item, places in sources.places.items():
+        place, name = places[-1]
+        parts.setdefault(place, []).extend(rows_for(item, place, name))
+    head = text[: text.index('\n## ') + 1]
+    end = text[text.index(END) :] if END in text else ''
+    rows = [it for _, own in sorted(parts.items()) for it in own]
+    return head + '\n'.join(['## Names', '', '| name | is in | what it is |', '|---|---|---|', *rows, '', end])
+
+
 def move(folder):
-    """Puts the rows that say 'not there yet' where their names stand."""
+    """Moves the rows that say 'not there yet' to the locations of their names."""
     sources, path = Sources(folder), os.path.join(folder, 'docs', 'PUBLIC.md')
     lines = read(path).split('\n')
     for row in rows_of('\n'.join(lines))[0]:
@@ -339,11 +403,15 @@ def move(folder):
 
 
 def main():
-    words = [word for word in sys.argv[1:] if word != '--move']
+    words = [word for word in sys.argv[1:] if word not in ('--move', '--write')]
     folder = words[0] if words else TOP
-    if len(words) < len(sys.argv) - 1:
+    if '--move' in sys.argv[1:]:
         move(folder)
+    if '--write' in sys.argv[1:]:
+        path = os.path.join(folder, 'docs', 'PUBLIC.md')
+        write(path, made(folder, read(path)))
     passed, faults = check(folder)
+    faults += unlike(folder)
     print(''.join(line + '\n' for line in faults), end='')
     print('%d passed, %d failed' % (passed, len(faults)))
     return 1 if faults else 0

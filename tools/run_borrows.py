@@ -2,10 +2,10 @@
 """Checks which borrows the public calls of the library allow.
 
     python3 tools/run_borrows.py                       over the libraries as `rt check` leaves them, in out/ of each crate
-    python3 tools/run_borrows.py --libraries FOLDER    over the built libraries of a folder, NAME.rlib
+    python3 tools/run_borrows.py --libraries FOLDER    over the built libraries of a directory, NAME.rlib
 
-A file of tests/borrows/ is a crate of one file. One of allowed/ has to be proved; one of refused/ has to be refused for a
-borrow, and for nothing else. A line a file; the last line is 'N passed, M failed'.
+A file of tests/borrows/ is a crate of one file. A file of allowed/ has to be proved. A file of refused/ has to be refused for a
+borrow, and for nothing else. Each file has a line; the last line is 'N passed, M failed'.
 """
 import argparse
 import os
@@ -15,22 +15,23 @@ import subprocess
 import sys
 import tempfile
 
+from runner import Limits, counts, run
 from wrong.crates import TOP, Crate, kit, libraries_of
 from wrong.rooms import words_of
 
 CASES = os.path.join(TOP, 'tests', 'borrows')
-# what a file may use
+# the libraries that a file may use
 USES = ['deno_symbols']
 ERROR = re.compile(r'\berror(\[[\w-]+\])?:')
 
 
 def with_borrows(libraries):
-    """The crates and what each stands on, a file of tests/borrows/ among them as the crate `borrows`."""
+    """Returns the crates with their dependencies, and a file of tests/borrows/ among them as the crate `borrows`."""
     return {**libraries, 'borrows': USES}
 
 
 def gathered(folder):
-    """The folder, with the libraries that stand in out/ of their crates."""
+    """Returns a directory with the libraries in out/ of their crates."""
     for name in libraries_of(TOP):
         built = os.path.join(TOP, 'crates', name, 'out', 'rlib', name + '.rlib')
         if os.path.isdir(built):
@@ -39,14 +40,15 @@ def gathered(folder):
 
 
 def said_of(path, built):
-    """What a check says of the file as a crate."""
+    """Returns the output of a check of the file as a crate."""
     with tempfile.TemporaryDirectory(prefix='borrows-') as top:
         source = os.path.join(top, 'crates', 'borrows', 'src')
         os.makedirs(source)
         shutil.copy(path, os.path.join(source, 'lib.rt'))
         crate = Crate(top, 'borrows', with_borrows(libraries_of(TOP)))
-        how = {'cwd': crate.folder, 'stdout': subprocess.PIPE, 'stderr': subprocess.STDOUT, 'text': True}
-        return subprocess.run(words_of(crate, kit(), built), errors='replace', **how).stdout
+        program, *words = words_of(crate, kit(), built)
+        got = run(program, words, None, Limits(seconds=None), cwd=crate.folder, stderr=subprocess.STDOUT)
+        return got.output.decode('utf-8', 'replace')
 
 
 def is_allowed(said):
@@ -70,8 +72,7 @@ def main():
                 said = said_of(os.path.join(CASES, sort, name), built)
                 verdicts.append(test(said))
                 print('%s/%s: %s' % (sort, name, 'passed' if verdicts[-1] else 'FAILED\n' + said), flush=True)
-    print('%d passed, %d failed' % (sum(verdicts), len(verdicts) - sum(verdicts)))
-    return 0 if verdicts and all(verdicts) else 1
+    return counts(sum(verdicts), len(verdicts) - sum(verdicts)) or int(not verdicts)
 
 
 if __name__ == '__main__':

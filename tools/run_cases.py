@@ -4,19 +4,19 @@
     python3 tools/run_cases.py                                builds the programs without a proof, and runs them
     python3 tools/run_cases.py --proved                       runs the proved programs, crates/NAME/out/NAME
     python3 tools/run_cases.py --programs SYMQ SYMQ_TABLES    runs the programs at these paths
-    python3 tools/run_cases.py cases/NAME tables ..           these cases, or sorts of cases, alone
+    python3 tools/run_cases.py cases/NAME tables ..           only these cases, or sorts of cases
     python3 tools/run_cases.py --once ..                      each case in its own order alone
 
-There are three sorts of cases, in three folders of tests/:
+There are three sorts of cases, in three directories of tests/:
 
     cases/NAME/     a run of symq: graph.json (the graph's text), queries (standard input) and lines (standard output)
     tables/NAME/    a run of symq_tables: graph.json and tables (standard output)
     forms/NAME      a run of symq without queries for each line that isn't empty and begins with no '#':
                     STATUS, tab, STANDARD ERROR (one line, or nothing), tab, TEXT OF THE GRAPH
 
-A folder also has, where they are not 0, nothing and the graph: status, stderr, args (one word a line). A file that is
-absent is empty. Since an answer is the same whatever was asked before, a case of cases/ with several queries, each answered,
-is run three times: in order, backwards, and twice over. The last line is 'N passed, M failed', where a sort of which there is no case counts as a failure.
+A directory also has status, stderr and args (one argument a line), if they are not 0, empty and the graph. An absent file is
+empty. An answer doesn't depend on earlier queries. So a case of cases/ with several queries, each answered, is run three
+times: in order, in reverse, and repeated. The last line is 'N passed, M failed'; a sort without cases counts as a failure.
 """
 import argparse
 import os
@@ -27,16 +27,10 @@ import tempfile
 from concurrent.futures import ThreadPoolExecutor
 from typing import NamedTuple, Optional
 
-ROOT = os.path.dirname(os.path.dirname(os.path.abspath(__file__)))
+from runner import ROOT, Outcome, built, report, run
+
 TESTS = os.path.join(ROOT, 'tests')
 PROGRAMS = ('symq', 'symq_tables')
-SECONDS = 120
-
-
-class Outcome(NamedTuple):
-    status: int
-    output: bytes
-    error: bytes
 
 
 class Case(NamedTuple):
@@ -62,7 +56,7 @@ def write(folder, name, content):
 
 
 def folder_cases(sort, name, program, output):
-    """The case of a folder, whose wanted standard output stands in the file `output`."""
+    """Returns the case of a directory, whose expected standard output is in the file `output`."""
     folder = os.path.join(TESTS, sort, name)
     words = read(folder, 'args', None)
     if words is not None:
@@ -74,7 +68,7 @@ def folder_cases(sort, name, program, output):
 
 
 def in_other_orders(case):
-    """The case with its queries backwards, and twice over; none where not each of several lines has an answer."""
+    """Returns the case with its queries in reverse, and repeated; none unless each of several lines has an answer."""
     queries, answers = ([line + b'\n' for line in text.split(b'\n')[:-1]] for text in (case.given, case.want.output))
     if case.want.status or len(queries) < 2 or len(queries) != len(answers) or not case.given.endswith(b'\n'):
         return []
@@ -85,7 +79,7 @@ def in_other_orders(case):
 
 
 def form_cases(sort, name):
-    """A case for each line of a file."""
+    """Returns a case for each line of a file."""
     cases = []
     for number, line in enumerate(read(os.path.join(TESTS, sort), name).split(b'\n'), 1):
         if line and not line.startswith(b'#'):
@@ -103,7 +97,7 @@ SORTS = {
 
 
 def all_cases():
-    """The cases, and what is wrong with the folders themselves."""
+    """Returns the cases, and what is wrong with the directories themselves."""
     cases, wrong = [], {}
     for sort, load in SORTS.items():
         folder = os.path.join(TESTS, sort)
@@ -120,32 +114,32 @@ def show(outcome):
 
 
 def difference(case, got):
-    """What is wrong with an outcome; nothing where all is right."""
+    """Returns what is wrong with an outcome; empty if nothing is."""
     return '' if got == case.want else 'got %s\nwant %s' % (show(got), show(case.want))
 
 
 def run_program(path, case):
-    """What is wrong with the run of a program that is built."""
+    """Returns what is wrong with the run of a built program."""
     with tempfile.TemporaryDirectory() as folder:
         if case.graph is not None:
             write(folder, 'graph.json', case.graph)
         words = ['graph.json'] if case.words is None else case.words
         try:
-            run = subprocess.run([path] + words, input=case.given, cwd=folder, timeout=SECONDS,
-                                 stdout=subprocess.PIPE, stderr=subprocess.PIPE)
+            got = run(path, words, case.given, cwd=folder)
         except (OSError, subprocess.TimeoutExpired) as error:
             return str(error)
-    return difference(case, Outcome(run.returncode, run.stdout, run.stderr))
+    return difference(case, got)
 
 
 def run_programs(paths, cases):
-    """What is wrong with the runs of the programs at these paths, case by case."""
+    """Returns what is wrong with the runs of the programs at these paths, case by case."""
     with ThreadPoolExecutor(os.cpu_count()) as pool:
         return list(pool.map(lambda case: run_program(paths[case.program], case), cases))
 
 
 def write_trial(folder, key, case, word=''):
-    """The files from which `rt try --cases` runs a case: its standard input and its words, and the graph apart, with a word before its name."""
+    """Writes the files from which `rt try --cases` runs a case: its standard input and arguments, and the graph apart, with an argument before its
+    name."""
     graph = os.path.join(folder, word + key + '.json')
     if case.graph is not None:
         write(folder, word + key + '.json', case.graph)
@@ -156,9 +150,9 @@ def write_trial(folder, key, case, word=''):
 
 
 def trial_outcomes(output, report):
-    """The outcomes of the runs of `rt try --cases` by their keys. It prints what a run wrote to standard output below
-    the run's line '== KEY', and what it wrote to standard error above the line 'case=KEY' of its report; a last line
-    without an end gets one. A run that a fault ended, as an index out of bounds, has that word for its status."""
+    """Returns the outcomes of the runs of `rt try --cases` by their keys. It prints the standard output of a run below the line '== KEY', and its
+    standard error above the line 'case=KEY' of its report. A last line without an end gets one. A run that ended by a fault, such as an index out
+    of bounds, has the fault's name for its status."""
     outputs = re.split(rb'^== (\d{5})\n', output, flags=re.M)
     outputs = dict(zip(outputs[1::2], outputs[2::2]))
     errors = re.split(rb'^case=(\d{5}) run=(\S+)(?: status=(\d+))?.*\n', report, flags=re.M)
@@ -168,26 +162,26 @@ def trial_outcomes(output, report):
 
 
 def tried_outcomes(program, cases, top=ROOT, words=None, environment=None):
-    """The outcomes of the cases' runs by an unproved build of a program of the repository at `top`, a case without an outcome left out, by the
-    numbers of the cases; and the last words of the build. Words, one for each case, stand before the names of the graphs' files."""
+    """Returns the outcomes of the cases by an unproved build of a program of the repository at `top`, by the numbers of the cases; a case without an
+    outcome is left out. Also returns the last words of the build. Arguments, one for each case, precede the names of the graphs' files."""
     with tempfile.TemporaryDirectory() as folder:
         trials = os.path.join(folder, 'trials')
         os.mkdir(trials)
         for number, case in enumerate(cases):
             write_trial(folder, '%05d' % number, case, words[number] if words else '')
         try:
-            # (the kit's interpreter can't run a program that reads its words: one step of it is enough)
-            run = subprocess.run(['rt', 'try', '--steps', '1', '--cases', trials], cwd=os.path.join(top, 'crates', program),
-                                 stdout=subprocess.PIPE, stderr=subprocess.PIPE, env=environment)
+            # the kit's interpreter can't run a program that reads its arguments: one step of it is enough
+            tried = subprocess.run(['rt', 'try', '--steps', '1', '--cases', trials], cwd=os.path.join(top, 'crates', program),
+                                   stdout=subprocess.PIPE, stderr=subprocess.PIPE, env=environment)
         except OSError as error:
             return {}, str(error)
-    # (what a build of code in C says stands before what the first run wrote)
-    found = trial_outcomes(run.stdout, re.sub(rb'\A(?:rt: compiling .*\n)+', b'', run.stderr))
-    return {int(key): it for key, it in found.items()}, run.stderr.decode('utf-8', 'replace')[-400:]
+    # the output of a build of C code precedes the output of the first run
+    found = trial_outcomes(tried.stdout, re.sub(rb'\A(?:rt: compiling .*\n)+', b'', tried.stderr))
+    return {int(key): it for key, it in found.items()}, tried.stderr.decode('utf-8', 'replace')[-400:]
 
 
 def try_program(program, cases):
-    """What is wrong with the runs of an unproved build of a program, case by case."""
+    """Returns what is wrong with the runs of an unproved build of a program, case by case."""
     if not cases:
         return []
     found, said = tried_outcomes(program, cases)
@@ -196,7 +190,7 @@ def try_program(program, cases):
 
 
 def try_programs(cases):
-    """What is wrong with the runs of unproved builds of the programs, case by case."""
+    """Returns what is wrong with the runs of unproved builds of the programs, case by case."""
     shares = [[case for case in cases if case.program == program] for program in PROGRAMS]
     with ThreadPoolExecutor(len(PROGRAMS)) as pool:
         found = list(pool.map(try_program, PROGRAMS, shares))
@@ -223,16 +217,12 @@ def main(words):
         cases = [it for it in cases if ',' not in it.name]
     paths = args.programs
     if args.proved:
-        paths = [os.path.join(ROOT, 'crates', program, 'out', program) for program in PROGRAMS]
+        paths = [built(program) for program in PROGRAMS]
     if paths:
         found = run_programs({program: os.path.abspath(path) for program, path in zip(PROGRAMS, paths)}, cases)
     else:
         found = try_programs(cases)
-    wrong.update({case.name: text for case, text in zip(cases, found) if text})
-    for name in sorted(wrong):
-        print('%s: %s' % (name, wrong[name]))
-    print('%d passed, %d failed' % (found.count(''), len(wrong)))
-    return 1 if wrong else 0
+    return report(sorted({**wrong, **{case.name: text for case, text in zip(cases, found)}}.items()))
 
 
 if __name__ == '__main__':

@@ -1,33 +1,33 @@
 #!/usr/bin/env python3
-"""Reads large graphs in little memory: those of the plain form, which need no value of the whole text, are read.
+"""Reads large graphs in little memory: those on the fast path, which need no JSON value of the whole text, are accepted.
 
     python3 tools/run_plain.py              the proved program, crates/symq/out/symq
     python3 tools/run_plain.py SYMQ         the program at this path
 
-That a graph is read node by node, no contract can say: a reader that makes a value of the whole text for each graph gives
-the same graphs. It takes over ten times the text for that, and reading node by node at most seven. So the modules of the
-stored cases are repeated to a text of some megabytes, in each of the ways in which a graph of the plain form may be
-written, and the program may take eight times the text: it has to accept each. Texts of another form are accepted without a
-bound; within it memory has to be refused, which shows that the bound tells the two apart.
+No contract can say that a graph is read node by node: a reader that makes a value of the whole text for each graph returns
+the same graphs. It needs over ten times the memory of the text, and reading node by node at most seven times. So the modules of the
+stored cases are repeated to a text of some megabytes, in each of the forms of the fast path, and the program may take eight
+times the text: it has to accept each. Texts of other forms are accepted without a bound. Within it the program has to run
+out of memory, which shows that the bound distinguishes the two.
 
-Nor can a contract say that no value is made of a node. One node whose list of children is as long as the text takes over
-eight times the text by its value, and under five by its tokens: the program may take six and a half times the text.
+Nor can a contract say that no value is made of a node. One node whose list of children is as long as the text needs over
+eight times the text for its value, and under five for its tokens: the program may take six and a half times the text.
 
-Nor that a list of modules is read in pieces. One reader for the whole text takes as much more as the text is long: where the modules
-come first, as symdir writes them, the program may take six times the text, within which memory is refused where they come last.
+Nor that a list of modules is read in pieces. One reader for the whole text needs as much more memory as the text is long. If the modules
+come first, as symdir writes them, the program may take six times the text. It runs out of memory within that if they come last.
 
-Nor that lists leave no rooms behind in which they grew. For one module of twice as many declarations the program may take 2.1 times
-the memory at the peak, as `bench/reading.py` has it.
+Nor that vectors leave no unused blocks when they grow. For one module of twice as many declarations the program may take 2.1 times
+the peak memory, as in `bench/reading.py`.
 The last line is 'N passed, M failed'.
 """
 import json
 import math
 import os
-import resource
 import subprocess
 import sys
 import tempfile
 
+import runner
 from run_cases import ROOT, TESTS
 
 sys.path.insert(1, os.path.join(ROOT, 'bench'))
@@ -40,7 +40,7 @@ DECLARATIONS = 50_000
 
 
 def stored_modules():
-    """The modules of the stored graphs that are accepted."""
+    """Returns the modules of the stored graphs that are accepted."""
     found = []
     for name in sorted(os.listdir(os.path.join(TESTS, 'cases'))):
         folder = os.path.join(TESTS, 'cases', name)
@@ -52,7 +52,7 @@ def stored_modules():
 
 
 def large_graph():
-    """Those modules again and again, each under a specifier of its own, with redirects and resolutions."""
+    """Returns a graph of those modules repeated, each under a specifier of its own, with redirects and resolutions."""
     modules, graph, size = stored_modules(), {'modules': [], 'redirects': [], 'resolutions': []}, 0
     while size < SIZE:
         number = len(graph['modules'])
@@ -65,7 +65,7 @@ def large_graph():
 
 
 def rebuilt(value, change):
-    """A value, of which each object's members were changed."""
+    """Returns a value in which the members of each object were changed."""
     if isinstance(value, dict):
         return dict(change([(key, rebuilt(it, change)) for key, it in value.items()]))
     return [rebuilt(it, change) for it in value] if isinstance(value, list) else value
@@ -76,13 +76,13 @@ def compact(value, **how):
 
 
 def with_nulls(members):
-    """The members, and null under each key that isn't there and doesn't have to be."""
+    """Returns the members, and null under each optional key that is absent."""
     there = dict(members)
     return members + [(key, None) for key in ('tree', 'nodes', 'declaration', 'types', 'children') if key not in there]
 
 
 def plain_texts(graph):
-    """A graph in the ways of the plain form, by what each is."""
+    """Yields a graph in the forms of the fast path, by name."""
     text = compact(graph, ensure_ascii=False)
     nothing = [('extra', {'deep': [[{}], None, True, 'x', 18446744073709551615]})]
     values = ('x', 18446744073709551615, True, None, [], [1], [1, 2], [1, 2, 3], ['x', 1], {})
@@ -98,7 +98,7 @@ def plain_texts(graph):
 
 
 def odd_texts(graph):
-    """The graph in ways that are accepted and not plain."""
+    """Yields the graph in forms that are accepted but not on the fast path."""
     rest = compact(graph, ensure_ascii=False)[1:]
     yield 'modules twice', '{"modules":[],' + rest
     yield 'a fraction that a later value replaces', '{"extra":0.5,"extra":1,' + rest
@@ -108,7 +108,7 @@ def odd_texts(graph):
 
 
 def in_pieces(graph):
-    """The graph as symdir writes it, a module a line, which is read in pieces; and with its modules behind the rest, where it isn't."""
+    """Yields the graph as symdir writes it, a module a line, which is read in pieces; and with its modules last, which isn't."""
     text = compact(graph, ensure_ascii=False)
     lines = text.replace('{"modules":[', '{"modules":[\n', 1).replace('},{"specifier":', '},\n{"specifier":')
     rest = {key: value for key, value in graph.items() if key != 'modules'}
@@ -117,23 +117,19 @@ def in_pieces(graph):
 
 
 def one_node():
-    """A graph of one node, whose children are as many as take most room in a list that doubles. None is a node: it is refused."""
+    """Returns a graph of one node, with as many children as take most room in a list that doubles. None is a node, so the graph is refused."""
     children = ','.join(['4294967295'] * (2 ** 20 + 1))
     return '{"modules":[{"specifier":"m","kind":"esm","text":"","tree":{"nodes":[{"kind":"Program","range":[0,0],"body":[%s]}]}}]}' % children
 
 
 def status(program, path, memory=None):
-    """The status of a run without queries, with so much memory at most."""
-    def bound():
-        if memory:
-            resource.setrlimit(resource.RLIMIT_AS, (memory, memory))
-    run = subprocess.run([program, path], stdin=subprocess.DEVNULL, stdout=subprocess.DEVNULL,
-                         stderr=subprocess.DEVNULL, preexec_fn=bound)
-    return run.returncode
+    """Returns the status of a run without queries, within this much memory."""
+    limits = runner.Limits(seconds=None, memory=memory)
+    return runner.run(program, [path], subprocess.DEVNULL, limits, stdout=subprocess.DEVNULL, stderr=subprocess.DEVNULL).status
 
 
 def growth_of_one_module(program):
-    """By how much the memory at the peak grows from a module of declarations to one of twice as many."""
+    """Returns how much the peak memory grows from a module of declarations to one of twice as many."""
     peaks = []
     with tempfile.TemporaryDirectory() as folder:
         for n in (DECLARATIONS, 2 * DECLARATIONS):
@@ -145,18 +141,17 @@ def growth_of_one_module(program):
     return peaks[1] / peaks[0]
 
 
-def main(words):
-    program = os.path.abspath(words[0] if words else os.path.join(ROOT, 'crates', 'symq', 'out', 'symq'))
-    # (first, since what this process takes of memory would count as the program's)
+def rows(program):
+    """Yields the name of each check, and what is wrong."""
+    # first, since memory of this process would count as the program's
     grown = growth_of_one_module(program)
-    if grown > GROWTH:
-        print('one module of declarations: twice as many take %.2f times the memory, over %.1f' % (grown, GROWTH))
+    too_much = 'twice as many take %.2f times the memory, over %.1f' % (grown, GROWTH)
+    yield 'one module of declarations', too_much if grown > GROWTH else ''
     graph = large_graph()
     sorts = [(text, [(TIMES, 0)]) for text in plain_texts(graph)]
     sorts += [(text, [(None, 0), (TIMES, 7)]) for text in odd_texts(graph)]
     sorts += [((name, text), [(TIMES_IN_PIECES, want)]) for name, text, want in in_pieces(graph)]
     sorts.append((('one node of many children', one_node()), [(TIMES_OF_ONE_NODE, 5)]))
-    passed, failed = int(grown <= GROWTH), int(grown > GROWTH)
     for (name, text), wants in sorts:
         with tempfile.TemporaryDirectory() as folder:
             path = os.path.join(folder, 'graph.json')
@@ -164,11 +159,12 @@ def main(words):
                 file.write(text)
             for times, want in wants:
                 got = status(program, path, times and int(times * os.path.getsize(path)))
-                passed, failed = passed + (got == want), failed + (got != want)
-                if got != want:
-                    print('%s, memory %s: status %d, not %d' % (name, '%g times the text' % times if times else 'free', got, want))
-    print('%d passed, %d failed' % (passed, failed))
-    return 1 if failed else 0
+                room = '%g times the text' % times if times else 'free'
+                yield '%s, memory %s' % (name, room), '' if got == want else 'status %d, not %d' % (got, want)
+
+
+def main(words):
+    return runner.report(rows(runner.programs(words, missing='no program %s: `make symq` builds it')[0]))
 
 
 if __name__ == '__main__':

@@ -1,22 +1,22 @@
 #!/usr/bin/env python3
-"""Refuses calls of the programs in turn: whichever fails, they say so, and what they have written is a beginning of the answers.
+"""Makes calls of the programs fail in turn. Whichever fails, they report it, and their output is a beginning of the answers.
 
     python3 tools/run_refusing.py                                   the proved programs, crates/NAME/out/NAME
     python3 tools/run_refusing.py SYMQ SYMQ_TABLES REFUSED_CALLS    the programs at these paths; the last may be left out
 
-`tests/refusing/refuse.c`, which `cc` builds here and which is preloaded, refuses the call of a number: of those for memory,
-each alone and with all behind it, over stored cases; a read of the graph's file or of the queries, or a write of the answers,
-which also may take nothing, or be interrupted. The numbers go up until there is no such call. What is wanted is the table of
-statuses in `docs/DEFINITIONS.md`: where memory is refused, the outcome of the stored case, or the status 7; after a read that
-failed the answers to the lines that were read, after a write that failed what was written before, and neither is tried again,
-also where a signal interrupted it; of the file such a read is. Behind these come a graph's text that is cut off, after each of its
-bytes, and streams that fail by themselves: a full device, a pipe that nobody reads, a folder, a stream that is closed.
+`tests/refusing/refuse.c`, which `cc` builds here and which is preloaded, makes the call with a number fail: an allocation,
+alone or with all later ones, over stored cases; a read of the graph's file or of the queries, or a write of the answers,
+which also may accept nothing, or be interrupted. The numbers go up until there is no such call. Expected is the table of
+statuses in `README.md`: after a failed allocation the outcome of the stored case, or the status 7; after a failed read the
+answers to the lines that were read; after a failed write what was written before. Neither is repeated, not even if a signal
+interrupted it; an interrupted read of the graph's file is. Then come a graph's text that is cut off, after each of its
+bytes, and streams that fail by themselves: a full device, a pipe that nobody reads, a directory, a closed stream.
 
-`refused_calls` calls the library: memory is refused to one call at a time. That call gives what it gives with ample memory, or tells
-that memory was refused; then the modules that it needs are stored, each whole or not at all, in the order in which it needs them;
-and all calls behind it give what they give on a fresh root. The calls that take no memory ask for none.
+`refused_calls` calls the library, with failing allocations in one call at a time. That call returns its usual result, or reports
+the failed allocation. Then the modules that it needs are stored, each whole or not at all, in the order in which it needs them.
+All later calls return what they return on a fresh root. The calls that need no memory allocate nothing.
 
-A check is a row of refusals or of cut texts, or such a stream. The last line is 'N passed, M failed'.
+A check is a row of failures or of cut texts, or such a stream. The last line is 'N passed, M failed'.
 """
 import os
 import subprocess
@@ -24,40 +24,41 @@ import sys
 import tempfile
 from concurrent.futures import ThreadPoolExecutor
 
-from run_cases import PROGRAMS, ROOT, SECONDS, TESTS, Case, Outcome, folder_cases, show, write
+import runner
+from run_cases import PROGRAMS, ROOT, TESTS, Case, Outcome, folder_cases, show, write
 from set_up import ensure
 
-# queries of each form on a small graph; declarations with much below them, long ways, other modules; graphs with a fault; no graph
+# queries of each form on a small graph; declarations with deep content, long chains, other modules; graphs with a fault; no graph
 OF_MEMORY = ('each_form_of_query', 'dependencies_in_both_modes', 'paths_to_definitions', 'types_chains', 'json_module',
              'refused_shape', 'refused_tree_after_tables', 'refused_duplicate_redirect', 'refused_form', 'refused_half_a_text',
              'no_file', 'no_words')
 # tables of declarations of all sorts, of a JSON text, of no module; graphs with a fault
 OF_TABLES = ('tests_of_declarations', 'json_objects', 'no_modules', 'refused_shape', 'refused_half_a_text', 'no_words')
 ALL_FORMS, FEW_LINES, SMALL = 'each_form_of_query', 'line_that_is_not_utf8', 'one_variable'
-# the program that calls the library; its steps that may be refused memory, of which the one that stores modules; the one that takes none
+# the program that calls the library; its steps in which an allocation may fail, and the one that stores modules; the one that allocates nothing
 CALLS, STEPS, STORING, VIEWS = 'refused_calls', ('read_graph', 'ModuleGraph::new', 'run', 'run once more'), 'run', 'views'
 NO_GRAPH, NO_JSON = Outcome(3, b'', b'symq: cannot read graph\n'), Outcome(4, b'', b'symq: not a graph: json\n')
 NO_INPUT, NO_OUTPUT, NO_MEMORY = b'symq: input failed\n', b'symq: output failed\n', b'symq: out of memory\n'
 
 
 def stored(name):
-    """A stored case, in its own order."""
+    """Returns a stored case, in its own order."""
     return folder_cases('cases', name, 'symq', 'lines')[0]
 
 
 def stored_tables(name):
-    """A stored case of tables."""
+    """Returns a stored case of tables."""
     return folder_cases('tables', name, 'symq_tables', 'tables')[0]
 
 
 def stored_calls():
-    """What the program that calls the library prints."""
+    """Returns what the program that calls the library prints."""
     with open(os.path.join(ROOT, 'crates', CALLS, 'stdout'), 'rb') as file:
         return file.read()
 
 
 class Program:
-    """A program, with the library that is preloaded into it, and a folder for graphs."""
+    """A program, with the library that is preloaded into it, and a directory for graphs."""
 
     def __init__(self, path, folder):
         self.path, self.folder, self.library = os.path.abspath(path), folder, os.path.join(folder, 'refuse.so')
@@ -65,29 +66,28 @@ class Program:
         subprocess.run([*words, os.path.join(TESTS, 'refusing', 'refuse.c')], check=True)
 
     def graph(self, text):
-        """The path of a file with this text."""
+        """Returns the path of a file with this text."""
         number, path = tempfile.mkstemp(dir=self.folder)
         with open(number, 'wb') as file:
             file.write(text)
         return path
 
     def run(self, words, given, **how):
-        """The outcome of a run, and whether a call was refused."""
+        """Returns the outcome of a run, and whether a call failed."""
         reads, told = os.pipe()
         how = {'LD_PRELOAD': self.library, 'TOLD': told, **how}
         try:
-            done = subprocess.run([self.path, *words], input=given, stdout=subprocess.PIPE, stderr=subprocess.PIPE,
-                                  env={**os.environ, **{key: str(it) for key, it in how.items()}},
-                                  cwd=self.folder, pass_fds=[told], timeout=SECONDS)
+            environment = {**os.environ, **{key: str(it) for key, it in how.items()}}
+            got = runner.run(self.path, words, given, env=environment, cwd=self.folder, pass_fds=[told])
         finally:
             os.close(told)
             with open(reads, 'rb') as pipe:
                 refused = bool(pipe.read())
-        return Outcome(done.returncode, done.stdout, done.stderr), refused
+        return got, refused
 
     def row(self, case, is_wanted, **how):
-        """What is wrong where the calls of a case are refused one after the other; nothing where all is right. Without a
-        refusal the outcome is that of the case."""
+        """Returns what is wrong if the calls of a case fail one after the other; empty if nothing is. Without a failure the outcome is that of the
+        case."""
         words, number, wrong = ['graph.json'] if case.words is None else case.words, 0, []
         if case.graph is not None:
             graph = self.graph(case.graph)
@@ -103,8 +103,8 @@ class Program:
 
 
 def of_memory(program, case, **how):
-    """Memory is refused: the outcome of the case, or the status for it, behind a beginning of what the case writes. There is no
-    line where memory is refused for a line itself."""
+    """Checks a failed allocation: the outcome of the case, or its status after a beginning of the output. There is no line if the allocation for a
+    line itself failed."""
     lines = (NO_MEMORY, b'') if how or case.want.status else (NO_MEMORY,)
 
     def is_wanted(_, got):
@@ -117,12 +117,12 @@ def of_file(program, case):
 
 
 def of_interrupted_file(program, case):
-    """A read of the graph that is interrupted is tried again."""
+    """Checks that an interrupted read of the graph is repeated."""
     return program.row(case, lambda _, got: got == case.want, REFUSED='file', INTERRUPT=1)
 
 
 def of_input(program, case, **how):
-    """Of the queries, which come byte by byte, those that end before the byte that isn't read are answered."""
+    """Checks that of queries that come byte by byte, those that end before the failing byte are answered."""
     answers = case.want.output.splitlines(True)
 
     def is_wanted(number, got):
@@ -132,14 +132,14 @@ def of_input(program, case, **how):
 
 
 def of_output(program, case, **how):
-    """Of the answers, which are taken byte by byte, those bytes are written that were taken."""
+    """Checks that of answers that are accepted byte by byte, exactly the accepted bytes are written."""
     def is_wanted(number, got):
         return got == Outcome(6, case.want.output[:number - 1], NO_OUTPUT)
     return program.row(case, is_wanted, REFUSED='output', PIECES=1, **how)
 
 
 def of_cut_texts(program, text, front=b''):
-    """Each proper beginning of a graph's text is no JSON, nor is any beginning behind bytes that are no text."""
+    """Checks that each proper beginning of a graph's text is no JSON, nor any beginning after invalid bytes."""
     for end in range(len(text) + bool(front)):
         got, _ = program.run([program.graph(front + text[:end])], b'')
         if got != NO_JSON:
@@ -148,13 +148,13 @@ def of_cut_texts(program, text, front=b''):
 
 
 def rows_of(program):
-    """The rows of refusals, as pairs of a name and what makes the row."""
+    """Returns the rows of failures, as pairs of a name and the function for the row."""
     found = []
     for name in OF_MEMORY:
         found.append(('memory, ' + name, lambda case=stored(name): of_memory(program, case)))
         found.append(('memory from there on, ' + name, lambda case=stored(name): of_memory(program, case, REST=1)))
     case, few = stored(ALL_FORMS), stored(FEW_LINES)
-    # a list that stands twice makes a graph that isn't read node by node
+    # a repeated list makes a graph that isn't read node by node
     other = case._replace(graph=b'{"modules":[],' + case.graph[1:])
     found.append(('memory, a graph of another form', lambda: of_memory(program, other)))
     found.append(('memory from there on, a graph of another form', lambda: of_memory(program, other, REST=1)))
@@ -170,7 +170,7 @@ def rows_of(program):
 
 
 def rows_of_tables(program):
-    """The rows of refusals of memory to the program that tells tables."""
+    """Returns the rows of failed allocations in the program that prints tables."""
     found = []
     for name in OF_TABLES:
         found.append(('memory, tables, ' + name, lambda case=stored_tables(name): of_memory(program, case)))
@@ -179,7 +179,7 @@ def rows_of_tables(program):
 
 
 def steps_of(output):
-    """The steps of the program that calls the library: what each is called, and the lines that tell what it gave."""
+    """Returns the steps of the program that calls the library: the name of each, and the lines with its result."""
     steps = []
     for line in output.decode('utf-8', 'replace').splitlines():
         if line.startswith(' ') and steps:
@@ -190,7 +190,7 @@ def steps_of(output):
 
 
 def parts_of(lines):
-    """What a call gave, and the table of each module that is stored then."""
+    """Returns the result of a call, and the table of each module that is stored then."""
     parts = [[]]
     for line in lines:
         if line.startswith('  module '):
@@ -200,13 +200,13 @@ def parts_of(lines):
 
 
 def is_refused(step, got, wanted):
-    """Whether a step tells that memory was refused, with each module that it needs whole or absent, in their order."""
+    """Returns whether a step reports a failed allocation, with each module that it needs whole or absent, in their order."""
     (answer, *modules), (_, *needed) = parts_of(got), parts_of(wanted)
     return answer == ['  out of memory'] and modules == (needed[:len(modules)] if step == STORING else needed)
 
 
 def of_calls(program, step, **how):
-    """Memory is refused to one step: this step alone may tell so."""
+    """Checks an allocation that fails in one step: this step alone may report it."""
     want = Outcome(0, stored_calls(), b'')
     steps, met = steps_of(want.output), set()
 
@@ -222,13 +222,13 @@ def of_calls(program, step, **how):
 
 
 def of_views(program):
-    """With all memory refused, the calls that take none give what they give, and ask for none."""
+    """Checks that with all allocations failing, the calls that need none give their results, and that they allocate nothing."""
     got, refused = program.run([], b'', REFUSED='memory', STEP=VIEWS, NUMBER=1, REST=1)
     return [] if got == Outcome(0, stored_calls(), b'') and not refused else [('memory was asked for: ' if refused else '') + show(got)]
 
 
 def rows_of_calls(program):
-    """The rows of refusals of memory to calls of the library."""
+    """Returns the rows of failed allocations in calls of the library."""
     found = []
     for step in STEPS:
         found.append(('memory, call, ' + step, lambda step=step: of_calls(program, step)))
@@ -237,7 +237,7 @@ def rows_of_calls(program):
 
 
 def unread_pipe():
-    """The end of a pipe whose reader is gone."""
+    """Returns the end for writing of a pipe whose reader is gone."""
     reads, writes = os.pipe()
     os.close(reads)
     return writes
@@ -248,7 +248,7 @@ def opened(path, flags):
 
 
 def streams_of(folder):
-    """Streams that fail: a name, which descriptor it is, what opens it (nothing: it is closed), and the line on standard error."""
+    """Returns streams that fail: a name, the descriptor, how it is opened (None: it is closed), and the line on standard error."""
     return [('answers to a full device', 1, opened('/dev/full', os.O_WRONLY), NO_OUTPUT),
             ('answers to a pipe that nobody reads', 1, unread_pipe, NO_OUTPUT),
             ('answers to a stream that is closed', 1, None, NO_OUTPUT),
@@ -258,20 +258,18 @@ def streams_of(folder):
 
 
 def of_stream(program, place, opening, error):
-    """What is wrong where standard input or output is a stream that fails: the status is 6, and no answer is written."""
+    """Returns what is wrong if standard input or output is a stream that fails: the status is 6, and no answer is written."""
     case = stored(ALL_FORMS)
     write(program.folder, 'queries', case.given)
     with open(os.path.join(program.folder, 'queries'), 'rb') as queries:
-        streams = {'stdin': queries, 'stdout': subprocess.PIPE}
+        streams = {'stdin': queries}
         held = opening() if opening else None
         if opening:
             streams[('stdin', 'stdout')[place]] = held
         close = None if opening else lambda: os.close(place)
-        done = subprocess.run([program.path, program.graph(case.graph)], stderr=subprocess.PIPE, timeout=SECONDS, preexec_fn=close,
-                              **streams)
+        got = runner.run(program.path, [program.graph(case.graph)], preexec_fn=close, **streams)
     if opening:
         os.close(held)
-    got = Outcome(done.returncode, done.stdout or b'', done.stderr)
     return [] if got == Outcome(6, b'', error) else [show(got)]
 
 
@@ -281,10 +279,7 @@ def folder_as_graph(program):
 
 
 def main(words):
-    paths = words or [os.path.join(ROOT, 'crates', name, 'out', name) for name in (*PROGRAMS, CALLS)]
-    for path in paths:
-        if not os.access(path, os.X_OK):
-            sys.exit('%s is not there: `rt ci` builds it' % path)
+    paths = runner.programs(words, (*PROGRAMS, CALLS), '%s is not there: `rt ci` builds it')
     ensure(['cc'])
     with tempfile.TemporaryDirectory(prefix='refusing-') as folder, ThreadPoolExecutor(os.cpu_count()) as pool:
         programs = [Program(path, folder) for path in paths]
@@ -293,12 +288,7 @@ def main(words):
         found = list(zip([name for name, _ in checks], pool.map(lambda check: check[1](), checks)))
         found += [(name, of_stream(program, *rest)) for name, *rest in streams_of(folder)]
         found.append(('a folder as graph', folder_as_graph(program)))
-    for name, wrong in found:
-        for text in wrong:
-            print('%s: %s' % (name, text))
-    failed = sum(1 for _, wrong in found if wrong)
-    print('%d passed, %d failed' % (len(found) - failed, failed))
-    return 1 if failed else 0
+    return runner.report(found)
 
 
 if __name__ == '__main__':

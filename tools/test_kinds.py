@@ -13,10 +13,12 @@ import tempfile
 from contextlib import contextmanager
 
 from tested import told
-from kinds import layout
 from kinds.blocks import BadTable
+from kinds.documents import begin
 from kinds.follow import TABLE, files_of, read, report
-from kinds.places import GRAPH, KINDS, SYMDIR, SYNTAX, TREE, regions_of
+from kinds.lines import MARK
+from kinds.places import GRAPH, KINDS, SYMDIR, TREE, regions_of
+from kinds.regions import MARKED
 from kinds.table import table_of
 from kinds.tried import BAD, CHANGED, LOST, MADE, NEW_CATEGORIES, NEW_KINDS, OF_SYMDIR, SPOILT
 from wrong.crates import TOP, write
@@ -29,7 +31,7 @@ FILES = {name: read(TOP, name) for name in (TABLE, SYMDIR, *NAMES)}
 
 @contextmanager
 def laid(file='', change=('', '')):
-    """A folder with the table and what it makes, one text of them changed, which stands there once."""
+    """Makes a directory with the table and what is generated from it. One text of them, which is there once, is changed."""
     with tempfile.TemporaryDirectory() as folder:
         for name, text in FILES.items():
             assert name != file or text.count(change[0]) == 1, (file, change, text.count(change[0]))
@@ -38,7 +40,7 @@ def laid(file='', change=('', '')):
 
 
 def said_of(folder, writes=False):
-    """Which parts are said to differ, and how many failed."""
+    """Returns which parts are reported as different, and how many failed."""
     lines, _, failed = report(folder, writes)
     return [it for it in lines if it.startswith(tuple(name + ': ' for name in FILES)) and 'follow from the table' not in it], failed
 
@@ -48,27 +50,27 @@ def texts_of(folder):
 
 
 def mended(file, change):
-    """What is said of a spoilt copy, and behind writing: what is said, and whether all is there as it was."""
+    """Returns the report on a spoilt copy, and after `--write` the report and whether everything is as it was."""
     with laid(file, change) as folder:
         found = said_of(folder)
         return found, said_of(folder, True), texts_of(folder) == FILES
 
 
 def lost(file, change):
-    """What is said of a copy in which a part isn't found, and whether it is said behind writing, too."""
+    """Returns the report on a copy in which a part isn't found, and whether it is also reported after `--write`."""
     with laid(file, change) as folder:
         found = said_of(folder)
         return found[0], found[1], said_of(folder, True)[0] == found[0]
 
 
 def files_that_differ(change):
-    """The files in which something differs from a table with a change."""
+    """Returns the files that differ from a table with a change."""
     with laid(TABLE, change) as folder:
         return sorted({it.split(': ')[0] for it in said_of(folder)[0]})
 
 
 def bad(change):
-    """Why a text is no table, without the number of the line."""
+    """Returns why a text is no table, without the number of the line."""
     assert TEXT.count(change[0]) == 1, (change, TEXT.count(change[0]))
     try:
         table_of(TEXT.replace(*change))
@@ -78,7 +80,7 @@ def bad(change):
 
 
 def line_of_fault(old, new):
-    """Whether the fault of a line names its number."""
+    """Returns whether the fault of a line names its number."""
     try:
         table_of(TEXT.replace(old, new))
     except BadTable as fault:
@@ -87,7 +89,7 @@ def line_of_fault(old, new):
 
 
 def with_new_kinds():
-    """Which parts differ once new kinds are written, what files lack then, and which aren't as they were when the kinds are gone again."""
+    """Returns which parts differ once new kinds are written, what files lack then, and which files aren't restored once the kinds are gone again."""
     kinds, categories = '\n# ---- categories', '\n# ---- fields'
     with laid() as folder:
         write(os.path.join(folder, TABLE), TEXT.replace(kinds, NEW_KINDS + kinds).replace(categories, NEW_CATEGORIES + categories))
@@ -99,14 +101,14 @@ def with_new_kinds():
 
 
 def command(*words, change=('', '')):
-    """The last line of the command on a copy, and its status."""
+    """Returns the last line of the command on a copy, and its status."""
     with laid(TREE + 'names.rt' if change[0] else '', change) as folder:
         done = subprocess.run([*COMMAND, *words, folder], stdout=subprocess.PIPE, text=True, check=False)
         return done.stdout.rstrip('\n').split('\n')[-1].split(', ')[1], done.returncode
 
 
 def of_symdir(change):
-    """What is said of the converter's own table with a change, and whether it is left as it is behind writing."""
+    """Returns the report on the converter's own table with a change, and whether `--write` leaves the table as it is."""
     with laid(SYMDIR, change) as folder:
         found, failed = said_of(folder)
         said_of(folder, True)
@@ -114,45 +116,34 @@ def of_symdir(change):
 
 
 def counted():
-    """How many more passed than the parts that follow, how many lines follow of a whole file and how many it has, how many of one of which a
-    part does, and whether what is said of all is the sum."""
+    """Returns how many more passed than there are generated parts, the lines of a whole file and of parts of the page that are generated, and whether
+    the total is their sum."""
     with laid() as folder:
         lines, passed, _ = report(folder)
     table = table_of(TEXT)
     found = re.findall(r'^(\S+): (\d+) of (\d+) lines follow', '\n'.join(lines), re.M)
     counts = [(name, int(follow), int(count)) for name, follow, count in found]
     whole = [it for it in counts if it[0] == KINDS + 'tys.rt']
-    part = [follow for name, follow, _ in counts if name == SYNTAX + 'Names.antt']
+    part = [follow for name, follow, _ in counts if name == GRAPH]
     last = '%d of %d lines follow' % (sum(it[1] for it in counts), sum(it[2] for it in counts))
     return passed - len(regions_of(table)), whole, part, lines[-1] == last
 
 
-def lengths():
-    """Over how many lines each thing is laid that is as long as may be, and over how many with a letter more."""
-    for name, most, lay in (
-        ('fields', layout.STRUCT, lambda n: layout.struct('K', ['a' * 8, 'b' * (n - 10)])),
-        ('alternatives', layout.LINE, lambda n: layout.either([['a' * 40], ['b' * (n - 54)]], 10, ',')),
-        ('what is asked', layout.CALL, lambda n: layout.one_of('', 'k', ['a' * (n - 13)])),
-        ('a line that asks', layout.LINE, lambda n: layout.one_of(' ' * 8 + 'a' * (n - 33), 'k', ['K'], ',')),
-        ('kinds in a line', layout.LINE, lambda n: layout.one_of(' ' * 8, 'k', ['a' * 40, 'b' * (n - 75)], ',')[2:-1]),
-        ('what is given', layout.CALL, lambda n: layout.call('s![', ['one(a, b)', 'c' * (n - 11)], '],')),
-        ('a line that gives', layout.LINE, lambda n: layout.call(' ' * 8 + 'a' * (n - 19), ['one(a, b)'], '],')),
-        ('an arm', layout.LINE, lambda n: layout.arm(' ' * 8 + 'a' * (n - 14), 'b')),
-    ):
-        yield name, len(lay(most)), len(lay(most + 1))
+def unmarked():
+    """Returns the files that are generated as a whole and don't say so in their first line."""
+    return [name for name in NAMES if name != GRAPH and not FILES[name].split('\n')[0].endswith(' ' + MARK)]
 
 
-def arms():
-    """What long arms give, in lines without their indents; the last pattern is a letter longer."""
-    head = ' ' * 8 + 'K' * 78
-    for values, pattern in ((('Some(*class)', 'KindName::Class', 'Ok(Some(f(alloc, value)?))', 'Ok(Some(f(value)?))'), head),
-                            (('Ok(Some(f(value)?))',), head + 'K')):
-        for value in values:
-            yield [it.replace(pattern, '').strip() for it in layout.arm(pattern, value)]
+def refused():
+    """Returns the report on a table whose code `rt fmt` refuses, and whether everything is unchanged after `--write`."""
+    with laid(TABLE, ('    is_block: flag', '    fn: flag')) as folder:
+        done = subprocess.run([*COMMAND, '--write', folder], stdout=subprocess.PIPE, text=True, check=False)
+        lines, other = done.stdout.split('\n'), [name for name, text in FILES.items() if read(folder, name) != text]
+        return lines[0].startswith(TABLE + ': rt fmt refuses what it makes: '), lines[-2], other
 
 
 def lost_alone():
-    """The row of categories with the kind of their name alone, once it is written where none stood, without the kinds' order."""
+    """Returns the row of categories with the kind of their name alone, once it is written where there was none, without the order of the kinds."""
     row = '| Ident, BindingIdent, Class, Function, VarDeclarator | the kind of that name alone |\n'
     with laid(GRAPH, (row, '')) as folder:
         found = said_of(folder), said_of(folder, True)
@@ -160,7 +151,7 @@ def lost_alone():
 
 
 def lost_row():
-    """The row that a kind without one has in the page, once it is written."""
+    """Returns the row in the page that is generated for a kind without one."""
     row = '| `RestPat` | `...arg` | `arg` Pattern, `type_ann?` Annotation |\n'
     with laid(GRAPH, (row, '')) as folder:
         said_of(folder, True)
@@ -168,14 +159,14 @@ def lost_row():
 
 
 def without_a_file():
-    """What is said where a file isn't there."""
+    """Returns the report if a file doesn't exist."""
     with laid() as folder:
         os.remove(os.path.join(folder, KINDS + 'tys.rt'))
         return said_of(folder)
 
 
 def without_a_table():
-    """What the command says where the table isn't there, and whether all else is as it was, though it is to be written."""
+    """Returns the output of the command if the table doesn't exist, and whether everything else is unchanged after `--write`."""
     with laid() as folder:
         os.remove(os.path.join(folder, TABLE))
         done = subprocess.run([*COMMAND, '--write', folder], stdout=subprocess.PIPE, text=True, check=False)
@@ -183,7 +174,7 @@ def without_a_table():
 
 
 def tests():
-    """Each test's name with what was found and what is wanted."""
+    """Yields each test's name, with what was found and what is expected."""
     with laid() as folder:
         yield 'nothing differs without a change', said_of(folder), ([], 0)
     for name, file, change, part in SPOILT:
@@ -194,15 +185,9 @@ def tests():
         yield 'in the table: ' + name, files_that_differ(change), sorted(want)
     for name, change, want in BAD:
         yield 'no table: ' + name, bad(change), want
-    yield 'limits of a layout', list(lengths()), [
-        ('fields', 1, 4), ('alternatives', 1, 2), ('what is asked', 1, 4), ('a line that asks', 1, 4), ('kinds in a line', 1, 2),
-        ('what is given', 1, 4), ('a line that gives', 1, 4), ('an arm', 1, 2)]
-    yield 'long arms', list(arms()), [
-        ['=> Some(', '*class,', '),'], ['=>', 'KindName::Class,'], ['=> Ok(Some(', 'f(alloc, value)?,', ')),'],
-        ['=> Ok(Some(f(', 'value,', ')?)),'], ['=> Ok(Some(', 'f(value)?,', ')),']]
     all_lines, table = FILES[KINDS + 'tys.rt'].count('\n'), table_of(TEXT)
-    # (a row for each kind and for each enum, and the first lines of the functions that have them)
-    rows = len(table.kinds()) + 2 * len(table.enums) + 1
+    # a row for each kind, a table's two first lines for each enum and for categories, their rows, and the line that counts
+    rows = len(table.kinds()) + 2 * len(table.enums) + 2 + FILES[GRAPH].split(begin('categories'))[1].split(MARKED)[0].count('\n') - 3 + 1
     yield 'what is counted', counted(), (2, [(KINDS + 'tys.rt', all_lines, all_lines)], [rows], True)
     kinds = table.of_category('Any')
     found = len(kinds), 'Program' in kinds, 'Import' in kinds, 'ImportNamed' in kinds
@@ -214,7 +199,9 @@ def tests():
     yield 'new kinds', with_new_kinds(), ([SYMDIR] * 5, [], [])
     for name, change, want in OF_SYMDIR:
         yield 'symdir: ' + name, of_symdir(change), (['%s: %s' % (SYMDIR, want)], 1, True)
-    yield 'a file that is not there', without_a_file(), (['%s: functions of Ty: 0 lines begin with //! ' % (KINDS + 'tys.rt')], 1)
+    yield 'files without a mark', unmarked(), []
+    yield 'a table whose code is refused', refused(), (True, '0 passed, 1 failed', [TABLE])
+    yield 'a file that is not there', without_a_file(), (['%s: text: differs' % (KINDS + 'tys.rt')], 1)
     yield 'no table', without_a_table(), ('%s: there is no kind\n0 passed, 1 failed\n' % TABLE, 1, [TABLE])
     spoilt = ('    BigInt,\n', '')
     yield 'the command', command(), ('0 failed', 0)

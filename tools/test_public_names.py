@@ -15,7 +15,8 @@ import public_names
 from wrong.crates import read, write
 
 FILES = {
-    'crates.txt': '# bottom up\nlow: other\nhigh: low\nstart: high\n',
+    'crates.txt': '# bottom up\nlow: other\nhigh: low\nlow_test_support: low\nstart: high\n',
+    'crates/low_test_support/src/lib.rt': 'pub fn only_tests_use_it() {}\n',
     'crates/low/src/lib.rt': '''//! pub struct Nothing;
 #![tactic(auto)]
 
@@ -136,7 +137,7 @@ pub type Numbers = [Number; 5];
 
 DEEP, SHOWN, TABLE = 'crates/low/src/hidden/deep.rt', 'crates/low/src/shown.rt', 'docs/PUBLIC.md'
 
-# a name, the file whose text is changed, the change, and the lines that are said then
+# a name, the file whose text is changed, the change, and the lines that are printed then
 CHANGES = [
     ('a method that is not there', TABLE, ('`Made::kind`', '`Made::sort`'),
      ['Made::sort low has no public sort', 'no row: | `Made::kind` | `low` |']),
@@ -201,14 +202,14 @@ CHANGES = [
 
 
 def laid(folder, file='', change=('', '')):
-    """Lays the repository, one text of it changed."""
+    """Makes the repository, with one text of it changed."""
     for name, text in FILES.items():
         assert name != file or text.count(change[0]) == 1, change
         write(os.path.join(folder, name), text.replace(*change) if name == file else text)
 
 
 def lines_of(file='', change=('', '')):
-    """What is said of the repository with a change, without the numbers of lines."""
+    """Returns the output on the repository with a change, without the numbers of lines."""
     with tempfile.TemporaryDirectory() as folder:
         laid(folder, file, change)
         passed, faults = public_names.check(folder)
@@ -216,7 +217,7 @@ def lines_of(file='', change=('', '')):
 
 
 def moved(change):
-    """The table's lines that differ where names came and rows were moved."""
+    """Returns the lines of the table that differ after names were added and rows were moved."""
     with tempfile.TemporaryDirectory() as folder:
         laid(folder, DEEP, change)
         public_names.move(folder)
@@ -225,12 +226,53 @@ def moved(change):
     return [line for line in after if line not in FILES[TABLE].split('\n')], faults
 
 
+PAGE = '# Names\n\nAll of them.\n\n## Old\n\n## Left out\n\n| `Made::gone` | [left out](DIFFERENCES.md) |\n'
+# the rows of a module in a generated page
+MADE = """| `Made { first }` | `low` |  |
+| `Made::{kind}` | `low` |  |
+| `Made: From<&str>, From<Vec<T>>` | `low` |  |
+| `made` | `low` |  |
+"""
+
+
+def of_made(file='', change=('', '')):
+    """Returns the output on a generated page, and on the same page after the sources were changed."""
+    with tempfile.TemporaryDirectory() as folder:
+        laid(folder)
+        page = public_names.made(folder, PAGE)
+        write(os.path.join(folder, TABLE), page)
+        first = public_names.check(folder)[1] + public_names.unlike(folder)
+        laid(folder, file, change)
+        write(os.path.join(folder, TABLE), page)
+        return page, first, public_names.check(folder)[1] + public_names.unlike(folder)
+
+
+def made_tests():
+    page, first, _ = of_made()
+    yield 'a page that is made is right', first, []
+    yield 'it begins as it did', page.startswith('# Names\n\nAll of them.\n\n## Names\n\n| name |'), True
+    yield 'it has the rows of a module', MADE in page, True
+    yield 'it ends as it did', page.endswith(PAGE[PAGE.index('## Left') :]), True
+    yield 'an item has the first sentence of its comment', '| `Number` | `high::shown` | A number. |' in page, True
+    yield 'a variant has its fields', '| `Kind { Plain, Of, With { left, right } }` | `high::shown` |' in page, True
+    told_of = of_made(DEEP, ('    fn own', '    pub fn own'))[2]
+    yield 'a method that came', told_of, ['no row: | `Made::own` | `low` |', 'isn\'t made so: | `Made::{kind}` | `low` |  |',
+                                          'is made so: | `Made::{kind, own}` | `low` |  |']
+    told_of = of_made(DEEP, ('pub fn kind', 'fn kind'))[2]
+    yield 'a method that is gone', [re.sub(r'^line \d+: ', '', it) for it in told_of], [
+        'Made::{kind} low has no public kind', 'isn\'t made so: | `Made::{kind}` | `low` |  |']
+    told_of = of_made(SHOWN, ('/// A number.', '/// No number. Or one.'))[2]
+    yield 'another comment', told_of, ['isn\'t made so: | `Number` | `high::shown` | A number. |',
+                                       'is made so: | `Number` | `high::shown` | No number. |']
+
+
 def tests():
-    """Each test's name with what was found and what is wanted."""
+    """Yields each test's name, with what was found and what is expected."""
     yield 'nothing is wrong without a change', lines_of(), (32, [])
     for name, file, change, want in CHANGES:
         yield name, sorted(lines_of(file, change)[1]), sorted(want)
     yield 'a row is moved', moved(('    fn own', '    pub fn later')), (['| `Made::later` | `low` |'], [])
+    yield from made_tests()
     yield 'a left out row is not moved', moved(('    fn own', '    pub fn gone'))[0], []
 
 

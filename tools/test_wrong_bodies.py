@@ -1,11 +1,12 @@
 #!/usr/bin/env python3
-"""Tests of wrong_bodies.py on a small crate of its own: that it lets pass what is refused, or shown wrong, and nothing else.
+"""Tests of wrong_bodies.py on a small crate of its own: that it accepts mutants that are refused, or shown wrong, and nothing else.
 
     python3 tools/test_wrong_bodies.py
 
 A line a test that fails; the last line is 'N passed, M failed'.
 """
 import os
+import shutil
 import sys
 import tempfile
 from dataclasses import replace
@@ -13,7 +14,7 @@ from dataclasses import replace
 import run_cases
 from tested import told
 from wrong import clauses, record, shown
-from wrong.crates import TOP, Crate, Edit, Function, kit, libraries_of, write
+from wrong.crates import TOP, Crate, Edit, Function, kit, libraries_of, read, write
 from wrong.outcomes import run_named, try_crate
 from wrong.rooms import TO_NO_GOAL, Lanes, Room, with_answer_to_no_goal, words_of
 from wrong.trying import tried_all
@@ -25,6 +26,7 @@ SOURCE = '''//! A small crate.
 #![tactic(auto)]
 
 ghost use Rattle.std.specs.Prelude.{ℕ, ◌+◌, ◌≡◌, ◌≤◌, IfErr};
+ghost use Rattle.std.specs.Bool.{Decides};
 ghost use Rattle.small.specs.Small.{double, IsRefusal};
 
 /// The next number.
@@ -146,6 +148,22 @@ impl Parted for (Digit, Digit) {
     }
 }
 
+/// A number that is compared.
+#[derive(Clone, Copy, PartialEq, Eq)]
+pub struct Mark {
+    value: u8,
+}
+
+impl Mark {
+    /// Whether these are the same.
+    pub fn is_same(self, other: Mark) -> bool
+        ensures same { Decides result (self.value ≡ other.value) }
+        ensures equal { result ≡ ⟦<Mark as PartialEq>⟧.eq self other }
+    {
+        self == other
+    }
+}
+
 /// Says nothing of its result.
 pub fn any(x: u8) -> u8 {
     x
@@ -256,7 +274,7 @@ FILES = {
 
 # the outcomes that are recorded
 RECORDED = ('refused', 'named')
-# a name, what is changed into what, how the edit has to end, and what it says shows it wrong
+# a name, what is changed into what, the expected outcome of the edit, and what it names to show it wrong
 EDITS = [
     ('one_more', [('    x + 1', '    x + 2')], 'refused', ''),
     ('the_same_number', [('    x + 1', '    x')], 'refused', ''),
@@ -275,7 +293,7 @@ EDITS = [
     ('a_text_that_stands_twice', [('requires', 'ensures')], 'not reached', ''),
     ('two_functions', [('    x + 1', '    x + 2'), ('next(next(x))', 'next(x)')], 'not reached', ''),
     ('no_function', [('#![tactic(auto)]', '')], 'not reached', ''),
-    # these two meet the contract, and their change is no fit to the answer by hand
+    # these two meet the contract, but the answer by hand doesn't fit their change
     ('another_fault_that_is_allowed', [('return Err(fault)', 'return Err(Fault::Broken)')], 'let through', ''),
     ('another_fault_by_a_name', [('Err(fault) => return Err(fault)', 'Err(_) => return Err(Fault::Broken)')], 'let through', ''),
     # nothing shows this one wrong
@@ -290,12 +308,21 @@ EDITS = [
     ('twice_and_six', [('    x + x', '    x + x + 6')], 'named', 'small_tests/numbers::doubles by small::doubled kept'),
     ('twice_of_a_name_that_is_not_there', [('    x + x', '    y + x')], 'not reached', 'small_tests/numbers::doubles by small::doubled'),
     ('twice_by_another_head', [('pub fn doubled(x: u8) -> u8', 'pub fn doubled(mut x: u8) -> u8'), ('    x + x', '    x += x; x + 1')], 'named', 'small_tests/numbers::doubles by small::doubled'),
+    ('marks_are_all_equal', [('self == other', 'self.value == other.value')], 'refused', ''),
+    ('marks_are_equal_by_hand', [('self == other', 'self.value == other.value')], 'let through', ''),
+    ('marks_are_hashed_by_hand', [], 'not reached', ''),
     ('next_and_five', [('    x + 1', '    x + 5')], 'refused', 'small_tests/numbers::counts by small::next'),
 ]
-# what the runs say of those that name something: nothing where a test shows the edit wrong
+# what else is in edits: the function, and an impl by hand in place of a derived one
+BESIDES = {
+    'marks_are_all_equal': 'in: Mark::is_same\nimpl: impl PartialEq for Mark { ghost use Rattle.std.specs.Prelude.{true}; ghost use Rattle.std.proofs.Common.{refl}; ghost eq = { λ _ _. true }; ghost laws = { record { symm = λ x y. refl; trans = λ x y z h k. refl } }; fn eq(&self, _other: &Mark) -> bool { true } }\n',
+    'marks_are_equal_by_hand': 'in: Mark::is_same\nimpl: impl PartialEq for Mark { ghost use Rattle.std.specs.Prelude.{nat_eq}; ghost use Rattle.std.specs.Ordering.{on}; ghost use Rattle.std.proofs.Common.{rules}; ghost use Rattle.std.specs.Cmp.Rules.{comparing}; ghost eq = { on (λ m. m.value) nat_eq }; ghost laws = { Prim.search (comparing, rules) }; fn eq(&self, other: &Mark) -> bool { self.value == other.value } }\n',
+    'marks_are_hashed_by_hand': 'in: Mark::is_same\nimpl: impl Hash for Mark { }\n',
+}
+# the results of the runs that edits name: empty if a test shows the edit wrong
 RUNS = {
     'twice_and_one': '',
-    # (what shows it wrong is found, and not by which clause)
+    # what shows it wrong is found, but not by which clause
     'twice_and_two': 'it names no clause that fixes what small_tests/numbers::doubles looks at',
     'twice_and_three': 'numbers::counts does not fail with it',
     'twice_and_four': 'numbers::miscounts does not hold without an edit',
@@ -308,7 +335,7 @@ RUNS = {
 
 
 def lay(folder, source):
-    """A repository with the small crate, its tests and its edits."""
+    """Makes a repository with the small crate, its tests and its edits."""
     write(os.path.join(folder, 'crates.txt'), 'small:\nsmall_tests: small\n')
     write(os.path.join(folder, 'HANDLES'), 'Handles allowed: none.\n')
     write(os.path.join(folder, 'crates', 'small_tests', 'src', 'lib.rt'), TESTS)
@@ -318,24 +345,24 @@ def lay(folder, source):
         write(os.path.join(crate, path), text)
     write(os.path.join(crate, 'src', 'lib.rt'), source)
     for name, pairs, _, shown in EDITS:
-        text = 'file: src/lib.rt\n' + ''.join('old: %s\nnew: %s\n' % pair for pair in pairs)
+        text = 'file: src/lib.rt\n' + BESIDES.get(name, '') + ''.join('old: %s\nnew: %s\n' % pair for pair in pairs)
         write(os.path.join(crate, 'wrong', name + '.edit'), text + ('shown: %s\n' % shown if shown else ''))
     return Crate(folder, 'small', libraries_of(folder))
 
 
 def outcome_of(crate, names, with_base=False, is_record=False):
-    """How edits of the small crate end."""
+    """Returns the outcomes of edits of the small crate."""
     return try_crate(crate, names, words_of(crate, kit(), None), Lanes(), None, with_base, is_record)
 
 
 def tried(crate, names, with_base=False, is_record=False):
-    """How edits of the small crate end, what is wrong without an edit, and how many weren't due."""
+    """Returns the outcomes of edits of the small crate, what is wrong without an edit, and how many weren't due."""
     outcome = outcome_of(crate, names or crate.names(), with_base, is_record)
     return {name: it.how for name, it in outcome.verdicts.items()}, outcome.wrong, outcome.left
 
 
 def tests_of_outcomes(folder):
-    """Each outcome, with a check without edits, and what is recorded then."""
+    """Tests each outcome, with a check without edits, and what is recorded then."""
     crate = lay(folder, SOURCE)
     found, wrong, left = tried(crate, [], True, True)
     yield 'nothing is wrong without an edit', (wrong, left), ([], 0)
@@ -347,7 +374,7 @@ def tests_of_outcomes(folder):
 
 
 def tests_of_runs(folder):
-    """What edits name is run with them and without, where the tests before stand. One that doesn't compile is told apart from those of its build."""
+    """Tests runs with and without edits, if the tests hold without them. An edit that doesn't compile is separated from the others of its build."""
     crate = Crate(folder, 'small', libraries_of(folder))
     named = [it.name for it in crate.edits(crate.names())[0] if it.shown]
     yield 'each edit that names something has an outcome', named, sorted(RUNS)
@@ -371,7 +398,7 @@ def tests_of_runs(folder):
 
 
 def tests_of_cases():
-    """What a case says of an edit, by how it ends with it: contracts leave open when memory is refused."""
+    """Tests what a case says about an edit, by how it ends with it: contracts leave open when an allocation fails."""
     case = run_cases.Case('cases/a', 'symq', None, None, b'', run_cases.Outcome(0, b'1\n', b''))
     other, refused = case.want._replace(output=b'2\n'), run_cases.Outcome(7, b'', b'symq: out of memory\n')
     fault, deep = (case.want._replace(status='fault', error=b'checked: fault kind=%s in=a' % kind) for kind in (b'panic', b'stack'))
@@ -385,35 +412,54 @@ def tests_of_cases():
     yield from tests_of_what_is_fixed()
 
 
-# what an edit of a file may name, and what is said of it, in this repository
+# what an edit of a file may name, and the output on it, in this repository
 NAMED = (
-    ('symq_core', 'src/program/lines.rt', 'tests/cases/empty_line', ''),
-    ('symq_core', 'src/program/streams.rt', 'tests/cases/empty_line', 'it names no clause that fixes what tests/cases/empty_line looks at'),
-    ('symq_core', 'src/program/start.rt', 'tests/cases/empty_line', 'it names no clause that fixes what tests/cases/empty_line looks at'),
+    ('symq_core', 'src/lines.rt', 'tests/cases/empty_line', ''),
+    ('symq_core', 'src/streams.rt', 'tests/cases/empty_line', 'it names no clause that fixes what tests/cases/empty_line looks at'),
+    ('symq_core', 'src/arguments.rt', 'tests/cases/empty_line', 'it names no clause that fixes what tests/cases/empty_line looks at'),
     ('symbols_table', 'src/builder/table.rt', 'tests/tables/overloads', 'it names no clause that fixes what tests/tables/overloads looks at'),
     ('symbols_table', 'src/builder/table.rt', 'tests/tables/overloads by symbols_table::analyze table', ''),
     ('symbols_table', 'src/builder/table.rt', 'tests/tables/absent by symbols_table::analyze table', 'there is no tests/tables/absent'),
-    ('symbols_table', 'src/builder/table.rt', 'tests/tables/overloads by symbols_nodes::SymbolNodeRef::deps', 'there is no clause symbols_nodes::SymbolNodeRef::deps'),
+    ('symbols_table', 'src/builder/table.rt', 'tests/tables/overloads by symbols_nodes::SymbolNodeRef::source', 'there is no clause symbols_nodes::SymbolNodeRef::source'),
 )
 
 
 def tests_of_what_is_fixed():
-    """Contracts fix how a run of symq ends, and of no other run, and nothing of what is read from files and streams."""
+    """Tests that contracts fix how a run of symq ends, and no other run, and nothing of the contents of files and streams."""
     edits = [(number, Edit(crate, 'an_edit', Function(file, 0, 0, ('f',), '', ''), (), shown_by)) for number, (crate, file, shown_by, _) in enumerate(NAMED)]
     bad = shown.sorted_out(TOP, edits)[1]
     for number, (crate, file, shown_by, why) in enumerate(NAMED):
         yield 'an edit of %s/%s that names %s' % (crate, file, shown_by), bad.get(number, ''), why
 
 
+def tests_of_what_is_signed(folder):
+    """Tests that a clause that fixes how a run ends has the text that a person signed, with whichever line breaks."""
+    for name in ('crates.txt', clauses.SIGNED, *('crates/%s/src' % it for it in {clauses.words_of_clause(it)[0] for it in clauses.FIXING})):
+        copy = shutil.copytree if os.path.isdir(os.path.join(TOP, name)) else shutil.copy
+        os.makedirs(os.path.dirname(os.path.join(folder, name)) or folder, exist_ok=True)
+        copy(os.path.join(TOP, name), os.path.join(folder, name))
+    stop = os.path.join(folder, 'crates/symq_core/src/exit_error.rt')
+    text, clause = read(stop), 'ensures { result ≡ status_of self.now }'
+    yield 'the clause stands there', text.count(clause), 1
+    for name, other, want in (
+        ('signed clauses have no fault', clause, []),
+        ('nor has one whose lines are broken otherwise', 'ensures { result\n            ≡ status_of self.now }', []),
+        ('a clause that says nothing is none', 'ensures { Unit {0} }', ['symq_core::ExitError::status']),
+        ('nor is one that is left out', '', ['symq_core::ExitError::status']),
+    ):
+        write(stop, text.replace(clause, other))
+        yield name, clauses.missing_clauses(folder), want
+
+
 def unchanged(crate, name):
-    """The edit without its change."""
+    """Returns the edit without its change."""
     edit = crate.edit(name)
     own = crate.texts[edit.function.file].split('\n')[edit.function.first : edit.function.last + 1]
     return replace(edit, lines=tuple(own))
 
 
 def tests_of_the_record(folder):
-    """What is due, where the record of the test before stands."""
+    """Tests what is due, given the record of the test before."""
     crate = Crate(folder, 'small', libraries_of(folder))
     edits, _ = crate.edits(crate.names())
     passed = {name for name, _, how, _ in EDITS if how in RECORDED}
@@ -429,6 +475,7 @@ def tests_of_the_record(folder):
     yield 'what names a run that fixes nothing is due in turn', by_table, turns
     yield 'in one turn alone, where it is recorded', sorted(it for turn in turns for it in turn - never), sorted(passed)
     yield 'a turn comes again', {it.name for it in record.due(crate, edits, record.TURNS)}, turns[0]
+    yield 'a crate is due as a whole', [it - never for it in turns if it - never], [passed]
     path = record.path_of(crate)
     with open(path, encoding='utf-8') as f:
         lines = f.read()
@@ -442,8 +489,18 @@ def tests_of_the_record(folder):
     yield from tests_of_kits(crate, edits, passed)
 
 
+def tests_of_turns():
+    """Tests that each crate of the repository that has edits has one turn, and that no turn has much more to check than another."""
+    libraries = libraries_of(TOP)
+    turns = [record.crates_in_turn(TOP, libraries, turn) for turn in range(record.TURNS)]
+    counts = {it: record.checked_count(TOP, it) for it in libraries}
+    yield 'each crate with edits has one turn', sorted(it for turn in turns for it in turn), sorted(it for it in counts if counts[it])
+    sums = [sum(counts[it] for it in turn) for turn in turns]
+    yield 'turns are alike', max(sums) <= max(2 * min(sums), max(counts.values())), True
+
+
 def tests_of_breaks():
-    """Where lines are broken isn't in a sum, where that isn't read."""
+    """Tests that line breaks don't change a hash where they aren't read."""
     places = {'in a source': ('src/a.rt', 'a\n    b', 'a b'), 'behind a comment': ('src/a.rt', 'a // c\n    b', 'a // c b')}
     places |= {'in a text': ('src/a.rt', '"a\n    b"', '"a b"'), 'in a proof': ('proofs/a.antt', 'a\n    b', 'a b')}
     places['beside a quote'] = ('src/a.rt', '\'"\' a\n    b "\\""', '\'"\' a b "\\""')
@@ -451,7 +508,7 @@ def tests_of_breaks():
     yield 'a break counts behind a comment, in a text and in a proof, and nowhere else', same, {'in a source', 'beside a quote'}
 
 
-# a file with what crates above can call, and the words of what they can't
+# a file with public functions for crates above, and the names that those can't use
 FACE = """use std::fmt;
 
 /// Own.
@@ -493,13 +550,13 @@ pub fn open() {}
 
 
 def face_with(folder, old, new):
-    """The sum of what crates above can read of a crate whose source has another text."""
+    """Returns the hash of what crates above can read of a crate whose source has another text."""
     write(os.path.join(folder, 'crates', 'seen', 'src', 'lib.rt'), FACE.replace(old, new))
     return record.face_of(Crate(folder, 'seen', {'seen': []}))
 
 
 def tests_of_faces(folder):
-    """Of a crate below what it alone can call isn't in a sum, and all else is."""
+    """Tests that private functions of a crate below don't change a hash, and that everything else does."""
     seen = record.without_own_functions('src/a.rt', FACE)
     words = ('fn own(', 'Own.', 'tactic', 'result', 'of_the_crate', 'own_field', 'own_call', 'fn call', 'fn fmt', 'fn tell', 'fn open', '}\n\npub trait')
     yield 'what crates above can read', [it for it in words if it in seen], ['own_field', 'fn call', 'fn fmt', 'fn tell', 'fn open', '}\n\npub trait']
@@ -512,7 +569,7 @@ def tests_of_faces(folder):
 
 
 def tests_of_kits(crate, edits, passed):
-    """What is recorded by one kit is due by another, and stays recorded for its own as long as it fits."""
+    """Tests that an edit recorded with one kit is due with another, and stays recorded for its own as long as it fits."""
     path, own = record.path_of(crate), record.recorded(crate)
     with open(path, encoding='utf-8') as f:
         lines = f.read()
@@ -526,7 +583,7 @@ def tests_of_kits(crate, edits, passed):
 
 
 def changed_sums(folder, old, new, names):
-    """The edits of these names, as they stand in the folder, whose sums aren't the recorded ones where the source has another text."""
+    """Returns the edits of these names whose hashes differ from the recorded ones if the source has another text."""
     source = os.path.join(folder, 'crates', 'small', 'src', 'lib.rt')
     write(source, SOURCE.replace(old, new))
     crate = Crate(folder, 'small', libraries_of(folder))
@@ -537,7 +594,7 @@ def changed_sums(folder, old, new, names):
 
 
 def tests_of_contracts(folder):
-    """What is called counts by its contract, and what isn't proved without an edit is told."""
+    """Tests that a called function counts by its contract, and that a failed proof without an edit is reported."""
     crate = lay(folder, SOURCE.replace('    x + 1', '    x + 3'))
     yield 'what is called counts by its contract', tried(crate, ['once_alone'])[:2], ({'once_alone': 'refused'}, [])
     crate = lay(folder, SOURCE.replace('next(next(x))', 'next(next(x)) + 1'))
@@ -546,7 +603,7 @@ def tests_of_contracts(folder):
 
 
 def tests_of_whole_checks(folder):
-    """A check that isn't whole offers no answers, refuses what a whole one refuses, and says of no function that it is proved: a whole one does."""
+    """Tests that a check that isn't whole offers no answers, refuses what a whole one refuses, and reports no function as proved."""
     crate = lay(folder, SOURCE)
     edits, _ = crate.edits(['one_more', 'against_a_law_of_its_type', 'of_a_function_without_a_promise'])
     room = Room(crate, words_of(crate, kit(), None), os.path.join(folder, 'room'), Lanes())
@@ -562,7 +619,7 @@ def tests_of_whole_checks(folder):
 
 
 def tests_of_answers_to_no_goal(folder):
-    """An answer to no goal goes behind those of the function, or of its cycle of calls, and nowhere where the proof is written as a whole."""
+    """Tests that an answer to no goal goes after those of the function, or of its cycle of calls, and nowhere if the proof is written as a whole."""
     crate = lay(folder, SOURCE)
     by_name = {it.name(): it for it in crate.functions}
     files = {**crate.other_files(), 'proofs/second/Proof.antt': ''}
@@ -575,7 +632,7 @@ def tests_of_answers_to_no_goal(folder):
 
 
 def tests_of_what_names_nothing(folder):
-    """An edit that breaks a proof by hand fails where it names nothing that shows it wrong, though a test would fail with it."""
+    """Tests that an edit that breaks a proof by hand fails if it names nothing that shows it wrong, even if a test would fail with it."""
     crate = lay(folder, SOURCE)
     outcome = outcome_of(crate, ['twice_and_two', 'twice_and_one'])
     yield 'an edit that names nothing fails', (outcome.named(), outcome.failures()), (['twice_and_one'], 1)
@@ -584,7 +641,7 @@ def tests_of_what_names_nothing(folder):
     yield 'where nothing is looked for, none is written into it', crate.edit('twice_and_two').shown, ''
 
 
-# what `rt try --test` says of a test that holds, two that fail, one that a fault ended and one that ran out of its time
+# the output of `rt try --test` on a test that holds, two that fail, one that ended by a fault and one that ran out of time
 SAID = '''tests: 5
 test numbers::adds ... ok
 test numbers::counts ... FAILED
@@ -604,16 +661,17 @@ test result: FAILED. 1 passed; 4 failed; 0 ignored; 0 filtered out
 
 
 def tests():
-    """Each test's name with what was found and what is wanted."""
+    """Yields each test's name, with what was found and what is expected."""
     with tempfile.TemporaryDirectory() as folder:
         yield from tests_of_outcomes(folder)
         yield from tests_of_runs(folder)
         yield from tests_of_the_record(folder)
     with tempfile.TemporaryDirectory() as folder:
         yield from tests_of_contracts(folder)
-    for own in (tests_of_what_names_nothing, tests_of_whole_checks, tests_of_answers_to_no_goal, tests_of_faces):
+    for own in (tests_of_what_names_nothing, tests_of_whole_checks, tests_of_answers_to_no_goal, tests_of_faces, tests_of_what_is_signed):
         with tempfile.TemporaryDirectory() as folder:
             yield from own(folder)
+    yield from tests_of_turns()
     yield from tests_of_breaks()
     yield from tests_of_cases()
     wanted = {'numbers::adds': False, 'numbers::counts': True, 'numbers::halves': True}

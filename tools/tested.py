@@ -1,8 +1,8 @@
-"""What the tests of the tools share: how they are told."""
+"""Shared code of the tests of the tools: their report."""
 
 
 def told(tests):
-    """Prints a line for each test, a name with what was found and what is wanted, that fails, and the counts; returns the status."""
+    """Prints a line for each test that fails, with what was found and what is expected, and the counts. Returns the status."""
     passed = failed = 0
     for name, found, want in tests:
         if found == want:

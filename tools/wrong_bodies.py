@@ -1,53 +1,54 @@
 #!/usr/bin/env python3
-"""Tries wrong bodies of the crates' functions, many in one check, and wants each refused by a goal of a clause, or by a run that its contract
-doesn't allow.
+"""Tries mutants: wrong bodies of the crates' functions, many in one check. Each has to be refused by a goal of a clause, or by a run that its
+contract doesn't allow.
 
     python3 tools/wrong_bodies.py                       the edits of every crate, crates side by side
     python3 tools/wrong_bodies.py CRATE ..              those of some crates
     python3 tools/wrong_bodies.py CRATE/EDIT ..         some edits
-    python3 tools/wrong_bodies.py --turn N ..           those alone that are due at the commit of this number
+    python3 tools/wrong_bodies.py --turn N ..           only those that are due at the commit of this number
     python3 tools/wrong_bodies.py --base ..             with a check of each crate without an edit, before the others
     python3 tools/wrong_bodies.py --record ..           writes which edits ended well
-    python3 tools/wrong_bodies.py --checks ..           checks alone, and --runs: runs alone of what edits name
-    python3 tools/wrong_bodies.py --libraries FOLDER .. over the built libraries of a folder, NAME.rlib
-    python3 tools/wrong_bodies.py --lanes FOLDER ..     as many checks at once, with others', as the folder has files
+    python3 tools/wrong_bodies.py --checks ..           only checks; --runs: only the runs that edits name
+    python3 tools/wrong_bodies.py --libraries FOLDER .. over the built libraries of a directory, NAME.rlib
+    python3 tools/wrong_bodies.py --lanes FOLDER ..     as many checks at once, with those of others, as the directory has files
 
 An edit is a file crates/CRATE/wrong/EDIT.edit with a line 'file: src/FILE.rt' and pairs of lines 'old: TEXT' and
-'new: TEXT'. Each old text stands in that file exactly once, where the earlier pairs are made already, and all that an
-edit changes lies in one function.
+'new: TEXT'. Each old text is in that file exactly once, after the earlier pairs are applied, and an edit changes only one
+function. A line 'in: MODULE::TYPE::FUNCTION' names that function, and its texts may be in others, too. A line 'impl: TEXT'
+writes an impl by hand in place of the one that a type of the file derives.
 
 A check proves function by function, from the contracts of what a function calls. So one check tries an edit in each of
-many functions, on a copy of the crate in which each function that isn't asked for has `unreachable!()` for its body and a
-hole in place of its proof, which `rattle check --allow-holes` takes by its contract. A batch has at most one edit for a
-function. The functions of a cycle of calls share a proof, but each has goals of its own, which say of the others only
-what their contracts promise, and which bear its name: so each of them may have an edit in one batch. An edit is
+many functions, on a copy of the crate in which each unchecked function has `unreachable!()` for its body and a
+hole in place of its proof, which `rattle check --allow-holes` accepts by its contract. A batch has at most one edit for a
+function. The functions of a cycle of calls share a proof, but each has goals of its own, which rely only on the
+contracts of the others, and which bear its name: so each of them may have an edit in one batch. An edit is
 
-    refused         where a goal of a clause stays open: of what the function ensures, of what a call in it requires, of the
-                    law of its type. Where the function has a proof by hand, a goal counts only if the prover gives values
-                    at which it is false, or proves that clause by itself where no edit is made
-    proof broken    where answers by hand are no fit to the change, or a loop's invariant isn't, and no such goal is open
+    refused         if a goal of a clause stays open: of what the function ensures, of what a call in it requires, of the
+                    law of its type. If the function has a proof by hand, a goal counts only if the prover gives values
+                    at which it is false, or proves that clause by itself without the edit
+    proof broken    if answers by hand, or a loop's invariant, don't fit the change, and no such goal is open
                     without them. That is no refusal: a right body may break a proof. The edit names a run that its contract
                     doesn't allow, by a line 'shown: tests/cases/NAME' or 'shown: CRATE/TEST by CRATE::FUNCTION CLAUSE'
-    let through     where the function is proved with the edit, also without answers by hand that are no fit
-    not reached     where the text doesn't apply, or the batch doesn't compile: it is halved until the edit is found
-    undecided       where neither a goal was named nor the function proved; such an edit is tried once more, alone. No other check
-                    lets an edit through: each has for each function an answer to no goal, for which the check offers no answers
+    let through     if the function is proved with the edit, also without answers by hand that don't fit
+    not reached     if the text doesn't apply, or the batch doesn't compile: it is halved until the edit is found
+    undecided       if neither a goal was named nor the function proved; such an edit is tried once more, alone. In no other check
+                    does an edit survive: each has for each function an answer to no goal, for which the check offers no answers
 
-and only the first, and the second where it names something, pass. What edits name is run, for all of them at each run: the
-case or test has to fail with the edit, in a build that isn't proved, and to hold without it. How a run of symq ends is fixed by
-the contracts of its calls, but for status 7, by which it tells that memory was refused; of any other case or test the edit
-names the clause, or the law of a type, that doesn't allow what is found there. One build of a program, or of a crate of tests,
-has all of these edits in it: a function that has some asks which one is chosen.
+and only the first passes, and the second if it names something. What edits name is run, for all of them at each run: the
+case or test has to fail with the edit, in an unverified build, and to hold without it. The contracts of its calls fix how a
+run of symq ends, except for status 7, which reports a failed allocation. For any other case or test the edit names the
+clause, or the law of a type, that doesn't allow the result. One build of a program, or of a crate of tests, has all of these
+edits in it: a function with edits looks up which one is chosen.
 
-The file wrong/refused of a crate records the edits that pass by a check, each with a sum of all that its verdict rests on: the
-kit, these programs, the crate as a check of the edit reads it, and what can be read of the libraries below. Due are the edits
-whose sum isn't recorded, and each sixth of the others, in turn, but in no turn those that name a case of symq alone, which their
-run refuses: `--turn` takes the number of commits. `--record` writes the record, and into edits that broke a proof and name nothing
-what shows them wrong, if anything does. With `--base` the functions that are changed must all be proved without an edit, in the
-setting in which edits are tried. `make wrong` does both, with all edits.
+The file wrong/refused of a crate records the edits that pass by a check, each with a hash of all inputs of its verdict: the kit,
+these programs, the crate as a check of the edit reads it, and the readable part of the libraries below. Due are the edits
+whose hash isn't recorded, and of the others those of some crates, in turn. Edits that name only a case of symq have no turn,
+since their run refuses them. `--turn` takes the number of commits. `--record` writes the record. Into edits that broke a proof
+and name nothing it writes what shows them wrong, if anything does. With `--base` the changed functions must all be proved
+without an edit, in the same setting. `make wrong` does both, with all edits.
 
-The libraries below a crate must be built: where no folder is named, those in their out/, as `rt check` of the crate
-leaves them. A line an edit, with what refused it, and one for each run; the last line is 'N passed, M failed'.
+The libraries below a crate must be built: if no directory is named, those in their out/, as `rt check` of the crate
+leaves them. Each edit has a line, with what refused it, and so has each run; the last line is 'N passed, M failed'.
 """
 import argparse
 import os
@@ -63,7 +64,7 @@ from wrong.rooms import Lanes, words_of
 
 
 def wanted(top, words):
-    """The crates, each with the names of the edits that are to be tried, those with most edits first."""
+    """Returns the crates, each with the names of the edits to try, those with most edits first."""
     libraries, found = libraries_of(top), {}
     for word in words or libraries:
         name, _, edit = word.partition('/')
@@ -93,7 +94,7 @@ def checked(crates, args, lanes):
 
 
 def run(crates, args, lanes):
-    """Tries the edits by checks and by runs, as far as is asked for, and returns how they ended."""
+    """Tries the edits by checks and by runs, as far as requested, and returns the outcomes."""
     outcomes = [] if args.runs else checked(crates, args, lanes)
     runs = Runs([], []) if args.checks else run_named(crates, lanes)
     for line in runs.lines():

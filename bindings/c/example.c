@@ -17,7 +17,7 @@ struct bytes {
     size_t length;
 };
 
-/* All that is in a stream; it ends where memory is refused. */
+/* Returns all bytes of a stream. It exits if an allocation fails. */
 static struct bytes read_all(FILE *stream) {
     struct bytes found = {NULL, 0};
     size_t room = 1 << 16, got;
@@ -32,13 +32,13 @@ static struct bytes read_all(FILE *stream) {
     return found;
 }
 
-/* Room for what calls hand out. */
+/* The buffer for the output of calls. */
 struct room {
     uint8_t *items;
     size_t length;
 };
 
-/* Room for so many bytes; it ends where memory is refused. */
+/* Makes room for this many bytes. It exits if an allocation fails. */
 static void make_room(struct room *room, size_t needed) {
     free(room->items);
     room->length = needed;
@@ -47,14 +47,14 @@ static void make_room(struct room *room, size_t needed) {
         exit(SYMQ_NO_MEMORY);
 }
 
-/* Writes what was handed out: answers, or the line that says why there are none. */
+/* Writes the output of a call: answers, or the line that says why there are none. */
 static void write_told(uint8_t status, const struct room *out, size_t needed) {
     fwrite(out->items, 1, needed, status == SYMQ_DONE ? stdout : stderr);
     if (status != SYMQ_DONE)
         fputc('\n', stderr);
 }
 
-/* One call, and a second one where the answers don't fit. */
+/* Answers by one call, and a second one if the answers don't fit. */
 static int answer(int is_strict, struct bytes text, struct bytes lines, struct room *out) {
     size_t needed;
     uint8_t status;
@@ -69,7 +69,7 @@ static int answer(int is_strict, struct bytes text, struct bytes lines, struct r
     return status;
 }
 
-/* The same of a session. */
+/* Answers by a session, in the same way. */
 static int ask(struct symq_session *session, struct bytes line, struct room *out) {
     size_t needed;
     uint8_t status;
@@ -84,7 +84,7 @@ static int ask(struct symq_session *session, struct bytes line, struct room *out
     return status;
 }
 
-/* A session over the graph, which is asked for line after line. A long line of why it isn't opened is cut. */
+/* Answers line after line by a session over the graph. If it can't be opened, a long line with the reason is cut off. */
 static int serve(int is_strict, struct bytes text, struct room *out) {
     struct symq_session session = {0};
     size_t needed, line_room = 0;

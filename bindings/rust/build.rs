@@ -1,4 +1,4 @@
-//! Links `libsymq.a`, which `make lib` makes, from the folder that SYMQ_LIB_DIR names, or from lib/ of the repository.
+//! Links `libsymq.a`, which `make lib` makes, from the directory that SYMQ_LIB_DIR names, or from lib/ of the repository.
 
 use std::env;
 use std::path::Path;

@@ -1,12 +1,12 @@
 #!/usr/bin/env python3
-"""Builds `out/crate-symq`: the Rust crate's own module `symbols` behind the lines of `symq`.
+"""Builds `out/crate-symq`: the Rust crate's own module `symbols`, with the query lines of `symq`.
 
     python3 evidence/crate/build.py FOLDER [--crates DIRECTORY]
 
-FOLDER is `deno_graph` 0.111.1 as cargo unpacks it, `src/symbols/` in it. Its six files are taken as they are, and only with
-the checksums below; `mod.rs` gets two lines more, which name two of the crate's types that nobody outside could name else.
-The crate isn't kept: all that is made stands in `out/`, which git leaves out. DIRECTORY has the sources of the crates that
-the stand-ins need, as Debian puts them in place; nothing is fetched.
+FOLDER is `deno_graph` 0.111.1 as cargo unpacks it, `src/symbols/` in it. Its six files are used unchanged, and only with
+the checksums below; `mod.rs` gets two additional lines, which export two of the crate's types that are otherwise unnameable.
+The crate isn't stored in the repository: all outputs are in `out/`, which git ignores. DIRECTORY has the sources of the crates that
+the stand-ins need, as Debian installs them; nothing is fetched.
 """
 import argparse
 import hashlib
@@ -47,11 +47,11 @@ offline = true
 
 
 class Refused(Exception):
-    """Why nothing is built, as a line."""
+    """The reason why nothing is built, as a line."""
 
 
 def read_checked(folder: str) -> 'dict[str, bytes]':
-    """The six files, whose checksums are those that are wanted."""
+    """Returns the six files, after checking their checksums."""
     found = {}
     for name, wanted in CHECKSUMS.items():
         path = os.path.join(folder, 'src', 'symbols', name)
@@ -76,7 +76,7 @@ def check_tools(crates: str) -> None:
 
 
 def lay(files: 'dict[str, bytes]', crates: str) -> str:
-    """The folder in which cargo builds: our parts, the crate's files, and where to find other crates."""
+    """Makes the directory in which cargo builds: our parts, the crate's files, and the paths of other crates."""
     top = os.path.join(OUT, 'build')
     for part in PARTS + ('symbols', 'Cargo.lock'):
         path = os.path.join(top, part)

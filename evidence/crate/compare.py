@@ -1,14 +1,14 @@
 #!/usr/bin/env python3
 """Compares a program with the Rust crate, by the program that `build.py` makes of it.
 
-    python3 evidence/crate/compare.py crates/symq/out/symq --graph GRAPH ..    every question of graphs of files
-    python3 evidence/crate/compare.py crates/symq/out/symq --seeds 0..20000    random graphs that are accepted
-    python3 evidence/crate/compare.py --seeds 0..20000                         the model, with all that tables hold
+    python3 evidence/crate/compare.py crates/symq/out/symq --graph GRAPH ..    every query on graphs of files
+    python3 evidence/crate/compare.py crates/symq/out/symq --seeds 0..20000    random accepted graphs
+    python3 evidence/crate/compare.py --seeds 0..20000                         the model, with the full tables
 
-Of a graph it is asked which module each specifier stands for and what it exports; of each symbol its name in full, what it
-depends on in both modes, its paths, definitions and leaves; of each reference that this told, which symbol its name stands for
-and what it is itself. Answers are compared byte for byte. What is known to differ is counted apart (`known.py`, README.md).
-The last line is `N passed, M failed`, of random graphs, or of answers where graphs are given.
+The queries on a graph are the module of each specifier and its exports; the full name of each symbol, its dependencies in both
+modes, its paths, definitions and leaves; and for each reference in the answers the symbol of its name and what it resolves to.
+Answers are compared byte for byte. Known differences are counted apart (`known.py`, README.md). The last line is
+`N passed, M failed`, of random graphs, or of answers if graphs are given.
 """
 import argparse
 import json
@@ -42,7 +42,7 @@ def line_of(*query) -> bytes:
 
 
 def ask(command, path, lines, words=()) -> 'list[bytes]':
-    """The answers of a program to lines on the graph of a file."""
+    """Returns the answers of a program to lines on the graph of a file."""
     with tempfile.TemporaryFile() as asked:
         asked.write(b''.join(line + b'\n' for line in lines))
         asked.seek(0)
@@ -77,7 +77,7 @@ class RandomGraphs:
         return run(compact(value), lines)[1].split(b'\n')[:-1]
 
     def differences(self, value, lines) -> list:
-        """The lines that are answered differently, with the program's answer and the crate's; those known aren't in it."""
+        """Returns the lines with different answers, with the program's answer and the crate's, except for known differences."""
         theirs, ours, recursive, found = self.of_crate(value, lines), self.of_program(value, lines), None, []
         for line, a, b in zip(lines, ours, theirs):
             if a == b:
@@ -96,7 +96,7 @@ class RandomGraphs:
         return found
 
     def table_differences(self, value) -> list:
-        """Of the model, the tables of all modules."""
+        """Returns the differences of the model's tables of all modules."""
         root = Root(check_graph(graph_of_value(value)))
         specifiers = [module['specifier'] for module in value['modules']]
         lines = [line_of('table', specifier) for specifier in specifiers]
@@ -121,7 +121,7 @@ class RandomGraphs:
 
 
 def first_questions(crate, path) -> 'list[bytes]':
-    """All questions on the modules of a graph and their symbols."""
+    """Returns all queries on the modules of a graph and their symbols."""
     with open(path, encoding='utf-8') as file:
         specifiers = [module['specifier'] for module in json.load(file)['modules']]
     tables = ask(crate, path, [line_of('table', specifier) for specifier in specifiers])
@@ -134,7 +134,7 @@ def first_questions(crate, path) -> 'list[bytes]':
 
 
 def further_questions(lines, answers) -> 'list[bytes]':
-    """What each reference stands for that the answers told, and which symbol its name does."""
+    """Returns queries on the references in the answers: what each resolves to, and the symbol of its name."""
     found = {}
     for line, answer in zip(lines, answers):
         if not line.startswith(b'["deps"') or b'fault' in answer[:9]:
@@ -149,7 +149,7 @@ def further_questions(lines, answers) -> 'list[bytes]':
 
 
 def compare_file(program, crate, path) -> 'tuple[int, int]':
-    """Asks both everything of a graph, and returns how many answers agree and how many don't."""
+    """Runs all queries of a graph on both, and returns how many answers agree and how many don't."""
     lines = first_questions(crate, path)
     lines += further_questions(lines, ask(crate, path, lines))
     passed, failed, panics = 0, 0, 0

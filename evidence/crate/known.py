@@ -1,4 +1,4 @@
-"""What is known to differ between the crate and `symq`, and how random graphs are kept apart from it."""
+"""The known differences between the crate and `symq`, and how random graphs avoid them."""
 import copy
 
 from graphs.broken import child_fields
@@ -13,13 +13,13 @@ PANIC = b'{"fault":"panic"}'
 # the forms of queries that the crate has no call for
 OWN_FORMS = ('names',)
 
-# the fields of kinds in which a pattern stands
+# the fields of kinds that have a pattern
 PATTERN_FIELDS = {(kind, name) for kind, fields in FIELDS.items() for name, _, allowed in fields
                   if allowed and 'ExprPat' in allowed and allowed != CATEGORIES['ANY']}
 
 
 def is_own(line) -> bool:
-    """Whether a line is a query that the crate has no call for."""
+    """Returns whether a line is a query that the crate has no call for."""
     try:
         return read_query(line).form in OWN_FORMS
     except BadQuery:
@@ -27,12 +27,12 @@ def is_own(line) -> bool:
 
 
 def trees(value) -> 'list[list[dict]]':
-    """The lists of nodes of a graph's modules."""
+    """Returns the lists of nodes of a graph's modules."""
     return [module['tree']['nodes'] for module in value['modules'] if module.get('tree')]
 
 
 def has_opaque_pattern(value) -> bool:
-    """Whether a pattern is `Other`: the crate has no such pattern, and walks it with expressions alone."""
+    """Returns whether a pattern is `Other`: the crate has no such pattern, and visits it with expressions alone."""
     for nodes in trees(value):
         for node in nodes:
             for name, form in child_fields(node):
@@ -43,7 +43,7 @@ def has_opaque_pattern(value) -> bool:
 
 
 def _older_letters(value):
-    """Letters of identifiers that are newer than the tables of Python 3.11 and of Debian's `unicode-ident` are plain."""
+    """Replaces letters of identifiers that are newer than the tables of Python 3.11 and of Debian's `unicode-ident` by plain ones."""
     if type(value) is list:
         return [_older_letters(item) for item in value]
     if type(value) is dict:
@@ -55,7 +55,7 @@ def _older_letters(value):
 
 
 def without_known(value) -> dict:
-    """The graph without JSON texts of white space alone, newer letters, and types dependencies on a redirect's source."""
+    """Returns the graph without JSON texts of white space alone, newer letters, and types dependencies on a redirect's source."""
     value = copy.deepcopy(value)
     sources = {source for source, _ in value.get('redirects') or []}
     for module in value['modules']:
@@ -69,7 +69,7 @@ def without_known(value) -> dict:
 
 
 def without_recursion(value) -> dict:
-    """The graph without types dependencies and aliases of names: what the crate is known to recurse on without end."""
+    """Returns the graph without types dependencies and aliases of names, on which the crate is known to recurse without end."""
     value = copy.deepcopy(value)
     for module in value['modules']:
         module.pop('types', None)

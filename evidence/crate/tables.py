@@ -10,7 +10,7 @@ TESTS = {'class': 'Class', 'function': 'Fn', 'interface': 'TsInterface', 'namesp
 
 
 def tests_of(node: DeclarationNode) -> 'list[str]':
-    """The tests that hold of a declaration's node, in the order in which the crate's program asks them."""
+    """Returns the tests that hold of a declaration's node, in the order in which the crate's program has them."""
     found = [name for name, form in TESTS.items() if node.form == form]
     found += ['export keyword'] if node.how in ('export', 'default') else []
     is_member = node.form in MEMBERS
@@ -21,7 +21,7 @@ def tests_of(node: DeclarationNode) -> 'list[str]':
 
 
 def namespaces_of(node: 'DeclarationNode | None') -> 'list[bool]':
-    """Whether a declaration is a value, and whether a type."""
+    """Returns whether a declaration is a value, and whether it is a type."""
     form = None if node is None else node.form
     return [form not in TYPES, form not in VALUES]
 
@@ -44,7 +44,7 @@ def symbol_value(symbol) -> dict:
 
 
 def table_value(root: Root, specifier: str):
-    """The table of the module that the specifier stands for; None where there is none."""
+    """Returns the table of the module that the specifier resolves to; None if there is none."""
     module = root.module_from_specifier(specifier)
     if module is None:
         return None

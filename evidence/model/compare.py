@@ -7,10 +7,11 @@
     python3 evidence/model/compare.py 'python3 evidence/model/symq.py' --seeds 0..100
 
 PROGRAM is one word of the shell. A seed is one graph with up to 160 queries, in one run: 12 of 20 are accepted, the others
-broken in a tree, a list, a field, a value or the text; three in ten are asked by strict rules, with `--strict`. A program that
-has none is told as one failure, and asked by Deno's rules alone. The first difference is made small and printed, and the status is 1.
---every takes, in place of random graphs, each field of each kind with each wrong value, each kind in each place of a child,
-and so on; --mutated takes random graphs that are accepted, the text of each changed at one to three places. The last line is `N passed, M failed`.
+broken in a tree, a list, a field, a value or the text. Three in ten are queried by strict rules, with `--strict`. A program
+without them counts as one failure, and is queried by Deno's rules alone. The first difference is made small and printed, and the
+status is 1.
+--every takes, in place of random graphs, each field of each kind with each wrong value, each kind in each child field,
+and so on; --mutated takes accepted random graphs, the text of each changed at one to three positions. The last line is `N passed, M failed`.
 """
 import argparse
 import sys
@@ -24,7 +25,7 @@ from rules.stack import with_big_stack
 
 
 def cases_of(a, rules):
-    """The cases with their seeds; with rules, all of them are asked by these."""
+    """Returns the cases with their seeds; if rules are given, all of them are queried by these."""
     if a.every:
         every = every_case()
         cases = ((at, every[at]) for at in (a.seeds or range(len(every))) if at < len(every))

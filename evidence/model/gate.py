@@ -1,11 +1,11 @@
 #!/usr/bin/env python3
-"""What the gate runs of the model.
+"""The part of the full check for the model.
 
     python3 evidence/model/gate.py model                  the model's rows and self-check, and the differ's own test
     python3 evidence/model/gate.py program [PROGRAM]      the program beside the rows, faults around it, and random graphs
     python3 evidence/model/gate.py all [PROGRAM]          both
 
-PROGRAM is `crates/symq/out/symq` unless said; the first form needs none. The seeds come from the number of commits, so that
+PROGRAM is `crates/symq/out/symq` by default; the first form needs none. The seeds come from the number of commits, so that
 each state is tried with other graphs: those from 100,000 times that number on, for 60 seconds. The last line is
 `N passed, M failed`.
 """
@@ -23,7 +23,7 @@ SEEDS_OF_A_COMMIT = 100000
 
 
 def first_seed() -> int:
-    """The first seed of the state that is checked out; 0 outside of a repository."""
+    """Returns the first seed of the checked out commit; 0 outside of a repository."""
     try:
         count = subprocess.run(['git', 'rev-list', '--count', 'HEAD'], cwd=TOP, stdout=subprocess.PIPE, stderr=subprocess.DEVNULL)
     except OSError:
@@ -32,7 +32,7 @@ def first_seed() -> int:
 
 
 def part(name, *words) -> 'tuple[int, int]':
-    """Runs a command of this folder, and returns what its last line counts; another last line is a failure."""
+    """Runs a command of this directory, and returns the counts of its last line; another last line is a failure."""
     print('-- %s' % name, flush=True)
     command = [sys.executable, os.path.join(HERE, words[0]), *words[1:]]
     done = subprocess.run(command, stdout=subprocess.PIPE, text=True, errors='replace')

@@ -4,7 +4,7 @@
     python3 evidence/model/generate.py --seed 7 --graph GRAPH --queries QUERIES
     python3 evidence/model/generate.py --large ring 10000 --graph GRAPH --queries QUERIES
 
-Of a seed it prints by which rules it is asked.
+For a seed it prints the rules of its queries.
 """
 import argparse
 
@@ -15,7 +15,7 @@ from rules.stack import with_big_stack
 
 
 def made(a) -> 'tuple[bytes, list[bytes]]':
-    """The text of a graph, and lines; printed is the rules."""
+    """Returns the text of a graph, and lines; prints the rules."""
     if a.large:
         value, queries = large(a.large[0], int(a.large[1]))
         return compact(value), [compact(query) for query in queries]

@@ -1,10 +1,10 @@
 #!/usr/bin/env python3
-"""Holds the page on graphs, `docs/GRAPH.md`, to the model: each kind with its fields and their categories, and the answers
-that its graphs give.
+"""Compares the page on graphs, `docs/GRAPH.md`, with the model: each kind with its fields and their categories, and the answers
+on its graphs.
 
     python3 evidence/model/graph_page.py
 
-The model's table of kinds was written apart from the page, and is compared with the program by `compare.py --every`. The last
+The model's table of kinds was written independently of the page, and is compared with the program by `compare.py --every`. The last
 line is `N passed, M failed`.
 """
 import json
@@ -20,20 +20,20 @@ from rules.stack import with_big_stack
 
 PAGE = os.path.join(os.path.dirname(os.path.abspath(__file__)), '..', '..', 'docs', 'GRAPH.md')
 
-# what the page calls the types of fields that hold no child
+# the names on the page for the types of fields that hold no child
 PLAIN = {'text': 'text', 'flag': 'bool', 'name': 'Id', 'access': 'ACC', 'method kind': 'MKIND'}
 OPTIONAL = {'text': 'text?', 'flag': 'bool', 'access': 'ACC'}
 
 
 def rows_between(page, first, last) -> 'list[list[str]]':
-    """The cells of the tables between two lines of the page."""
+    """Returns the cells of the tables between two lines of the page."""
     part = page[page.index(first):page.index(last)]
     rows = [[cell.strip() for cell in line.strip('|').split('|')] for line in part.split('\n') if line.startswith('| ')]
     return [row for row in rows if len(row) > 1]
 
 
 def categories_of(page) -> 'dict[str, frozenset]':
-    """By the name of a category, its kinds."""
+    """Returns the kinds of each category, by its name."""
     found = {kind: frozenset([kind]) for kind in ('Ident', 'BindingIdent', 'Class', 'Function', 'VarDeclarator')}
     texts = {row[0]: row[1] for row in rows_between(page, '## Categories', '## Rules of shape')}
 
@@ -55,7 +55,7 @@ def categories_of(page) -> 'dict[str, frozenset]':
 
 
 def fields_of(cell, categories) -> list:
-    """The fields of a kind, as the model tells them."""
+    """Returns the fields of a kind, from the model."""
     found = []
     for part in filter(None, (it.strip() for it in cell.split(','))):
         name, mark, kind = re.fullmatch(r'`(\w+)([?*]?)` (.+)', part).groups()
@@ -67,14 +67,14 @@ def fields_of(cell, categories) -> list:
 
 
 def examples_of(page):
-    """Each graph of the page with the lines that it is asked and the answers, and whether it is by strict rules."""
+    """Yields each graph of the page with its query lines and answers, and whether it is by strict rules."""
     for graph, console in re.findall(r'```json\n(.*?)```.*?```console\n(.*?)```', page, re.S):
         lines = [line for line in console.split('\n') if line and not line.startswith('$')]
         yield json.loads(graph), lines[0::2], lines[1::2], STRICT in console.split('\n')[0]
 
 
 def checks(page):
-    """What is checked, with what is found and what is wanted."""
+    """Yields the checks, with what is found and what is expected."""
     categories = categories_of(page)
     told = {row[0].strip('`'): row[2] for row in rows_between(page, '### Items', '## Categories') if row[0].startswith('`')}
     yield 'the kinds', sorted(told), sorted(ALL_KINDS)

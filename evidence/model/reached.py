@@ -1,11 +1,11 @@
 #!/usr/bin/env python3
-"""How much of the table of dependencies random graphs reach: each single change of the table, and whether a graph tells it.
+"""Measures how much of the table of dependencies random graphs cover: makes each single change of the table, and checks whether a graph detects it.
 
     python3 evidence/model/reached.py --seeds 6000
 
-Each edge is left out, each mark, guard and form of an edge is taken away, each mark is another, and each two edges side by side
-are swapped, one change at a time, in the model. Four changes say the same as before (SAME). The last line is
-`N passed, M failed`: how many of the others some graph told.
+In the model each edge is left out, each mark, guard and form of an edge is removed, each mark is replaced, and each two adjacent
+edges are swapped, one change at a time. Four changes are equivalent (SAME). The last line is `N passed, M failed`: how many of
+the others some graph detected.
 """
 import argparse
 import copy
@@ -19,13 +19,13 @@ from rules.stack import with_big_stack
 TABLES = {'edges': EDGES, 'signatures': SIG_EDGES, 'beginnings': BEGIN}
 OTHER_MARK = {'T': 'V', 'V': 'B', 'B': 'T', 'C': None}
 
-# changes that say the same: of two edges never both are open; and a reference without a mark is one of a value
+# equivalent changes: of two edges never both are open; and a reference without a mark is one of a value
 SAME = ['edges of Arrow: body before return_type', 'beginnings of ClassProp: value before type_ann',
         'beginnings of ClassMethod: key with mark None', 'beginnings of ClassProp: key with mark None']
 
 
 def changes_of(edges) -> list:
-    """Each way in which a row may be wrong, with a name."""
+    """Returns each wrong version of a row, with a name."""
     found = []
     for at, edge in enumerate(edges):
         name = edge.field or edge.special
@@ -44,7 +44,7 @@ def changes_of(edges) -> list:
 
 
 def cases_with_answers(count) -> list:
-    """Graphs of so many seeds that are accepted, their queries for dependencies, and the right answers."""
+    """Returns graphs of this many seeds that are accepted, their queries for dependencies, and the right answers."""
     found = []
     for seed in range(count):
         if family_of_seed(seed, strict=False)[0] not in ('dependent', 'mixed'):
@@ -60,7 +60,7 @@ def is_told(cases) -> bool:
 
 
 def all_changes():
-    """Each change of each row: its name, where the row stands, and what stands there then."""
+    """Yields each change of each row: its name, the position of the row, and its replacement."""
     for table, rows in TABLES.items():
         for kind, edges in list(rows.items()):
             for name, changed in changes_of(edges):

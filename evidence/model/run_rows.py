@@ -1,11 +1,11 @@
 #!/usr/bin/env python3
-"""Runs the worked rows (`rows/`), and says where a program, or the model, differs from what was worked by hand.
+"""Runs the worked rows (`rows/`), and reports where a program, or the model, differs from the results worked out by hand.
 
     python3 evidence/model/run_rows.py crates/symq/out/symq
     python3 evidence/model/run_rows.py
 
-What a row says by strict rules is a check of its own, with `--strict`. Of the model, which is run without PROGRAM, it is also
-asked what rows say of calls: steps, what is stored, limits, overload flags, tables. The last line is `N passed, M failed`.
+The strict part of a row is a check of its own, with `--strict`. Without PROGRAM the model is run, which is also checked
+for what rows say about calls: steps, stored modules, limits, overload flags, tables. The last line is `N passed, M failed`.
 """
 import argparse
 import json
@@ -31,7 +31,7 @@ from rules.stack import with_big_stack
 
 
 def texts_of(row) -> 'list[bytes]':
-    """The texts of a row's graph: mostly one."""
+    """Returns the texts of a row's graph: mostly one."""
     if 'graph' in row:
         return [text_of(row['graph']).encode()]
     text = row['text'].encode()
@@ -47,7 +47,7 @@ def run_program(command, words, lines):
 
 
 def runs_of(command, row, lines, strict) -> list:
-    """What is given for a row: by a program, or by the model, which takes no words."""
+    """Returns the results for a row, by a program, or by the model, which takes no arguments."""
     if 'words' in row:
         return [run_program(command, row['words'], lines)] if command else []
     if not command:
@@ -63,7 +63,7 @@ def runs_of(command, row, lines, strict) -> list:
 
 
 def answers_differ(command, row, strict=False) -> 'list[str]':
-    """What is given otherwise than the row says, by strict rules or by Deno's."""
+    """Returns the answers that differ from the row, by strict rules or by Deno's."""
     asked, error = row.get('asked', ()), row.get('error', '')
     if strict and row['strict'] is not True:
         asked = row['strict']
@@ -75,7 +75,7 @@ def answers_differ(command, row, strict=False) -> 'list[str]':
 
 
 class Calls:
-    """Asks the model, as a module, what a row says of calls."""
+    """Calls the model, as a module, for what a row says about calls."""
 
     def __init__(self, row):
         self.graph = check_graph(graph_of_value(row['graph']))
@@ -124,7 +124,7 @@ class Calls:
         return None if found is None else [found.module.specifier, found.symbol, found.statements()]
 
     def differs(self, call) -> 'str | None':
-        """What is otherwise than a call says."""
+        """Returns the results that differ from what a row says about a call."""
         before, found, fault = self.steps.count, None, None
         try:
             found = getattr(self, 'call_' + call['call'])(call)

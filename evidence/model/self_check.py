@@ -1,12 +1,12 @@
 #!/usr/bin/env python3
-"""Holds the model to the definitions, read word for word (`readings/`), on random small graphs.
+"""Compares the model with the definitions, read literally (`readings/`), on random small graphs.
 
     python3 evidence/model/self_check.py --seeds 0..2000
 
-Three in ten graphs are asked by strict rules, and three in ten of these are webs, in which most names are shared. Tables are
-compared with filters over the events of the tree; exports, shared names, what is stored and both counts of steps with all simple
-chains, enumerated and sorted; each list of paths has to be derived, its leaves to stand in the least relations, and no leaf to be
-lost that mustn't be. It stops at the first seed that fails, and ends with a line `N passed, M failed`.
+Three in ten graphs are queried by strict rules, and three in ten of these are webs, in which most names are shared. Tables are
+compared with filters over the events of the tree. Exports, shared names, stored modules and both counts of steps are compared
+with all simple chains, enumerated and sorted. Each list of paths has to be derived, its leaves to be in the least relations, and
+no required leaf to be lost. It stops at the first seed that fails, and ends with a line `N passed, M failed`.
 """
 import argparse
 import random
@@ -31,7 +31,7 @@ def check_seed(seed: int, counts: Counter) -> None:
 
 
 def check_seeds(seeds, seconds=None, go_on=False) -> int:
-    """Checks the seeds, until the time is over or one fails, and prints what was seen; returns the status."""
+    """Checks the seeds, until the time is over or one fails, and prints what was checked. Returns the status."""
     counts, began, passed, failed = Counter(), time.monotonic(), 0, 0
     for seed in seeds:
         if (seconds is not None and time.monotonic() - began > seconds) or (failed and not go_on):

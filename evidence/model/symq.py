@@ -1,5 +1,5 @@
 #!/usr/bin/env python3
-"""The model of `symq` as a program: the same words, lines, statuses and standard error.
+"""The model of `symq` as a program: the same arguments, lines, statuses and standard error.
 
     python3 evidence/model/symq.py [--strict] GRAPH < QUERIES
 """

@@ -1,13 +1,13 @@
 #!/usr/bin/env python3
-"""The differ's own test: programs with a planted fault are told within 500 graphs each, and right ones aren't.
+"""Tests the differ: programs with a planted fault are detected within 500 graphs each, and right ones aren't reported.
 
     python3 evidence/model/test_differ.py             faults in copies of the model
     python3 evidence/model/test_differ.py PROGRAM     faults around a program
 
-Each fault is planted into a copy of the model, which is asked in one process, and at the end as a program. With PROGRAM it is
+Each fault is planted into a copy of the model, which is queried in one process, and at the end as a program. With PROGRAM it is
 a program around that one, which changes its answers. Only graphs of families and rules are tried in which the fault may show.
-What is told has to differ still when it is small. Of a fault in what the readings of the definitions say, the self-check of the
-copy has to fail, too. The last line is `N passed, M failed`.
+A reported case has to differ also after it was made small. If the readings of the definitions cover the fault, the self-check
+of the copy has to fail, too. The last line is `N passed, M failed`.
 """
 import argparse
 import os
@@ -27,7 +27,7 @@ from differ.words import command_of
 from graphs.cases import case_of_seed, family_of_seed
 from rules.stack import with_big_stack
 
-# how many graphs may hide a fault; how long a case is made small, in seconds; the seeds of the self-check of a copy
+# how many graphs may hide a fault; the time for shrinking a case, in seconds; the seeds of the self-check of a copy
 LIMIT, SHRINK, SELF_CHECK = 500, 0.5, '0..1000'
 RIGHT_GRAPHS = 20
 
@@ -38,14 +38,14 @@ def kept_case(seed):
 
 
 def cases_for(families, rules) -> list:
-    """The seeds and cases in which a fault may show."""
+    """Returns the seeds and cases in which a fault may show."""
     seeds = ((seed, family_of_seed(seed)) for seed in range(LIMIT))
     return [(seed, kept_case(seed)) for seed, (family, strict) in seeds if family in families.split() and strict in rules]
 
 
 def found_in(asked, program, cases) -> 'tuple[str, float]':
-    """Compares what is asked until a graph differs, makes it small, and asks the program that; returns what was wrong, or
-    nothing, and how long it took to see."""
+    """Compares until a graph differs, makes it small, and runs the program on that. Returns what was wrong, or nothing, and the time until the
+    difference."""
     began = time.monotonic()
     seed, case = next(((at, it) for at, it in cases if asked.difference(it.graph, it.lines, it.strict) is not None),
                       (LIMIT, None))
@@ -65,7 +65,7 @@ def self_check_sees(top) -> str:
 
 
 def right(name, command, rules=BOTH):
-    """That a program without a fault isn't told."""
+    """Checks that no difference is reported for a program without a fault."""
     program = Program(command)
     cases = ((seed, kept_case(seed)) for seed in range(RIGHT_GRAPHS))
     counts = compare(program, ((seed, case if case.strict in rules else case.by(rules[0])) for seed, case in cases))
@@ -75,7 +75,7 @@ def right(name, command, rules=BOTH):
 
 
 def results(folder):
-    """The name of each test of the model's copies, what is wrong with it, and how long it took, as they come."""
+    """Yields the name of each test of the model's copies, what is wrong with it, and its time, as they come."""
     yield right('the model itself', [sys.executable, os.path.join(MODEL, 'symq.py')])
     for fault in FAULTS:
         top = plant(fault, folder)
@@ -87,7 +87,7 @@ def results(folder):
 
 
 def results_around(program):
-    """The same of a program, and of those around it."""
+    """Yields the same for a program, and for those around it."""
     known = BOTH if has_strict_rules(program) else DENO
     if known is DENO:
         yield 'strict rules', NO_STRICT_RULES, 0

@@ -4,12 +4,11 @@
     python3 evidence/scale/check_cut.py PROGRAM GRAPH .. [--megabytes 0 1 10 100] [--alone]
     python3 evidence/scale/check_cut.py PROGRAM --seeds 0..1000 [--alone]
 
-Of each module it is asked which one it is, what it exports and which names it gives to the world; of each symbol its name, its
-dependencies in both modes, its paths, definitions and leaves; and of each reference that this told, what it stands for. Of a
-random graph (evidence/model) it is asked what is with it, and each of its modules is a package. A row is a graph, or all
-random ones, and a size of shards, of which 0 gives each package its own; 'text' is the text of all shards by that of the
-graph. With --alone shards have no module but those of their packages: what differs then the cut has to be careful of. The
-status is 1 where an answer differs.
+The queries for each module are `module`, `exports` and `names`; for each symbol its name, its dependencies in both modes, its
+paths, definitions and leaves; and for each reference in the answers what it resolves to. A random graph (evidence/model) has
+its own queries, and each of its modules is a package. A row is a graph, or all random ones, and a size of shards; 0 makes a
+shard for each package. 'text' is the ratio of the text of all shards to that of the graph. With --alone shards have only the
+modules of their packages: the differences then show what the cut has to include. The status is 1 if an answer differs.
 """
 import argparse
 import json
@@ -28,7 +27,7 @@ from stages import stages_of  # noqa: E402
 
 
 class Counts:
-    """What is summed over graphs."""
+    """The sums over graphs."""
 
     def __init__(self):
         self.modules = self.packages = self.shards = self.largest = self.cut = self.whole = self.answers = self.differ = 0
@@ -52,7 +51,7 @@ def answers(program: str, graph: str, lines: bytes) -> bytes:
 
 
 def compare(a, path: str, lines: bytes, wanted: bytes, megabytes: float, depth: int, counts: Counts) -> None:
-    """Counts what a graph's shards have, and the answers that aren't those wanted, of which the first is told."""
+    """Counts what a graph's shards have, and the wrong answers, of which the first is reported."""
     whole = Whole(json.loads(read(path)), depth)
     with tempfile.TemporaryDirectory() as folder:
         sizes = cut(whole, split_lines(lines), folder, megabytes, not a.alone)
@@ -70,7 +69,7 @@ def compare(a, path: str, lines: bytes, wanted: bytes, megabytes: float, depth: 
 
 
 def of_files(a) -> bool:
-    """Prints the rows of graphs of files; returns whether no answer differs."""
+    """Prints the rows of graphs of files. Returns whether no answer differs."""
     same = True
     for path in a.graph:
         lines = lines_of(a.program, path)

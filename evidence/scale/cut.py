@@ -4,13 +4,13 @@
     python3 evidence/scale/cut.py cut GRAPH LINES FOLDER [--megabytes 100] [--depth 1]
     python3 evidence/scale/cut.py join FOLDER > ANSWERS
 
-`cut` writes FOLDER/graphs/K.json and FOLDER/lines/K for each shard K, and FOLDER/order. Between the two whoever runs the
-program writes FOLDER/answers/K for each. `join` gives a line for each of LINES, in their order.
+`cut` writes FOLDER/graphs/K.json and FOLDER/lines/K for each shard K, and FOLDER/order. Between the two FOLDER/answers/K
+has to be written for each, by running the program. `join` prints a line for each of LINES, in their order.
 
-A module's package is named by what stands behind the last `node_modules/` of its specifier, else by the first --depth parts
-of its path; a name that begins with `@` has a part more. A shard takes packages in their order in the graph while its
-text has at most so many megabytes. With its packages' modules it has each module that they reach: by resolutions, of which it
-has all of its modules, by `types`, and by redirects. So an answer on a module of its packages is that of the whole graph.
+A module's package is named by the part after the last `node_modules/` of its specifier, or else by the first --depth parts of
+its path; a name that begins with `@` has a part more. A shard takes packages in their order in the graph while its text has
+at most --megabytes. Besides its packages' modules it has each module that they reach: by resolutions (it has all resolutions of
+its modules), by `types`, and by redirects. So an answer on a module of its packages is that of the whole graph.
 """
 import argparse
 import json
@@ -24,7 +24,7 @@ def compact(value) -> bytes:
 
 
 class Whole:
-    """A graph, with the text of each module and what each names."""
+    """A graph, with the text of each module and the specifiers that each names."""
 
     def __init__(self, graph: dict, depth: int = 1):
         self.depth = depth
@@ -39,12 +39,12 @@ class Whole:
         return self.redirects.get(specifier, specifier)
 
     def names(self, module: str) -> 'list[str]':
-        """The specifiers that a module names."""
+        """Returns the specifiers that a module names."""
         types = [self.types[module]] if module in self.types else []
         return [to for _, to in self.resolutions.get(module, [])] + types
 
     def reached(self, modules, known=frozenset()) -> 'set[str]':
-        """The modules, what they reach, and what is known already, which is closed."""
+        """Returns the modules, all that they reach, and what is known already, which is closed."""
         found, left = set(known), list(modules)
         while left:
             module = left.pop()
@@ -69,7 +69,7 @@ class Whole:
         return sum(len(self.texts[it]) for it in modules)
 
     def shards(self, megabytes: float, closed: bool = True) -> 'list[tuple[list[str], set[str]]]':
-        """Of each shard the modules of its packages, and all that it has."""
+        """Returns for each shard the modules of its packages, and all of its modules."""
         found = []
         for modules in self.packages().values():
             own, held = found[-1] if found else ([], set())
@@ -81,7 +81,7 @@ class Whole:
         return found or [([], set())]
 
     def text(self, held: 'set[str]') -> bytes:
-        """The graph of these modules, with their resolutions and with each redirect from what they name or to one of them."""
+        """Returns the graph of these modules, with their resolutions and with each redirect from what they name or to one of them."""
         modules = [it for it in self.texts if it in held]
         resolutions = [[it, text, to] for it in modules for text, to in self.resolutions.get(it, [])]
         named = held.union(*map(self.names, modules))
@@ -91,7 +91,7 @@ class Whole:
 
 
 def module_of(line: bytes) -> 'str | None':
-    """The specifier that a query is on; none of a line that is no query."""
+    """Returns the specifier of a query; None for a line that is no query."""
     try:
         query = json.loads(line)
     except ValueError:
@@ -101,7 +101,7 @@ def module_of(line: bytes) -> 'str | None':
 
 
 def lines_of(whole: Whole, shards, lines: 'list[bytes]') -> 'list[int]':
-    """The shard of each line; the first for what is on no module."""
+    """Returns the shard of each line; the first for lines that are on no module."""
     at = {module: k for k, (own, _) in enumerate(shards) for module in own}
     specifiers = map(module_of, lines)
     return [0 if it is None else at.get(whole.named(it), 0) for it in specifiers]
@@ -122,7 +122,7 @@ def read(path: str) -> bytes:
 
 
 def cut(whole: Whole, lines: 'list[bytes]', folder: str, megabytes: float, closed: bool = True) -> 'list[int]':
-    """Writes the shards; returns how many bytes each one's graph has."""
+    """Writes the shards. Returns the size of each one's graph in bytes."""
     for it in ('graphs', 'lines', 'answers'):
         os.makedirs(os.path.join(folder, it), exist_ok=True)
     shards, sizes = whole.shards(megabytes, closed), []
@@ -138,7 +138,7 @@ def cut(whole: Whole, lines: 'list[bytes]', folder: str, megabytes: float, close
 
 
 def join(folder: str) -> 'list[bytes]':
-    """The answers in the order of the lines; a `ValueError` says which shard's aren't there or are too few or many."""
+    """Returns the answers in the order of the lines. A `ValueError` says which shard's are missing, too few or too many."""
     order = [int(it) for it in split_lines(read(os.path.join(folder, 'order')))]
     answers = {}
     for k in sorted(set(order)):

@@ -8,7 +8,7 @@ import time
 
 SSHD = '/usr/sbin/sshd'
 
-# ssh; where a file names a link, that is cut when rsync next fetches something from the machine behind it
+# ssh; if a file names a link, that is cut when rsync next fetches something from its machine
 SSH = '''#!/bin/sh
 cut={keys}/cut
 if [ -e "$cut" ]; then
@@ -26,7 +26,7 @@ def run(*words: str) -> None:
 
 
 def wait_for(what, seconds: float = 60, step: float = 0.05) -> bool:
-    """Whether something came true in so many seconds."""
+    """Waits and returns whether something became true within this many seconds."""
     end = time.monotonic() + seconds
     while not what():
         if time.monotonic() > end:
@@ -36,7 +36,7 @@ def wait_for(what, seconds: float = 60, step: float = 0.05) -> bool:
 
 
 class Machine:
-    """One machine, reached by ssh under its name; its home is a folder that stays when it dies."""
+    """One machine, reachable by ssh under its name; its home is a directory that stays when it dies."""
 
     def __init__(self, name: str, number: int, top: str, hidden: str):
         self.name, self.top, self.hidden = name, top, hidden
@@ -55,7 +55,7 @@ class Machine:
         run('ip', '-n', self.space, 'link', 'set', 'lo', 'up')
 
     def start(self) -> None:
-        """Starts the sshd as the first process of a space of processes; the folder of who hands out work is hidden from it."""
+        """Starts the sshd as the first process of a process namespace; the directory of the dispatching machine is hidden from it."""
         keys = os.path.join(self.top, 'ssh')
         given = ['ListenAddress ' + self.far, 'HostKey %s/host' % keys, 'AuthorizedKeysFile %s/key.pub' % keys, 'StrictModes no',
                  'UsePAM no', 'PermitRootLogin prohibit-password', 'PasswordAuthentication no', 'PidFile none', 'MaxStartups 50']
@@ -83,7 +83,7 @@ class Machine:
             self.process = None
 
     def started(self) -> int:
-        """How often a program noted in the home that it was started."""
+        """Returns how many starts of a program are recorded in the home."""
         path = os.path.join(self.home, 'started')
         if not os.path.exists(path):
             return 0
@@ -115,7 +115,7 @@ class Machine:
             return os.readlink('/proc/%s/ns/pid' % file.read().split()[0])
 
     def running(self, program: str) -> 'list[int]':
-        """The machine's processes of a program."""
+        """Returns the machine's processes of a program."""
         space, found = self.space_of_processes(), []
         for it in filter(str.isdecimal, os.listdir('/proc')):
             try:
@@ -132,7 +132,7 @@ class Machine:
 
 
 def keys_of(top: str, machines: 'list[Machine]', options: str) -> None:
-    """Keys, and what makes `ssh NAME` reach each machine with these options, as the command `ssh` in the folder `bin`."""
+    """Makes keys, and the command `ssh` in the directory `bin`, so that `ssh NAME` reaches each machine with these options."""
     keys, commands = os.path.join(top, 'ssh'), os.path.join(top, 'bin')
     os.makedirs(keys)
     for it in ('key', 'host'):

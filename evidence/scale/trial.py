@@ -1,18 +1,17 @@
 #!/usr/bin/env python3
-"""Tries the recipe of docs/SCALE.md on two machines that are made for it, and disturbs it.
+"""Tries the recipe of docs/SCALE.md on two simulated machines, with disturbances.
 
     sudo python3 evidence/scale/trial.py PROGRAM [--graphs 40] [--pause 1] [--only REGEX]
 
 It needs root, and Debian's packages parallel, openssh-server, rsync and iproute2. The machines are network namespaces, each
-with an sshd, processes and a home of its own, and are taken away at the end. The commands are those of the page, word by
-word: the first block as often as it takes, then the second.
+with an sshd, processes and a home of its own, and are removed at the end. The commands are those of the page, word by word: the
+first block as often as needed, then the second.
 
-Graphs are random ones (evidence/model), some of which the program refuses. So that there is time for what goes wrong, the
-program is given its first two lines, and the others after the pause. Each trial begins with nothing; a row tells what was
-done, how often the first block ran, how often the program was started on the machines, how many jobs the joblog has and how
-many of them failed, how many names the second block had to ask, of which how many are of refused graphs, and how many files
-of answers there are, lack, are too many, or differ from those of one run on this machine. The status is 1 where one lacks, is
-too many or differs. It takes some ten minutes.
+Graphs are random ones (evidence/model), some of which the program refuses. To leave time for the disturbance, the program gets
+its first two lines, and the others after the pause. Each trial begins with nothing. A row has the disturbance, the runs of the
+first block, the starts of the program on the machines, the jobs in the joblog and how many of them failed, and the names left
+for the second block, with how many are of refused graphs. It also has how many files of answers there are, are missing, are too
+many, or differ from those of one run on this machine. The status is 1 if one is missing, too many or different. It takes some ten minutes.
 """
 import argparse
 import os
@@ -32,12 +31,12 @@ from machines import Machine, keys_of, program, wait_for  # noqa: E402
 PAGE = os.path.join(HERE, '..', '..', 'docs', 'SCALE.md')
 # how often the first block is run at most
 RUNS = 6
-# how long a link stays cut, or a machine dead: longer than it takes until that is seen
+# how long a link stays cut, or a machine dead: longer than the detection takes
 APART = 30
 
 
 def blocks() -> 'list[str]':
-    """What the page has for ssh, its command that asks all names, and that which asks those that are left."""
+    """Returns the options of the page for ssh, its command that queries all names, and the one that queries the remaining ones."""
     with open(PAGE, encoding='utf-8') as file:
         text = file.read()
     return [re.search(r'^Host .*\n((?:  .*\n)+)', text, re.M)[1], *re.findall(r'^```sh\n(.*?)^```', text, re.M | re.S)[:2]]
@@ -54,7 +53,7 @@ def write(path: str, data: bytes) -> None:
 
 
 class Driver:
-    """The folder of who hands out the work, and what one run on this machine answers."""
+    """The directory of the dispatching machine, and the answers of one run on this machine."""
 
     def __init__(self, top: str, symq: str, pause: float, graphs: int):
         self.folder, self.bin = os.path.join(top, 'driver'), os.path.join(top, 'bin')
@@ -106,7 +105,7 @@ class Driver:
             return -1
 
     def kill(self) -> None:
-        """Kills all that the commands started here."""
+        """Kills all processes that the commands started here."""
         os.killpg(self.process.pid, signal.SIGKILL)
         self.process.wait()
 
@@ -125,7 +124,7 @@ class Driver:
         return os.listdir(self.at('answers')) if os.path.isdir(self.at('answers')) else []
 
     def jobs(self) -> 'list[list[str]]':
-        """The lines of the joblog."""
+        """Returns the lines of the joblog."""
         if not os.path.exists(self.at('joblog')):
             return []
         return [it.split('\t') for it in read(self.at('joblog')).decode().splitlines()[1:]]
@@ -136,11 +135,11 @@ class Trial:
         self.driver, self.machines, self.told = driver, machines, []
 
     def until(self, count: int) -> None:
-        """Waits until so many answers are there."""
+        """Waits until this many answers are there."""
         wait_for(lambda: len(self.driver.answers()) >= count or not self.driver.is_running(), 300)
 
     def until_busy(self, machine: Machine, count: int) -> 'list[int]':
-        """Waits until so many answers are there, and the program runs on the machine; returns its processes."""
+        """Waits until this many answers are there, and the program runs on the machine. Returns its processes."""
         found = []
         self.until(count)
         wait_for(lambda: found.extend(machine.running(self.driver.program)) or found or not self.driver.is_running())
@@ -197,7 +196,7 @@ class Trial:
         self.machines[0].start()
 
     def run(self, disturbance) -> str:
-        """Does it all with one disturbance; returns the row."""
+        """Runs everything with one disturbance. Returns the row."""
         driver, (_, first, rest) = self.driver, blocks()
         driver.forget()
         for it in self.machines:
@@ -205,7 +204,7 @@ class Trial:
         driver.start(first)
         disturbance()
         runs = 1
-        # refused graphs stay in the joblog as failed, so the command never ends with 0 where there are any
+        # refused graphs stay in the joblog as failed, so the command never ends with 0 if there are any
         while driver.wait() != len(driver.refused) and runs < RUNS:
             driver.start(first)
             runs += 1
@@ -237,7 +236,7 @@ def main() -> int:
     lacking = [it for it in ('parallel', 'ssh', 'ssh-keygen', 'rsync', 'ip', 'unshare', '/usr/sbin/sshd') if not shutil.which(it)]
     if lacking:
         p.error('not here: %s' % ', '.join(lacking))
-    # so that the machines are taken away where it is told to end
+    # so that the machines are removed if it is told to end
     signal.signal(signal.SIGTERM, lambda number, _: sys.exit(128 + number))
     top = tempfile.mkdtemp(prefix='symq-scale-')
     driver = Driver(top, a.program, a.pause, a.graphs)

@@ -1,80 +1,206 @@
 // What `--help` prints, on at most 100 columns.
 
-const COMMON = `  --skip REGEX         leaves modules out, by their paths below the folder; may be repeated
-  --js                 reads JavaScript too where declarations or sources stand beside it
-  --packages           reads what is reached in node_modules
-  --ambient-exports    exports each declaration of a declaration file without \`export {..}\`,
-                       as TypeScript does
-  --no-cache           keeps no trees from run to run`;
+const COMMON = `  --skip REGEX         excludes modules by their paths below the directory; may be repeated
+  --js                 also reads JavaScript that has declarations or sources next to it
+  --packages           also reads the modules of node_modules that are reached
+  --no-ambient-exports exports from a declaration file by Deno's rule: what follows \`export\`.
+                       By TypeScript's rule, the default, one without \`export {..}\` exports all
+  --no-cache           doesn't cache syntax trees
+  --no-config          ignores symdir.json and "symdir" in package.json
+  --verbose            prints progress every five seconds if standard error is no terminal`;
 
-const ASKING = `  --entry FILE         a module that users import, in place of what package.json or deno.json says;
-                       may be repeated
-  --json               the answer as JSON
-  --strict             by strict rules: \`default\` never comes along \`export *\`, and names that come
-                       along it from several modules are told (api, missing)
+const ASKING = `  --entry FILE         an entry point, in place of those of package.json or deno.json; may be
+                       repeated
+  --json               prints JSON
+  --strict             strict rules: \`export *\` never exports \`default\`, and names that several
+                       modules export along it are reported (api, missing)
 ${COMMON}
-  --symq FILE          the program that answers (else SYMQ, the repository's, or symq on the PATH)
-  --unproved           builds symq without waiting for its proof: a minute a run, and the Rattle kit`;
+  --symq FILE          the program symq (default: SYMQ, the repository's, or symq on the PATH)
+  --unproved           uses an unverified build of symq, which the Rattle kit makes once`;
 
-const STATUSES = 'Status: 0 nothing found, 1 findings, 2 wrong words, 3 it couldn\'t be done.';
+/** @param {string} command that reports findings @param {string} folder of its examples @returns {string} */
+const reports = (command, folder) => `  --markdown           prints Markdown for a comment on a pull request; long tables are cut, but
+                       for --all
+  --sarif              prints SARIF 2.1.0
+  --annotations        prints GitHub's workflow commands, which mark lines of a pull request
+  -o, --out FILE       where the report is written (default: on standard output)
+  --baseline FILE      accepts the findings in the file, and reports those that no longer occur
+  --save-baseline      writes the findings to the file of --baseline
 
-const WHERE_STATUSES = STATUSES.replace('0 nothing found, 1 findings', '0 a definition is found, 1 none');
+  symdir ${command} ${folder} --markdown
+  symdir ${command} ${folder} --sarif -o ${command}.sarif
+  symdir ${command} ${folder} --annotations
+  symdir ${command} ${folder} --baseline baseline.json --save-baseline
+`;
+
+const STATUSES = 'Exit status: 0 no findings, 1 findings, 2 usage error, 3 failure.';
+
+/** Of commands that look something up. */
+/** @type {Record<string, string>} */
+const LOOK_UPS = {
+  where: STATUSES.replace('0 no findings, 1 findings', '0 definition found, 1 none'),
+  uses: STATUSES.replace('0 no findings, 1 findings', '0 reference found, 1 none'),
+};
+
+/** @type {Record<string, string>} what `--json` prints, by command: its keys, those with `?` not always; what is capital stands for another form */
+const FORMS = {
+  api: `{ entries, names: [{ entry, name, kind, defined: [PLACE], through: [{ file, text }],
+    unresolved: [END] }], shared?: [{ module, name, owners: [{ file, through }] }],
+    open: [{ entry, file, line, column, text, external, isLost? }],
+    declared?: [{ entry, module }], unlisted?: [{ entry, why }] }
+  with --docs each of \`names\` has isType, signature, doc and members: [{ name, kind, signature,
+    doc, file, line, column }]; with --check that of \`diff\``,
+  leaks: '{ entries, leaks: [{ name, kind, file, line, column, exported, neededBy: [name] }] }',
+  missing: `{ missing: [{ what, file, line, column, text, how }], external: [specifier] }
+  what: syntax, unread, file, package, name, shared`,
+  where: `[{ name, at, ways: [{ through: [file], defined: PLACE or null, unresolved: END or null }] }]`,
+  web: `{ entries, modules: [{ file, names }], edges: [{ from, to, star, names }],
+    lost: [{ file, text, star }] }`,
+  unused: `{ entries, files: [file], exports: [{ name, kind, file, line, column, inFile }], typesOnly,
+    dependencies: [{ name, file, line, column, use }] }`,
+  uses: '[{ name, defined: [PLACE], uses: [{ file, line, column, how, isType }] }]',
+  diff: `{ advice, changes: [{ what, entry, name, from, to, advice, reason }] }
+  advice: major, minor, patch; of no change null`,
+  cycles: `{ cycles: [{ modules: [file], shortest: [STEP], cut: { ..STEP, opens, isSure } }], deferred }
+  STEP: { from, to, statements: [{ file, line, column, how, text }] }`,
+};
+
+const REPORTING = new Set(['api', 'leaks', 'missing', 'unused', 'diff', 'cycles']);
+
+/** @param {string} command @returns {string} */
+function formText(command) {
+  const form = FORMS[command];
+  if (form === undefined) return '';
+  const parts = [[/PLACE/, '  PLACE: { kind, file, line, column, by? }'], [/END/, '  END: { what, file, name, why? }; what: external, import, name, unknown, global']];
+  const more = parts.filter(([it]) => /** @type {RegExp} */ (it).test(form)).map(([, text]) => `\n${text}`).join('');
+  const baseline = REPORTING.has(command) ? '\n  with --baseline also baseline: { accepted, gone: [{ rule, file, name, count }] }' : '';
+  return `\n\nJSON:\n  ${form}${baseline}${more}`;
+}
 
 /** @type {Record<string, string>} */
 const COMMANDS = {
-  api: `symdir api FOLDER: each public name, what it is, where it is defined, and by which \`export *\`
+  api: `symdir api DIR: public names, their kinds and definitions, and the \`export *\` they come through
 
-  --save FILE          writes the names to a file to keep beside the code: without lines, so that
-                       it changes only when they do
-  --check FILE         compares with it: status 1, and what is gone, new or changed
+  symdir api examples/shapes
+
+  --save FILE          writes a snapshot of names, members and signatures, without line numbers
+  --check FILE         compares with a snapshot, as \`symdir diff\` does; status 1 if it changed
+  --docs               adds signatures as written and doc comments; with --json also members
+  --html               prints a page with all of it and the picture of \`web\`, in one file
+
+  symdir api examples/shop/new --docs
+  symdir api examples/shop/new --html -o api.html
+
+${reports('api', 'examples/shop/new')}
 ${ASKING}`,
-  leaks: `symdir leaks FOLDER: what public declarations need and no entry exports, and by what it is needed
+  leaks: `symdir leaks DIR: non-exported types that the public API references
 
-What a function gives back counts where its type is written. Private members don't count.
+Return types count if they are written. Private members don't count.
 
-  --all                names all that need it
+  symdir leaks examples/shop/new --entry cart.ts
+
+  --all                lists all references
+${reports('leaks', 'examples/shop/new --entry cart.ts')}
 ${ASKING}`,
-  missing: `symdir missing FOLDER: imports and \`export *\` that lead nowhere, imported names that aren't there,
-syntax errors
+  missing: `symdir missing DIR: unresolved imports and \`export *\`, imports of missing exports, syntax errors
 
-  --all                cuts no list
+  symdir missing examples/shapes
+
+  --all                doesn't truncate lists
+${reports('missing', 'examples/shapes')}
 ${ASKING}`,
-  where: `symdir where FOLDER FILE:LINE[:COLUMN] [NAME]: where a name is defined, and the modules on the way
+  where: `symdir where DIR FILE:LINE[:COLUMN] [NAME]: go to definition, with the modules in between
 
-Without a column each name of the line is told; NAME takes one of them, as Foo or a.b.
+Without a column all names in the line are looked up. NAME selects one of them, as Foo or a.b.
+
+  symdir where examples/shapes index.ts:4 Point
 
 ${ASKING}`,
-  web: `symdir web FOLDER -o web.svg: which module passes names on to which, as a picture
+  web: `symdir web DIR -o web.svg: a picture of which module re-exports which
 
-Yellow: entries. Thick: \`export *\`, with the number of names; 7 x 12 are 12 names of 7 modules.
-Thin: names that are exported one by one. Red: leads nowhere. Files open by a click, and names are
-told where the pointer rests.
+An arrow leads from a module to the one whose names it re-exports, with their number. Thick, with a
+filled head: \`export *\`. Thin, with an open head: names one by one. Modules of one directory that
+are re-exported alike share a box and an arrow. Dashed boxes: unresolved. A click opens a file, and
+hovering shows names.
 
-  -o, --out FILE       the picture: .svg, .png, .pdf, or .dot, which needs no Graphviz;
-                       without it the text for Graphviz goes to standard output
+  symdir web examples/shapes -o web.svg
+
+  -o, --out FILE       the picture: .svg, .png, .pdf, or .dot, which needs no Graphviz
+                       (default: Graphviz text on standard output)
 ${ASKING}`,
-  graph: `symdir graph FOLDER [-o graph.json]: the graph that symq reads; without -o on standard output
-symdir graph --check graph.json: what keeps symq from reading a graph: module, node and key
+  unused: `symdir unused DIR: unused exports, unreachable files, unused dependencies
 
-  --bodies             what stands in the bodies of functions, too (no answer of symq depends on it)
+An export is used if an entry exports it, or another module imports or re-exports it. A namespace
+import uses the names taken of it, and all names if it is passed on. Entries, tests and what
+package.json runs are reachable.
+
+  symdir unused examples/shop/new
+
+  --production         ignores tests
+  --all                doesn't truncate lists
+${reports('unused', 'examples/shop/new')}
+${ASKING}`,
+  uses: `symdir uses DIR FILE:LINE[:COLUMN] [NAME]: find references: imports, re-exports and other uses
+
+Without a column the names that the line declares are looked up, or else all names in it.
+
+  symdir uses examples/shop/new item.ts:4 Item
+
+  --bodies             also searches function bodies
+${ASKING}`,
+  diff: `symdir diff OLD NEW: changes of public names, their members and signatures, and the version that
+they require
+
+OLD and NEW are directories, snapshots of \`api --save\` or Git revisions. REVISION:DIR names a
+directory of one. Signatures are compared as written, and inferred types aren't compared.
+
+  symdir diff examples/shop/old examples/shop/new
+
+${reports('diff', 'examples/shop/old examples/shop/new')}
+${ASKING}`,
+  cycles: `symdir cycles DIR: import cycles, and the import to cut
+
+Each group of modules that all import each other is shown with a shortest cycle. Cycles through
+type-only imports or import() are listed apart, and aren't findings.
+
+  symdir cycles examples/shop/new
+
+  --all                doesn't truncate lists
+${reports('cycles', 'examples/shop/new')}
+${ASKING}`,
+  graph: `symdir graph DIR [-o graph.json]: the graph that symq reads (default: on standard output)
+symdir graph --check graph.json: why symq refuses a graph: module, node and key
+
+  symdir graph --check examples/first/graph.json
+
+  --bodies             includes function bodies, which no answer of symq depends on
 ${COMMON}
-  --symq FILE          for --check: the program that has to read the graph`,
+  --symq FILE          for --check: the program that is to read the graph`,
 };
 
-const ALL = `symdir: what a folder of TypeScript or JavaScript exports, and what it lacks
+const ALL = `symdir: what a directory of TypeScript or JavaScript exports, and what it lacks
 
-  symdir api FOLDER                                each public name: what it is, where it is defined
-  symdir leaks FOLDER                              what public names need and nobody can import
-  symdir missing FOLDER                            imports and names that lead nowhere
-  symdir where FOLDER FILE:LINE[:COLUMN] [NAME]    go to definition
-  symdir web FOLDER -o web.svg                     who passes names on to whom, as a picture
-  symdir graph FOLDER -o graph.json                the graph alone, for symq
+  symdir api DIR                                public names, their kinds and definitions
+  symdir leaks DIR                              non-exported types that the public API references
+  symdir missing DIR                            unresolved imports and missing exports
+  symdir where DIR FILE:LINE[:COLUMN] [NAME]    go to definition
+  symdir web DIR -o web.svg                     which module re-exports which, as a picture
+  symdir unused DIR                             unused exports, files and dependencies
+  symdir uses DIR FILE:LINE[:COLUMN] [NAME]     find references
+  symdir diff OLD NEW                           API changes, and the version that they require
+  symdir cycles DIR                             import cycles, and which import to cut
+  symdir graph DIR -o graph.json                the graph alone, for symq
 
-\`symdir COMMAND --help\` lists what each takes, \`symdir --version\` tells its version.
+DIR/symdir.json, or "symdir" in package.json, sets options, for all commands or for one:
+
+  { "skip": ["^fixtures/"], "unused": { "production": true, "baseline": "baseline.json" } }
+
+The command line goes before it: \`--no-production\`, and \`--no-config\` for all of it.
+\`symdir COMMAND --help\` lists the options, \`symdir --version\` prints the version.
 ${STATUSES}`;
 
 /** @param {string} [command] one that there is @returns {string} */
 export function help(command) {
   const found = command === undefined ? undefined : COMMANDS[command];
-  return found ? `${found}\n\n${command === 'where' ? WHERE_STATUSES : STATUSES}` : ALL;
+  return found ? `${found}${formText(command ?? '')}\n\n${LOOK_UPS[command ?? ''] ?? STATUSES}` : ALL;
 }

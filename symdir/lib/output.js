@@ -41,7 +41,7 @@ const WIDEST = 44;
  */
 export function columns(rows, painted = (it) => it) {
   const count = Math.max(0, ...rows.map((it) => it.length));
-  const widths = Array.from({ length: count }, (_, i) => Math.min(WIDEST, Math.max(0, ...rows.filter((it) => it[i + 1]).map((it) => it[i].length))));
+  const widths = Array.from({ length: count }, (_, i) => Math.min(WIDEST, Math.max(0, ...rows.filter((it) => it.slice(i + 1).some(Boolean)).map((it) => it[i].length))));
   return rows.map((row) => painted(row.map((it, i) => it.padEnd(i === row.length - 1 ? 0 : widths[i]))).join('  ').trimEnd());
 }
 
@@ -56,25 +56,44 @@ export function wrapped(text, width) {
   return lines;
 }
 
-/** Tells on standard error how far it is, where that takes over a second and is a terminal. */
+/** How long work goes on before a terminal shows it, how often it is shown there, and how often elsewhere, in milliseconds. */
+const FIRST = 1000;
+const ON_TERMINAL = 100;
+const ELSEWHERE = 5000;
+
+/** Tells on standard error how far long work is: in one line of a terminal, and elsewhere in a line now and then, if it is to. */
 export class Progress {
-  constructor() {
+  /** @param {boolean} isVerbose whether it tells that where standard error is no terminal */
+  constructor(isVerbose) {
+    this.isTerminal = process.stderr.isTTY === true;
+    this.isOn = this.isTerminal || isVerbose;
+    this.text = '';
     this.began = Date.now();
-    this.last = 0;
     this.isShown = false;
+    /** @type {NodeJS.Timeout | undefined} */
+    this.timer = undefined;
   }
 
-  /** @param {number} done @param {number} all of the files, of which the last takes the line away */
-  tell(done, all) {
-    if (done === all) return this.end();
-    const now = Date.now();
-    if (!process.stderr.isTTY || now - this.began < 1000 || now - this.last < 100) return;
-    this.last = now;
-    this.isShown = true;
-    process.stderr.write(`\r\x1b[Kparsed ${done} of ${counted(all, 'file')}`);
+  /** @param {string} text what is under way, or nothing where that has ended */
+  update(text) {
+    this.text = text;
+    if (text === '') this.end();
+    else if (this.isOn) this.timer ??= setInterval(() => this.show(), this.isTerminal ? ON_TERMINAL : ELSEWHERE).unref();
+  }
+
+  show() {
+    const took = Date.now() - this.began;
+    const text = `${this.text}, ${Math.floor(took / 1000)} s`;
+    if (!this.isTerminal) process.stderr.write(`symdir: ${text}\n`);
+    else if (took >= FIRST) {
+      this.isShown = true;
+      process.stderr.write(`\r\x1b[K${text}`);
+    }
   }
 
   end() {
+    clearInterval(this.timer);
+    this.timer = undefined;
     if (this.isShown) process.stderr.write('\r\x1b[K');
     this.isShown = false;
   }

@@ -2,6 +2,7 @@
 import { spawn } from 'node:child_process';
 
 import { Failure } from './failure.js';
+import { counted } from './output.js';
 
 /** @typedef {import('node:child_process').ChildProcessWithoutNullStreams} ChildProcess */
 
@@ -18,22 +19,22 @@ function started(program, words) {
 /** @param {string} program @param {Error} error @returns {Failure} */
 function notStarted(program, error) {
   const { code } = /** @type {NodeJS.ErrnoException} */ (error);
-  const why = code === 'ENOENT' ? 'it isn\'t there' : code === 'EACCES' ? 'it is no program' : error.message;
-  return new Failure(`${program} doesn't start: ${why}; --symq FILE and SYMQ name the program symq, and \`make symq\` builds it`);
+  const why = code === 'ENOENT' ? 'not found' : code === 'EACCES' ? 'not executable' : error.message;
+  return new Failure(`can't start ${program}: ${why}; --symq FILE and SYMQ name the program symq, and \`make symq\` builds it`);
 }
 
 /** @param {number | string | null} status or signal @param {string} said on standard error @returns {Failure} */
 function ended(status, said) {
   const last = said.trim().split('\n').pop() ?? '';
   const isRefused = /^symq: (not a graph|graph refused)/.test(last);
-  const more = ' (`symdir graph FOLDER -o graph.json` and `symdir graph --check graph.json` say more)';
+  const more = ' (`symdir graph DIR -o graph.json` and `symdir graph --check graph.json` explain it)';
   const text = isRefused ? last + more : last;
-  return new Failure(text || (typeof status === 'number' ? `symq ended with the status ${status}` : `symq was ended by ${status}`));
+  return new Failure(text || (typeof status === 'number' ? `symq exited with status ${status}` : `symq was killed by ${status}`), 3, 'engine');
 }
 
 /** @param {string} program @returns {Failure} */
 function notStrict(program) {
-  return new Failure(`${program} has no strict rules, which --strict asks it for: without that it answers by Deno's rules`);
+  return new Failure(`${program} doesn't support --strict`);
 }
 
 /** Questions by the lines that they are; each is asked once. */
@@ -88,12 +89,16 @@ export class Symq extends Asked {
   /** @param {Failure} failure */
   fail(failure) {
     this.failure ??= failure;
+    this.progress('');
     this.waiting?.reject(this.failure);
     this.waiting = null;
   }
 
   /** @type {Buffer[]} the beginning of a line whose end isn't there yet */
   part = [];
+
+  /** Is told how far it is. */
+  progress = (/** @type {string} */ _) => {};
 
   /** @param {Buffer} bytes of lines, which end at line feeds alone */
   receive(bytes) {
@@ -111,10 +116,14 @@ export class Symq extends Asked {
     try {
       for (const answer of parsedLines(text)) this.known.set(this.open[this.taken++], answer);
     } catch {
-      this.fail(new Failure(`${this.program} doesn't answer as symq does`));
+      this.fail(new Failure(`unexpected output from ${this.program}`, 3, 'engine'));
       return;
     }
-    if (this.taken < this.open.length) return;
+    if (this.taken < this.open.length) {
+      this.progress(`symq answered ${this.taken} of ${counted(this.open.length, 'query')}`);
+      return;
+    }
+    this.progress('');
     this.waiting?.resolve();
     this.waiting = null;
   }
@@ -145,6 +154,7 @@ export class Symq extends Asked {
     if (this.failure) throw this.failure;
     this.open = lines;
     this.taken = 0;
+    this.progress(`waiting for symq: ${counted(lines.length, 'query')}`);
     const answered = new Promise((resolve, reject) => (this.waiting = { resolve: () => resolve(undefined), reject }));
     answered.catch(() => {});
     let part = '';
@@ -173,49 +183,4 @@ export class Symq extends Asked {
 /** @param {import('node:stream').Writable} stream */
 function drained(stream) {
   return new Promise((resolve) => stream.once('drain', resolve));
-}
-
-/**
- * symq as a command that answers when all is asked, and takes long to start: what may be asked later is asked with the first
- * round, so that there mostly is no second one.
- */
-export class SymqAtOnce extends Asked {
-  /** @param {string} program @param {string} graph @param {unknown[][]} ahead what may be asked */
-  constructor(program, graph, ahead) {
-    super();
-    this.program = program;
-    this.graph = graph;
-    this.ahead = ahead;
-  }
-
-  /** @param {unknown[][]} queries @returns {Promise<any[]>} */
-  async ask(queries) {
-    const lines = queries.map(Asked.line);
-    if (this.missing(lines).length > 0) {
-      const open = this.missing([...lines, ...this.ahead.map(Asked.line)]);
-      const answers = await this.run(open);
-      open.forEach((it, i) => this.known.set(it, answers[i]));
-    }
-    return this.answers(lines);
-  }
-
-  /** @param {string[]} lines @returns {Promise<any[]>} */
-  run(lines) {
-    return new Promise((resolve, reject) => {
-      const child = started(this.program, [this.graph]);
-      let [output, said] = ['', ''];
-      child.stdout.on('data', (it) => (output += it));
-      child.stderr.on('data', (it) => (said += it));
-      child.on('error', (error) => reject(notStarted(this.program, error)));
-      child.stdin.on('error', () => {});
-      child.on('close', (status, signal) => {
-        const count = output.split('\n').length - 1;
-        if (count === lines.length) resolve(parsedLines(output));
-        else reject(ended(status ?? signal, said));
-      });
-      child.stdin.end(`${lines.join('\n')}\n`);
-    });
-  }
-
-  async close() {}
 }

@@ -59,8 +59,8 @@ export function findTypeScript(folder) {
   const there = files.flatMap((it) => (it === null ? null : found(it)) ?? []);
   const all = there.filter((it) => rank(it.version) >= 0);
   if (all.length === 0) {
-    const what = there.length > 0 ? `TypeScript ${there[0].version} (${there[0].file}) isn't taken` : 'TypeScript isn\'t there';
-    throw new Failure(`${what}: \`npm install typescript@5\`, or on Debian \`apt-get install node-typescript\` (4.8 to 6)`);
+    const what = there.length > 0 ? `TypeScript ${there[0].version} (${there[0].file}) isn't supported` : 'TypeScript not found';
+    throw new Failure(`${what}: \`npm install typescript@5\` in ${folder}, or on Debian \`apt-get install node-typescript\` (4.8 to 6)`);
   }
   return all.reduce((a, b) => (rank(b.version) > rank(a.version) ? b : a));
 }

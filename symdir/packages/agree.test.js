@@ -1,7 +1,7 @@
-// Holds `symdir api` to TypeScript's own checker, on packages of Debian. Where a package isn't there it is installed, as root.
+// Holds `symdir api` to TypeScript's own checker, on packages of Debian, which `python3 tools/run_symdir.py --packages` installs.
 import assert from 'node:assert/strict';
 import { spawnSync } from 'node:child_process';
-import { existsSync, realpathSync } from 'node:fs';
+import { readFileSync, realpathSync } from 'node:fs';
 import path from 'node:path';
 import test from 'node:test';
 import { fileURLToPath } from 'node:url';
@@ -10,35 +10,26 @@ import { answer } from '../tests/helper.js';
 
 const CHECKER = fileURLToPath(new URL('./checker.js', import.meta.url));
 
-/** Debian's packages, the folders that they put in place, and words for the command. */
-/** @type {[string, string, string[]][]} */
-const PACKAGES = [
-  ['node-undici', '/usr/share/nodejs/undici-types', []],
-  ['node-lumino', '/usr/share/nodejs/@lumino', ['--skip', '^example-']],
-  ['node-graphql', '/usr/share/nodejs/graphql', []],
-  ['node-yjs', '/usr/share/nodejs/yjs', []],
-  ['node-chart.js', '/usr/share/nodejs/chart.js', []],
-  ['libjs-three', '/usr/share/nodejs/three', ['--entry', 'build/three.module.js']],
-  ['libjs-three', '/usr/share/javascript/three', ['--entry', 'examples/jsm/nodes/Nodes.d.ts']],
-  ['node-csstype', '/usr/share/nodejs/csstype', []],
-  ['node-redux', '/usr/share/nodejs/redux', []],
-  ['libjs-vue-router', '/usr/share/nodejs/vue-router', []],
-];
+/**
+ * @typedef {object} Package
+ * @property {string} package of Debian
+ * @property {string} directory that it puts in place
+ * @property {string[]} [words] for the command
+ */
 
-/** @param {string} folder @param {string} name of Debian's package */
-function putInPlace(folder, name) {
-  if (existsSync(folder)) return;
-  const { status, stderr } = spawnSync('apt-get', ['install', '-y', '--no-install-recommends', name], { encoding: 'utf8' });
-  assert.equal(status, 0, stderr);
+/** @type {Package[]} */
+const PACKAGES = JSON.parse(readFileSync(new URL('./packages.json', import.meta.url), 'utf8'));
+
+/** @typedef {{ places: string[], ends: string[] }} Found where a name is defined, and the ends of its paths that are no definitions */
+
+/** @param {any} out of `symdir api` @returns {Map<string, Found>} by entry and name */
+function ours(out) {
+  return new Map(out.names.map((/** @type {any} */ it) => [`${it.entry} ${it.name}`, {
+    places: it.defined.map((/** @type {any} */ place) => `${place.file}:${place.line}:${place.column}`).sort(),
+    ends: it.unresolved.map((/** @type {any} */ end) => end.what) }]));
 }
 
-/** @param {string} folder @param {any} out of `symdir api` @returns {Map<string, string[]>} the places of each name, by entry and name */
-function ours(folder, out) {
-  return new Map(out.names.map((/** @type {any} */ it) => [`${it.entry} ${it.name}`,
-    it.defined.map((/** @type {any} */ place) => `${place.file}:${place.line}:${place.column}`).sort()]));
-}
-
-/** @param {string} folder @param {string[]} entries @returns {Map<string, string[]>} */
+/** @param {string} folder @param {string[]} entries @returns {Map<string, string[]>} the places of each name, by entry and name */
 function theirs(folder, entries) {
   const files = entries.map((it) => path.join(folder, it));
   const { stdout, status, stderr } = spawnSync(process.execPath, [CHECKER, ...files], { encoding: 'utf8', maxBuffer: 1 << 28, env: { ...process.env, BASE: path.dirname(folder) } });
@@ -47,19 +38,46 @@ function theirs(folder, entries) {
     `${path.relative(folder, file)} ${name}`, places.map((/** @type {any} */ [at, line, column]) => `${path.relative(folder, at)}:${line}:${column}`).sort()])));
 }
 
-for (const [name, place, words] of PACKAGES) {
-  test(`${name}: ${place}`, (t) => {
-    putInPlace(place, name);
-    const folder = realpathSync(place);
-    const plain = answer(['api', folder, ...words]);
-    const all = answer(['api', folder, ...words, '--ambient-exports']);
-    const [some, mine, typescript] = [ours(folder, plain), ours(folder, all), theirs(folder, plain.entries)];
+/** @param {string[]} a @param {string[]} b @returns {boolean} */
+function isSame(a, b) {
+  return a.length === b.length && a.every((it, i) => it === b[i]);
+}
+
+/**
+ * How a name differs, as `symdir/README.md` lists it.
+ * @param {string} folder
+ * @param {any} out of `symdir api`
+ * @param {string} key entry and name
+ * @param {Found | undefined} mine
+ * @param {string[] | undefined} wanted
+ * @returns {string | null} null where it doesn't; what isn't listed begins with `!`
+ */
+function difference(folder, out, key, mine, wanted) {
+  const [entry, name] = key.split(' ');
+  if (!wanted) return name === 'default' && /^\s*export\s*=/m.test(readFileSync(path.join(folder, entry), 'utf8')) ? 'default behind export =' : '! ours alone';
+  if (!mine && out.open.some((/** @type {any} */ it) => it.entry === entry && it.external !== null)) return 'from a module that isn\'t read';
+  if (!mine) return name === 'prototype' ? 'prototype of a class behind export =' : '! TypeScript\'s alone';
+  if (isSame(mine.places, wanted)) return null;
+  const isOutside = wanted.every((it) => it.startsWith('../') || /(^|\/)node_modules\//.test(it));
+  if (mine.ends.includes('external') && isOutside) return 'from a module that isn\'t read';
+  if (/\.[cm]?js$/.test(entry) && mine.places.length > 0 && mine.places.every((it) => wanted.includes(it))) return 'assignments in JavaScript';
+  return mine.ends.includes('unknown') ? 'not known' : `! other places: ${mine.places} (${mine.ends}), and TypeScript's ${wanted}`;
+}
+
+for (const { package: name, directory, words = [] } of PACKAGES) {
+  test(`${name}: ${directory}`, (t) => {
+    const folder = realpathSync(directory);
+    const out = answer(['api', folder, ...words]);
+    const [mine, wanted] = [ours(out), theirs(folder, out.entries)];
     assert.ok(mine.size > 0);
-    assert.deepEqual([...mine.keys()].filter((it) => !typescript.has(it)), [], 'names that are ours alone');
-    assert.deepEqual([...typescript.keys()].filter((it) => !mine.has(it)), [], 'names that are TypeScript\'s alone');
-    assert.deepEqual([...some.keys()].filter((it) => !typescript.has(it)), [], 'names that are ours alone, without --ambient-exports');
-    const differ = [...mine].filter(([key, places]) => places.some((it) => !typescript.get(key)?.includes(it)) || (places.length === 0 && typescript.get(key)?.length !== 0));
-    assert.deepEqual(differ.map(([key, places]) => [key, places, typescript.get(key)]), [], 'names with other places');
-    t.diagnostic(`${plain.entries.length} entries, ${mine.size} names, ${mine.size - some.size} of them by --ambient-exports`);
+    /** @type {Map<string, string[]>} */
+    const classes = new Map();
+    for (const key of new Set([...mine.keys(), ...wanted.keys()])) {
+      const found = difference(folder, out, key, mine.get(key), wanted.get(key));
+      if (found !== null) classes.set(found, [...(classes.get(found) ?? []), key]);
+    }
+    const told = [...classes].map(([it, keys]) => `${it}: ${keys.length}`);
+    t.diagnostic(`${out.entries.length} entries, ${mine.size} names${told.length > 0 ? `; ${told.join('; ')}` : ''}`);
+    assert.deepEqual([...classes].filter(([it]) => it.startsWith('!')), []);
   });
 }

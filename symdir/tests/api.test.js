@@ -28,7 +28,7 @@ test('each public name, with kind and place', () => {
     Axis: 'enum deep/points.ts:3:13',
     size: 'const sums.ts:1:21',
     gone: '',
-    sums: 'namespace index.ts:3:13',
+    sums: 'namespace sums.ts:1:1',
     default: 'class index.ts:4:22',
   });
   assert.deepEqual(out.open, []);
@@ -47,12 +47,12 @@ test('what people read', () => {
   const { stdout, status } = symdir(['api', folderOf({
     'index.ts': 'export * from "./b.ts";\nexport { x } from "./b.ts";\nexport * from "./gone.ts";\nexport * from "far";\n', 'b.ts': 'export const n = 1;\n',
     'package.json': '{ "dependencies": { "far": "1" } }' })]);
-  assert.equal(status, 0);
+  assert.equal(status, 1);
   assert.equal(stdout, `index.ts: 2 public names, defined in 1 file
   n  const  b.ts:1:14  export * from "./b.ts"
-  x         nowhere: b.ts exports no x
-  export * from "./gone.ts" in index.ts: leads nowhere
-  export * from "far" in index.ts: npm:far isn't read: its names are public too
+  x         unresolved: b.ts has no export x
+  index.ts:3:1: export * from "./gone.ts": unresolved
+  index.ts:4:1: export * from "far": npm:far is external, and its names are public too
 `);
 });
 
@@ -65,7 +65,7 @@ test('names of packages: external, and with --packages read', () => {
   });
   const plain = answer(['api', folder]);
   assert.deepEqual(plain.names.map((/** @type {any} */ it) => [it.name, it.unresolved]), [['a', [{ what: 'external', file: 'index.ts', name: 'npm:far' }]]]);
-  assert.deepEqual(plain.open, [{ entry: 'index.ts', file: 'index.ts', text: 'far/more', external: 'npm:far/more' }]);
+  assert.deepEqual(plain.open, [{ entry: 'index.ts', file: 'index.ts', line: 2, column: 1, text: 'far/more', external: 'npm:far/more' }]);
   const all = answer(['api', folder, '--packages']);
   assert.deepEqual(places(all), { a: 'const node_modules/far/index.d.ts:1:22', b: 'const node_modules/far/more.d.ts:1:22' });
 });
@@ -84,6 +84,21 @@ test('entries: what package.json says', () => {
   assert.deepEqual(entries({ 'package.json': '{"module":"m.mjs","main":"n.cjs"}', 'm.mjs': text, 'n.cjs': text }), ['m.mjs']);
   assert.deepEqual(entries({ 'deno.json': '{"exports":{".":"./mod.ts","./b":"./b.ts"}}', 'mod.ts': text, 'b.ts': text }), ['mod.ts', 'b.ts']);
   assert.deepEqual(entries({ 'deno.json': '{"exports":"./b.ts"}', 'mod.ts': text, 'b.ts': text }), ['b.ts']);
+});
+
+test('entries: where types aren\'t built yet, the source that they will be built from', () => {
+  const entries = (/** @type {Record<string, string>} */ files) => answer(['api', folderOf(files)]).entries;
+  const text = 'export const a = 1;';
+  assert.deepEqual(entries({ 'package.json': '{"types":"./dist/main.d.ts"}', 'src/main.ts': text, 'index.ts': text }), ['src/main.ts']);
+  assert.deepEqual(entries({ 'package.json': '{"types":"dist/main.d.mts"}', 'src/main.mts': text, 'index.ts': text }), ['src/main.mts']);
+  assert.deepEqual(entries({ 'package.json': '{"exports":{".":{"types":"./lib/main.d.ts"}}}', 'main.ts': text, 'index.ts': text }), ['main.ts']);
+});
+
+test('entries: packages in the folder, but none of tests and examples', () => {
+  const entries = (/** @type {Record<string, string>} */ files) => answer(['api', folderOf(files)]).entries;
+  const one = (/** @type {string} */ folder) => ({ [`${folder}/package.json`]: '{"types":"x.d.ts"}', [`${folder}/x.d.ts`]: 'export declare const a: 1;' });
+  assert.deepEqual(entries({ ...one('one'), ...one('examples/demo'), ...one('example/demo'), ...one('tests/fixture'), ...one('one/test') }), ['one/x.d.ts']);
+  assert.deepEqual(entries({ ...one('packages/examples-of-use'), ...one('scripts') }), ['packages/examples-of-use/x.d.ts']);
 });
 
 test('entries: the usual module, packages in the folder, modules that no other imports, and --entry', () => {
@@ -105,17 +120,11 @@ test('JavaScript is left out where declarations or sources stand for it, but for
   assert.deepEqual(answer(['api', folderOf({ 'package.json': '{"types":"t.d.ts"}', 't.d.ts': 'export declare const a: 1;', 'dist/x.js': 'export const a = 1;' }), '--entry', 't.d.ts']).names.length, 1);
 });
 
-test('--ambient-exports', () => {
-  const folder = folderOf({ 'index.d.ts': 'import "./a";\ndeclare const b: number;\nexport declare const c: number;\n', 'a.ts': '' });
-  assert.deepEqual(Object.keys(places(answer(['api', folder]))), ['c']);
-  assert.deepEqual(Object.keys(places(answer(['api', folder, '--ambient-exports']))), ['b', 'c']);
-});
-
 test('--skip leaves modules out, and --entry names what is left', () => {
   const folder = folderOf({ 'index.ts': 'export * from "./a.ts";\nexport * from "./gen/b.ts";\n', 'a.ts': 'export const a = 1;', 'gen/b.ts': 'export const b = 1;' });
   const out = answer(['api', folder, '--skip', '^gen/']);
   assert.deepEqual(out.names.map((/** @type {any} */ it) => it.name), ['a']);
-  assert.deepEqual(out.open, [{ entry: 'index.ts', file: 'index.ts', text: './gen/b.ts', external: 'file:///gen/b.ts' }]);
+  assert.deepEqual(out.open, [{ entry: 'index.ts', file: 'index.ts', line: 2, column: 1, text: './gen/b.ts', external: 'file:///gen/b.ts' }]);
 });
 
 test('a snapshot has no places, and tells what changed', () => {
@@ -123,28 +132,60 @@ test('a snapshot has no places, and tells what changed', () => {
   const file = path.join(folder, 'api.txt');
   assert.deepEqual(symdir(['api', folder, '--save', file]), { status: 0, stdout: `${file}: 8 public names\n`, stderr: '' });
   assert.deepEqual(readFileSync(file, 'utf8').split('\n').slice(1), [
-    'index.ts: Axis enum deep/points.ts', 'index.ts: Point type+namespace deep/points.ts', 'index.ts: Shape interface shapes.ts',
-    'index.ts: default class index.ts', 'index.ts: gone ? ?', 'index.ts: make function shapes.ts', 'index.ts: size const sums.ts',
-    'index.ts: sums namespace index.ts', '']);
+    'index.ts: Axis enum deep/points.ts', 'index.ts: Axis.x member deep/points.ts', 'index.ts: Axis.y member deep/points.ts',
+    'index.ts: Point type+namespace deep/points.ts  = [number, number]', 'index.ts: Point.origin const deep/points.ts  : Point',
+    'index.ts: Shape interface shapes.ts', 'index.ts: Shape#sides property shapes.ts  : number', 'index.ts: default class index.ts', 'index.ts: gone ? ?',
+    'index.ts: make function shapes.ts  (): Shape & (sides: number): Shape', 'index.ts: size const sums.ts', 'index.ts: sums namespace sums.ts',
+    'index.ts: sums.a const sums.ts', 'index.ts: sums.area const sums.ts', 'index.ts: sums.b let sums.ts', 'index.ts: sums.c let sums.ts', '']);
   writeFileSync(path.join(folder, 'shapes.ts'), `\n\n${SHAPES['shapes.ts']}`);
-  assert.deepEqual(symdir(['api', folder, '--check', file]), { status: 0, stdout: `the 8 public names are those of ${file}\n`, stderr: '' });
+  assert.deepEqual(symdir(['api', folder, '--check', file]), { status: 0, stdout: `the public names are those of ${file}\n`, stderr: '' });
   writeFileSync(path.join(folder, 'shapes.ts'), 'export type Shape = 1;\nexport * from "./deep/points.ts";\nexport const added = 1;\n');
   const { status, stdout } = symdir(['api', folder, '--check', file]);
   assert.equal(status, 1);
-  assert.deepEqual(stdout.split('\n').slice(0, 3), [
-    '- index.ts: make function shapes.ts', '+ index.ts: added const shapes.ts',
-    '~ index.ts: Shape interface shapes.ts  ->  type shapes.ts']);
-  assert.match(stdout, /^1 gone, 1 new, 1 changed; `symdir api FOLDER --save /m);
-  assert.deepEqual(answer(['api', folder, '--check', file]), {
-    gone: ['index.ts: make function shapes.ts'], added: ['index.ts: added const shapes.ts'],
-    changed: [{ from: 'index.ts: Shape interface shapes.ts', to: 'type shapes.ts' }] });
+  assert.deepEqual(stdout.split('\n').map((it) => it.replace(/ {2,}/g, '  ')), [
+    'major  ~  index.ts: Shape  kind: interface shapes.ts  ->  type shapes.ts', '  a type alias can\'t be merged with, and not each can be implemented',
+    'major  -  index.ts: Shape#sides  property shapes.ts', '  existing uses break', 'minor  +  index.ts: added  const shapes.ts', '  existing uses still work',
+    'major  -  index.ts: make  function shapes.ts', '  existing uses break',
+    `major: 2 removed, 1 added, 1 changed; \`symdir api DIR --save ${file}\` updates the snapshot`, '']);
+  const { advice, changes } = answer(['api', folder, '--check', file]);
+  assert.deepEqual([advice, changes[0]], ['major', { what: 'kind', entry: 'index.ts', name: 'Shape', from: 'interface shapes.ts', to: 'type shapes.ts', advice: 'major',
+    reason: 'a type alias can\'t be merged with, and not each can be implemented' }]);
+});
+
+test('a snapshot of names alone is compared by names alone', () => {
+  const head = '# public names: entry, name, what it is and where it is defined; `symdir api FOLDER --check` compares, `--save` writes\n';
+  const folder = folderOf({ 'index.ts': 'export class A { a = 1 }\nexport function f(a: 1) {}\n', 'old.txt': `${head}index.ts: A class index.ts\nindex.ts: f function index.ts\n` });
+  assert.equal(symdir(['api', folder, '--check', path.join(folder, 'old.txt')]).status, 0);
+  writeFileSync(path.join(folder, 'old.txt'), `${head}index.ts: A class index.ts\nindex.ts: g function index.ts\n`);
+  assert.deepEqual(answer(['api', folder, '--check', path.join(folder, 'old.txt')]).changes.map((/** @type {any} */ it) => `${it.what} ${it.name}`), ['added f', 'removed g']);
+});
+
+test('names with spaces stand in snapshots', () => {
+  const folder = folderOf({ 'index.ts': 'const a = 1;\nexport { a as "b c", a as "d, e" };\nexport interface I { (a: 1): 2 }\n' });
+  const file = path.join(folder, 'names.txt');
+  assert.equal(symdir(['api', folder, '--save', file]).status, 0);
+  assert.deepEqual(readFileSync(file, 'utf8').split('\n').slice(1), [
+    'index.ts: "I call" call index.ts  (a: 1): 2', 'index.ts: "b c" const index.ts', 'index.ts: "d, e" const index.ts', 'index.ts: I interface index.ts', '']);
+  assert.equal(symdir(['api', folder, '--check', file]).status, 0);
+  writeFileSync(path.join(folder, 'index.ts'), 'export {};');
+  assert.deepEqual(answer(['api', folder, '--check', file]).changes.map((/** @type {any} */ it) => `${it.what} ${it.name}`), ['removed I', 'removed b c', 'removed d, e']);
 });
 
 test('a snapshot that isn\'t there, and one that is none', () => {
   const folder = folderOf({ ...SHAPES, 'bad.txt': '# names\nwhat is this\n' });
   const absent = symdir(['api', folder, '--check', 'none.txt']);
-  assert.deepEqual([absent.status, absent.stderr], [3, 'symdir: no file none.txt: `symdir api FOLDER --save none.txt` writes it\n']);
+  assert.deepEqual([absent.status, absent.stderr], [3, 'symdir: no such file: none.txt; `symdir api DIR --save none.txt` writes it\n']);
   const bad = symdir(['api', folder, '--check', path.join(folder, 'bad.txt')]);
   assert.equal(bad.status, 3);
-  assert.match(bad.stderr, /bad\.txt:2:1: no line of a snapshot/);
+  assert.match(bad.stderr, /bad\.txt:2:1: not a line of a snapshot, `ENTRY: NAME KIND FILES`\n$/);
+});
+
+test('--save overwrites snapshots and empty files alone', () => {
+  const files = { 'index.ts': 'export const a = 1;\n', 'package.json': '{"name":"a"}\n', 'empty.txt': '', 'api.txt': '# public names\nindex.ts: b const index.ts\n' };
+  const folder = folderOf(files);
+  const save = (/** @type {string} */ name) => symdir(['api', folder, '--save', name], { cwd: folder });
+  assert.deepEqual(save('package.json'), { status: 2, stdout: '', stderr: 'symdir: package.json isn\'t a snapshot, and isn\'t overwritten\n' });
+  assert.equal(readFileSync(path.join(folder, 'package.json'), 'utf8'), files['package.json']);
+  for (const name of ['empty.txt', 'api.txt']) assert.equal(save(name).status, 0, name);
+  assert.equal(readFileSync(path.join(folder, 'empty.txt'), 'utf8'), readFileSync(path.join(folder, 'api.txt'), 'utf8'));
 });

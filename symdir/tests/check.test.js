@@ -58,8 +58,8 @@ test('words for each fault', () => {
   const words = (/** @type {unknown} */ it) => wordsOf(Buffer.from(typeof it === 'string' ? it : JSON.stringify(it)));
   const tree = (/** @type {unknown[]} */ ...nodes) => words({ modules: [{ specifier: 'm', kind: 'esm', text: 'é', tree: { nodes } }] });
   const program = { kind: 'Program', range: [0, 2] };
-  assert.match(words('{"modules":[}')[0], /^1:13: it is no JSON: Unexpected token '}'$/);
-  assert.deepEqual(words('\ufeff{}'), ['1:1: it begins with a byte order mark, which isn\'t taken: write the file without']);
+  assert.match(words('{"modules":[}')[0], /^1:13: it isn't valid JSON: Unexpected token '}'$/);
+  assert.deepEqual(words('\ufeff{}'), ['1:1: it begins with a byte order mark, which isn\'t allowed']);
   assert.deepEqual(words('{\n"x": 1.5}'), ['2:6: 1.5 is no whole number of 64 bits, written in digits alone']);
   assert.deepEqual(words('[]'), ['a graph is an object, and this is []']);
   assert.deepEqual(words({ modules: [{ kind: 'esm' }] }), ['module 0 of the list: "specifier" has to be there, a text', 'module 0 of the list: "text" has to be there, a text']);
@@ -76,7 +76,7 @@ test('the command: what symq says, and the words', () => {
   const folder = folderOf({
     'good.json': '{}', 'bad.json': '{"modules":[{"specifier":"m","kind":"esm","text":"","tree":{"nodes":[{"kind":"Program","range":[0,9]}]}}]}' });
   const check = (/** @type {string} */ name) => symdir(['graph', '--check', name], { cwd: folder });
-  assert.deepEqual(check('good.json'), { status: 0, stdout: 'good.json: symq reads it\n', stderr: '' });
+  assert.deepEqual(check('good.json'), { status: 0, stdout: 'good.json: accepted by symq\n', stderr: '' });
   assert.deepEqual(check('bad.json'), { status: 1, stderr: '', stdout: `symq: graph refused: 7 m 5 0
 bad.json: module m, node 0 (Program): the range [0, 9] ends after the text, which has 0 bytes
 ` });

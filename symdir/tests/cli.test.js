@@ -6,22 +6,50 @@ import path from 'node:path';
 import test from 'node:test';
 import { setTimeout } from 'node:timers/promises';
 
-import { BIN, folderOf, program, symdir } from './helper.js';
+import { BIN, answer, folderOf, program, symdir } from './helper.js';
 
 const FILES = { 'a.ts': 'export * from "./b.ts";\n', 'b.ts': 'export const n = 1;\n' };
 
 test('help', () => {
   assert.equal(symdir([]).status, 2);
-  assert.match(symdir([]).stderr, /^symdir: what a folder of TypeScript/);
-  for (const words of [['--help'], ['-h'], ['help']]) assert.match(symdir(words).stdout, /symdir leaks FOLDER/);
-  for (const it of ['api', 'leaks', 'missing', 'where', 'web', 'graph']) {
+  assert.match(symdir([]).stderr, /^symdir: what a directory of TypeScript/);
+  for (const words of [['--help'], ['-h'], ['help']]) assert.match(symdir(words).stdout, /symdir leaks DIR/);
+  for (const it of ['api', 'leaks', 'missing', 'where', 'web', 'graph', 'unused', 'uses', 'diff', 'cycles']) {
     const { status, stdout } = symdir([it, '--help']);
     assert.equal(status, 0);
     assert.match(stdout, new RegExp(`^symdir ${it} `));
     assert.match(stdout, /--skip REGEX/);
-    const first = it === 'where' ? '0 a definition is found, 1 none' : '0 nothing found, 1 findings';
-    assert.ok(stdout.endsWith(`Status: ${first}, 2 wrong words, 3 it couldn't be done.\n`));
+    const found = it === 'where' ? '0 definition found' : '0 reference found';
+    const first = it === 'where' || it === 'uses' ? `${found}, 1 none` : '0 no findings, 1 findings';
+    assert.ok(stdout.endsWith(`Exit status: ${first}, 2 usage error, 3 failure.\n`));
     assert.ok(stdout.split('\n').every((line) => line.length <= 100));
+  }
+});
+
+/** @param {any} value @returns {string[]} each key in it, however deep */
+function keysIn(value) {
+  if (Array.isArray(value)) return value.flatMap(keysIn);
+  return value === null || typeof value !== 'object' ? [] : Object.entries(value).flatMap(([key, it]) => [key, ...keysIn(it)]);
+}
+
+test('help names each key that --json prints, and those at the top in their order', () => {
+  const folder = folderOf({
+    'index.ts': 'export * from "./a";\nexport * from "./c";\nexport * as all from "./a";\nexport * from "./gone";\nexport { none } from "./a";\nimport { x } from "./b.js";\nexport { x };\n',
+    'a.ts': 'import "./index";\ninterface I {}\nexport class A { i!: I }\nexport const n = 1;\n', 'b.js': 'exports.x = 1;\n',
+    'c.ts': 'export const n = 2;\n', 'lost.ts': 'export const lost = 1;\n', 'package.json': '{"types":"index.ts","dependencies":{"far":"1"}}' });
+  const fresh = folderOf({ 'index.ts': 'export const n = 1;\n' });
+  const baseline = path.join(folderOf({}), 'baseline.json');
+  writeFileSync(baseline, '{"findings":[{"rule":"leaks/not-exported","file":"gone.ts","name":"Gone"}]}');
+  for (const words of [['api', folder, '--strict'], ['api', folder, '--docs'], ['leaks', folder, '--baseline', baseline], ['api', folder, '--entry', 'b.js'], ['leaks', folder], ['missing', folder, '--strict'], ['where', folder, 'index.ts:5'],
+    ['where', folder, 'index.ts:6', 'x'], ['web', folder], ['unused', folder], ['uses', folder, 'a.ts:3'], ['diff', folder, fresh], ['cycles', folder]]) {
+    const out = answer(words);
+    const [, form] = symdir([words[0], '--help']).stdout.split('\nJSON:\n');
+    const named = new Set(form.match(/\w+/g));
+    assert.deepEqual(keysIn(out).filter((it) => !named.has(it)), [], words.join(' '));
+    assert.ok(keysIn(out).length > 2, words.join(' '));
+    if (Array.isArray(out)) continue;
+    const places = Object.keys(out).map((it) => form.search(new RegExp(`\\b${it}\\b`)));
+    assert.deepEqual(places, [...places].sort((a, b) => a - b), words.join(' '));
   }
 });
 
@@ -30,29 +58,29 @@ test('--version', () => {
   assert.deepEqual(symdir(['--version']), { status: 0, stdout: `symdir ${version}\n`, stderr: '' });
 });
 
-test('wrong words', () => {
+test('usage errors', () => {
   const said = (/** @type {string[]} */ ...words) => {
     const { status, stdout, stderr } = symdir(words);
     assert.deepEqual([status, stdout], [2, '']);
     return stderr;
   };
-  assert.equal(said('what'), 'symdir: no command what; there are graph, api, leaks, missing, where, web\n');
-  assert.equal(said('help', 'what'), 'symdir: no command what; there are graph, api, leaks, missing, where, web\n');
-  assert.equal(said('constructor'), 'symdir: no command constructor; there are graph, api, leaks, missing, where, web\n');
-  assert.equal(said('api', '.', '--save', 'a', '--check', 'b'), 'symdir: --save and --check don\'t go together\n');
-  assert.equal(said('api', '.', '--strict', '--unproved'), 'symdir: --strict and --unproved don\'t go together\n');
-  assert.equal(said('graph', '.', '--check', 'a'), 'symdir: --check takes a graph, and no folder besides: not .\n');
-  assert.equal(said('api'), 'symdir: which folder? `symdir --help` shows how it is called\n');
-  assert.equal(said('api', ''), 'symdir: which folder? `symdir --help` shows how it is called\n');
-  assert.equal(said('api', 'a', 'b'), 'symdir: api takes one folder, and not a b\n');
-  assert.equal(said('api', '.', '--none'), 'symdir: Unknown option \'--none\'; `symdir api --help` lists what it takes\n');
-  assert.match(said('api', '.', '--entry'), /^symdir: Option '--entry <value>' argument missing; `symdir api --help` lists what it takes\n$/);
+  assert.equal(said('what'), 'symdir: unknown command what; the commands are graph, api, leaks, missing, where, web, unused, uses, diff, cycles\n');
+  assert.equal(said('help', 'what'), 'symdir: unknown command what; the commands are graph, api, leaks, missing, where, web, unused, uses, diff, cycles\n');
+  assert.equal(said('constructor'), 'symdir: unknown command constructor; the commands are graph, api, leaks, missing, where, web, unused, uses, diff, cycles\n');
+  assert.equal(said('api', '.', '--save', 'a', '--check', 'b'), 'symdir: --save and --check can\'t be combined\n');
+  assert.equal(said('api', '.', '--symq', 'a', '--unproved'), 'symdir: --symq and --unproved can\'t be combined\n');
+  assert.equal(said('graph', '.', '--check', 'a'), 'symdir: --check takes a graph and no directory, not .\n');
+  assert.equal(said('api'), 'symdir: a directory is required; see `symdir --help`\n');
+  assert.equal(said('api', ''), 'symdir: a directory is required; see `symdir --help`\n');
+  assert.equal(said('api', 'a', 'b'), 'symdir: api takes one directory, not a b\n');
+  assert.equal(said('api', '.', '--none'), 'symdir: Unknown option \'--none\'; see `symdir api --help`\n');
+  assert.match(said('api', '.', '--entry'), /^symdir: Option '--entry <value>' argument missing; see `symdir api --help`\n$/);
   assert.match(said('api', '.', '--skip', '('), /^symdir: --skip \(: Invalid regular expression/);
   const folder = folderOf(FILES);
-  assert.equal(said('api', folder, '--entry', 'c.ts'), `symdir: no module c.ts below ${folder}\n`);
-  assert.equal(said('web', folder, '-o', 'x.bmp'), 'symdir: -o x.bmp: a picture ends in .svg, .png, .pdf or .dot\n');
-  assert.equal(said('api', folder, '--symq', '/none/symq'), 'symdir: no program /none/symq\n');
-  assert.equal(said('where', 'src/a.ts:3:14'), 'symdir: the folder goes first, as `symdir where . src/a.ts:3:14`\n');
+  assert.equal(said('api', folder, '--entry', 'c.ts'), `symdir: no such module: c.ts in ${folder}\n`);
+  assert.equal(said('web', folder, '-o', 'x.bmp'), 'symdir: -o x.bmp: expected a file name that ends in .svg, .png, .pdf or .dot\n');
+  assert.equal(said('api', folder, '--symq', '/none/symq'), 'symdir: no such program: /none/symq\n');
+  assert.equal(said('where', 'src/a.ts:3:14'), 'symdir: the directory comes first, as in `symdir where . src/a.ts:3:14`\n');
 });
 
 test('what can\'t be done', () => {
@@ -65,22 +93,22 @@ test('what can\'t be done', () => {
   assert.equal(said('api', folder, '--save', '/none/names'), 'symdir: /none/names can\'t be written (ENOENT)\n');
   assert.equal(said('api', folder, '--check', folder), `symdir: ${folder} can't be read (EISDIR)\n`);
   assert.equal(said('web', folder, '-o', '/none/web.dot'), 'symdir: /none/web.dot can\'t be written (ENOENT)\n');
-  assert.equal(said('api', folderOf({})).replace(/\/\S+:/, ':'), 'symdir: no module in : files that end in .ts .tsx .mts .cts .js .jsx .mjs .cjs are looked for\n');
-  assert.equal(said('api', folder, '--skip', '.'), `symdir: no module in ${folder}: --skip leaves out all 2\n`);
-  assert.equal(said('api', folder, '--symq', 'none'), 'symdir: none doesn\'t start: it isn\'t there; --symq FILE and SYMQ name the program symq, and `make symq` builds it\n');
+  assert.equal(said('api', folderOf({})).replace(/\/\S+:/, ':'), 'symdir: no modules in : no file ends in .ts .tsx .mts .cts .js .jsx .mjs .cjs\n');
+  assert.equal(said('api', folder, '--skip', '.'), `symdir: no modules in ${folder}: --skip excludes all 2\n`);
+  assert.equal(said('api', folder, '--symq', 'none'), 'symdir: can\'t start none: not found; --symq FILE and SYMQ name the program symq, and `make symq` builds it\n');
 });
 
 test('a program that refuses, and one that dies', () => {
   const folder = folderOf(FILES);
   const refuses = program({}, 'symq', '#!/bin/sh\necho "symq: graph refused: 7 file:///a.ts 6 1" >&2\nexit 5\n');
   const refused = symdir(['api', folder, '--symq', refuses]);
-  assert.deepEqual([refused.status, refused.stderr], [3, 'symdir: symq: graph refused: 7 file:///a.ts 6 1 (`symdir graph FOLDER -o graph.json` and `symdir graph --check graph.json` say more)\n']);
+  assert.deepEqual([refused.status, refused.stderr], [3, 'symdir: symq: graph refused: 7 file:///a.ts 6 1 (`symdir graph DIR -o graph.json` and `symdir graph --check graph.json` explain it)\n']);
   const dies = program({}, 'symq', '#!/bin/sh\nread line\nexit 9\n');
-  assert.equal(symdir(['api', folder, '--symq', dies]).stderr, 'symdir: symq ended with the status 9\n');
+  assert.equal(symdir(['api', folder, '--symq', dies]).stderr, 'symdir: symq exited with status 9\n');
   const killed = program({}, 'symq', '#!/bin/sh\nkill -9 $$\n');
-  assert.equal(symdir(['api', folder, '--symq', killed]).stderr, 'symdir: symq was ended by SIGKILL\n');
+  assert.equal(symdir(['api', folder, '--symq', killed]).stderr, 'symdir: symq was killed by SIGKILL\n');
   const isOther = program({}, 'symq', '#!/bin/sh\nread line\necho hello\nsleep 60\n');
-  assert.deepEqual(symdir(['api', folder, '--symq', isOther]).stderr, `symdir: ${isOther} doesn't answer as symq does\n`);
+  assert.deepEqual(symdir(['api', folder, '--symq', isOther]).stderr, `symdir: unexpected output from ${isOther}\n`);
   const isNone = program({}, 'symq', 'no program');
   assert.equal(symdir(['api', folder, '--symq', path.dirname(isNone)]).status, 3);
 });
@@ -90,7 +118,7 @@ test('--strict is passed on, and a program that doesn\'t know it is told as such
   assert.equal(symdir(['api', folderOf(FILES), '--symq', knows, '--strict']).stderr, 'symdir: symq: words --strict\n');
   const older = program({}, 'symq', '#!/bin/sh\n[ $# -eq 1 ] || { echo "usage: symq GRAPH" >&2; exit 2; }\n');
   assert.deepEqual(symdir(['api', folderOf(FILES), '--symq', older, '--strict']), {
-    status: 3, stdout: '', stderr: `symdir: ${older} has no strict rules, which --strict asks it for: without that it answers by Deno's rules\n` });
+    status: 3, stdout: '', stderr: `symdir: ${older} doesn't support --strict\n` });
 });
 
 test('a file that can\'t be parsed is told with its place, and is a finding', () => {
@@ -99,11 +127,11 @@ test('a file that can\'t be parsed is told with its place, and is a finding', ()
     const { status, stderr } = symdir(words);
     assert.deepEqual([status, stderr], [1, 'symdir: b.ts:2:11: Expression expected.\n'], words.join(' '));
   }
-  assert.match(symdir(['api', folder]).stdout, /^ {2}export \* from "\.\/b\.ts" in index\.ts: b\.ts isn't read: its names are public too$/m);
+  assert.match(symdir(['api', folder]).stdout, /^ {2}index\.ts:\d+:1: export \* from "\.\/b\.ts": b\.ts isn't analyzed, and its names are public too$/m);
   const found = symdir(['where', folder, 'index.ts:2']);
   assert.deepEqual([found.status, found.stderr], [0, 'symdir: b.ts:2:11: Expression expected.\n']);
   const faulty = symdir(['where', folder, 'b.ts:1']);
-  assert.deepEqual([faulty.status, faulty.stderr], [3, 'symdir: b.ts:2:11: Expression expected.\nsymdir: nothing is known of a file with a syntax error\n']);
+  assert.deepEqual([faulty.status, faulty.stderr], [3, 'symdir: b.ts:2:11: Expression expected.\nsymdir: a file with a syntax error isn\'t analyzed\n']);
 });
 
 test('a signal ends it as such, and its temporary folder is gone', async () => {
@@ -131,23 +159,26 @@ test('the package by itself: what it needs is told', () => {
   };
   const folder = folderOf(FILES);
   assert.deepEqual(said({ PATH: '/none' }, 'api', folder), [
-    3, 'symdir: the program symq isn\'t there: `make symq` builds it, --symq FILE names it, and --unproved does without its proof\n']);
+    3, 'symdir: symq not found: `make symq` builds it, --symq FILE names it, and --unproved makes an unverified build\n']);
   assert.deepEqual(said({ PATH: '/none' }, 'api', folder, '--symq', program({}, 'symq', '')), [
-    3, 'symdir: TypeScript isn\'t there: `npm install typescript@5`, or on Debian `apt-get install node-typescript` (4.8 to 6)\n']);
+    3, `symdir: TypeScript not found: \`npm install typescript@5\` in ${folder}, or on Debian \`apt-get install node-typescript\` (4.8 to 6)\n`]);
+  const graph = path.join(folderOf({ 'g.json': '{}' }), 'g.json');
+  const checked = spawnSync(process.execPath, [path.join(alone, 'bin', 'symdir.js'), 'graph', '--check', graph], { encoding: 'utf8', env: { PATH: '/none' } });
+  assert.deepEqual([checked.status, checked.stdout], [0, `${graph}: no error found; symq, which decides, wasn't found: \`make symq\` builds it, --symq FILE names it\n`]);
   const typescript = path.join(alone, 'node_modules', 'typescript');
   for (const version of ['4.7.4', '7.0.0']) {
     mkdirSync(path.join(typescript, 'lib'), { recursive: true });
     writeFileSync(path.join(typescript, 'package.json'), JSON.stringify({ name: 'typescript', version }));
     writeFileSync(path.join(typescript, 'lib', 'typescript.js'), '');
     assert.deepEqual(said({ PATH: '/none' }, 'api', folder, '--symq', program({}, 'symq', '')), [
-      3, `symdir: TypeScript ${version} (${typescript}/lib/typescript.js) isn't taken: \`npm install typescript@5\`, or on Debian \`apt-get install node-typescript\` (4.8 to 6)\n`]);
+      3, `symdir: TypeScript ${version} (${typescript}/lib/typescript.js) isn't supported: \`npm install typescript@5\` in ${folder}, or on Debian \`apt-get install node-typescript\` (4.8 to 6)\n`]);
   }
   assert.deepEqual(said({ PATH: process.env.PATH ?? '' }, 'api', folder, '--unproved'), [
-    2, 'symdir: --unproved works in the repository of deno_symbols alone\n']);
+    2, 'symdir: --unproved works only in the repository of deno_symbols\n']);
 });
 
 test('a folder that isn\'t there is told before a program that isn\'t', () => {
-  assert.deepEqual(symdir(['api', '/none'], { env: { SYMQ: '/none/symq' } }), { status: 3, stdout: '', stderr: 'symdir: no folder /none\n' });
+  assert.deepEqual(symdir(['api', '/none'], { env: { SYMQ: '/none/symq' } }), { status: 3, stdout: '', stderr: 'symdir: no such directory: /none\n' });
 });
 
 test('a temporary folder that can\'t be written', () => {
@@ -157,7 +188,7 @@ test('a temporary folder that can\'t be written', () => {
 
 test('the program of SYMQ, and none', () => {
   const env = { SYMQ: '/none/symq' };
-  assert.deepEqual(symdir(['api', folderOf(FILES)], { env }), { status: 3, stdout: '', stderr: 'symdir: no program /none/symq\n' });
+  assert.deepEqual(symdir(['api', folderOf(FILES)], { env }), { status: 3, stdout: '', stderr: 'symdir: no such program: /none/symq\n' });
 });
 
 test('an output that nobody reads is no fault, and leaves nothing behind', () => {

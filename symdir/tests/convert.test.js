@@ -7,6 +7,7 @@ import { fileURLToPath } from 'node:url';
 
 import { convert, nodesOf } from '../lib/tree/convert.js';
 import { Files } from '../lib/folder/files.js';
+import { TreeNode, numbered } from '../lib/tree/node.js';
 import { inAscii, parserOf, ts } from '../lib/tree/typescript.js';
 import { languageOf } from '../lib/language.js';
 import { findTypeScript } from '../lib/typescript.js';
@@ -17,7 +18,7 @@ const PLAIN = { bodies: false, ambient: false };
 function nodes(text, name = 'a.ts', how = {}) {
   const made = convert(name, text, { ...languageOf(name), ...PLAIN, ...how });
   assert.equal(made.fault, null);
-  return JSON.parse(/** @type {string} */ (made.tree));
+  return JSON.parse(String(Buffer.concat(made.tree ?? [])));
 }
 
 /** @param {any[]} list @param {string} name @returns {number[]} the scopes of the names, in order */
@@ -52,7 +53,7 @@ test('ranges count bytes', () => {
 test('a lone surrogate is written as U+FFFD', () => {
   const made = convert('a.ts', 'const a = "\ud800";', { ...languageOf('a.ts'), ...PLAIN });
   assert.equal(made.text, 'const a = "\ufffd";');
-  assert.doesNotThrow(() => JSON.parse(/** @type {string} */ (made.tree)));
+  assert.doesNotThrow(() => JSON.parse(String(Buffer.concat(made.tree ?? []))));
 });
 
 test('a name has the scope that declares it', () => {
@@ -94,6 +95,24 @@ test('scopes outside of bodies have their numbers with bodies and without', () =
   assert.deepEqual(scopes(nodes(text), 'b'), scopes(nodes(text, 'a.ts', { bodies: true }), 'b'));
 });
 
+test('a function behind a label is declared where the label stands', () => {
+  const list = nodes('function g() { l: function f() {} f; } l: m: function f() {} f;', 'a.ts', { bodies: true });
+  const [declared, used, outside, usedOutside] = scopes(list, 'f');
+  assert.notEqual(declared, 1);
+  assert.equal(used, declared);
+  assert.deepEqual([outside, usedOutside], [1, 1]);
+});
+
+test('a tree may be 4,096 deep, and no deeper', () => {
+  const treeOf = (/** @type {number} */ depth) => {
+    let node = new TreeNode('TsModuleBlock', 0, 0, {});
+    for (let i = 1; i < depth; i++) node = new TreeNode('TsNamespaceDecl', 0, 0, { body: node });
+    return numbered(node);
+  };
+  assert.equal(treeOf(4096)?.length, 4096);
+  assert.equal(treeOf(4097), null);
+});
+
 test('what stands in bodies is left out, and what it imports is noted', () => {
   const made = nodesOf('a.ts', 'function f() { import("./b"); let x: import("./c").X; }', { ...languageOf('a.ts'), ...PLAIN });
   assert.deepEqual(made.references.map((it) => [it.how, it.text]), [['import()', './b'], ['import type', './c']]);
@@ -121,10 +140,23 @@ test('newer syntax than TypeScript 4.8 knows', () => {
   assert.ok(kinds('class C { accessor a = 1; }').includes('AutoAccessor'));
   assert.deepEqual(kinds('const a = b satisfies C;').filter((it) => it === 'TsAsExpr' || it === 'Other'), ['Other']);
   assert.ok(kinds('export type * from "./a";').includes('ExportAll'));
-  assert.ok(kinds('import a from "./a.json" with { type: "json" };').includes('Import'));
+  for (const it of ['import a from "./a.json" with { type: "json" };', "import a from './a.json' with { type: 'json' };", 'import * as a from "./a.json" with {\n  type: "json",\n};']) assert.ok(kinds(it).includes('Import'), it);
+  assert.ok(kinds("export * from './a.json' with { type: 'json' };").includes('ExportAll'));
+  assert.ok(kinds('{ using a = b; }\nfunction f() {}\nusing c = d;').includes('UsingDecl'));
+  for (const it of ['accessor #a = 1', 'static accessor a = 1', 'accessor "a" = 1', "accessor 'a'", 'accessor [b]', 'accessor\n a']) assert.equal(kinds(`class C { ${it}; }`).filter((kind) => kind === 'AutoAccessor').length, it.endsWith('\n a') ? 0 : 1, it);
+  for (const it of ['a satisfies B', '{} satisfies { b: 1 }', '[] satisfies [b: 1]', '(a) satisfies (B)', 'a satisfies "b"', "a satisfies 'b'", 'a satisfies B as C']) assert.equal(kinds(`x = ${it};`).filter((kind) => kind === 'TsAsExpr').length, it.endsWith('C') ? 1 : 0, it);
+  for (const it of ['<const T>', '<const T extends U>', '<A, const T = 1>', '<const T, const U>', '< const T>']) assert.ok(kinds(`function f${it}() {}`).includes('TsTypeParam'), it);
   assert.ok(kinds('function f<const T>(a: T) {}').includes('TsTypeParam'));
   const [specifier] = nodes('export { "a b" as c } from "./a";').filter((/** @type {any} */ it) => it.kind === 'Str');
   assert.equal(specifier.value, 'a b');
+  const strings = (/** @type {string} */ text) => nodes(text).flatMap((/** @type {any} */ it) => (it.kind === 'Str' ? [it.value] : it.imported ?? it.exported ?? (it.kind === 'ExportNamespace' ? it.name : [])));
+  assert.deepEqual(strings('import { "a b" as c, \'d-e\' as f, g } from "./a";'), ['a b', 'd-e']);
+  assert.deepEqual(strings('const a = 1; export { a as "b c", a as \'d\', a as "" };'), ['b c', 'd', '']);
+  // words in strings and comments alone, which stay
+  const quiet = 'const a = "x satisfies y", b = \'export type * from\', c = "class { accessor d }"; // using e = f;\n/* <const T> */ import g from "./h";\n';
+  assert.deepEqual(strings(quiet), ['x satisfies y', 'export type * from', 'class { accessor d }']);
+  // words that mean nothing else there
+  for (const it of ['const using = 1; using; accessor(using); type = satisfies * 2;', 'let a = "x satisfies y with { z: 1 }"; // using a = 1', 'class C { accessor; accessor() {} }']) assert.deepEqual(nodes(it).filter((/** @type {any} */ one) => /UsingDecl|AutoAccessor/.test(one.kind)), [], it);
 });
 
 test('a syntax error is told with its place', () => {
@@ -217,4 +249,13 @@ test('a text that is nested too deep for the stack leaves nothing behind for the
   assert.equal(nodesOf('a.ts', next, how).fault, null);
   assert.throws(() => nodesOf('b.ts', `b = ${'(a,'.repeat(20000)}1${')'.repeat(20000)}`, how), RangeError);
   assert.equal(nodesOf('a.ts', next, how).fault, null);
+});
+
+test('imports and exports of types alone say so', () => {
+  const marked = (/** @type {string} */ text) => nodes(text).filter((it) => it.type_only === true).map((it) => `${it.kind} ${it.range.join('-')}`);
+  assert.deepEqual(marked('import type { a } from "a"; import { type b, c } from "b"; import type d from "d"; import type * as e from "e";'),
+    ['Import 0-27', 'ImportNamed 37-43', 'Import 59-82', 'Import 83-111']);
+  assert.deepEqual(marked('export type { a } from "a"; export { type b, c } from "b"; export type { d }; export { type d as e };'),
+    ['ExportNamed 0-27', 'ExportSpecifier 37-43', 'ExportNamed 59-77', 'ExportSpecifier 87-98']);
+  assert.deepEqual(marked('import type a = require("a"); import type from "b"; import { type } from "c"; export * from "d"; export { type as f } from "e";'), ['TsImportEqualsDecl 0-29']);
 });

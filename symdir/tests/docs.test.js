@@ -47,7 +47,10 @@ test('README.md: what symdir prints', () => {
   for (const block of blocks(read('README.md'), 'console')) {
     for (const part of block.split(/^\$ /m).slice(1)) {
       const [command, ...output] = part.trimEnd().split('\n');
-      const words = /^symdir (.*)$/.exec(command)?.[1].split(' ');
+      const made = /^make run FOLDER=(\S+)$/.exec(command);
+      // what `make run` would do: the program that answers is another one here
+      if (made) assert.match(spawnSync('make', ['-n', 'run', `FOLDER=${made[1]}`], { cwd: TOP, encoding: 'utf8' }).stdout, new RegExp(`^node symdir/bin/symdir\\.js api --unproved ${made[1]} `, 'm'));
+      const words = made ? ['api', made[1]] : /^symdir (.*)$/.exec(command)?.[1].split(' ');
       if (words) assert.equal(symdir(words, { cwd: TOP }).stdout.trimEnd(), output.join('\n'));
     }
   }

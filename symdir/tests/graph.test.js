@@ -46,7 +46,7 @@ test('node_modules and hidden folders aren\'t read', () => {
 test('-o writes a file and says what it has', () => {
   const folder = folderOf({ 'a.ts': 'import "node:fs";' });
   const file = path.join(folder, 'g.json');
-  assert.deepEqual(symdir(['graph', folder, '-o', file]), { status: 0, stdout: `${file}: 1 module, 1 module that isn't read, 1 resolution\n`, stderr: '' });
+  assert.deepEqual(symdir(['graph', folder, '-o', file]), { status: 0, stdout: `${file}: 1 module, 1 external module, 1 resolution\n`, stderr: '' });
   assert.equal(JSON.parse(readFileSync(file, 'utf8')).modules.length, 2);
 });
 
@@ -73,13 +73,13 @@ test('a text that is nested too deep for the stack of the first thread is parsed
   assert.deepEqual([status, stderr], [0, '']);
   assert.deepEqual(JSON.parse(stdout).modules.map((/** @type {any} */ it) => it.tree !== undefined), [true, true]);
   const asked = symdir(['where', folder, 'b.ts:1']);
-  assert.deepEqual([asked.status, asked.stderr], [3, 'symdir: b.ts is nested too deep for `where`\n']);
+  assert.deepEqual([asked.status, asked.stderr], [3, 'symdir: b.ts is nested too deep for `where` and `uses`\n']);
 });
 
 test('no folder, no module, a file that can\'t be written', () => {
   const folder = folderOf({ 'readme.md': '', 'a.ts': '' });
-  assert.deepEqual(symdir(['graph', path.join(folder, 'none')]), { status: 3, stdout: '', stderr: `symdir: no folder ${folder}/none\n` });
-  assert.deepEqual(symdir(['graph', path.join(folder, 'a.ts')]), { status: 2, stdout: '', stderr: `symdir: ${folder}/a.ts is a file: name the folder, and --entry a.ts\n` });
-  assert.match(symdir(['graph', folderOf({ 'readme.md': '' })]).stderr, /^symdir: no module in .*: files that end in \.ts \.tsx /);
+  assert.deepEqual(symdir(['graph', path.join(folder, 'none')]), { status: 3, stdout: '', stderr: `symdir: no such directory: ${folder}/none\n` });
+  assert.deepEqual(symdir(['graph', path.join(folder, 'a.ts')]), { status: 2, stdout: '', stderr: `symdir: ${folder}/a.ts is a file: name its directory, and --entry a.ts\n` });
+  assert.match(symdir(['graph', folderOf({ 'readme.md': '' })]).stderr, /^symdir: no modules in .*: no file ends in \.ts \.tsx /);
   assert.deepEqual(symdir(['graph', folder, '-o', '/none/g.json']), { status: 3, stdout: '', stderr: 'symdir: /none/g.json can\'t be written (ENOENT)\n' });
 });

@@ -1,5 +1,5 @@
 import assert from 'node:assert/strict';
-import { readFileSync, rmSync, writeFileSync } from 'node:fs';
+import { readFileSync, readdirSync, rmSync, utimesSync, writeFileSync } from 'node:fs';
 import path from 'node:path';
 import test from 'node:test';
 
@@ -38,4 +38,44 @@ test('the graph that is kept is asked where it is still that of the folder, and 
   assert.deepEqual([names(), names()], [['three'], ['three']]);
   rmSync(path.join(folder, 'c.ts'));
   assert.deepEqual([names(), names()], [[], []]);
+});
+
+/** @param {string} cache @param {string} ending @returns {string[]} the files that are kept with the ending */
+function keptIn(cache, ending) {
+  return readdirSync(path.join(cache, 'symdir')).filter((it) => it.endsWith(ending)).map((it) => path.join(cache, 'symdir', it));
+}
+
+test('what is kept and was cut off is made anew', () => {
+  const env = { XDG_CACHE_HOME: folderOf({}) };
+  const folder = folderOf({ 'a.ts': 'export * from "./b";\n', 'b.ts': 'export const n = 1;\n' });
+  const run = () => symdir(['api', folder], { env });
+  const first = run();
+  const [trees] = keptIn(env.XDG_CACHE_HOME, '.trees');
+  const whole = readFileSync(trees);
+  for (const length of [0, 3, 4, 20, whole.length - 10, whole.length - 1]) {
+    writeFileSync(trees, whole.subarray(0, length));
+    assert.deepEqual(run(), first, `${length}`);
+    assert.deepEqual(readFileSync(trees), whole, `${length}`);
+  }
+});
+
+test('what is old goes: files of thirty days, parts of an hour, graphs that others take the place of after a minute', () => {
+  const env = { XDG_CACHE_HOME: folderOf({}) };
+  const folder = folderOf({ 'a.ts': 'export const a = 1;\n' });
+  symdir(['api', folder], { env });
+  const [trees] = keptIn(env.XDG_CACHE_HOME, '.trees');
+  const base = trees.slice(0, -'.trees'.length);
+  const put = (/** @type {string} */ name, /** @type {number} */ seconds) => {
+    const file = path.join(path.dirname(trees), name);
+    writeFileSync(file, '');
+    const then = Date.now() / 1000 - seconds;
+    utimesSync(file, then, then);
+  };
+  const day = 24 * 3600;
+  for (const [name, seconds] of /** @type {[string, number][]} */ ([['old', 31 * day], ['new', 29 * day], ['x.123', 3700], ['y.123', 3500], ['x.1a', 3700],
+    [`${path.basename(base)}.other.graph`, 70], [`${path.basename(base)}.more.graph`, 50], ['elsewhere.other.graph', 70]])) put(name, seconds);
+  writeFileSync(path.join(folder, 'a.ts'), 'export const b = 1;\n');
+  assert.equal(symdir(['api', folder], { env }).status, 0);
+  const left = readdirSync(path.dirname(trees)).map((it) => it.replace(path.basename(base), 'own'));
+  assert.deepEqual(left.filter((it) => !/^(own\.[^.]{20,}\.graph|own\.trees|parser.*|symq-.*)$/.test(it)).sort(), ['elsewhere.other.graph', 'new', 'own.more.graph', 'x.1a', 'y.123']);
 });

@@ -35,15 +35,15 @@ test('types that public declarations need, and by what', () => {
 test('what people read, and the status', () => {
   const { status, stdout } = symdir(['leaks', folderOf({ 'index.ts': 'export declare function f(a: A): B;\ninterface A {}\nexport interface B {}\n' })]);
   assert.equal(status, 1);
-  assert.equal(stdout, `A  interface  index.ts:2:11  (no file exports it)
-    needed by f
-2 public names of index.ts: 1 declaration that they need can't be imported
+  assert.equal(stdout, `A  interface  index.ts:2:11  (exported by no file)
+    referenced by f
+2 public names of index.ts: 1 declaration that they reference can't be imported
 `);
 });
 
 test('nothing to tell', () => {
   const { status, stdout } = symdir(['leaks', folderOf({ 'index.ts': 'export declare function f(a: A): void;\nexport interface A { b: A }\n' })]);
-  assert.deepEqual([status, stdout], [0, '2 public names of index.ts: all that they need is public\n']);
+  assert.deepEqual([status, stdout], [0, '2 public names of index.ts: all types that they reference are exported\n']);
 });
 
 test('a type that another entry exports is no leak, and neither is one of a package', () => {
@@ -51,4 +51,15 @@ test('a type that another entry exports is no leak, and neither is one of a pack
     'package.json': '{"exports":{".":"./a.ts","./b":"./b.ts"},"dependencies":{"far":"1"}}',
     'a.ts': 'import { B } from "./b.ts";\nimport { Far } from "far";\nexport declare const a: B | Far;\n', 'b.ts': 'export interface B {}\n' });
   assert.deepEqual(answer(['leaks', folder]).leaks, []);
+});
+
+test('what is private needs no type, by each way to say so', () => {
+  const text = `interface T {}\ninterface S {}\nexport class A { private a: T; #b: T; private c(x: T) {} #d(x: T) {} private static e: T; accessor #f: T; private accessor g: T; private get h(): T; private constructor(x: T); }
+export class B { protected a: S; }\n`;
+  assert.deepEqual(answer(['leaks', folderOf({ 'index.ts': text })]).leaks.map((/** @type {any} */ it) => [it.name, it.neededBy]), [['S', ['B.a']]]);
+});
+
+test('members without a name are called what they are', () => {
+  const { leaks } = answer(['leaks', folderOf({ 'index.ts': 'interface T {}\nexport interface A { (a: T): 1; new (a: T): 1; [a: string]: T }\nexport class B { constructor(a: T) {} }\n' })]);
+  assert.deepEqual(leaks.map((/** @type {any} */ it) => it.neededBy), [['A call', 'A new', 'A index', 'B constructor']]);
 });

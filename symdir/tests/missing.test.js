@@ -56,13 +56,13 @@ test('syntax errors, and the status', () => {
   const folder = folderOf({ 'index.ts': 'import { a } from "./b";\n', 'b.ts': 'export const a = ;\n' });
   const { status, stdout } = symdir(['missing', folder]);
   assert.equal(status, 1);
-  assert.equal(stdout, `files with a syntax error, of which nothing is known: 1
+  assert.equal(stdout, `files with a syntax error, not analyzed: 1
   Expression expected.  b.ts:1:18
-1 import in 2 modules: 1 missing
+1 import in 2 modules: nothing is missing, 1 file not analyzed
 `);
 });
 
 test('nothing is missing', () => {
   const { status, stdout } = symdir(['missing', folderOf({ 'index.ts': 'import "./a";\nimport "node:fs";\n', 'a.ts': '' })]);
-  assert.deepEqual([status, stdout], [0, '2 imports in 2 modules: nothing is missing; 1 module outside of the folder isn\'t asked\n']);
+  assert.deepEqual([status, stdout], [0, '2 imports in 2 modules: nothing is missing; 1 external module not checked\n']);
 });

@@ -5,8 +5,9 @@ import test from 'node:test';
 
 import { Pool } from '../lib/folder/pool.js';
 import { queueOf, take } from '../lib/folder/queue.js';
+import { ts } from '../lib/tree/typescript.js';
 import { findTypeScript } from '../lib/typescript.js';
-import { folderOf } from './helper.js';
+import { BIN, folderOf } from './helper.js';
 
 const COUNT = 40;
 const HOW = { typescript: findTypeScript(process.cwd()).file, bodies: false, ambient: false };
@@ -38,8 +39,8 @@ test('several threads tell of each file what one does', async () => {
   const several = new Pool(HOW);
   const alone = await told((done) => one.here(queueOf(files), done));
   const queue = queueOf(files);
-  const beside = await told((done) => Promise.all([several.here(queue, done), several.inThreads(2, queue, done)]));
-  const others = await told((done) => several.inThreads(2, queueOf(files), done));
+  const beside = await told((done) => Promise.all([several.here(queue, done), several.inThreads(2, [queue], done)]));
+  const others = await told((done) => several.inThreads(2, [queueOf(files)], done));
   await several.close();
   assert.equal(alone.length, COUNT + 1);
   assert.deepEqual(alone.filter((it) => it.endsWith(' ENOENT')), [`f${COUNT}.ts ENOENT`]);
@@ -47,9 +48,46 @@ test('several threads tell of each file what one does', async () => {
   assert.deepEqual(others, alone);
 });
 
+/** @param {number} bytes at least @returns {string} of declarations */
+function longText(bytes) {
+  /** @type {string[]} */
+  const parts = [];
+  for (let i = 0, size = 0; size < bytes; size += parts[i++].length) {
+    parts.push(`export interface I${i} extends Base${i % 7} {\n  readonly id: string;\n  map(key: string, value: Record<string, I${i >> 1}>): Promise<I${i}>;\n}\n`);
+  }
+  return parts.join('');
+}
+
+test('while a huge file is parsed timers go on, and a smaller one beside it is parsed too', async () => {
+  const folder = folderOf({ 'huge.ts': longText(2_000_000), 'small.ts': 'export const a = 1;\n' });
+  const pool = new Pool(HOW);
+  let ticks = 0;
+  const timer = setInterval(() => ticks++, 10);
+  const before = performance.now();
+  const found = await told((done) => pool.parse(['huge', 'small'].map((it) => ({ file: path.join(folder, `${it}.ts`), specifier: `file:///${it}.ts` })), done));
+  const took = performance.now() - before;
+  clearInterval(timer);
+  await pool.close();
+  assert.deepEqual(found.map((it) => it.split(' {')[0]), ['huge.ts', 'small.ts']);
+  assert.ok(ticks > took / 100, `${ticks} ticks in ${took} ms`);
+});
+
+test('a terminal shows how far it is while one huge file is parsed', () => {
+  const folder = folderOf({ 'huge.ts': longText(5_000_000) });
+  const words = [process.execPath, BIN, 'graph', folder, '-o', '/dev/null', '--no-cache'];
+  const run = `import pty, sys; sys.exit(pty.spawn(${JSON.stringify(words)}) >> 8)`;
+  const { status, stdout, error } = spawnSync('python3', ['-c', run], { encoding: 'utf8', maxBuffer: 1 << 26 });
+  assert.equal(error, undefined);
+  assert.equal(status, 0, stdout);
+  const seconds = [...stdout.matchAll(/parsed 0 of 1 file, (\d+) s/g)].map((it) => Number(it[1]));
+  assert.ok(seconds.length > 1, stdout);
+  assert.deepEqual(seconds, [...seconds].sort((a, b) => a - b));
+  assert.ok(seconds[0] >= 1);
+});
+
 test('a thread that ends is told', async () => {
   const pool = new Pool({ ...HOW, typescript: '/none/typescript.js' });
-  await assert.rejects(pool.inThreads(1, queueOf(jobs()), () => {}), /^Error: a thread that parses ended: ENOENT/);
+  await assert.rejects(pool.inThreads(1, [queueOf(jobs())], () => {}), /^Error: a parser thread failed: ENOENT/);
   await pool.close();
 });
 
@@ -60,7 +98,7 @@ test('a thread that ends before it is asked is told, and holds nothing up', asyn
   // nothing else keeps this process from its end meanwhile
   await assert.rejects(thread.holding(thread.failed), /ENOENT/);
   await thread.began;
-  await assert.rejects(pool.inThreads(1, queueOf(jobs()), () => {}), /^Error: a thread that parses ended: ENOENT/);
+  await assert.rejects(pool.inThreads(1, [queueOf(jobs())], () => {}), /^Error: a parser thread failed: ENOENT/);
   await pool.close();
 });
 

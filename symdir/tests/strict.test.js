@@ -61,11 +61,11 @@ for (const symq of programs()) {
 
   test(`api: a shared name is told with the files that it comes from, ${by}`, () => {
     const folder = folderOf(FILES);
-    assert.deepEqual(symdir(['api', folder, ...words]), { status: 0, stderr: '', stdout: `index.ts: 3 public names, defined in 3 files
+    assert.deepEqual(symdir(['api', folder, ...words]), { status: 1, stderr: '', stdout: `index.ts: 3 public names, defined in 3 files
   m    const  c.ts:1:21  export * from "./middle.ts" > "./c.ts"
   n    const  b.ts:1:14  export * from "./middle.ts" > "./b.ts"
   own  const  index.ts:2:14
-  n comes along export * from 2 modules: b.ts, c.ts
+  n is re-exported via export * from 2 modules: b.ts, c.ts
 ` });
     const through = (/** @type {string} */ text) => [{ file: 'index.ts', text: './middle.ts' }, { file: 'middle.ts', text }];
     assert.deepEqual(answer(['api', folder, ...words]).shared, [{ module: 'index.ts', name: 'n', owners: [
@@ -74,7 +74,7 @@ for (const symq of programs()) {
 
   test(`missing: a shared name is a finding where its ways part, ${by}`, () => {
     const folder = folderOf(FILES);
-    assert.deepEqual(symdir(['missing', folder, ...words]), { status: 1, stderr: '', stdout: `names that come along \`export *\` from several modules: 1
+    assert.deepEqual(symdir(['missing', folder, ...words]), { status: 1, stderr: '', stdout: `ambiguous names, re-exported via \`export *\` from several modules: 1
   n  from b.ts, c.ts  middle.ts:2:1
 3 imports in 4 modules: nothing is missing, 1 shared
 ` });
@@ -85,7 +85,7 @@ for (const symq of programs()) {
 
 test('by Deno\'s rules nothing is shared', () => {
   const folder = folderOf(FILES);
-  assert.doesNotMatch(symdir(['api', folder]).stdout, /comes along/);
+  assert.doesNotMatch(symdir(['api', folder]).stdout, /is re-exported/);
   assert.ok(!('shared' in answer(['api', folder])));
   assert.deepEqual(answer(['missing', folder]).missing, []);
 });

@@ -1,5 +1,5 @@
 import assert from 'node:assert/strict';
-import { readFileSync } from 'node:fs';
+import { existsSync, readFileSync, realpathSync, symlinkSync } from 'node:fs';
 import path from 'node:path';
 import test from 'node:test';
 
@@ -33,7 +33,9 @@ test('the text for Graphviz: one box for modules of a folder with the same way i
   assert.equal(status, 1);
   assert.match(stdout, /^digraph exports \{/);
   assert.match(stdout, /<B>x\/ {2}3 modules<\/B>/);
-  assert.match(stdout, /label="3 x 4"/);
+  assert.match(stdout, /label="4 names from 3 modules"/);
+  assert.match(stdout, /label="2 names"/);
+  assert.match(stdout, /<B>index\.ts<\/B> \(entry\)/);
   assert.equal(stdout.match(/color=red, fontcolor=red/g)?.length, 2);
 });
 
@@ -41,12 +43,16 @@ test('a picture', () => {
   const folder = folderOf(FILES);
   const file = path.join(folder, 'web.svg');
   const { stdout, status } = symdir(['web', folder, '-o', file]);
-  assert.deepEqual([status, stdout], [1, `${file}: 6 modules in 4 boxes, 3 edges; 2 lead nowhere\n`]);
+  assert.deepEqual([status, stdout], [1, `${file}: 6 modules in 4 boxes, 3 edges; 2 unresolved\n`]);
   assert.match(readFileSync(file, 'utf8'), /<svg/);
 });
 
 test('without Graphviz it says what to do', () => {
-  const { status, stderr } = symdir(['web', folderOf(FILES), '-o', 'x.svg'], { env: { PATH: '/none' } });
+  // TypeScript may be found by its command alone
+  const tsc = (process.env.PATH ?? '').split(':').map((it) => path.join(it, 'tsc')).find((it) => existsSync(it));
+  const PATH = folderOf({});
+  if (tsc) symlinkSync(realpathSync(tsc), path.join(PATH, 'tsc'));
+  const { status, stderr } = symdir(['web', folderOf(FILES), '-o', 'x.svg'], { env: { PATH } });
   assert.deepEqual([status, stderr.includes('apt-get install graphviz')], [3, true]);
 });
 
@@ -54,5 +60,5 @@ test('what Graphviz says is told where it fails', () => {
   const dot = program({}, 'dot', '#!/bin/sh\nread line\necho "Error: no fonts" >&2\nexit 1\n');
   const PATH = `${path.dirname(dot)}:${process.env.PATH}`;
   const { status, stderr } = symdir(['web', folderOf(FILES), '-o', 'x.svg'], { env: { PATH } });
-  assert.deepEqual([status, stderr], [3, 'symdir: Graphviz ended with the status 1: Error: no fonts\n']);
+  assert.deepEqual([status, stderr], [3, 'symdir: Graphviz exited with status 1: Error: no fonts\n']);
 });

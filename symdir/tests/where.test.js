@@ -47,19 +47,57 @@ test('a dotted name, a name in `export .. from`, a local name', () => {
   assert.deepEqual(where('index.ts:4', 'make'), ['21 make function index.ts:6:10']);
 });
 
+test('a name behind `as` in an export, by its column and by its name, and that of a whole module', () => {
+  const folder = folderOf({ 'index.ts': 'export { Shape as Form, default as Main } from "./b";\nimport { Shape } from "./b";\nexport { Shape as Own };\nexport * as all from "./b";\nexport * as none from "./c";\n',
+    'b.ts': 'export class Shape {}\nexport default class {}\n' });
+  const at = (/** @type {string[]} */ ...words) => answer(['where', folder, ...words]).flatMap((/** @type {any} */ it) => it.ways.map((/** @type {any} */ { defined, unresolved }) => (
+    `${it.at.column} ${it.name} ${defined ? `${defined.kind} ${defined.file}:${defined.line}` : unresolved.what}`)));
+  assert.deepEqual(at('index.ts:1', 'Form'), ['19 Form class b.ts:1']);
+  assert.deepEqual(at('index.ts:1:36'), ['36 Main class b.ts:2']);
+  assert.deepEqual(at('index.ts:3', 'Own'), ['19 Own class b.ts:1']);
+  // what leads to the same is one name of its line
+  assert.deepEqual(at('index.ts:1'), ['10 Shape class b.ts:1', '25 default class b.ts:2']);
+  assert.deepEqual(at('index.ts:4'), ['13 all namespace b.ts:1']);
+  assert.deepEqual(at('index.ts:5', 'none'), ['13 none import']);
+  const [{ defined }] = answer(['uses', folder, 'index.ts:1', 'Form']);
+  assert.deepEqual(defined, [{ kind: 'class', file: 'b.ts', line: 1, column: 14 }]);
+});
+
+test('members that may be there aren\'t told as lacking: of JSON, a const, an enum, a class; of a namespace they are', () => {
+  const folder = folderOf({
+    'index.ts': 'import json from "./a.json";\nimport { c, E, K, N, f } from "./b";\nexport default [json.x, c.x, E.x, K.x, N.x, f.x, f.y];\n',
+    'a.json': '{ "x": 1 }', 'b.ts': 'export const c = { x: 1 };\nexport enum E { x }\nexport class K {}\nexport namespace N { export const y = 1 }\nexport function f() {}\nf.y = 1;\n' });
+  const ends = ['json.x', 'c.x', 'E.x', 'K.x', 'N.x', 'f.x', 'f.y'].map((it) => {
+    const [{ ways: [{ defined, unresolved }] }] = answer(['where', folder, 'index.ts:3', it]);
+    return defined ? `${defined.kind} ${defined.line}` : `${unresolved.what} ${unresolved.why ?? ''}`;
+  });
+  const open = (/** @type {string} */ it) => `unknown declares ${it}, whose members aren't all known`;
+  assert.deepEqual(ends, ['unknown is JSON', open('a const'), open('an enum'), open('a class'), 'name ', open('a function'), 'property 6']);
+  for (const it of ['where', 'uses']) {
+    assert.deepEqual(symdir([it, folder, 'a.json:1']), { status: 2, stdout: '', stderr: 'symdir: a.json is JSON: names are looked up in modules that import it\n' });
+  }
+});
+
 test('what people read', () => {
   const { status, stdout } = symdir(['where', folderOf(FILES), 'index.ts:4', 'S']);
   assert.equal(status, 0);
   assert.equal(stdout, `S  at index.ts:4:17
-  interface  shapes.ts:1:18  through index.ts
-  class      shapes.ts:2:14  through index.ts
+  interface  shapes.ts:1:18  via index.ts
+  class      shapes.ts:2:14  via index.ts
 `);
+});
+
+test('a column is of the name that stands there, and not of the one that ends before it', () => {
+  assert.deepEqual(where('index.ts:1:14').map((it) => it.split(' ')[1]), ['Shape', 'Shape']);
+  const folder = folderOf(FILES);
+  assert.equal(symdir(['where', folder, 'index.ts:1:15']).stdout, 'no name of a variable or a type at index.ts:1:15\n');
+  assert.equal(symdir(['where', folder, 'index.ts:1:9']).stdout, 'no name of a variable or a type at index.ts:1:9\n');
 });
 
 test('where no name stands, and places that aren\'t there', () => {
   const folder = folderOf(FILES);
   assert.deepEqual(symdir(['where', folder, 'index.ts:4:1']), { status: 1, stdout: 'no name of a variable or a type at index.ts:4:1\n', stderr: '' });
   assert.deepEqual(symdir(['where', folder, 'index.ts:40']), { status: 2, stdout: '', stderr: 'symdir: index.ts has 7 lines\n' });
-  assert.deepEqual(symdir(['where', folder, 'none.ts:1']), { status: 2, stdout: '', stderr: `symdir: no module none.ts in ${folder}\n` });
-  assert.equal(symdir(['where', folder]).stderr, 'symdir: where is asked of FILE:LINE or FILE:LINE:COLUMN, as `symdir where . src/a.ts:3:14`\n');
+  assert.deepEqual(symdir(['where', folder, 'none.ts:1']), { status: 2, stdout: '', stderr: `symdir: no such module: none.ts in ${folder}\n` });
+  assert.equal(symdir(['where', folder]).stderr, 'symdir: where takes FILE:LINE or FILE:LINE:COLUMN, as `symdir where . src/a.ts:3:14`\n');
 });

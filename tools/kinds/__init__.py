@@ -1,1 +1,1 @@
-"""What the code, its contracts and the documents have of the table of kinds, which stands in kinds.txt."""
+"""Generates the parts of the code, its contracts and the documents that follow from the table of kinds in kinds.txt."""

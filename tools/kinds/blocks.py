@@ -11,7 +11,7 @@ class BadTable(Exception):
 
 @dataclass(frozen=True)
 class Block:
-    """A block: what it is of, its name, what else its first line says, its comment, and its further lines, each with its number."""
+    """A block: its sort, its name, the rest of its first line, its comment, and its further lines, each with its number."""
 
     line: int
     what: str
@@ -22,7 +22,7 @@ class Block:
 
 
 def said(line, text):
-    """What a head says behind the name, as `read by string`: each by its words but the last."""
+    """Returns the words of a head after the name, as `read by string`: each by its words but the last."""
     pairs = [part.rsplit(' ', 1) for part in text.split(', ')[1:]]
     if len(dict(pairs)) < len(pairs):
         raise BadTable('line %d says something twice:%s' % (line, text[1:]))
@@ -30,7 +30,7 @@ def said(line, text):
 
 
 def block_of(found):
-    """The block of some lines, each with its number."""
+    """Returns the block of some lines, each with its number."""
     (line, head), *rest = found
     match = HEAD.fullmatch(head)
     if not match:
@@ -40,7 +40,7 @@ def block_of(found):
 
 
 def blocks_of(text):
-    """The blocks of a text, without what stands behind `#` in the first column."""
+    """Returns the blocks of a text, without comments that begin with `#` in the first column."""
     groups = [[]]
     for line, words in enumerate(text.split('\n'), 1):
         if words.startswith('#') or not words.strip():

@@ -1,5 +1,6 @@
-"""Sets and categories: which kinds they have, in the code and in contracts."""
-from .layout import one_of, sentence, space, space_all
+"""Generates sets and categories: which kinds they have, in the code and in contracts."""
+from .lines import code, contracts, sentence, space_all, uses
+from .tree import DECLARED, SPECS
 
 
 def comment_of(table, category):
@@ -7,40 +8,34 @@ def comment_of(table, category):
 
 
 def enum_lines(table):
-    """The enum of categories."""
+    """Returns the enum of categories."""
     lines = []
     for it in table.categories.values():
         lines += ['/// ' + comment_of(table, it), it.name + ',']
-    return ['pub enum Category {', *space_all(4, lines), '}']
+    return ['/// Which kinds may stand at a place.', '#[derive(Clone, Copy, Debug, PartialEq, Eq)]', 'pub enum Category {', *space_all(4, lines), '}']
 
 
-def use_lines(table):
-    """The line that brings the functions of contracts."""
-    names = ', '.join(['allows', *(it.test() for it in table.sets.values())])
-    return ['ghost use Rattle.symbols_syntax.specs.Categories.{%s};' % names]
+def one_of(subject, names):
+    """Returns `matches!` of a subject with some names of kinds."""
+    return 'matches!(%s, %s)' % (subject, ' | '.join('KindName::' + it for it in names))
 
 
 def test_body(table, one):
-    """What tells the kinds of a set, at the indent of a body."""
+    """Returns the test for the kinds of a set."""
     asked = ['self.%s()' % table.sets[it].test() for it in one.all_of] + ['!self.%s()' % table.sets[it].test() for it in one.none_of]
     sign, names = (' && !', one.but) if one.but else (' || ', one.kinds)
-    head = space(8, ' || '.join(asked))
-    if not asked or not names:
-        return one_of(head, 'self', names) if names else [head]
-    flat = one_of(head + sign, 'self', names)
-    if len(flat) == 1:
-        return flat
-    return [space(8, asked[0]), *(space(12, '|| ' + it) for it in asked[1:]), *one_of(space(12, sign.lstrip()), 'self', names)]
+    head = ' || '.join(asked)
+    return head + (sign if head else '') + one_of('self', names) if names else head
 
 
 def test_lines(table, one):
-    """The method that tells the kinds of a set."""
+    """Returns the method that tests for the kinds of a set."""
     clause = 'ensures { result ≡ %s self }' % one.test()
-    return ['    fn %s(self) -> bool' % one.test(), '        ' + clause, '    {', *test_body(table, one), '    }']
+    return ['    fn %s(self) -> bool' % one.test(), '        ' + clause, '    {', '        ' + test_body(table, one), '    }']
 
 
 def tests_lines(table):
-    """The methods that tell the kinds of sets."""
+    """Returns the methods that test for the kinds of sets."""
     lines = []
     for one in table.sets.values():
         lines += ['', *test_lines(table, one)]
@@ -48,16 +43,25 @@ def tests_lines(table):
 
 
 def allows_lines(table):
-    """The match of a category, in the method that says whether a kind may stand there."""
-    lines = []
+    """Returns the method that says whether a category allows a kind."""
+    arms = []
     for it in table.categories.values():
-        head = '            Category::%s => ' % it.name
-        lines += one_of(head, 'name', it.kinds, ',') if it.kinds else ['%sname.%s(),' % (head, table.sets[it.name].test())]
-    return ['        match self {', *lines, '        }']
+        tells = one_of('name', it.kinds) if it.kinds else 'name.%s()' % table.sets[it.name].test()
+        arms.append('            Category::%s => %s,' % (it.name, tells))
+    return ['impl Category {', '    /// Returns whether a kind may stand there.', '    pub fn allows(self, name: KindName) -> bool',
+            '        ensures { result ≡ allows self name }', '    {', '        match self {', *arms, '        }', '    }', '}']
+
+
+def categories_file(table):
+    """Returns the file with the enum of categories, and the tests for their kinds."""
+    names = ', '.join(['allows', *(it.test() for it in table.sets.values())])
+    ghosts = ['ghost use Rattle.std.specs.Prelude.{◌≡◌};', 'ghost use %sCategories.{%s};' % (SPECS, names)]
+    doc = 'Categories: which kinds may stand at a place.'
+    return code(doc, ghosts, ['use crate::tree::names::KindName;'], enum_lines(table), tests_lines(table), allows_lines(table))
 
 
 def contract_test_lines(table, one):
-    """The function of contracts that tells the kinds of a set."""
+    """Returns the function of contracts that tests for the kinds of a set."""
     name = one.test()
     rows = ['%s Name.%s = true' % (name, it) for it in one.kinds] + ['%s Name.%s = false' % (name, it) for it in one.but]
     asked = ['%s k' % table.sets[it].test() for it in one.all_of] + ['not (%s k)' % table.sets[it].test() for it in one.none_of]
@@ -65,19 +69,19 @@ def contract_test_lines(table, one):
     return ['-- ' + one.comment, 'abbrev pub %s : KindName → Bool' % name, *rows, last]
 
 
-def contract_tests_lines(table):
-    """The functions of contracts that tell the kinds of sets."""
-    lines = []
-    for one in table.sets.values():
-        lines += [*contract_test_lines(table, one), '']
-    return lines
-
-
 def contract_allows_lines(table):
-    """The function of contracts that says whether a kind may stand in a field."""
+    """Returns the function of contracts that says whether a field allows a kind."""
     rows = []
     for it in table.categories.values():
         rows += ['allows Category.%s Name.%s = true' % (it.name, kind) for kind in it.kinds]
         last = '%s _ = false' % it.name if it.kinds else '%s k = %s k' % (it.name, table.sets[it.name].test())
         rows.append('allows Category.' + last)
-    return ['abbrev pub allows : Category → KindName → Bool', *rows]
+    return ['-- whether a kind may stand at a place of the category', 'abbrev pub allows : Category → KindName → Bool', *rows]
+
+
+def contract_categories_file(table):
+    """Returns the functions of contracts that test for the kinds of sets and categories."""
+    brought = uses('Rattle.std.specs.Prelude.{Bool, true, false, ◌||◌, not}', DECLARED + 'names.KindName.{KindName}',
+                   DECLARED + 'names.KindName.TheVariants as Name', DECLARED + 'categories.Category.{Category}')
+    sets = [contract_test_lines(table, one) for one in table.sets.values()]
+    return contracts('The categories: which kinds may stand at a place.', brought, *sets, contract_allows_lines(table))

@@ -1,26 +1,31 @@
-"""The methods that give the children of a node by the names of their fields, and their functions of contracts."""
+"""Generates the methods that return the children of a node by the names of their fields, the functions of kinds that they call, and their functions
+of contracts."""
 from dataclasses import dataclass
 
-from .layout import LINE, arm, bound, either, space
+from .lines import code, contracts, space_all, uses
+from .tree import DECLARED, SPECS, enum_names
 
 
 @dataclass(frozen=True)
 class Named:
-    """A name of fields that hold children, or lists of them: its method, its function of contracts, and the fields with their kinds.
-    A method that has its match in a function of kinds names that."""
+    """A name of fields that hold children, or lists of them: its method, its function of contracts, and the fields with their kinds. Its match is in
+    a function of kinds."""
 
     field: str
     method: str
     contract: str
     of: tuple
-    matched: str
 
     def is_list(self):
         return self.of[0][1].is_list()
 
+    def function(self):
+        """Returns the function of kinds that has its match."""
+        return self.contract + '_kind'
+
 
 def named_of(table):
-    """The names of fields that hold children, in the order of the table. Of a name of lists that is one of children, too, the latter have a
+    """Returns the names of fields that hold children, in the order of the table. If a name of lists is one of single children, too, the latter have a
     method of their own."""
     found = {}
     for kind in table.kinds():
@@ -30,12 +35,12 @@ def named_of(table):
     for (name, is_list), of in found.items():
         method = name + '_node' if not is_list and (name, True) in found else name
         contract = table.in_contracts.get(name, name) if method == name else method
-        made.append(Named(name, method, contract + '_of', tuple(of), table.matched.get(name, '')))
+        made.append(Named(name, method, contract + '_of', tuple(of)))
     return made
 
 
 def contract_lines(named):
-    """The function of contracts of a name."""
+    """Returns the function of contracts of a name."""
     result, none = ('List ℕ', '[]') if named.is_list() else ('Option ℕ', 'None')
     given = {'many': 'child.items', 'one': 'Some child', 'optional': 'child'}
     rows = []
@@ -46,74 +51,88 @@ def contract_lines(named):
     return ['abbrev pub %s : Kind → %s' % (named.contract, result), *rows, '%s _ = %s' % (named.contract, none)]
 
 
-def all_contract_lines(table):
-    """The functions of contracts of all names."""
-    lines = []
-    for named in named_of(table):
-        lines += ['', *contract_lines(named)]
-    return lines[1:]
+def contract_file(table):
+    """Returns the functions of contracts of all names."""
+    brought = uses('Rattle.std.specs.Prelude.{ℕ, List, [], Option, Some, None}',
+                   *(DECLARED + 'kinds.%s.TheVariants as %s' % (it.name, it.name) for it in table.enums), DECLARED + 'kinds.Kind.{Kind}')
+    doc = 'The fields that hold children, by their names: of a kind without the field none.'
+    return contracts(doc, brought, *(contract_lines(it) for it in named_of(table)))
 
 
-def arm_lines(enum, of, indent):
-    """The arm of the kinds of one enum whose field is of one sort."""
+def arm_line(enum, of):
+    """Returns the arm of the kinds of one enum whose field is of one sort."""
     name, sort = of[0][1].name, of[0][1].sort.children
-    parts = [bound(kind, [name]) for kind, _ in of]
-    flat = space(indent, 'Kind::%s(%s)' % (enum, ' | '.join(part[0] for part in parts)))
-    lines = [flat]
-    if any(len(part) > 1 for part in parts) or len(flat + ' =>') > LINE:
-        lines = [space(indent, 'Kind::%s(' % enum), *either(parts, indent + 4, ','), space(indent, ')')]
     value = {'one': 'Some(*%s)', 'optional': '*%s', 'many': '%s'}[sort] % name
-    return [*lines[:-1], *arm(lines[-1], value)]
+    return '        Kind::%s(%s) => %s,' % (enum, ' | '.join(kind.pattern([name]) for kind, _ in of), value)
 
 
-def arms_lines(table, named, indent):
-    """The arms of a match of a name: for each enum the kinds that have the field, and then those that may have it."""
+def arms_lines(table, named):
+    """Returns the arms of the match of a name: for each enum the kinds that have the field, and then those that may have it."""
     lines = []
     for enum in table.enums:
         for sort in ('one', 'optional', 'many'):
             of = [it for it in named.of if it[0].enum == enum.name and it[1].sort.children == sort]
-            lines += arm_lines(enum.name, of, indent) if of else []
-    return [*lines, space(indent, '_ => %s,' % ('&[]' if named.is_list() else 'None'))]
-
-
-def matched_lines(table, name):
-    """The function of kinds that has the match of a name."""
-    named = next(it for it in named_of(table) if it.field == name and it.matched)
-    return ['fn %s(kind: &Kind) -> Option<NodeId>' % named.matched, '    ensures { result ≡ %s kind.now }' % named.contract, '{',
-            '    match kind {', *arms_lines(table, named, 8), '    }', '}']
+            lines += [arm_line(enum.name, of)] if of else []
+    return [*lines, '        _ => %s,' % ('&[]' if named.is_list() else 'None')]
 
 
 def whose(named):
-    """The kinds of a name, as its method's comment says them."""
+    """Returns the kinds of a name, as its comments list them."""
     kinds = ['`%s`' % kind.name for kind, _ in named.of]
-    return 'a ' + kinds[0] if len(kinds) == 1 else ', '.join(kinds)
+    return ('an ' if kinds[0][1] in 'AEIOU' else 'a ') + kinds[0] if len(kinds) == 1 else ', '.join(kinds)
 
 
-def method_lines(table, named):
-    """The method of a name."""
-    node, at = '        let NodeRef { tree, number } = self;', '&tree.nodes[number as usize].kind'
+def function_lines(table, named):
+    """Returns the function of kinds of a name."""
+    result, clause = ('&[NodeId]', 'result.now') if named.is_list() else ('Option<NodeId>', 'result')
+    return ['pub(crate) fn %s(kind: &Kind) -> %s' % (named.function(), result), '    ensures { %s ≡ %s kind.now }' % (clause, named.contract), '{',
+            '    match kind {', *arms_lines(table, named), '    }', '}']
+
+
+def functions_file(table):
+    """Returns the functions of kinds of all names."""
+    ghosts = ['ghost use Rattle.std.specs.Prelude.{◌≡◌};', use_line(table)]
+    brought = ['use crate::tree::arena::NodeId;', enum_names(table)]
+    doc = 'The fields of a kind that hold children, by their names: of a kind without the field none.'
+    return code(doc, ghosts, brought, *(function_lines(table, it) for it in named_of(table)))
+
+
+def method_lines(named):
+    """Returns the method of a name."""
     if named.is_list():
-        clause = 'result.now ≡ list_of (node_view self.entry) %s' % named.contract
-        result, body = "&'a [NodeId]", ['        match %s {' % at, *arms_lines(table, named, 12), '        }']
+        clause = 'result.now ≡ child_list_in_field (node_view self.entry) %s' % named.contract
+        result, body = "&'a [NodeId]", ['kind_fields::%s(self.kind())' % named.function()]
     else:
-        clause = 'option_map node_view result ≡ child_of (node_view self.entry) %s' % named.contract
-        body = ['        let child = match %s {' % at, *arms_lines(table, named, 12), '        };']
-        if named.matched:
-            body = ['        let child = %s(%s);' % (named.matched, at)]
-        result, body = "Option<NodeRef<'a>>", [*body, '        find(tree, child)']
-    return ['    /// The `%s` of %s.' % (named.field, whose(named)), '    pub fn %s(self) -> %s' % (named.method, result),
-            '        ensures { %s }' % clause, '    {', node, *body, '    }']
+        clause = 'option_map node_view result ≡ child_in_field (node_view self.entry) %s' % named.contract
+        body = ['let child = kind_fields::%s(self.kind());' % named.function(), 'NodeRef::node_in(self.tree, child)']
+        result = "Option<NodeRef<'a>>"
+    return ['    /// Returns the `%s` of %s.' % (named.field, whose(named)), '    pub fn %s(self) -> %s' % (named.method, result),
+            '        ensures { %s }' % clause, '    {', *space_all(8, body), '    }']
+
+
+COMMENT = (
+    '/// Each gives the child of that field: none where the kind lacks the field, where the field is',
+    '/// empty, or where the tree has no node of that number, which no checked tree has. Of a field',
+    '/// that is a list the numbers are given: none where the kind lacks it.',
+)
 
 
 def methods_lines(table):
-    """The methods of all names."""
+    """Returns the methods of all names."""
     lines = []
     for named in named_of(table):
-        lines += ['', *method_lines(table, named)]
-    return ["impl<'a> NodeRef<'a> {", *lines[1:], '}']
+        lines += ['', *method_lines(named)]
+    return [*COMMENT, "impl<'a> NodeRef<'a> {", *lines[1:], '}']
 
 
-def use_lines(table):
-    """The line that brings the functions of contracts of all names."""
-    names = ', '.join(it.contract for it in named_of(table))
-    return ['ghost use Rattle.symbols_syntax.specs.ChildFields.{%s};' % names]
+def use_line(table):
+    """Returns the line that imports the functions of contracts of all names."""
+    return 'ghost use %sChildFields.{%s};' % (SPECS, ', '.join(it.contract for it in named_of(table)))
+
+
+def methods_file(table):
+    """Returns the file with the methods of all names."""
+    ghosts = ['ghost use Rattle.std.specs.Prelude.{◌≡◌};', 'ghost use Rattle.std.specs.Option.{option_map};',
+              'ghost use %sNodeRefs.{node_view, child_in_field, child_list_in_field};' % SPECS, use_line(table)]
+    brought = ['use crate::tree::arena::NodeId;', 'use crate::tree::kind_fields;', 'use crate::tree::node_ref::NodeRef;']
+    return code('The children of a node by the names of their fields.', ghosts, brought, methods_lines(table))

@@ -1,4 +1,4 @@
-"""Files beside what the table makes of them."""
+"""Compares files with what the table generates."""
 import difflib
 import os
 from dataclasses import dataclass, field
@@ -12,7 +12,7 @@ TABLE = 'tools/kinds/kinds.txt'
 
 @dataclass
 class File:
-    """A file: its lines, those that the table makes of it, how many of its lines follow, and which parts passed and failed."""
+    """A file: its lines, the generated lines, how many of its lines are generated, and which parts passed and failed."""
 
     name: str
     lines: list
@@ -27,14 +27,14 @@ class File:
         self.faults.append('%s: %s: %s' % (self.name, name, fault))
 
     def said(self):
-        """What is said of the file, as lines: how much follows, and what differs."""
+        """Returns the report on the file, as lines: how much is generated, and what differs."""
         names = (self.name, self.name + ', as the table makes it')
         follows = '%s: %d of %d lines follow from the table' % (self.name, self.follow, len(self.lines) - 1)
         return [follows, *difflib.unified_diff(self.lines, self.made, *names, lineterm=''), *self.faults]
 
 
 def read(top, name):
-    """The text of a file with the ends of its lines as they are; none where it isn't there."""
+    """Returns the text of a file with its line ends as they are; None if it doesn't exist."""
     try:
         with open(os.path.join(top, name), encoding='utf-8', newline='') as f:
             return f.read()
@@ -43,7 +43,7 @@ def read(top, name):
 
 
 def places_of(file, regions):
-    """The parts that stand in the file, each with the numbers of its first line and of the line behind its last, from the last to the first."""
+    """Returns the parts in the file, each with the numbers of its first line and of the line after its last, from the last to the first."""
     places, above = [], len(file.lines)
     for region in regions:
         try:
@@ -61,13 +61,13 @@ def places_of(file, regions):
 
 
 def file_of(top, name, regions):
-    """A file with what the table makes of it."""
+    """Returns a file with what the table generates for it."""
     lines = read(top, name).split('\n')
     file = File(name, lines, list(lines))
     for begin, end, region in places_of(file, regions):
         stands, made = lines[begin:end], region.made(lines[begin:end])
         file.made[begin:end] = made
-        # (what stands behind the last end of a line is no line)
+        # what follows the last line end is no line
         file.follow += min(end, len(lines) - 1) - begin
         if made == stands:
             file.passed.append(region.name)
@@ -77,19 +77,19 @@ def file_of(top, name, regions):
 
 
 def files_of(top, table):
-    """All files of which parts follow."""
+    """Returns all files with generated parts."""
     regions = regions_of(table)
     names = sorted({it.file for it in regions})
     return [file_of(top, name, [it for it in regions if it.file == name]) for name in names]
 
 
 def differences(top, table):
-    """What is compared and not written, each with where it differs."""
+    """Returns the parts that are compared and not written, each with where it differs."""
     return [['%s: %s: %s' % (it.file, it.name, fault) for fault in it.differences(read(top, it.file))] for it in compared_with(table)]
 
 
 def write(top, table):
-    """Writes the files as the table makes them."""
+    """Writes the files as the table generates them."""
     for file in files_of(top, table):
         if file.made != file.lines:
             with open(os.path.join(top, file.name), 'w', encoding='utf-8', newline='') as f:
@@ -97,7 +97,7 @@ def write(top, table):
 
 
 def report(top, writes=False):
-    """What is said of a repository, as lines, and how many parts passed and failed; written before, if so wanted."""
+    """Returns the report on a repository, as lines, and how many parts passed and failed. Writes the files before, if that is wanted."""
     table = table_of(read(top, TABLE))
     if writes:
         write(top, table)

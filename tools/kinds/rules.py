@@ -1,11 +1,11 @@
-"""The rules that the table keeps."""
+"""Checks the rules of the table."""
 from .blocks import BadTable
 
-# what may stand in a block beside its name and its comment: behind its name, and in its lines as a name with a value
-BESIDE = {'enum': (), 'kind': ('written', 'read by', 'tried'), 'set': (), 'category': (), 'field': ()}
-VALUES = {'enum': ('reader',), 'field': ('matched in', 'in contracts')}
+# the possible contents of a block besides its name and its comment: after its name, and in its lines as a name with a value
+BESIDE = {'enum': (), 'kind': ('written', 'read by', 'tried'), 'set': ('tested by',), 'category': (), 'field': ()}
+VALUES = {'enum': ('reader',), 'field': ('in contracts',)}
 
-# the children of a node are told in a list of so many places
+# the children of a node are returned in a list of this length
 MOST = 5
 
 # keys that each node has
@@ -13,12 +13,12 @@ OWN_KEYS = ('kind', 'range')
 
 
 def twice(names):
-    """The names that stand twice."""
+    """Returns the names that occur twice."""
     return sorted({it for it in names if names.count(it) > 1})
 
 
 def wrong_blocks(blocks):
-    """What is wrong with blocks by themselves."""
+    """Yields what is wrong with blocks by themselves."""
     for what, name in twice([(it.what, it.name) for it in blocks]):
         yield '%s %s stands twice' % (what, name)
     for block in blocks:
@@ -37,7 +37,7 @@ def wrong_blocks(blocks):
 
 
 def wrong_kinds(table):
-    """What is wrong with kinds."""
+    """Yields what is wrong with kinds."""
     if not table.kinds():
         yield 'there is no kind'
     for text in twice([kind.text for kind in table.kinds()]):
@@ -59,7 +59,7 @@ def wrong_kinds(table):
 
 
 def wrong_set(table, one):
-    """What is wrong with a set: it names what is there, of sets those before it, and is of a form that can be written."""
+    """Yields what is wrong with a set. It has to name existing kinds, and sets before it, in a form that can be written."""
     before = list(table.sets)[: list(table.sets).index(one.name)]
     for other in (*one.all_of, *one.none_of):
         if other not in before:
@@ -71,7 +71,7 @@ def wrong_set(table, one):
 
 
 def wrong_categories(table):
-    """What is wrong with sets and categories."""
+    """Yields what is wrong with sets and categories."""
     names = {kind.name for kind in table.kinds()}
     for one in (*table.sets.values(), *table.categories.values()):
         for kind in twice([*one.kinds, *getattr(one, 'but', ())]):
@@ -92,15 +92,15 @@ def wrong_categories(table):
 
 
 def wrong_fields(table):
-    """What is wrong with what is said of names of fields."""
+    """Yields what is wrong with the blocks on names of fields."""
     names = {it.name for kind in table.kinds() for it in kind.children()}
-    for name in (*table.matched, *table.in_contracts):
+    for name in table.in_contracts:
         if name not in names:
             yield 'no field that holds children is called %s' % name
 
 
 def hold(table, blocks):
-    """Raises what is wrong with the table first."""
+    """Raises the first fault of the table."""
     for check in (wrong_blocks(blocks), wrong_kinds(table), wrong_categories(table), wrong_fields(table)):
         for fault in check:
             raise BadTable(fault)

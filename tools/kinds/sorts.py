@@ -1,12 +1,12 @@
-"""The sorts of fields: how each is written in the code, in its contracts, and in a document."""
+"""The sorts of fields: their forms in the code, in its contracts, and in a document."""
 from dataclasses import dataclass
 
 
 @dataclass(frozen=True)
 class Sort:
-    """A sort: its name in the table, its type in Rust, its name and what a variable of it holds in the contracts of the reader, the
-    function that reads it and whether that asks for memory, and its mark and word in a document. The word of a child is its category.
-    A sort that holds children also has the function that makes a field of them."""
+    """A sort: its name in the table, its type in Rust, and its name and variable in the contracts of the reader. It also has the function that reads
+    it, whether that needs an allocator, and its mark and word in a document. The word of a child is its category. A sort that holds children also
+    has the function that makes a field of them."""
 
     name: str
     rust: str
@@ -30,8 +30,8 @@ ALL = (
     Sort('flag', 'bool', 'flag', 'holds_flag %s', 'fields::flag', False, '?', 'flag'),
     Sort('identifier', 'Id', 'identifier', 'holds_identifier (identifier_view %s)', 'fields::identifier', True, '', 'name'),
     Sort('accessibility', 'Option<Accessibility>', 'accessibility', 'holds_accessibility %s',
-         'words::accessibility', False, '?', 'access'),
-    Sort('method kind', 'MethodKind', 'method_kind', 'holds_method_kind %s', 'words::method_kind', False, '', 'method kind'),
+         'member_keywords::accessibility', False, '?', 'access'),
+    Sort('method kind', 'MethodKind', 'method_kind', 'holds_method_kind %s', 'member_keywords::method_kind', False, '', 'method kind'),
 )
 
 SORTS = {it.name: it for it in ALL}

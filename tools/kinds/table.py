@@ -11,13 +11,13 @@ NAMES = re.compile(r'(?:(all of|none of|but) )?(\w+(?:, \w+)*)')
 
 
 def small(name):
-    """A name in small letters, with a line between its words."""
+    """Returns a name in lower case, with an underscore between its words."""
     return re.sub(r'(?<=[a-z0-9])(?=[A-Z])', '_', name).lower()
 
 
 @dataclass(frozen=True)
 class Field:
-    """A field of a kind: its category is empty where it holds no children."""
+    """A field of a kind: its category is empty if it holds no children."""
 
     name: str
     sort: Sort
@@ -30,7 +30,7 @@ class Field:
 
 @dataclass(frozen=True)
 class Kind:
-    """A kind: its enum, its text in a graph, the function that reads it, whether it is tried before all others, and its fields in order."""
+    """A kind: its enum, its name in a graph, the function that reads it, whether it is tried before all others, and its fields in order."""
 
     enum: str
     name: str
@@ -41,8 +41,13 @@ class Kind:
     fields: tuple
 
     def children(self):
-        """The fields that hold children."""
+        """Returns the fields that hold children."""
         return [it for it in self.fields if it.sort.children]
+
+    def pattern(self, names):
+        """Returns the pattern that names these of its fields."""
+        rest = ['..'] if len(names) < len(self.fields) else []
+        return '%s::%s { %s }' % (self.enum, self.name, ', '.join([*names, *rest]))
 
 
 @dataclass(frozen=True)
@@ -60,23 +65,24 @@ class Enum:
 
 @dataclass(frozen=True)
 class Set:
-    """Kinds that stand together: those that are named, all of other sets but some kinds, or none of another but some."""
+    """A set of kinds: named kinds, all kinds of other sets but some, or no kinds of another but some."""
 
     name: str
     comment: str
+    tester: str
     kinds: tuple = ()
     all_of: tuple = ()
     none_of: tuple = ()
     but: tuple = ()
 
     def test(self):
-        """The function that tells its kinds."""
-        return 'is_' + small(self.name)
+        """Returns the function that tests for its kinds."""
+        return 'is_' + self.tester
 
 
 @dataclass(frozen=True)
 class Category:
-    """The kinds that may stand in a field; none are named where they are those of the set of this name."""
+    """The kinds that a field allows; none are named if they are those of the set of this name."""
 
     name: str
     comment: str
@@ -85,19 +91,18 @@ class Category:
 
 @dataclass
 class Table:
-    """The table: enums with their kinds, sets and categories in order, and what is said of names of fields."""
+    """The table: enums with their kinds, sets and categories in order, and the blocks on names of fields."""
 
     enums: list = field(default_factory=list)
     sets: dict = field(default_factory=dict)
     categories: dict = field(default_factory=dict)
-    matched: dict = field(default_factory=dict)
     in_contracts: dict = field(default_factory=dict)
 
     def kinds(self):
         return [kind for enum in self.enums for kind in enum.kinds]
 
     def of_set(self, name):
-        """The names of the kinds of a set."""
+        """Returns the names of the kinds of a set."""
         it = self.sets[name]
         found = [kind for other in it.all_of for kind in self.of_set(other)]
         if it.none_of:
@@ -106,7 +111,7 @@ class Table:
         return [kind for kind in [*found, *it.kinds] if kind not in it.but]
 
     def of_category(self, name):
-        """The names of the kinds of a category."""
+        """Returns the names of the kinds of a category."""
         return list(self.categories[name].kinds) or self.of_set(name)
 
 
@@ -121,7 +126,7 @@ def field_of(line, words):
 
 
 def pairs_of(block):
-    """The lines of a block that are a name and a value."""
+    """Returns the lines of a block that are a name and a value."""
     for line, words in block.lines:
         if ': ' not in words:
             raise BadTable('line %d has no value: %s' % (line, words))
@@ -129,7 +134,7 @@ def pairs_of(block):
 
 
 def names_of(block):
-    """The names in the lines of a block, by what stands before them."""
+    """Returns the names in the lines of a block, by the word before them."""
     found = {'': (), 'all of': (), 'none of': (), 'but': ()}
     for line, words in block.lines:
         match = NAMES.fullmatch(words)
@@ -149,13 +154,14 @@ def take_kind(table, block):
 
 
 def take(table, block):
-    """Takes a block into the table."""
+    """Adds a block to the table."""
     if block.what == 'kind':
         take_kind(table, block)
     elif block.what == 'enum':
         table.enums.append(Enum(block.name, block.comment, pairs_of(block).get('reader', '')))
     elif block.what == 'set':
-        table.sets[block.name] = Set(block.name, block.comment, **names_of(block))
+        tester = block.said.get('tested by', small(block.name))
+        table.sets[block.name] = Set(block.name, block.comment, tester, **names_of(block))
     elif block.what == 'category':
         found = names_of(block)
         if any(found[it] for it in found if it != 'kinds'):
@@ -163,12 +169,11 @@ def take(table, block):
         table.categories[block.name] = Category(block.name, block.comment, found['kinds'])
     else:
         found = pairs_of(block)
-        for of, words in ((table.matched, 'matched in'), (table.in_contracts, 'in contracts')):
-            of.update({block.name: found[words]} if words in found else {})
+        table.in_contracts.update({block.name: found['in contracts']} if 'in contracts' in found else {})
 
 
 def table_of(text):
-    """The table of a text, which keeps its own rules."""
+    """Returns the table of a text, after checking its rules."""
     table, blocks = Table(), blocks_of(text)
     for block in blocks:
         take(table, block)

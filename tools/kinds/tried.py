@@ -1,55 +1,56 @@
-"""What the tests of the table of kinds try: changes of files and of the table, and what is said then."""
-from .places import GRAPH, KINDS, PUBLIC, READER, SYMDIR, SYNTAX, TREE
+"""Data for the tests of the table of kinds: changes of files and of the table, and the output then."""
+from .places import GRAPH, KINDS, READER, SYMDIR, SYNTAX, TREE
 
-# what is spoilt in a file, and the parts that differ then
+# a spoilt text in a file, and the parts that differ then
 SPOILT = [
     ('a field is renamed', TREE + 'kinds.rt',
      ('        init: Option<NodeId>,\n    },\n    /// `namespace', '        value: Option<NodeId>,\n    },\n    /// `namespace'),
-     'enum Decl'),
-    ('a field is left out', TREE + 'kinds.rt', ('        kind: MethodKind,\n', ''), 'enum Member'),
-    ('a field is of another sort', TREE + 'kinds.rt', ('        imported: Option<String>', '        imported: String'), 'enum Item'),
+     'text'),
+    ('a field is left out', TREE + 'kinds.rt', ('        kind: MethodKind,\n', ''), 'text'),
+    ('a field is of another sort', TREE + 'kinds.rt', ('        imported: Option<String>', '        imported: String'), 'text'),
     ('two fields are swapped', TREE + 'kinds.rt',
-     ('        obj: NodeId,\n        prop: NodeId,', '        prop: NodeId,\n        obj: NodeId,'), 'enum Expr'),
-    ('a comment is another', TREE + 'kinds.rt', ('/// A type parameter.', '/// Type parameters.'), 'enum Ty'),
-    ('the comment of an enum is another', TREE + 'kinds.rt', ('/// Types and what', '/// Types, and what'), 'enum Ty'),
-    ('an enum is left out', TREE + 'kinds.rt', ('    Pat(Pat),\n', ''), 'enum Kind'),
-    ('a name is left out', TREE + 'names.rt', ('    BigInt,\n', ''), 'enum KindName'),
-    ('a kind has another name', TREE + 'names.rt', ('=> KindName::FnExpr', '=> KindName::FnDecl'), 'names of Decl'),
-    ('another enum is asked', TREE + 'names.rt', ('=> decl.name()', '=> item.name()'), 'names of Kind'),
-    ('a kind of contracts has another name', SYNTAX + 'Names.antt', ('= Name.Arrow', '= Name.Assign'), 'expr_kind_name'),
-    ('a kind of contracts has a field more', SYNTAX + 'Names.antt', ('Ty.TsAsExpr _ _', 'Ty.TsAsExpr _ _ _'), 'ty_kind_name'),
-    ('another enum is asked in contracts', SYNTAX + 'Names.antt', ('= pat_kind_name k', '= ty_kind_name k'), 'kind_name'),
-    ('a set lacks a kind', TREE + 'categories.rt', ('                | KindName::Computed\n', ''), 'sets'),
-    ('a set is of others', TREE + 'categories.rt', ('self.is_key() ||', 'self.is_entity() ||'), 'sets'),
-    ('a category allows another kind', TREE + 'categories.rt', ('(name, KindName::TsTypeAnn)', '(name, KindName::Plain)'), 'allows'),
-    ('a category is left out', TREE + 'categories.rt', ('    /// A type parameter.\n    TypeParam,\n', ''), 'enum Category'),
-    ('a function is not brought', TREE + 'categories.rt', (' is_type,', ''), 'use of contracts'),
-    ('a set of contracts has a kind more', SYNTAX + 'Categories.antt', ('is_key _', 'is_key Name.Arrow = true\nis_key _'), 'sets'),
+     ('        obj: NodeId,\n        prop: NodeId,', '        prop: NodeId,\n        obj: NodeId,'), 'text'),
+    ('a comment is another', TREE + 'kinds.rt', ('/// A type parameter.', '/// Type parameters.'), 'text'),
+    ('the comment of an enum is another', TREE + 'kinds.rt', ('/// Types and what', '/// Types, and what'), 'text'),
+    ('an enum is left out', TREE + 'kinds.rt', ('    Pat(Pat),\n', ''), 'text'),
+    ('a name is left out', TREE + 'names.rt', ('    BigInt,\n', ''), 'text'),
+    ('a kind has another name', TREE + 'names.rt', ('=> KindName::FnExpr', '=> KindName::FnDecl'), 'text'),
+    ('another enum is asked', TREE + 'names.rt', ('=> decl.name()', '=> item.name()'), 'text'),
+    ('a kind of contracts has another name', SYNTAX + 'Names.antt', ('= Name.Arrow', '= Name.Assign'), 'text'),
+    ('a kind of contracts has a field more', SYNTAX + 'Names.antt', ('Ty.TsAsExpr _ _', 'Ty.TsAsExpr _ _ _'), 'text'),
+    ('another enum is asked in contracts', SYNTAX + 'Names.antt', ('= pat_kind_name k', '= ty_kind_name k'), 'text'),
+    ('a set lacks a kind', TREE + 'categories.rt', ('                | KindName::Computed\n', ''), 'text'),
+    ('a set is of others', TREE + 'categories.rt', ('self.is_property_key() ||', 'self.is_ts_entity_name() ||'), 'text'),
+    ('a category allows another kind', TREE + 'categories.rt', ('(name, KindName::TsTypeAnn)', '(name, KindName::Plain)'), 'text'),
+    ('a category is left out', TREE + 'categories.rt', ('    /// A type parameter.\n    TypeParam,\n', ''), 'text'),
+    ('a function is not brought', TREE + 'categories.rt', (' is_type,', ''), 'text'),
+    ('a set of contracts has a kind more', SYNTAX + 'Categories.antt', ('is_property_key _', 'is_property_key Name.Arrow = true\nis_property_key _'), 'text'),
     ('a category of contracts allows another kind', SYNTAX + 'Categories.antt',
-     ('allows Category.Class Name.Class ', 'allows Category.Class Name.Other '), 'allows'),
+     ('allows Category.Class Name.Class ', 'allows Category.Class Name.Other '), 'text'),
     ('a field has another category', TREE + 'fields.rt', ('one(Category::AssignLeft, left)', 'one(Category::Pattern, left)'),
-     'fields of Expr'),
-    ('a field is optional', TREE + 'fields.rt', ('one(Category::MemberProp', 'optional(Category::MemberProp'), 'fields of Expr'),
+     'text'),
+    ('a field is optional', TREE + 'fields.rt', ('one(Category::MemberProp', 'optional(Category::MemberProp'), 'text'),
     ('a field that holds children is left out', TREE + 'fields.rt', ('                optional(Category::ModuleBody, body)\n', ''),
-     'fields of Decl'),
+     'text'),
     ('a field of contracts has another category', SYNTAX + 'Fields.antt', ('one_field Category.ParamPropPattern', 'one_field Category.Pattern'),
-     'member_fields'),
-    ('a method lacks a kind', TREE + 'child_fields.rt', ('                | Ty::TsTypeQuery { type_args, .. }\n', ''), 'methods'),
-    ('a method of another name', TREE + 'child_fields.rt', ('pub fn body_node', 'pub fn block'), 'methods'),
-    ('a match of kinds lacks a kind', TREE + 'child_fields.rt', ('            | Pat::ArrayPat { type_ann, .. }\n', ''), 'type_ann_of_kind'),
+     'text'),
+    ('a method asks for another field', TREE + 'child_fields.rt', ('kind_fields::left_of_kind(', 'kind_fields::right_of_kind('), 'text'),
+    ('a method of another name', TREE + 'child_fields.rt', ('pub fn body_node', 'pub fn block'), 'text'),
+    ('a match of kinds lacks a kind', TREE + 'kind_fields.rt', ('            | Pat::ArrayPat { type_ann, .. }\n', ''), 'text'),
+    ('a function of kinds is not brought', TREE + 'kind_fields.rt', (' props_of,', ''), 'text'),
     ('a child stands in another place', SYNTAX + 'ChildFields.antt',
-     ('Item.TsImportEqualsDecl _ child _ _', 'Item.TsImportEqualsDecl _ _ child _'), 'functions'),
-    ('another field is read', KINDS + 'members.rt', ('"method_kind"', '"kind"'), 'functions of Member'),
-    ('a text is another', KINDS + 'pats.rt', ('"Type" =>', '"Plain" =>'), 'functions of Pat'),
-    ('a function is read for another kind', KINDS + 'tys.rt', ('Some(ts_as_expr(', 'Some(ts_type_assertion('), 'functions of Ty'),
-    ('a key of contracts is another', READER + 'Kinds.antt', ('codes "super_class"', 'codes "super"'), 'fields_of'),
-    ('a sort of contracts is another', READER + 'Kinds.antt', ('(codes "declare", flag)', '(codes "declare", child)'), 'fields_of'),
-    ('a text of contracts is another', READER + 'Kinds.antt', ('codes "Type"', 'codes "Plain"'), 'pat_texts'),
-    ('two names of a row are swapped', READER + 'KindShapes.antt',
-     ('Item.TsImportEqualsDecl is_export id', 'Item.TsImportEqualsDecl id is_export'), 'item_slots'),
-    ('another list of texts is read', READER + 'KindShapes.antt', ('kind_of_text ty_texts t', 'kind_of_text pat_texts t'), 'read_ty'),
-    ('a shape has other fields', READER + 'KindShapes.antt', ('slots = expr_slots k', 'slots = pat_slots k'), 'expr_shape'),
-    ('a shape is of another enum', READER + 'KindShapes.antt', ('= expr_shape k', '= pat_shape k'), 'kind_shape'),
+     ('Item.TsImportEqualsDecl _ child _ _', 'Item.TsImportEqualsDecl _ _ child _'), 'text'),
+    ('another field is read', KINDS + 'members.rt', ('"method_kind"', '"kind"'), 'text'),
+    ('a text is another', KINDS + 'pats.rt', ('"Type" =>', '"Plain" =>'), 'text'),
+    ('a function is read for another kind', KINDS + 'tys.rt', ('some_kind(ts_as_expr(', 'some_kind(ts_type_assertion('), 'text'),
+    ('a key of contracts is another', READER + 'KindTable.antt', ('codes "super_class"', 'codes "super"'), 'text'),
+    ('a sort of contracts is another', READER + 'KindTable.antt', ('(codes "declare", flag)', '(codes "declare", child)'), 'text'),
+    ('a text of contracts is another', READER + 'KindTable.antt', ('codes "Type"', 'codes "Plain"'), 'text'),
+    ('two names of a row are swapped', READER + 'KindShapesTable.antt',
+     ('Item.TsImportEqualsDecl is_export id', 'Item.TsImportEqualsDecl id is_export'), 'text'),
+    ('another list of texts is read', READER + 'KindShapesTable.antt', ('kind_name_by_text ty_kind_names_by_text t', 'kind_name_by_text pat_kind_names_by_text t'), 'text'),
+    ('a shape has other fields', READER + 'KindShapesTable.antt', ('slots = expr_field_values k', 'slots = pat_field_values k'), 'text'),
+    ('a shape is of another enum', READER + 'KindShapesTable.antt', ('= expr_shape k', '= pat_shape k'), 'text'),
     ('a field of the page may be absent', GRAPH, ('`src` text |\n| `TsImp', '`src?` text |\n| `TsImp'), 'kinds of Item'),
     ('two kinds of the page are swapped', GRAPH,
      ('| `Num` | a number; its text | `text` text |\n| `BigInt` | a big integer; its text | `text` text |\n',
@@ -62,38 +63,37 @@ SPOILT = [
     ('the last row of the page is gone', GRAPH, ('| Annotation | `TsTypeAnn` |\n', ''), 'categories'),
     ('a category of one kind is left out', GRAPH, ('VarDeclarator | the kind', 'VarDecl | the kind'), 'categories'),
     ('fewer are said to be in a set', GRAPH, ('the eight that', 'the seven that'), 'categories'),
-    ('a variant is no public name', PUBLIC,
-     ('ExprPat, Plain, Other }` | `deno_symbols::tree` |\n', 'ExprPat, Other }` | `deno_symbols::tree` |\n'), 'row of Pat'),
-    ('a method is no public name', PUBLIC, ('| `NodeRef::elems` | `deno_symbols::tree` |\n', ''), 'rows of NodeRef'),
-    ('a line has a space at its end', TREE + 'kinds.rt', ('        sym: Id,\n    },', '        sym: Id, \n    },'), 'enum Expr'),
+    ('a line has a space at its end', TREE + 'kinds.rt', ('        sym: Id,\n    },', '        sym: Id, \n    },'), 'text'),
 ]
 
-# what is spoilt so that a part isn't found, and what is said then
+# a spoilt text so that a part isn't found, and the output then
 LOST = [
-    ('the first line is another', TREE + 'names.rt', ('pub enum KindName {', 'enum KindName {'),
-     'enum KindName: 0 lines begin with pub enum KindName {'),
-    ('the first line stands twice', TREE + 'kinds.rt', ('/// Members of', 'pub enum Decl {\n}\n\n/// Members of'),
-     'enum Decl: 2 lines begin with pub enum Decl {'),
-    ('a last line is gone', TREE + 'kinds.rt', ('    },\n}\n\n/// Types', '    },\n\n/// Types'), 'enum Member: ends in a part behind it'),
-    ('the line behind is gone', SYNTAX + 'Categories.antt', ('-- whether a kind may stand at', '-- whether a kind stands at'),
-     "sets: no line behind it is '-- whether a kind may stand at a place of the category'"),
+    ('the first line is another', GRAPH, ('--write: categories -->', '--write: sorts -->'),
+     'categories: 0 lines are <!-- generated from tools/kinds/kinds.txt by tools/kinds.py --write: categories -->'),
+    ('the first line stands twice', GRAPH, ('\n<!-- generated from tools/kinds/kinds.txt by tools/kinds.py --write: count -->', 2 * (
+        '\n<!-- generated from tools/kinds/kinds.txt by tools/kinds.py --write: count -->')),
+     'count: 2 lines are <!-- generated from tools/kinds/kinds.txt by tools/kinds.py --write: count -->'),
+    ('a last line is gone', GRAPH, ('category refers to children by number.\n<!-- end -->', 'category refers to children by number.'),
+     'count: ends in a part behind it'),
+    ('the last line of all is gone', GRAPH, ('| Annotation | `TsTypeAnn` |\n<!-- end -->', '| Annotation | `TsTypeAnn` |'),
+     'categories: no line behind it is <!-- end -->'),
 ]
 
 PAGES = (GRAPH, SYMDIR)
 
-# what is changed in the table, and the files in which something differs then
+# a change of the table, and the files in which something differs then
 CHANGED = [
     ('a text', ('    imported: optional text', '    original: optional text'),
-     (TREE + 'kinds.rt', KINDS + 'items.rt', READER + 'Kinds.antt', READER + 'KindShapes.antt', *PAGES)),
+     (TREE + 'kinds.rt', KINDS + 'items.rt', READER + 'KindTable.antt', READER + 'KindShapesTable.antt', *PAGES)),
     ('a child', ('    label: optional child', '    tag: optional child'), (TREE + 'kinds.rt', TREE + 'fields.rt', TREE + 'child_fields.rt',
-      SYNTAX + 'Fields.antt', SYNTAX + 'ChildFields.antt', KINDS + 'tys.rt', READER + 'Kinds.antt', READER + 'KindShapes.antt', PUBLIC,
-      *PAGES)),
-    ('a key', ('under method_kind', 'under sort'), (KINDS + 'members.rt', READER + 'Kinds.antt', READER + 'KindShapes.antt', *PAGES)),
+      TREE + 'kind_fields.rt', SYNTAX + 'Fields.antt', SYNTAX + 'ChildFields.antt', KINDS + 'tys.rt', READER + 'KindTable.antt',
+      READER + 'KindShapesTable.antt', *PAGES)),
+    ('a key', ('under method_kind', 'under sort'), (KINDS + 'members.rt', READER + 'KindTable.antt', READER + 'KindShapesTable.antt', *PAGES)),
     ('a sort', ('    declare: flag', '    declare: text'),
-     (TREE + 'kinds.rt', KINDS + 'decls.rt', READER + 'Kinds.antt', READER + 'KindShapes.antt', *PAGES)),
+     (TREE + 'kinds.rt', KINDS + 'decls.rt', READER + 'KindTable.antt', READER + 'KindShapesTable.antt', *PAGES)),
     ('a sort of children', ('    super_class: optional child', '    super_class: child'), (TREE + 'kinds.rt', TREE + 'fields.rt',
-      TREE + 'child_fields.rt', SYNTAX + 'Fields.antt', SYNTAX + 'ChildFields.antt', KINDS + 'decls.rt', READER + 'Kinds.antt',
-      READER + 'KindShapes.antt', *PAGES)),
+      TREE + 'kind_fields.rt', SYNTAX + 'Fields.antt', SYNTAX + 'ChildFields.antt', KINDS + 'decls.rt', READER + 'KindTable.antt',
+      READER + 'KindShapesTable.antt', *PAGES)),
     ('the category of a field',
      ('    init: optional child of Expression\n\nkind TsModuleDecl', '    init: optional child of Key\n\nkind TsModuleDecl'),
      (TREE + 'fields.rt', SYNTAX + 'Fields.antt', *PAGES)),
@@ -103,21 +103,20 @@ CHANGED = [
      (TREE + 'categories.rt', SYNTAX + 'Categories.antt', *PAGES)),
     ('the order of a set', ('    Ident, TsQualifiedName', '    TsQualifiedName, Ident'),
      (TREE + 'categories.rt', SYNTAX + 'Categories.antt')),
-    ('the comment of a set', ('set Element: elements', 'set Element: parts'), (TREE + 'categories.rt', SYNTAX + 'Categories.antt')),
+    ('the comment of a set', ('set Element, tested by type_element: elements', 'set Element, tested by type_element: parts'), (TREE + 'categories.rt', SYNTAX + 'Categories.antt')),
     ('the comment of a category', ('Annotation: A type annotation.', 'Annotation: An annotation.'), (TREE + 'categories.rt',)),
     ('the comment of a kind', ('TsTypeAnn, tried first: A type annotation.', 'TsTypeAnn, tried first: An annotation.'), (TREE + 'kinds.rt',)),
     ('the comment of an enum', ('enum Pat: Patterns, other types', 'enum Pat: Patterns, types'),
-     (TREE + 'kinds.rt', KINDS + 'pats.rt', READER + 'Kinds.antt')),
+     (TREE + 'kinds.rt', KINDS + 'pats.rt', READER + 'KindTable.antt')),
     ('the comment of a function', ('reader: The expression of', 'reader: An expression of'), (KINDS + 'exprs.rt',)),
-    ('a text in graphs', ('written Type', 'written Kind'), (KINDS + 'pats.rt', READER + 'Kinds.antt', *PAGES)),
+    ('a text in graphs', ('written Type', 'written Kind'), (KINDS + 'pats.rt', READER + 'KindTable.antt', *PAGES)),
     ('a function', ('read by number', 'read by num'), (KINDS + 'exprs.rt',)),
     ('a kind that is tried first', ('kind TsTypeQuery:', 'kind TsTypeQuery, tried first:'), (KINDS + 'tys.rt',)),
-    ('where a match stands', ('matched in: key_of_kind', 'matched in: key_in'), (TREE + 'child_fields.rt',)),
     ('a name in contracts', ('in contracts: children_field', 'in contracts: children_there'),
-     (TREE + 'child_fields.rt', SYNTAX + 'ChildFields.antt')),
+     (TREE + 'child_fields.rt', TREE + 'kind_fields.rt', SYNTAX + 'ChildFields.antt')),
 ]
 
-# what is changed in the table, and why it is no table then
+# a change of the table, and why it is no table then
 BAD = [
     ('a word that is no block', ('kind Program:', 'sort Program:'),
      'is no first line of a block: sort Program: The whole module. It is node 0.'),
@@ -154,7 +153,7 @@ BAD = [
      'category Key has its kinds here, or in the set of its name'),
     ('a category without kinds', ('    ImportNamed, ImportDefault, ImportNamespace\n', ''),
      'category ImportSpecifier has its kinds here, or in the set of its name'),
-    ('a category without a comment', ('category Class: What stands after the name of a class.', 'category Class'),
+    ('a category without a comment', ('category Class: A class without its name.', 'category Class'),
      'category Class has no comment'),
     ('a kind without a comment', ('kind ExprStmt: An expression as a statement.', 'kind ExprStmt'), 'kind ExprStmt has no comment'),
     ('a kind twice', ('kind BigInt: ', 'kind Num: '), 'kind Num stands twice'),
@@ -168,20 +167,21 @@ BAD = [
     ('six fields with children', ('    super_class:', '    own: child of Class\n    super_class:'),
      'Class has more than 5 fields that hold children'),
     ('a word behind a name', ('kind Str, read by string', 'kind Str, told by string'), 'kind Str: nothing is called told by'),
-    ('a value of another name', ('    matched in: key_of_kind', '    match in: key_of_kind'), 'field key: nothing is called match in'),
-    ('a value twice', ('    matched in: key_of_kind', '    matched in: key_of_kind\n    matched in: key_of'),
-     'field key: matched in stands twice'),
+    ('a value of another name', ('    in contracts: children_field', '    in clauses: children_field'),
+     'field children: nothing is called in clauses'),
+    ('a value twice', ('    in contracts: children_field', '    in contracts: children_field\n    in contracts: children'),
+     'field children: in contracts stands twice'),
     ('a kind that is tried last', ('TsTypeAnn, tried first', 'TsTypeAnn, tried last'), 'kind TsTypeAnn: a kind is tried first, or as all others'),
     ('a word twice', ('kind Str, read by string', 'kind Str, read by string, read by str'),
      'says something twice: read by string, read by str'),
     ('an enum without a reader', ("    reader: The member of a kind's text; none where no member has it.\n", ''),
      'enum Member has no reader'),
-    ('a line without a value', ('    matched in: key_of_kind', '    key_of_kind'), 'has no value: key_of_kind'),
+    ('a line without a value', ('    in contracts: children_field', '    children_field'), 'has no value: children_field'),
     ('a list that is none', ('    Ident, TsQualifiedName', '    Ident TsQualifiedName'), 'is no list of names: Ident TsQualifiedName'),
-    ('a field of no kind', ('field type_ann', 'field type_annotation'), 'no field that holds children is called type_annotation'),
+    ('a field of no kind', ('field children', 'field child'), 'no field that holds children is called child'),
 ]
 
-# what is changed in the table of symdir, and what is said then
+# a change of the table of symdir, and the output then
 OF_SYMDIR = [
     ('a mark', ("src? text'", "src text'"),
      'fields: ExportNamed: there specifiers* ExportSpecifier, src text, in the table specifiers* ExportSpecifier, src? text'),
@@ -229,7 +229,7 @@ category Reason: Why it is so.
     Str, Ident, Member, BigInt, Computed, TsSatisfiesExpression
 """
 
-# what files have of the new kinds, in the layout of `rt fmt`
+# the lines of files for the new kinds, in the layout of `rt fmt`
 MADE = [
     (TREE + 'kinds.rt', """    /// `expr satisfies ty`.
     TsSatisfiesExpression {
@@ -270,29 +270,39 @@ MADE = [
 """),
     (SYNTAX + 'Fields.antt', 'pat_fields (Pat.TsSatisfiesExpression expr ty how notes _ _ _ _ _) = one_field Category.Expression expr ∷ '
      'one_field Category.Type ty ∷ optional_field Category.Reason how ∷ many_field Category.Reason notes.items ∷ []\n'),
-    (TREE + 'child_fields.rt', """    /// The `how` of `TsSatisfiesExpression`, `TsSatisfiesExpressionOfConstructorParam`.
+    (TREE + 'child_fields.rt', """    /// Returns the `how` of `TsSatisfiesExpression`, `TsSatisfiesExpressionOfConstructorParam`.
     pub fn how(self) -> Option<NodeRef<'a>>
-        ensures { option_map node_view result ≡ child_of (node_view self.entry) how_of }
+        ensures { option_map node_view result ≡ child_in_field (node_view self.entry) how_of }
     {
-        let NodeRef { tree, number } = self;
-        let child = match &tree.nodes[number as usize].kind {
-            Kind::Pat(Pat::TsSatisfiesExpressionOfConstructorParam { how, .. }) => Some(*how),
-            Kind::Pat(Pat::TsSatisfiesExpression { how, .. }) => *how,
-            _ => None,
-        };
-        find(tree, child)
+        let child = kind_fields::how_of_kind(self.kind());
+        NodeRef::node_in(self.tree, child)
     }
 
-    /// The `notes` of a `TsSatisfiesExpression`.
+    /// Returns the `notes` of a `TsSatisfiesExpression`.
     pub fn notes(self) -> &'a [NodeId]
-        ensures { result.now ≡ list_of (node_view self.entry) notes_of }
+        ensures { result.now ≡ child_list_in_field (node_view self.entry) notes_of }
     {
-        let NodeRef { tree, number } = self;
-        match &tree.nodes[number as usize].kind {
-            Kind::Pat(Pat::TsSatisfiesExpression { notes, .. }) => notes,
-            _ => &[],
-        }
+        kind_fields::notes_of_kind(self.kind())
     }
+"""),
+    (TREE + 'kind_fields.rt', """pub(crate) fn how_of_kind(kind: &Kind) -> Option<NodeId>
+    ensures { result ≡ how_of kind.now }
+{
+    match kind {
+        Kind::Pat(Pat::TsSatisfiesExpressionOfConstructorParam { how, .. }) => Some(*how),
+        Kind::Pat(Pat::TsSatisfiesExpression { how, .. }) => *how,
+        _ => None,
+    }
+}
+
+pub(crate) fn notes_of_kind(kind: &Kind) -> &[NodeId]
+    ensures { result.now ≡ notes_of kind.now }
+{
+    match kind {
+        Kind::Pat(Pat::TsSatisfiesExpression { notes, .. }) => notes,
+        _ => &[],
+    }
+}
 """),
     (TREE + 'child_fields.rt', 'arg_of, children_field_of, how_of, notes_of};\n'),
     (SYNTAX + 'ChildFields.antt', """abbrev pub how_of : Kind → Option ℕ
@@ -320,9 +330,9 @@ is_cause Name.TsSatisfiesExpression = true
 is_cause k = is_exported_declaration k || is_constructor_param k
 """),
     (SYNTAX + 'Categories.antt', 'allows Category.Reason Name.TsSatisfiesExpression = true\nallows Category.Reason _ = false\n'),
-    (KINDS + 'pats.rt', """/// What the text calls a `Satisfies`.
+    (KINDS + 'pats.rt', """/// The kind that the text calls `Satisfies`.
 fn satisfies(alloc: Global, object: &Object<'_, '_>) -> Result<Pat, FormatFault>
-    ensures { Gives pat_shape result (read_as_kind Name.TsSatisfiesExpression (object_data object.now)) }
+    ensures { IsReadResult pat_shape result (read_as_kind Name.TsSatisfiesExpression (object_data object.now)) }
 {
     Ok(Pat::TsSatisfiesExpression {
         expr: fields::child(object, "expr")?,
@@ -330,15 +340,15 @@ fn satisfies(alloc: Global, object: &Object<'_, '_>) -> Result<Pat, FormatFault>
         how: fields::optional_child(object, "how")?,
         notes: fields::children(alloc, object, "notes")?,
         mark: fields::identifier(alloc, object, "mark")?,
-        sort: words::method_kind(object, "method_kind")?,
-        access: words::accessibility(object, "access")?,
+        sort: member_keywords::method_kind(object, "method_kind")?,
+        access: member_keywords::accessibility(object, "access")?,
         said: fields::optional_text(alloc, object, "said")?,
         is_sure: fields::flag(object, "is_sure")?,
     })
 }
 """),
     (KINDS + 'pats.rt', """fn valued(alloc: Global, object: &Object<'_, '_>) -> Result<Pat, FormatFault>
-    ensures { Gives pat_shape result (read_as_kind Name.Valued (object_data object.now)) }
+    ensures { IsReadResult pat_shape result (read_as_kind Name.Valued (object_data object.now)) }
 {
     Ok(Pat::Valued {
         object: fields::text(alloc, object, "object")?,
@@ -350,13 +360,13 @@ fn satisfies(alloc: Global, object: &Object<'_, '_>) -> Result<Pat, FormatFault>
     let value = fields::flag(object, "value")?;
     Ok(Pat::TsSatisfiesExpressionOfConstructorParam { how, value })
 """),
-    (KINDS + 'pats.rt', """        "TsSatisfiesExpressionOfConstructorParam" => Ok(Some(
-            ts_satisfies_expression_of_constructor_param(object)?,
-        )),
+    (KINDS + 'pats.rt', """        "TsSatisfiesExpressionOfConstructorParam" => some_kind(
+            ts_satisfies_expression_of_constructor_param(object),
+        ),
 """),
-    (KINDS + 'pats.rt', 'use crate::words;\n'),
-    (READER + 'Kinds.antt', '    (codes "Satisfies", Name.TsSatisfiesExpression) ∷\n'),
-    (READER + 'KindShapes.antt', '(codes "mark", holds_identifier (identifier_view mark)) ∷ (codes "method_kind", holds_method_kind sort) ∷ '
+    (KINDS + 'pats.rt', 'use crate::member_keywords;\n'),
+    (READER + 'KindTable.antt', '    (codes "Satisfies", Name.TsSatisfiesExpression) ∷\n'),
+    (READER + 'KindShapesTable.antt', '(codes "mark", holds_identifier (identifier_view mark)) ∷ (codes "method_kind", holds_method_kind sort) ∷ '
      '(codes "access", holds_accessibility access) ∷ (codes "said", holds_optional_text (option_map string_bytes said)) ∷ '
      '(codes "is_sure", holds_flag is_sure) ∷ []\n'),
     (GRAPH, '| `Satisfies` | `expr satisfies ty` | `expr` Expression, `ty` Type, `how?` Reason, `notes*` Reason, `mark` name, '
@@ -364,7 +374,4 @@ fn satisfies(alloc: Global, object: &Object<'_, '_>) -> Result<Pat, FormatFault>
     (GRAPH, '| Annotation | `TsTypeAnn` |\n| Cause | ExportedDeclaration, ConstructorParam, `Satisfies` |\n'
      '| Reason | `Str`, `Ident`, `Member`, `BigInt`, `Computed`, `Satisfies` |\n'),
     (GRAPH, 'All 78 kinds, with all their fields.'),
-    (PUBLIC, '| `NodeRef::children` | `deno_symbols::tree` |\n'
-     '| `NodeRef::how` | `deno_symbols::tree` |\n| `NodeRef::notes` | `deno_symbols::tree` |\n'),
-    (PUBLIC, 'ExprPat, Plain, Other, TsSatisfiesExpression, Valued, TsSatisfiesExpressionOfConstructorParam }` | `deno_symbols::tree` |\n'),
 ]

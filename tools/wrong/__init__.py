@@ -1,2 +1,2 @@
-"""What `wrong_bodies.py` is made of: crates and their edits, copies in which they are checked, what a check says of them, the record, and
-what shows an edit wrong."""
+"""The parts of `wrong_bodies.py`: crates and their edits, copies in which they are checked, the reading of a check, the record, and the runs that
+show an edit wrong."""

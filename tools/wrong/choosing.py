@@ -1,7 +1,7 @@
-"""Builds in which many edits stand side by side: a function that has some asks which one is chosen, and goes on with that one's body.
+"""Builds with many edits side by side: a function with edits looks up which one is chosen, and goes on with its body.
 
-The sources are copied. A crate `chosen_edit` is added, of two functions in C: one tells the number of the chosen edit, 0 for none, and a test
-calls the other to choose one. A program chooses by the words that it is given, where one of them has `edit-NUMBER-` in it, as in the name of a file.
+The sources are copied. A crate `chosen_edit` is added, with two functions in C: one returns the number of the chosen edit, 0 for none,
+and a test calls the other to choose one. A program chooses by its arguments, if one of them has `edit-NUMBER-` in it, as in the name of a file.
 """
 import os
 import re
@@ -13,7 +13,7 @@ from dataclasses import replace
 from .crates import Crate, libraries_of, read, write
 from .rooms import body_of
 
-# what a build reads of the repository besides the crates
+# the files of the repository that a build reads besides the crates
 PARTS = ('HANDLES', 'tests', 'tools')
 CRATE = 'chosen_edit'
 
@@ -62,25 +62,25 @@ unsigned chosen_edit(void) {
 
 
 def word_of(number):
-    """What stands in a word of a command line that chooses the edit of this number."""
+    """Returns the part of an argument that chooses the edit of this number."""
     return 'edit-%d-' % number
 
 
 def parts_of(lines, function):
-    """The lines of a function before its body, and those within; none where it has no body on lines of its own."""
+    """Returns the lines of a function before its body, and those within; None if it has no body on lines of its own."""
     found = body_of(lines, function)
     return (lines[function.first : found[0] + 1], lines[found[0] + 1 : found[1]]) if found else None
 
 
 def choices_of(crate, edit):
-    """The head of the edit's function, its body and the edit's; none where the edit changes more than the body."""
+    """Returns the head of the edit's function, its body and the edit's; None if the edit changes more than the body."""
     own = parts_of(crate.texts[edit.function.file].split('\n'), edit.function)
     other = parts_of(list(edit.lines), replace(edit.function, first=0, last=len(edit.lines) - 1))
     return (*own, other[1]) if own and other and own[0] == other[0] else None
 
 
 def with_choices(head, body, edited, end):
-    """The lines of a function whose body asks which edit is chosen: `edited` has numbers, each with a body."""
+    """Returns the lines of a function whose body looks up which edit is chosen: `edited` has numbers, each with a body."""
     lines = list(head)
     for number, other in edited:
         lines += ['if %s::chosen_edit() == %d {' % (CRATE, number), *other, '} else']
@@ -88,7 +88,7 @@ def with_choices(head, body, edited, end):
 
 
 def chosen_texts(crate, edits):
-    """The texts of the crate's files in which these edits can be chosen, each by its number."""
+    """Returns the texts of the crate's files in which these edits can be chosen, each by its number."""
     by_function = {}
     for number, edit in edits:
         by_function.setdefault(edit.function, []).append((number, edit))
@@ -103,19 +103,19 @@ def chosen_texts(crate, edits):
 
 
 def test_name(number, test):
-    """The name of the copy of a test that chooses an edit."""
+    """Returns the name of the copy of a test that chooses an edit."""
     at, _, name = test.rpartition('::')
     return '%s%sedit_%d_%s' % (at, '::' if at else '', number, name)
 
 
 def tests_of(crate):
-    """The tests of a crate, by their names."""
+    """Returns the tests of a crate, by their names."""
     lines = {file: text.split('\n') for file, text in crate.texts.items()}
     return ['::'.join(it.path) for it in crate.functions if it.first and lines[it.file][it.first - 1].strip() == '#[test]']
 
 
 def copy_of_test(crate, number, test):
-    """The file of a test, and the lines of its copy that chooses an edit first; none where there is no such test."""
+    """Returns the file of a test, and the lines of its copy that chooses an edit first; None if there is no such test."""
     function = next((it for it in crate.functions if it.path == tuple(test.split('::'))), None)
     found = parts_of(crate.texts[function.file].split('\n'), function) if function else None
     if not found:
@@ -126,7 +126,7 @@ def copy_of_test(crate, number, test):
 
 
 def lay_sources(top, folder):
-    """Lays the sources of the repository, without proofs, and the crate that knows which edit is chosen."""
+    """Writes the sources of the repository, without proofs, and the crate that knows which edit is chosen."""
     for part in PARTS:
         if os.path.exists(os.path.join(top, part)):
             os.symlink(os.path.join(top, part), os.path.join(folder, part))
@@ -142,7 +142,7 @@ def lay_sources(top, folder):
 
 
 def lay_choices(top, folder, edits):
-    """Lays the files in which the edits can be chosen, each by its number."""
+    """Writes the files in which the edits can be chosen, each by its number."""
     libraries = libraries_of(top)
     for name in {it.crate for _, it in edits}:
         own = [(number, it) for number, it in edits if it.crate == name]
@@ -151,7 +151,7 @@ def lay_choices(top, folder, edits):
 
 
 def lay_tests(top, folder, tests):
-    """Puts copies of tests behind them: of each a number, its crate and its name."""
+    """Appends copies of tests to their files: each has a number, its crate and its name."""
     libraries = libraries_of(top)
     crates = {it: Crate(top, it, libraries) for it in {name for _, name, _ in tests}}
     for number, name, test in tests:
@@ -163,8 +163,8 @@ def lay_tests(top, folder, tests):
 
 @contextmanager
 def with_edits(top, edits, tests):
-    """A copy of the repository's sources in which the edits can be chosen, each by its number, and in which the tests, each a number with a
-    crate and a name, have a copy each that chooses the edit of its number."""
+    """Makes a copy of the repository's sources in which the edits can be chosen, each by its number. The tests, each a number with a crate and a
+    name, have a copy each that chooses the edit of its number."""
     with tempfile.TemporaryDirectory(prefix='shown-') as folder:
         lay_sources(top, folder)
         lay_choices(top, folder, edits)

@@ -9,6 +9,7 @@ TOP = os.path.dirname(os.path.dirname(os.path.dirname(os.path.abspath(__file__))
 FUNCTION = re.compile(r'( *)(?:pub(?:\([a-z]+\))? )?(?:const )?(?:unsafe )?(?:extern "C" )?fn (\w+)')
 TYPE = re.compile(r'^(?:pub(?:\([a-z]+\))? )?(?:struct|enum|union) (\w+)', re.M)
 IMPL = re.compile(r'impl(?:<.*?>)? (?:(?P<trait>\w.*) for )?(?P<type>\w+(?:<\(.*\)>)?|\(.*\))')
+DERIVE = re.compile(r'#\[derive\((.*)\)\]')
 CYCLE = re.compile(r' *#\[cycle\((\w+)\)\]')
 CYCLE_OF_TYPE = re.compile(r'#\[cycle\((\w+)\)\]\n(?: *(?:#\[|///).*\n)* *(?:pub(?:\([a-z]+\))? )?(?:struct|enum|union)\b')
 
@@ -32,19 +33,26 @@ class Function:
         return 'proofs/' + '/'.join(self.path)
 
     def cycle_key(self):
-        """What the functions of one cycle share, and no other; none where it is in no cycle."""
+        """Returns a key that the functions of one cycle share, and no other; None if it is in no cycle."""
         return (*self.path[:-1], '+' + self.cycle) if self.cycle else None
 
 
 @dataclass(frozen=True)
 class Edit:
-    """An edit of a crate: the function that it changes, that function's lines as they are with it, and what shows it wrong, if it names that."""
+    """An edit of a crate: the function that it changes, the changed lines of that function, what it names to show it wrong, if anything, and the
+    impl that it writes by hand in place of a derived one, if any."""
 
     crate: str
     name: str
     function: Function
     lines: tuple
     shown: str = ''
+    impl: str = ''
+
+    def derived(self):
+        """Returns the trait and the type of the impl that it writes by hand, or two empty texts."""
+        found = IMPL.match(self.impl)
+        return (found['trait'], found['type']) if found else ('', '')
 
 
 class BadEdit(Exception):
@@ -63,7 +71,7 @@ def write(path, text):
 
 
 def files_below(folder, part):
-    """The files of a part of a folder, each with its text."""
+    """Returns the files of a part of a directory, each with its text."""
     found = []
     for at, _, names in os.walk(os.path.join(folder, part)):
         found += [(os.path.relpath(os.path.join(at, it), folder), read(os.path.join(at, it))) for it in names]
@@ -71,23 +79,23 @@ def files_below(folder, part):
 
 
 def module_of(file):
-    """The path of the module that a file of src/ is."""
+    """Returns the path of the module of a file in src/."""
     parts = file[len('src/') : -len('.rt')].split('/')
     return tuple(parts[:-1] if parts[-1] in ('lib', 'main', 'mod') else parts)
 
 
 def words_of(text):
-    """A type's words in one, as a check writes them in the name of an impl: without lifetimes, and of a tuple first how many it has."""
+    """Returns a type as one word, as a check writes it in the name of an impl: without lifetimes, and for a tuple with the number of its items first."""
     tuples = re.sub(r'\(([^()]*)\)', lambda found: 'Tuple%d %s' % (found[1].count(',') + 1, found[1]), re.sub(r"'\w+", '', text))
     return ''.join(re.findall(r'\w+', tuples))
 
 
 def functions_of(file, text, types):
-    """The functions of a file in the layout of `rt fmt`: an item ends at the brace below its own indentation."""
+    """Returns the functions of a file in the layout of `rt fmt`: an item ends at the brace below its own indentation."""
     lines, found, impl, cycle = text.split('\n'), [], None, ''
     for first, line in enumerate(lines):
         impl = IMPL.match(line) or (None if line.startswith('}') else impl)
-        # (the types of a cycle name it as functions do)
+        # the types of a cycle name it as functions do
         cycle = '' if TYPE.match(line) else (CYCLE.match(line) or [cycle, cycle])[1]
         head = FUNCTION.match(line)
         if not head:
@@ -104,9 +112,23 @@ def functions_of(file, text, types):
     return found
 
 
+def by_hand(text, impl):
+    """Returns the text of a file with an impl in place of the one that its type derives, or None if no type of the file derives it."""
+    found, lines, is_of_type = IMPL.match(impl), text.split('\n'), False
+    for at in reversed(range(len(lines)) if found else ()):
+        head, derived = TYPE.match(lines[at]), DERIVE.match(lines[at])
+        is_of_type = head[1] == found['type'] if head else is_of_type and lines[at].startswith(('#[', '///'))
+        traits = derived[1].split(', ') if derived and is_of_type else []
+        if found['trait'] in traits:
+            lines[at] = '#[derive(%s)]' % ', '.join(it for it in traits if it != found['trait'])
+            return '\n'.join([*lines, impl, ''])
+    return None
+
+
 def edit_parts(text):
-    """The file that an edit names, its pairs of an old and a new text, and what shows it wrong."""
-    named, old, pairs = {'file': '', 'shown': ''}, None, []
+    """Returns the file that an edit names, its pairs of an old and a new text, what it names to show it wrong, the function that it names, and the
+    impl that it writes by hand."""
+    named, old, pairs = {'file': '', 'shown': '', 'in': '', 'impl': ''}, None, []
     for line in text.split('\n'):
         key, _, value = line.partition(':')
         value = value[1:] if value.startswith(' ') else value
@@ -117,7 +139,7 @@ def edit_parts(text):
         elif key == 'new' and old:
             pairs.append((old, value))
             old = None
-    return named['file'], pairs, named['shown']
+    return named['file'], pairs, named['shown'], named['in'], named['impl']
 
 
 class Crate:
@@ -132,13 +154,13 @@ class Crate:
         self.cycles_of_types = {it for text in self.texts.values() for it in CYCLE_OF_TYPE.findall(text)}
 
     def other_files(self):
-        """The files of specs/ and proofs/, each with its text."""
+        """Returns the files of specs/ and proofs/, each with its text."""
         if self.others is None:
             self.others = dict(files_below(self.folder, 'specs') + files_below(self.folder, 'proofs'))
         return self.others
 
     def names(self):
-        """The names of its edits."""
+        """Returns the names of its edits."""
         folder = os.path.join(self.folder, 'wrong')
         files = sorted(os.listdir(folder)) if os.path.isdir(folder) else []
         return [it[: -len('.edit')] for it in files if it.endswith('.edit')]
@@ -148,26 +170,33 @@ class Crate:
         inside = [it for it in self.functions if it.file == file and it.first <= line <= it.last]
         return max(inside, key=lambda it: it.first, default=None)
 
+    def function_of(self, file, pairs, within):
+        """Returns the function that an edit is in: the one that it names, else the one that has its first old text."""
+        if within:
+            return next((it for it in self.functions if it.file == file and it.name() == within), None)
+        return self.function_at(file, self.texts[file].find(pairs[0][0]))
+
     def edit(self, name):
-        """Reads an edit, or says by BadEdit why it can't be made."""
-        file, pairs, shown = edit_parts(read(os.path.join(self.folder, 'wrong', name + '.edit')))
-        if file not in self.texts or not pairs:
+        """Reads an edit. Raises BadEdit if it can't be made."""
+        file, pairs, shown, within, impl = edit_parts(read(os.path.join(self.folder, 'wrong', name + '.edit')))
+        if file not in self.texts or not (pairs or within and impl):
             raise BadEdit('it names no file of src/, or has no pair of an old and a new text')
-        text = self.texts[file]
-        function = self.function_at(file, text.find(pairs[0][0]))
+        text, function = self.texts[file], self.function_of(file, pairs, within)
         if function is None:
             raise BadEdit('it changes no function')
+        if impl and (shown or by_hand(text, impl) is None):
+            raise BadEdit('it names a run, or no type of %s derives its impl: %s' % (file, impl))
         body = '\n'.join(text.split('\n')[function.first : function.last + 1])
         for old, new in pairs:
-            if text.count(old) != 1:
+            if text.count(old) != 1 and not within:
                 raise BadEdit('an old text stands %d times in %s: %s' % (text.count(old), file, old))
             if body.count(old) != 1:
                 raise BadEdit('it changes more than one function')
             text, body = text.replace(old, new), body.replace(old, new)
-        return Edit(self.name, name, function, tuple(body.split('\n')), shown)
+        return Edit(self.name, name, function, tuple(body.split('\n')), shown, impl)
 
     def edits(self, names):
-        """The edits of these names, and why each of the others can't be made."""
+        """Returns the edits of these names, and why each of the others can't be made."""
         edits, bad = [], {}
         for name in names:
             try:
@@ -177,7 +206,7 @@ class Crate:
         return edits, bad
 
     def edited(self, edits):
-        """The texts of the files that the edits change; no two of them change one function."""
+        """Returns the texts of the files that the edits change; no two of them change one function."""
         texts = {it.function.file: self.texts[it.function.file].split('\n') for it in edits}
         for edit in sorted(edits, key=lambda it: -it.function.first):
             texts[edit.function.file][edit.function.first : edit.function.last + 1] = edit.lines
@@ -185,10 +214,10 @@ class Crate:
 
 
 def libraries_of(top):
-    """Each crate of crates.txt with the libraries that its line names."""
+    """Returns each crate of crates.txt with the libraries that its line names."""
     found = {}
     for line in read(os.path.join(top, 'crates.txt')).split('\n'):
-        # (behind the name stands the word 'staticlib', if it is one)
+        # the word 'staticlib' follows the name of one
         name, _, libraries = line.partition('#')[0].partition(':')
         if name.strip():
             found[name.split()[0]] = libraries.split()
@@ -196,7 +225,7 @@ def libraries_of(top):
 
 
 def libraries_below(name, libraries):
-    """The repository's libraries below a crate."""
+    """Returns the repository's libraries below a crate."""
     found = []
     for below in libraries[name]:
         if below in libraries:
@@ -205,6 +234,6 @@ def libraries_below(name, libraries):
 
 
 def kit():
-    """The kit's folder: that of the page which `rt doc` names."""
+    """Returns the kit's directory: that of the page which `rt doc` names."""
     said = subprocess.run(['rt', 'doc'], stdout=subprocess.PIPE, text=True, check=True).stdout
     return os.path.dirname(said.strip())

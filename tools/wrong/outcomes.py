@@ -1,11 +1,11 @@
-"""How the edits of a crate end, all that are asked for: by checks, and by runs of what edits name."""
+"""Determines the outcomes of the requested edits of a crate: by checks, and by runs of what edits name."""
 from dataclasses import dataclass
 
 from . import record, shown
 from .trying import try_edits
 from .verdicts import Verdict
 
-# the outcomes of a check that may pass, each with its last word in the record, and how each is told; the second passes where what the
+# the outcomes of a check that may pass, each with its last word in the record, and its report; the second passes if what the
 # edit names shows it wrong
 PASSES = {'refused': '', 'named': 'broken'}
 TOLD = {'named': 'proof broken, names a run'}
@@ -13,8 +13,8 @@ TOLD = {'named': 'proof broken, names a run'}
 
 @dataclass
 class Outcome:
-    """How a crate's edits ended by checks: a verdict each by its name, what is wrong with the crate itself, how many checks it took, and how
-    many edits weren't due."""
+    """The outcomes of a crate's edits by checks: a verdict each by its name, what is wrong with the crate itself, the number of checks, and how many
+    edits weren't due."""
 
     crate: object
     verdicts: dict
@@ -23,7 +23,7 @@ class Outcome:
     left: int
 
     def passed(self):
-        """The edits that passed by their check alone."""
+        """Returns the edits that passed by their check alone."""
         return [name for name, it in self.verdicts.items() if it.how == 'refused']
 
     def named(self):
@@ -48,8 +48,8 @@ class Outcome:
 
 
 def told_broken(crate, edit, verdict, lanes, may_name):
-    """The verdict on an edit that broke a proof by hand: whether it names what shows it wrong. Where it doesn't and that is wanted, what does
-    is looked for, and written into it."""
+    """Returns the verdict on an edit that broke a proof by hand: whether it names what shows it wrong. If it doesn't and that is wanted, a case or
+    test is looked for, and written into it."""
     named = edit.shown or may_name and shown.name_what_shows(crate, edit, lanes)
     if named:
         return Verdict('named', '%s (%s)' % (named, verdict.why))
@@ -58,8 +58,8 @@ def told_broken(crate, edit, verdict, lanes, may_name):
 
 
 def try_crate(crate, names, words, lanes, turn=None, with_base=False, is_record=False):
-    """Tries edits of a crate by checks of these words: those that are due in a turn, or all; first the crate without them, and writes the record,
-    if that is wanted."""
+    """Tries edits of a crate by checks with these arguments: those that are due in a turn, or all. First it checks the crate without them, and writes
+    the record, if that is wanted."""
     edits, bad = crate.edits(names)
     chosen = edits if turn is None else record.due(crate, edits, turn)
     verdicts, wrong, checks = try_edits(crate, chosen, words, lanes, with_base)
@@ -74,7 +74,7 @@ def try_crate(crate, names, words, lanes, turn=None, with_base=False, is_record=
 
 @dataclass
 class Runs:
-    """Of edits that name a case or a test, each with its name: why what it names doesn't show it wrong, or nothing where it does."""
+    """The results of edits that name a case or a test, by name: why that doesn't show the edit wrong, or None if it does."""
 
     edits: list
     whys: list
@@ -91,7 +91,7 @@ class Runs:
 
 
 def run_named(crates, lanes):
-    """Runs what edits name: `crates` has crates, each with names of edits, of which those that name nothing are left out."""
+    """Runs what edits name. `crates` has crates, each with names of edits; those that name nothing are left out."""
     asked = [it for crate, names in crates for it in crate.edits(names)[0] if it.shown]
     top = crates[0][0].top if crates else None
     return Runs(asked, shown.not_shown(top, asked, lanes) if asked else [])

@@ -1,4 +1,4 @@
-"""Copies of a crate in which edits are checked, by contracts alone of what a check doesn't ask for."""
+"""Copies of a crate in which edits are checked, with the contracts alone of all other functions."""
 import fcntl
 import os
 import re
@@ -9,9 +9,9 @@ import threading
 import time
 from contextlib import contextmanager
 
-from .crates import Edit, libraries_below, write
+from .crates import Edit, by_hand, libraries_below, write
 
-# what a check takes at the most, in bytes, as far as was seen
+# the peak memory of a check in bytes, as far as observed
 MEMORY = 4_000_000_000
 SIGNATURE = re.compile(r'(?:pub |abbrev |unfoldable )*([^\s:=(){}\[\],|]+) :')
 # the files of a function's proof
@@ -21,7 +21,7 @@ TO_NO_GOAL = 'to-no-goal'
 
 
 def words_of(crate, kit_folder, built):
-    """The words of a check of the crate, over the built libraries of a folder, or those in their out/."""
+    """Returns the arguments of a check of the crate, over the built libraries of a directory, or those in their out/."""
     own = libraries_below(crate.name, crate.libraries)
     below = [it for it in crate.libraries[crate.name] if it not in crate.libraries]
     words = [os.path.join(kit_folder, 'bin', 'rattle'), 'check', '--crate-name', crate.name, 'src/lib.rt']
@@ -40,15 +40,15 @@ def words_of(crate, kit_folder, built):
 
 
 def lanes_here():
-    """One lane a processor, as far as memory holds."""
+    """Returns one lane per processor, as far as memory suffices."""
     with open('/proc/meminfo') as f:
         free = 1024 * int(re.search(r'^MemAvailable:\s+(\d+)', f.read(), re.M)[1])
     return max(1, min(len(os.sched_getaffinity(0)), free // MEMORY))
 
 
 class Lanes:
-    """How many checks run at once: as many as a folder has files, each the lock of a lane, also with other processes;
-    where no folder is named, one a processor, as far as memory holds."""
+    """The number of checks that run at once: one for each file of a directory, each the lock of a lane, shared with other processes. If no directory
+    is named, one per processor, as far as memory suffices."""
 
     def __init__(self, folder=None):
         self.locks = [os.path.join(folder, it) for it in sorted(os.listdir(folder))] if folder else []
@@ -65,7 +65,7 @@ class Lanes:
                     lock.close()
 
     def lock(self):
-        """A file that is locked until it is closed; none where lanes aren't shared."""
+        """Returns a file that is locked until it is closed; None if lanes aren't shared."""
         while self.locks:
             for path in self.locks:
                 file = open(path, encoding='utf-8')
@@ -79,8 +79,8 @@ class Lanes:
 
 
 def body_of(lines, function):
-    """The lines of a function's body: the one that ends in its opening brace, and the one of its closing brace; none where it has no body
-    on lines of its own, or the compiler computes it."""
+    """Returns the lines of a function's body: the one that ends in its opening brace, and the one of its closing brace. None if it has no body on
+    lines of its own, or if the compiler generates it."""
     head = lines[function.first]
     indent = head[: len(head) - len(head.lstrip())]
     if re.match(r' *(pub(\([a-z]+\))? )?const ', head) or function.last == function.first or lines[function.last] != indent + '}':
@@ -93,14 +93,14 @@ def body_of(lines, function):
 
 
 def hole(crate, function):
-    """A proof file with a hole."""
+    """Returns a proof file with a hole."""
     statement = '.'.join(['Rattle', crate.name, 'proofs', *function.path, 'Statement'])
     name = function.path[-1] + '_spec'
     return 'use %s.{statement}\n\npub %s : {M : Type 1} → statement M\n%s = ?\n' % (statement, name, name)
 
 
 def without_answers(text, goals):
-    """A file of answers without those to these goals: an answer goes from its signature, at the line's begin, to the next one."""
+    """Returns a file of answers without those to these goals: an answer goes from its signature, at the line's begin, to the next one."""
     kept, is_out = [], False
     for line in text.split('\n'):
         head = SIGNATURE.match(line)
@@ -111,15 +111,15 @@ def without_answers(text, goals):
 
 
 def proof_folder(function):
-    """Where a function's proof stands: a cycle of calls has one for all its functions, a recursion its own."""
+    """Returns the directory of a function's proof: a cycle of calls has one for all its functions, a recursion its own."""
     at, name = os.path.split(function.proofs())
     return ['%s/%s/' % (at, name), '%s/+%s/' % (at, function.cycle or name)]
 
 
 def with_answer_to_no_goal(crate, function, files):
-    """The file of answers of a function that is asked for, and its text with an answer to no goal behind the others; none where its proof is
-    written as a whole. A check that refuses such an answer searches and tells as it else does, but writes out no answers for the goals that stay
-    open, which takes it as long as a fifth of the rest."""
+    """Returns the file of answers of a checked function, and its text with an answer to no goal after the others; None if its proof is written as a
+    whole. A check that refuses such an answer searches and reports as usual, but doesn't write out answers for open goals, which would take it as
+    long as a fifth of the rest."""
     own, shared = proof_folder(function)
     folder = shared if function.cycle or any(it.startswith(shared) for it in files) else own
     if folder + 'Proof.antt' in files:
@@ -131,14 +131,14 @@ def with_answer_to_no_goal(crate, function, files):
 
 
 def without_its_refusal(said):
-    """What a check says but of answers to no goal."""
-    # (a message goes on in lines that are indented)
+    """Returns the output of a check without messages on answers to no goal."""
+    # a message goes on in indented lines
     texts = re.split(r'\n(?!\s)', said)
     return '\n'.join(it for it in texts if ': error: `%s`' % TO_NO_GOAL not in it.split('\n')[0])
 
 
 class Room:
-    """A copy of a crate in which edits are tried. What checks keep stays from check to check."""
+    """A copy of a crate in which edits are tried. The caches of checks stay from check to check."""
 
     def __init__(self, crate, words, folder, lanes):
         self.crate, self.own_words, self.folder, self.lanes = crate, words, folder, lanes
@@ -146,22 +146,22 @@ class Room:
         self.checks = 0
 
     def beside(self, name):
-        """A room of its own, with what the checks in this one kept so far."""
+        """Returns a room of its own, with the caches of this one so far."""
         room = Room(self.crate, self.own_words, os.path.join(self.folder, name), self.lanes)
         if os.path.isdir(os.path.join(self.folder, 'kept')):
             shutil.copytree(os.path.join(self.folder, 'kept'), os.path.join(room.folder, 'kept'))
         return room
 
     def may_be_stub(self, function, paths):
-        """Whether a stub may stand for the function: not in an impl of a trait, which a caller may name by the trait, and in a cycle of calls
-        only where no function of it is asked for."""
+        """Returns whether a stub may replace the function: not in an impl of a trait, which a caller may name by the trait, and in a cycle of calls
+        only if no function of it is checked."""
         if function.trait or (function.cycle and function.cycle in self.crate.cycles_of_types):
             return False
         cycle = [it for it in self.crate.functions if function.cycle and it.cycle_key() == function.cycle_key()]
         return not any(it.path in paths or it.trait for it in cycle)
 
     def stubbed(self, file, edits, others):
-        """The text of a file with these edits, and with `unreachable!()` for the bodies of the others."""
+        """Returns the text of a file with these edits, and with `unreachable!()` for the bodies of the others."""
         lines = self.crate.texts[file].split('\n')
         inside = [(it.function.first, it.function.last) for it in edits if it.function.file == file]
         changes = {it.first: it for it in others if it.file == file and not any(a < it.first <= b for a, b in inside)}
@@ -171,11 +171,14 @@ class Room:
                 lines[first : changes[first].function.last + 1] = changes[first].lines
             else:
                 self.stub(lines, changes[first])
-        return '\n'.join(lines)
+        text = '\n'.join(lines)
+        for impl in [it.impl for it in edits if it.impl and it.function.file == file]:
+            text = by_hand(text, impl)
+        return text
 
     @staticmethod
     def stub(lines, function):
-        """Puts a stub in place of the function, which then is in no cycle."""
+        """Replaces a function by a stub, which is in no cycle."""
         found = body_of(lines, function)
         if found:
             lines[found[0] + 1 : found[1]] = [lines[function.last][:-1] + '    unreachable!()']
@@ -186,13 +189,13 @@ class Room:
             above -= 1
 
     def laid(self, edits, asked, dropped=()):
-        """The crate's files with these edits, each with its text. Each function that isn't asked for has `unreachable!()` for its body and a
-        hole for its proof: only its contract is read. Answers that are dropped, each a function and the name of a goal, are left out."""
+        """Returns the crate's files with these edits, each with its text. Each function that isn't checked has `unreachable!()` for its body and a
+        hole for its proof: only its contract is read. Dropped answers, each a function and the name of a goal, are left out."""
         paths = {it.path for it in asked}
         others = [it for it in self.crate.functions if it.path not in paths and self.may_be_stub(it, paths)]
         found = {file: self.stubbed(file, edits, others) for file in self.crate.texts}
         found.update(self.crate.other_files())
-        # (what a body that is gone had: the proof of the function, of its recursion or its cycle, and those of its closures)
+        # what belonged to a removed body: the proof of the function, of its recursion or its cycle, and those of its closures
         gone = []
         for it in others:
             at, name = os.path.split(it.proofs())
@@ -209,7 +212,7 @@ class Room:
         return found
 
     def lay(self, edits, asked, dropped, is_whole):
-        """Lays the crate with these edits, and unless the check is to be whole with an answer to no goal for each function that is asked for."""
+        """Writes the crate with these edits, with an answer to no goal for each checked function unless the check is to be whole."""
         room, found = os.path.join(self.folder, 'crate'), self.laid(edits, asked, dropped)
         if not is_whole:
             found = {**found, **dict(filter(None, (with_answer_to_no_goal(self.crate.name, it, found) for it in asked)))}
@@ -219,7 +222,7 @@ class Room:
         return room
 
     def check(self, edits, asked, dropped=(), is_whole=False):
-        """What a check with these edits says of the functions that are asked for. Unless it is whole, it says of none that it is proved."""
+        """Returns the output of a check with these edits on the checked functions. Unless it is whole, it reports none as proved."""
         room = self.lay(edits, asked, dropped, is_whole)
         only = [word for it in asked for word in ('--only', it.name())]
         how = {'cwd': room, 'stdin': subprocess.DEVNULL, 'stdout': subprocess.PIPE, 'stderr': subprocess.STDOUT}

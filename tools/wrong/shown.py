@@ -1,9 +1,9 @@
-"""What shows that an edit doesn't meet its contract, where the prover can't: a stored case or a test that fails in a build with the edit, which
-isn't proved, and holds where no edit is chosen. A build has all edits that are asked for.
+"""Shows that an edit doesn't meet its contract if the prover can't: by a stored case or a test that fails in an unverified build with the edit,
+and holds if no edit is chosen. A build has all requested edits.
 
 All other functions are proved from the contracts of what they call. If the edited one met its own, so would each call above it. These fix how a run
-of `symq` ends and what it writes, but for when memory is refused; of any other case or test the edit names a clause that doesn't allow what is
-found there."""
+of `symq` ends and what it writes, except for failed allocations. For any other case or test the edit names a clause that doesn't allow the
+result."""
 import os
 import re
 import shutil
@@ -17,12 +17,12 @@ from .choosing import CRATE, choices_of, test_name, tests_of, with_edits, word_o
 from .clauses import has_clause, missing_clauses, named_by
 from .crates import Crate, libraries_of, read, write
 
-# the sorts of cases in the order in which they are looked through, each with the program that runs them
+# the sorts of cases in the order in which they are tried, each with the program that runs them
 SORTS = (('cases', 'symq'), ('forms', 'symq'), ('tables', 'symq_tables'))
-# the program of which the contracts of its calls fix how a run ends, but for this status, by which it tells that memory was refused
+# the program whose contracts fix how a run ends, except for this status, which reports a failed allocation
 FIXED, MEMORY_REFUSED = 'symq', 7
-# the files of functions that may do much: no contract knows what words a program is given, and what its files and streams hold
-UNKNOWN = ('symq/src/main.rt', 'symq_core/src/program/start.rt', 'symq_core/src/program/streams.rt')
+# the files of functions with unknown inputs: no contract covers a program's arguments, and the contents of its files and streams
+UNKNOWN = ('symq/src/main.rt', 'symq_core/src/arguments.rt', 'symq_core/src/streams.rt')
 # the faults of runs that count, in the words of `rt try`: a proof says that there is none
 FAULTS = re.compile(rb'fault kind=(?:index-out-of-bounds|panic) ')
 # how a test fails by what it finds, in the same words
@@ -30,8 +30,8 @@ FOUND = re.compile(r'^    (?:the test failed: its result gives status|assertion 
 
 
 def environment(folder):
-    """What builds run with. Beside each `rt try` starts a check by `sh`, which gives a hint at reserved names, no more, and would take as long
-    as the build: here its `sh` ends at once."""
+    """Returns the environment of builds. Each `rt try` also starts a check by `sh`, which only gives a hint on reserved names and would take as long
+    as the build. Here its `sh` ends at once."""
     bin_folder = os.path.join(folder, 'bin')
     os.makedirs(bin_folder, exist_ok=True)
     with suppress(FileExistsError):
@@ -40,18 +40,18 @@ def environment(folder):
 
 
 def is_fixed(edit):
-    """Whether the contracts of the program's calls fix what a run shows of the edited function."""
+    """Returns whether the contracts of the program's calls fix what a run shows of the edited function."""
     return '%s/%s' % (edit.crate, edit.function.file) not in UNKNOWN
 
 
 def case_of(cases, name):
-    """The stored case of this name, in its own order; none where there is none."""
+    """Returns the stored case of this name, in its own order; None if there is none."""
     return next((it for it in cases if 'tests/' + it.name == name), None)
 
 
 def by_cases(folder, program, asked):
-    """Of numbered edits, each with a case of the program: why the case doesn't show the edit wrong, or nothing where it does. None for an
-    edit whose run has no outcome."""
+    """Returns for numbered edits, each with a case of the program, why the case doesn't show the edit wrong, or None if it does. An edit whose run
+    has no outcome has no entry."""
     cases = [*{case.name: case for _, case in asked}.values()]
     runs = [*[('', it) for it in cases], *[(word_of(number), case) for number, case in asked]]
     words, given = [word for word, _ in runs], [case for _, case in runs]
@@ -64,27 +64,28 @@ def by_cases(folder, program, asked):
 
 
 def why_not(name, holds, fails):
-    """Why what an edit names doesn't show it wrong; nothing where it does."""
+    """Returns why what an edit names doesn't show it wrong; None if it does."""
     if not holds:
         return '%s does not hold without an edit' % name
     return '' if fails else '%s does not fail with it' % name
 
 
 def says_nothing(outcome):
-    """Whether contracts may allow such an end of a run: memory was refused, or it ended by a fault that doesn't count, as where the stack ends."""
+    """Returns whether contracts may allow such an end of a run: an allocation failed, or it ended by a fault that doesn't count, such as the end of
+    the stack."""
     return outcome.status == MEMORY_REFUSED or outcome.status == 'fault' and not FAULTS.search(outcome.error)
 
 
 def why_not_case(case, holds, outcome):
-    """Why a case that has this outcome with the edit, if it has any, doesn't show it wrong; nothing where it does."""
+    """Returns why a case with this outcome, if any, doesn't show the edit wrong; None if it does."""
     fails = outcome and outcome != case.want
     nothing = '%s ends with it in a way that says nothing of contracts' % case.name
     return nothing if holds and fails and says_nothing(outcome) else why_not(case.name, holds, fails)
 
 
 def told_of_tests(said):
-    """By the name of each test whether it failed, in what `rt try --test` says. One that ended by a fault, or ran out of its time, is told as failed,
-    too, and says nothing of the edit: it is left out."""
+    """Returns by the name of each test whether it failed, from the output of `rt try --test`. A test that ended by a fault, or ran out of its time,
+    is reported as failed, too, and says nothing about the edit: it is left out."""
     found = re.findall(r'^test (\S+) \.\.\. (\w+)\n((?: .*\n)*)', said, re.M)
     return {name: how == 'FAILED' for name, how, why in found if how != 'FAILED' or FOUND.search(why)}
 
@@ -95,7 +96,7 @@ def said_of_tests(folder, crate):
 
 
 def by_tests(folder, crate, asked):
-    """The same of numbered edits, each with a test of the crate."""
+    """Returns the same for numbered edits, each with a test of the crate."""
     said = said_of_tests(folder, crate)
     failed = told_of_tests(said)
     if not failed:
@@ -104,8 +105,8 @@ def by_tests(folder, crate, asked):
 
 
 def sorted_out(top, edits):
-    """What is run for numbered edits: for each program, or crate of tests, a function and the edits, each with its case or test; and why what
-    some edits name can't be run, or says nothing of their contracts."""
+    """Returns what is run for numbered edits: for each program, or crate of tests, a function and the edits, each with its case or test. Also returns
+    why what some edits name can't be run, or says nothing about their contracts."""
     libraries, (cases, _), runs, bad = libraries_of(top), run_cases.all_cases(), {}, {}
     missing = missing_clauses(top)
     for number, edit in edits:
@@ -128,8 +129,8 @@ def sorted_out(top, edits):
 
 
 def shown_together(top, edits, lanes):
-    """Of numbered edits by one build for each program or crate of tests: why what they name doesn't show them wrong. A build that can't be made
-    is made of each half of them."""
+    """Returns for numbered edits, by one build for each program or crate of tests, why what they name doesn't show them wrong. A build that fails is
+    repeated for each half of them."""
     runs, whys = sorted_out(top, edits)
     tests = [(number, crate, test) for (by, crate), asked in runs.items() if by is by_tests for number, test in asked]
     with with_edits(top, edits, tests) as folder:
@@ -153,7 +154,7 @@ def shown_together(top, edits, lanes):
 
 
 def not_shown(top, edits, lanes):
-    """Of edits that name a case or a test, one after the other: why it doesn't show the edit wrong, or nothing where it does."""
+    """Returns for each edit that names a case or a test why that doesn't show the edit wrong, or None if it does."""
     libraries = libraries_of(top)
     crates = {name: Crate(top, name, libraries) for name in {it.crate for it in edits}}
     numbered = [(number, it) for number, it in enumerate(edits, 1) if choices_of(crates[it.crate], it)]
@@ -163,8 +164,8 @@ def not_shown(top, edits, lanes):
 
 
 def name_what_shows(crate, edit, lanes):
-    """Writes into an edit the case or test that shows it wrong: of the first sort of which some fail with it the one whose name is like its own,
-    or else the first. Returns it; nothing where none fails. By which clause, where it has to name one, isn't found out."""
+    """Writes into an edit the case or test that shows it wrong: of the first sort of which some fail with it, the one whose name is most alike, or
+    else the first. Returns it; None if none fails. If it has to name a clause, that isn't determined."""
     found = all_that_show(crate, edit, lanes)
     words = set(edit.name.split('_'))
     best = max(found, key=lambda it: len(words & set(re.split(r'/|::|_', it))), default='')
@@ -175,7 +176,8 @@ def name_what_shows(crate, edit, lanes):
 
 
 def all_that_show(crate, edit, lanes):
-    """The cases that fail with the edit, of the first sort of which some do, and else the tests of a crate of tests; all hold without it."""
+    """Returns the cases that fail with the edit, of the first sort of which some do, and otherwise the tests of a crate of tests; all hold without
+    it."""
     libraries, (cases, _) = libraries_of(crate.top), run_cases.all_cases()
     tests = [(1, name, it) for name in libraries if name.endswith('_tests') for it in tests_of(Crate(crate.top, name, libraries))]
     with with_edits(crate.top, [(1, edit)], tests) as folder, lanes.taken():

@@ -1,20 +1,26 @@
-"""Edits tried, many in one check: a check proves function by function, from the contracts of what a function calls."""
+"""Tries many edits in one check: a check proves function by function, from the contracts of the called functions."""
 import tempfile
 from concurrent.futures import ThreadPoolExecutor
 
 from .rooms import Room
 from .verdicts import Verdict, first_error, goals_of, is_proved, judged, reached_prover
 
-# how often a check leaves out answers by hand that are no fit: without some, others may show
+# how often a check leaves out answers by hand that don't fit: without some, others may show
 ROUNDS = 3
 
 
+def share_a_check(edit, other):
+    """Whether a check may have both edits: of different functions, and without an impl by hand, or with impls of one trait for different types. What
+    a function says of one trait doesn't rest on the impls of another, which could be wrong."""
+    (trait, of_type), (other_trait, other_type) = edit.derived(), other.derived()
+    return edit.function.path != other.function.path and trait == other_trait and (not trait or of_type != other_type)
+
+
 def batches_of(edits):
-    """Puts the edits into batches, none with two for one function."""
+    """Puts the edits into batches, each of edits that may share a check; first those without an impl by hand."""
     batches = []
-    for edit in edits:
-        path = edit.function.path
-        batch = next((it for it in batches if all(other.function.path != path for other in it)), None)
+    for edit in sorted(edits, key=lambda it: it.derived()[0]):
+        batch = next((it for it in batches if all(share_a_check(edit, other) for other in it)), None)
         if batch is None:
             batches.append(batch := [])
         batch.append(edit)
@@ -22,15 +28,15 @@ def batches_of(edits):
 
 
 def mates_of(batch, first):
-    """Edits of an earlier batch for the functions that share a cycle of calls with one of this batch, and have no edit in it: a check kept
-    what it made of them, and goals of the others say of them only what their contracts promise."""
+    """Returns edits of an earlier batch for the functions that share a cycle of calls with one of this batch, and have no edit in it. A check has
+    cached their results, and goals of the others only use their contracts."""
     cycles = {it.function.cycle_key() for it in batch if it.function.cycle}
     own = {it.function.path for it in batch}
     return [it for it in first if it.function.cycle_key() in cycles and it.function.path not in own]
 
 
 def tried(room, batch, first=(), is_whole=False):
-    """The verdict on each edit of a batch, which is halved where it doesn't compile. Only by whole checks is an edit let through."""
+    """Returns the verdict on each edit of a batch, which is halved if it doesn't compile. Only by whole checks does an edit survive."""
     mates = mates_of(batch, first)
     said = room.check([*batch, *mates], [it.function for it in batch], (), is_whole)
     if reached_prover(said):
@@ -43,8 +49,8 @@ def tried(room, batch, first=(), is_whole=False):
 
 
 def without_misfits(room, found, mates, is_whole):
-    """The verdicts on those edits of a batch to whose change answers by hand are no fit, by checks without these answers: a goal that the
-    prover closes without them, or shows to be false, is told as such."""
+    """Returns the verdicts on those edits of a batch whose change doesn't fit answers by hand, by checks without these answers. A goal that the
+    prover closes without them, or shows to be false, is reported as such."""
     dropped, left, verdicts = set(), {it: verdict for it, verdict in found.items() if verdict.misfits}, {}
     for _ in range(ROUNDS):
         if not left:
@@ -59,8 +65,8 @@ def without_misfits(room, found, mates, is_whole):
 
 
 def tried_all(room, edits):
-    """The verdict on each edit: the first batch alone, since the others begin with what it kept, and they side by side, each in a room of its own.
-    An edit of which a goal neither stays open nor has an answer that is no fit is tried once more, alone, by whole checks: these tell whether the
+    """Returns the verdict on each edit: the first batch alone, since the others begin with its caches, and the others side by side, each in a room of
+    its own. An edit of which no goal stays open or has an unfitting answer is tried once more, alone, by whole checks. These decide whether the
     function is proved with it."""
     first, *batches = batches_of(edits)
     found = tried(room, first)
@@ -76,7 +82,7 @@ def tried_all(room, edits):
 
 
 def proved_without(room, functions):
-    """What is wrong with the functions where no edit is made: nothing, in a proved crate."""
+    """Returns what is wrong with the functions without an edit: nothing, in a proved crate."""
     said = room.check([], functions, is_whole=True)
     if not reached_prover(said):
         return ['the crate without edits: ' + first_error(said)]
@@ -86,7 +92,8 @@ def proved_without(room, functions):
 
 
 def try_edits(crate, edits, words, lanes, with_base=False):
-    """Tries edits of a crate by checks of these words: the verdict on each by its name, what is wrong without an edit, and the number of checks."""
+    """Tries edits of a crate by checks with these arguments. Returns the verdict on each by its name, what is wrong without an edit, and the number
+    of checks."""
     if not edits:
         return {}, [], 0
     with tempfile.TemporaryDirectory(prefix='wrong-bodies-') as folder:

@@ -1,21 +1,21 @@
-"""What a check says of an edit: whether a clause refuses it, or the proof by hand alone is broken, or the edit is let through."""
+"""Reads the verdict on an edit from a check: a clause refuses it, or only the proof by hand is broken, or the edit survives."""
 import re
 from dataclasses import dataclass
 
 from .rooms import proof_folder
 
-# goals of the proof and not of a clause: what a loop keeps, and that it ends
+# goals of the proof and not of a clause: the invariant of a loop, and that it ends
 OF_LOOPS = re.compile(r'invariant of the loop|invariant that rattle tried|the loop ends|the iterator can go on')
 FALSE = re.compile(r'values at which this goal is false')
-# a proof by hand names a goal, or a fact, that isn't there
+# a proof by hand names a goal, or a fact, that doesn't exist
 GONE = re.compile(r'has no field|is not in scope|has no `|was not admitted|is no name')
-# what decides how many ways there are through a body
+# what decides how many paths there are through a body
 WAYS = re.compile(r'\b(?:if|else|match|while|for|loop|return|break|continue)\b|=>|\?|&&|\|\|')
 
 
 @dataclass(frozen=True)
 class Verdict:
-    """How an edit ended, the first line of why, and the goals to whose answers by hand the change is no fit."""
+    """The outcome of an edit, the first line of the reason, and the goals whose answers by hand don't fit the change."""
 
     how: str
     why: str
@@ -24,7 +24,7 @@ class Verdict:
 
 @dataclass(frozen=True)
 class Goal:
-    """A goal that a check leaves open (`is_answered` is false), or an answer by hand to one, with which something is wrong."""
+    """A goal that a check leaves open (`is_answered` is false), or a wrong answer by hand to one."""
 
     name: str
     line: str
@@ -47,28 +47,28 @@ def first_error(said):
 
 
 def is_of(name, crate, function):
-    """Whether the function's name, as a check prints it, is that of the function or of a closure in it."""
+    """Returns whether the function's name, as a check prints it, is that of the function or of a closure in it."""
     place = len(function.path) - (2 if function.path[-2:-1] and function.path[-2][:1].isupper() else 1)
     closure = (crate, *function.path[:place], 'fn', *function.path[place:])
     return name == '::'.join((crate, *function.path)) or name.startswith('::'.join(closure) + '::')
 
 
 def statuses(said):
-    """The name of each function with what the check says of it."""
+    """Returns the name of each function with its status in the check."""
     return re.findall(r'^fn (\S+): (.*)', said, re.M)
 
 
 def is_at_goal(message, function):
-    """Whether a message is of a goal of the function: in a cycle a goal's name begins with that of its function."""
+    """Returns whether a message is about a goal of the function: in a cycle a goal's name begins with that of its function."""
     goal = r'(?:\(|: error: )`(?:{0}-|(?:decreases|invariant)-{0}[-`])'.format(re.escape(function.path[-1]))
     return not function.cycle or bool(re.search(goal, message.split('\n')[0]))
 
 
 def goals_of(said, crate, function):
-    """The goals of the function, and of its closures, that the check leaves open, and the answers by hand that are no fit."""
+    """Returns the goals of the function, and of its closures, that the check leaves open, and the answers by hand that don't fit."""
     found, notes = [], []
     own = re.compile(r'(?:\./)?(?:%s)[+\w]+\.antt:' % '|'.join(map(re.escape, proof_folder(function))))
-    # (a message goes on in lines that are indented)
+    # a message goes on in indented lines
     for text in re.split(r'\n(?!\s)', said):
         line = text.split('\n')[0]
         status = re.match(r'fn (\S+): (.*)', line)
@@ -84,7 +84,7 @@ def goals_of(said, crate, function):
 
 
 def is_proved(said, crate, function):
-    """Whether the function, and each closure in it, has a proof, given the contracts of what it calls."""
+    """Returns whether the function, and each closure in it, has a proof, given the contracts of the called functions."""
     own = [it for it in statuses(said) if is_of(it[0], crate, function)]
     names = [name for name, _ in own]
     whole = re.compile(r'proved|no holes|depends on a hole')
@@ -92,7 +92,7 @@ def is_proved(said, crate, function):
 
 
 def answered_by_hand(crate, function):
-    """The names of the function's goals to which its proof by hand has an answer."""
+    """Returns the names of the function's goals to which its proof by hand has an answer."""
     files = crate.other_files()
     texts = [files[it + 'Answers.antt'] for it in proof_folder(function) if it + 'Answers.antt' in files]
     names = [name for text in texts for name in re.findall(r'^pub (\S+) : goal\.', text, re.M)]
@@ -100,7 +100,7 @@ def answered_by_hand(crate, function):
 
 
 def clause_of(goal, function):
-    """What a goal is of: the clause that it ends in, of what the function ensures; for any other the goal itself, without its number."""
+    """Returns the subject of a goal: the ensured clause in which it ends; for any other goal the goal itself, without its number."""
     ensured = re.match(r'(?:%s-)?returns(?:$|-)(?:.*?-?clause-(\w+))?' % re.escape(function.path[-1]), goal)
     return 'ensures ' + (ensured[1] or '') if ensured else re.sub(r'-\d+$', '', goal)
 
@@ -110,9 +110,9 @@ def ways(lines):
 
 
 def refusing(crate, edit, goals, dropped):
-    """The goals that refuse the edit: of a clause, open, and not for want of a proof by hand. So either the prover gives values at which the
-    goal is false; or it proves that clause of the function by itself where no edit is made; or it proves that very goal so, since the edit
-    leaves the ways through the body, and with them the goals, as they are."""
+    """Returns the goals that refuse the edit: of a clause, open, and not for lack of a proof by hand. So the prover gives values at which the goal is
+    false, or proves that clause of the function by itself without the edit. Or it proves that very goal so, if the edit leaves the paths through
+    the body, and with them the goals, unchanged."""
     by_hand = answered_by_hand(crate, edit.function)
     clauses = {clause_of(it, edit.function) for it in by_hand}
     function = edit.function
@@ -127,8 +127,8 @@ def refusing(crate, edit, goals, dropped):
 
 
 def judged(crate, said, edit, dropped=frozenset()):
-    """The verdict on an edit by a check of it, in which the answers by hand to some goals were left out. Where others are no fit, it is
-    'proof broken' for now, and names them."""
+    """Returns the verdict on an edit by a check of it, in which the answers by hand to some goals were left out. If others don't fit, it is 'proof
+    broken' for the moment, and names them."""
     goals = goals_of(said, crate.name, edit.function)
     refused = refusing(crate, edit, goals, dropped)
     is_loop_broken = any(it.is_answered and 'Invariants.antt:' in it.line for it in goals)

@@ -2,13 +2,24 @@
 
     import symq
 
-    symq.answer(graph, b'["exports","file:///a.ts"]\\n')      the lines of answers to lines of queries, as bytes
+    symq.answer(graph, b'["exports","file:///a.ts"]\\n')      the answers to query lines, as bytes
 
-    with symq.Session(graph) as session:                     the same, of a graph that is read once
+    with symq.Session(graph) as session:                     the same, over a graph that is read once
         session.ask(b'["exports","file:///a.ts"]\\n')
+        session.query(symq.exports("file:///a.ts"))          the answer as a dataclass
 
-`graph` is the text of a graph as bytes. `strict=True` answers by strict rules. Where there are no answers, `Stop` has the program's status and line.
+`graph` is the text of a graph as bytes. `strict=True` answers by strict rules. If there are no answers, `Stop` is raised, with the program's status and line.
+The functions `module`, `exports`, `names`, `symbol`, `name`, `deps`, `paths`, `definitions`, `leaves` and `resolve` make queries. A query without an answer
+has a `Fault`.
 """
-from ._calls import Session, Stop, answer
+from ._calls import Session, Stop, answer, query
+from ._typed import (
+    Definition, Dependency, Entry, Export, Exports, Fault, IdReference, ImportReference, Leaf, Link, Owner, QualifiedReference, Query, Reference, Shared,
+    Unresolved, WholeModule, definitions, deps, exports, leaves, module, name, names, paths, resolve, symbol,
+)
 
-__all__ = ["Session", "Stop", "answer"]
+__all__ = [
+    "Definition", "Dependency", "Entry", "Export", "Exports", "Fault", "IdReference", "ImportReference", "Leaf", "Link", "Owner", "QualifiedReference", "Query",
+    "Reference", "Session", "Shared", "Stop", "Unresolved", "WholeModule", "answer", "definitions", "deps", "exports", "leaves", "module", "name", "names",
+    "paths", "query", "resolve", "symbol",
+]

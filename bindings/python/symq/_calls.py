@@ -1,22 +1,26 @@
-"""The library's calls, as bindings/c/symq.h declares them."""
+"""Declares the library's calls, as bindings/c/symq.h has them."""
 import ctypes
 import os
 import threading
 from types import TracebackType
-from typing import Callable, Optional, Tuple, Type
+from typing import Callable, List, Optional, Sequence, Type, TypeVar, Union
+
+from ._typed import Fault, Query, read_all
+
+T = TypeVar("T")
 
 _HERE = os.path.dirname(os.path.abspath(__file__))
 _ROOM = 1 << 16
 
 
 class _Kept(ctypes.Structure):
-    """`struct symq_session`. It is closed where it is all 0."""
+    """`struct symq_session`. A session whose fields are all 0 is closed."""
 
     _fields_ = [("is_open", ctypes.c_bool), ("kept", ctypes.c_void_p)]
 
 
 def _library() -> ctypes.CDLL:
-    """The library: the one that SYMQ_LIBRARY names, or the one in this package."""
+    """Returns the library: the one that SYMQ_LIBRARY names, or the one in this package."""
     found = ctypes.CDLL(os.environ.get("SYMQ_LIBRARY") or os.path.join(_HERE, "libsymq.so"))
     text, out = [ctypes.c_char_p, ctypes.c_size_t], [ctypes.c_void_p, ctypes.c_size_t, ctypes.POINTER(ctypes.c_size_t)]
     kept = ctypes.POINTER(_Kept)
@@ -35,9 +39,9 @@ _LIBRARY = _library()
 
 
 class Stop(Exception):
-    """Why there are no answers: the status of the program, and its line.
+    """The reason why there are no answers: the status of the program, and its line.
 
-    1: the session is closed. 4: the text is no graph. 5: the graph is refused. 7: memory was refused.
+    1: the session is closed. 4: the text is no graph. 5: the graph is refused. 7: an allocation failed.
     """
 
     def __init__(self, status: int, line: str) -> None:
@@ -47,7 +51,7 @@ class Stop(Exception):
 
 
 def _told(call: Callable[..., int], *given: object) -> bytes:
-    """What a call hands out with status 0: the call is made again where the buffer was small."""
+    """Returns what a call writes with status 0. The call is repeated if the buffer was too small."""
     room, needed = _ROOM, ctypes.c_size_t()
     while True:
         out = ctypes.create_string_buffer(room)
@@ -62,21 +66,26 @@ def _told(call: Callable[..., int], *given: object) -> bytes:
 
 
 def answer(graph: bytes, lines: bytes, *, strict: bool = False) -> bytes:
-    """The answers to lines of queries over the text of a graph, each with its line end; by strict rules where asked to.
+    """Returns the answers to query lines over the text of a graph, each with its line end; by strict rules if `strict` is set.
 
-    The graph is read anew at each call, and maybe twice where the answers are long. Other threads go on meanwhile.
+    The graph is read anew at each call, and possibly twice if the answers are long. Other threads run meanwhile.
     """
     call = _LIBRARY.symq_strict_answer if strict else _LIBRARY.symq_answer
     return _told(call, graph, len(graph), lines, len(lines))
 
 
+def query(graph: bytes, queries: Sequence[Query[T]], *, strict: bool = False) -> List[Union[T, Fault]]:
+    """Returns the answers to queries over the text of a graph, as `answer` does; a `Fault` for each query without one."""
+    return read_all(queries, answer(graph, b"".join(it.line() for it in queries), strict=strict))
+
+
 class Session:
-    """The graph of a text, read once, to be asked as often as wanted; by strict rules where asked to.
+    """The graph of a text, which is read once and can be queried repeatedly; by strict rules if `strict` is set.
 
         with symq.Session(graph) as session:
             session.ask(b'["exports","file:///a.ts"]\\n')
 
-    `Stop` comes where the graph isn't accepted. Any thread may ask, one at a time: the others wait.
+    `Stop` is raised if the graph isn't accepted. Any thread may call, one at a time: the others wait.
     """
 
     def __init__(self, graph: bytes, *, strict: bool = False) -> None:
@@ -85,12 +94,23 @@ class Session:
         _told(_LIBRARY.symq_strict_open if strict else _LIBRARY.symq_open, graph, len(graph), self._kept)
 
     def ask(self, lines: bytes) -> bytes:
-        """The answers to lines of queries, each with its line end. `Stop` with status 1 comes where the session is closed."""
+        """Returns the answers to query lines, each with its line end. Raises `Stop` with status 1 if the session is closed."""
         with self._lock:
             return _told(_LIBRARY.symq_ask, self._kept, lines, len(lines))
 
+    def query(self, query: Query[T]) -> T:
+        """Returns the answer to a query. Raises `Fault` if there is none."""
+        [found] = self.query_all([query])
+        if isinstance(found, Fault):
+            raise found
+        return found
+
+    def query_all(self, queries: Sequence[Query[T]]) -> List[Union[T, Fault]]:
+        """Returns the answers to queries in one call; a `Fault` for each query without one."""
+        return read_all(queries, self.ask(b"".join(it.line() for it in queries)))
+
     def close(self) -> None:
-        """Lets go the graph. It does nothing where that was done."""
+        """Frees the graph. A closed session stays as it is."""
         with self._lock:
             _LIBRARY.symq_close(self._kept)
 

@@ -1,4 +1,4 @@
-"""The stored cases of tests/cases by the call and by a session, byte for byte the program's, and what a host needs besides.
+"""Runs the stored cases of tests/cases by the call and by a session, compares them with the program's output, and tests the needs of a host.
 
     SYMQ_LIBRARY=lib/libsymq.so python3 -m unittest discover bindings/python/tests
 """
@@ -23,7 +23,7 @@ REFUSED = [it for it in CASES if it.want.status != 0]
 
 
 def by_call(case):
-    """The status, the output and the error line of the program, by one call."""
+    """Returns the status, the output and the error line of the program, by one call."""
     try:
         return 0, symq.answer(case.graph, case.given, strict=case.words == STRICT), b""
     except symq.Stop as stop:
@@ -31,7 +31,7 @@ def by_call(case):
 
 
 def by_session(case):
-    """The same by a session, which is asked for all lines, and then for each by itself."""
+    """Returns the same by a session, which answers all lines at once, and then each alone."""
     try:
         with symq.Session(case.graph, strict=case.words == STRICT) as session:
             answers = session.ask(case.given)
@@ -46,7 +46,7 @@ def tree_of(*nodes):
 
 
 def passed_on(count):
-    """The text of a graph of modules in a row, each of which passes on a name of the next one; the last declares it."""
+    """Returns the text of a graph of modules in a row, each of which re-exports a name from the next one; the last declares it."""
     name, last = {"kind": "Ident", "sym": ["x", 1]}, "m%d" % (count - 1)
     texts = [("m%d" % n, tree_of({"kind": "ExportNamed", "specifiers": [2], "src": "m%d" % (n + 1)},
                                  {"kind": "ExportSpecifier", "orig": 3}, name)) for n in range(count - 1)]
@@ -57,7 +57,7 @@ def passed_on(count):
 
 
 def by_four_threads(work):
-    """Does the work in four threads at once."""
+    """Runs the work in four threads at once."""
     threads = [threading.Thread(target=work) for _ in range(4)]
     for it in threads:
         it.start()

@@ -1,4 +1,4 @@
-//! The library's calls, as `bindings/c/symq.h` declares them.
+//! Calls the library's functions, as `bindings/c/symq.h` declares them.
 
 #[cfg(feature = "json")]
 use crate::error::Error;
@@ -9,7 +9,7 @@ use serde_json::Value;
 mod c {
     use std::ffi::c_void;
 
-    /// `struct symq_session`. It is closed where it is all 0.
+    /// `struct symq_session`. A session whose fields are all 0 is closed.
     #[repr(C)]
     pub struct Kept {
         pub is_open: bool,
@@ -65,7 +65,7 @@ mod c {
 
 const ROOM: usize = 1 << 16;
 
-/// What a call hands out with status 0. The call is made again where the buffer was small.
+/// Returns what a call writes with status 0. The call is repeated if the buffer was too small.
 fn told(mut call: impl FnMut(&mut [u8], &mut usize) -> u8) -> Result<Vec<u8>, Stop> {
     let mut out = vec![0; ROOM];
     loop {
@@ -107,19 +107,19 @@ fn answered(is_strict: bool, graph: &[u8], lines: &[u8]) -> Result<Vec<u8>, Stop
     })
 }
 
-/// The answers to lines of queries over the text of a graph, each with its line end.
+/// Returns the answers to query lines over the text of a graph, each with its line end.
 ///
-/// The graph is read anew at each call, and maybe twice where the answers are long.
+/// The graph is read anew at each call, and possibly twice if the answers are long.
 pub fn answer(graph: &[u8], lines: &[u8]) -> Result<Vec<u8>, Stop> {
     answered(false, graph, lines)
 }
 
-/// As `answer`, by strict rules.
+/// Returns the answers as `answer` does, by strict rules.
 pub fn strict_answer(graph: &[u8], lines: &[u8]) -> Result<Vec<u8>, Stop> {
     answered(true, graph, lines)
 }
 
-/// The graph of a text, read once, to be asked as often as wanted.
+/// The graph of a text, which is read once and can be queried repeatedly.
 ///
 /// ```
 /// let graph = br#"{"modules":[{"specifier":"file:///a.ts","kind":"external"}]}"#;
@@ -131,7 +131,7 @@ pub struct Session {
     kept: c::Kept,
 }
 
-// SAFETY: what a session keeps may go to another thread, and a session is asked through `&mut` alone
+// SAFETY: the state of a session may move to another thread, and a session is queried through `&mut` alone
 unsafe impl Send for Session {}
 
 impl Session {
@@ -163,17 +163,17 @@ impl Session {
         Ok(session)
     }
 
-    /// Reads and checks a graph, to be asked by Deno's rules.
+    /// Reads and checks a graph. Returns a session that answers by Deno's rules.
     pub fn open(graph: &[u8]) -> Result<Session, Stop> {
         Session::opened(false, graph)
     }
 
-    /// As `open`, to be asked by strict rules.
+    /// Opens a session as `open` does, by strict rules.
     pub fn strict(graph: &[u8]) -> Result<Session, Stop> {
         Session::opened(true, graph)
     }
 
-    /// The answers to lines of queries, each with its line end.
+    /// Returns the answers to query lines, each with its line end.
     pub fn ask(&mut self, lines: &[u8]) -> Result<Vec<u8>, Stop> {
         told(|out, needed| {
             // SAFETY: as of `answered`; the session is borrowed alone, and is as a call left it
@@ -190,7 +190,7 @@ impl Session {
         })
     }
 
-    /// The answers to queries as values, one to each.
+    /// Returns the answers to queries as values, one for each.
     #[cfg(feature = "json")]
     pub fn ask_values(&mut self, queries: &[Value]) -> Result<Vec<Value>, Error> {
         values_of(&self.ask(lines_of(queries).as_bytes())?)
@@ -217,15 +217,15 @@ fn values_of(answers: &[u8]) -> Result<Vec<Value>, Error> {
         .collect()
 }
 
-/// The answers to queries of `docs/QUERIES.md` as values, one to each.
+/// Returns the answers to queries of `docs/QUERIES.md` as values, one for each.
 ///
-/// The graph is read as of `answer`.
+/// The graph is read as by `answer`.
 #[cfg(feature = "json")]
 pub fn answer_values(graph: &[u8], queries: &[Value]) -> Result<Vec<Value>, Error> {
     values_of(&answer(graph, lines_of(queries).as_bytes())?)
 }
 
-/// As `answer_values`, by strict rules.
+/// Returns the answers as `answer_values` does, by strict rules.
 #[cfg(feature = "json")]
 pub fn strict_answer_values(graph: &[u8], queries: &[Value]) -> Result<Vec<Value>, Error> {
     values_of(&strict_answer(graph, lines_of(queries).as_bytes())?)

@@ -1,11 +1,13 @@
-//! Why there are no answers.
+//! The errors of calls without answers.
 
+#[cfg(feature = "json")]
+use crate::typed::Fault;
 use std::fmt;
 
-/// Why the program would have stopped: its status and its line.
+/// The error of a call: the status and the line of the program.
 #[derive(Clone, Debug, PartialEq, Eq)]
 pub struct Stop {
-    /// 4: the text is no graph. 5: the graph is refused. 7: memory was refused.
+    /// 4: the text is no graph. 5: the graph is refused. 7: an allocation failed.
     pub status: u8,
     pub line: String,
 }
@@ -27,14 +29,16 @@ impl fmt::Display for Stop {
 
 impl std::error::Error for Stop {}
 
-/// Why there are no values.
+/// The error of a call without values.
 #[cfg(feature = "json")]
 #[derive(Debug)]
 pub enum Error {
-    /// There are no answers.
+    /// The call has no answers.
     Stop(Stop),
-    /// An answer isn't read as JSON.
+    /// An answer can't be read as JSON.
     Json(serde_json::Error),
+    /// The query has no answer.
+    Fault(Fault),
 }
 
 #[cfg(feature = "json")]
@@ -43,6 +47,7 @@ impl fmt::Display for Error {
         match self {
             Error::Stop(stop) => stop.fmt(f),
             Error::Json(error) => error.fmt(f),
+            Error::Fault(fault) => fault.fmt(f),
         }
     }
 }
@@ -53,6 +58,7 @@ impl std::error::Error for Error {
         match self {
             Error::Stop(stop) => Some(stop),
             Error::Json(error) => Some(error),
+            Error::Fault(fault) => Some(fault),
         }
     }
 }

@@ -6,10 +6,12 @@
 //! # Ok::<(), symq::Stop>(())
 //! ```
 //!
-//! A graph is the text of `docs/GRAPH.md`, a line one of the queries of `docs/QUERIES.md`.
+//! A graph is the text of `docs/GRAPH.md`, a line one of the queries of `docs/QUERIES.md`. With the feature `json`, `typed` has both as types.
 
 mod calls;
 mod error;
+#[cfg(feature = "json")]
+pub mod typed;
 
 pub use calls::{answer, strict_answer, Session};
 #[cfg(feature = "json")]

@@ -1,11 +1,11 @@
-//! The stored cases of tests/cases by the call and by a session, byte for byte the program's, and what a host needs besides.
+//! Runs the stored cases of tests/cases by the call and by a session, compares them with the program's output, and tests the needs of a host.
 
 use std::fs;
 use std::path::{Path, PathBuf};
 use std::thread;
 use symq::{answer, strict_answer, Session, Stop};
 
-/// How a run ends: status, output and error line.
+/// The result of a run: status, output and error line.
 type End = (u8, Vec<u8>, Vec<u8>);
 
 /// A stored case: its graph, its lines, and the program's status, output and error line.
@@ -85,7 +85,7 @@ fn open(case: &Case) -> Result<Session, Stop> {
     }
 }
 
-/// By a session, which is asked for each line by itself, on another thread.
+/// Answers by a session, which gets each line alone, on another thread.
 fn by_session(case: &Case) -> End {
     let asked = |mut session: Session| {
         let lines = case.given.split_inclusive(|&byte| byte == b'\n');
@@ -95,7 +95,7 @@ fn by_session(case: &Case) -> End {
     end_of(open(case).and_then(|it| thread::scope(|on| on.spawn(|| asked(it)).join().unwrap())))
 }
 
-/// The names of the cases that end otherwise than the program does.
+/// Returns the names of the cases whose results differ from the program's.
 fn wrong(end: fn(&Case) -> End) -> Vec<String> {
     cases()
         .into_iter()
@@ -145,7 +145,7 @@ fn long_answers_and_lines() {
     assert_eq!(session.ask(lines.as_bytes()).unwrap(), want.as_bytes());
 }
 
-/// The text of a graph of modules in a row, each of which passes on a name of the next one; the last declares it.
+/// Returns the text of a graph of modules in a row, each of which re-exports a name from the next one; the last declares it.
 fn passed_on(count: usize) -> String {
     let module = |n: usize, nodes: String| {
         let program = r#"{"kind":"Program","range":[0,1],"body":[1]}"#;

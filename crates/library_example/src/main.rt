@@ -1,5 +1,5 @@
-//! How the library is used: a graph is read and checked, and what its module `file:///a.ts` exports is
-//! printed.
+//! An example of the library: reads and checks a graph, and prints the exports of its module
+//! `file:///a.ts`.
 #![tactic(auto)]
 
 use anyhow::{Context, Result};
@@ -10,27 +10,27 @@ use std::fs;
 use std::rt::Files;
 use symq_reader::read_graph;
 
-/// The graph whose text a file has, checked.
+/// Returns the checked graph of a file. It fails if reading or checking it fails.
 fn graph_of<R: Files + AllocGlobal>(rt: &R, path: &str) -> Result<ModuleGraph> {
     let bytes = fs::read(rt, path)?;
     let raw = read_graph(rt.alloc(), bytes.as_slice())?;
     Ok(ModuleGraph::new(rt.alloc(), raw)?)
 }
 
-/// Each name that was found, with the module that owns it and its symbol there.
+/// Prints each exported name, with its exporting module and its symbol there.
 fn print_names<R: Print>(rt: &R, root: &RootSymbol<'_>, found: &ModuleExports<'_>) -> Result<()> {
     for (name, path) in &found.resolved {
         let export = path.as_resolved_export();
-        let owner = root
+        let exporter = root
             .module_from_id(export.module)
             .context("no such module")?;
         let symbol = export.symbol_id;
-        println!(rt; "{name} of {}, its symbol {symbol:?}", owner.specifier())?;
+        println!(rt; "{name} of {}, its symbol {symbol:?}", exporter.specifier())?;
     }
     Ok(())
 }
 
-/// What the module exports that a specifier stands for.
+/// Prints the exports of the module that a specifier resolves to.
 fn print_exports<R: Print>(rt: &R, root: &mut RootSymbol<'_>, specifier: &str) -> Result<()> {
     let id = root
         .module_from_specifier(specifier)?

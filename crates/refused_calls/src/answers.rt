@@ -1,19 +1,20 @@
-//! What queries are answered with, on a line or more.
+//! Prints the answers to queries, on a line or more each.
 
 use deno_symbols::exports::PublicName;
 use deno_symbols::paths::{DeclRef, DefinitionUnresolvedKind};
 use deno_symbols::queries::{
-    Answer, DeclDeps, NamedDefinition, NamedEnd, NamedEntry, NamedExport, NamedExports, NamedLink,
-    NamedPath, NamedUnresolved,
+    Answer, DeclDeps, DefinitionBySpecifier, DepEntryBySpecifier, ExportBySpecifier,
+    ExportsBySpecifier, PathBySpecifier, PathEndBySpecifier, PathLinkBySpecifier,
+    UnresolvedBySpecifier,
 };
 use std::io;
 
-/// What stands on lines of its own.
+/// A value that is printed on lines of its own.
 pub(crate) trait Lines {
     fn print_lines<R: Print>(&self, rt: &R) -> io::Result<()>;
 }
 
-/// A line, and behind it those of each item.
+/// Prints a line, and after it the lines of each item.
 fn print_each<R: Print, T: Lines>(rt: &R, line: &str, items: &[T]) -> io::Result<()> {
     println!(rt; "{line}")?;
     for item in items {
@@ -22,7 +23,7 @@ fn print_each<R: Print, T: Lines>(rt: &R, line: &str, items: &[T]) -> io::Result
     Ok(())
 }
 
-impl Lines for NamedExport<'_> {
+impl Lines for ExportBySpecifier<'_> {
     fn print_lines<R: Print>(&self, rt: &R) -> io::Result<()> {
         let symbol = self.symbol;
         println!(rt;
@@ -39,7 +40,7 @@ impl Lines for NamedExport<'_> {
     }
 }
 
-fn print_exports<R: Print>(rt: &R, named: &NamedExports<'_>) -> io::Result<()> {
+fn print_exports<R: Print>(rt: &R, named: &ExportsBySpecifier<'_>) -> io::Result<()> {
     print_each(rt, "    exports", &named.exports)?;
     for statement in &named.unresolved {
         println!(rt;
@@ -66,14 +67,14 @@ impl Lines for DeclDeps<'_> {
     }
 }
 
-/// A declaration of a module.
+/// Prints a declaration of a module.
 fn print_decl<R: Print>(rt: &R, module: &str, decl: DeclRef) -> io::Result<()> {
     let symbol = decl.symbol;
     let index = decl.index;
     println!(rt; "        declaration {index} of symbol {symbol:?} of {module}")
 }
 
-impl Lines for NamedDefinition<'_> {
+impl Lines for DefinitionBySpecifier<'_> {
     fn print_lines<R: Print>(&self, rt: &R) -> io::Result<()> {
         let start = self.range.start;
         let end = self.range.end;
@@ -82,47 +83,47 @@ impl Lines for NamedDefinition<'_> {
     }
 }
 
-fn print_unresolved<R: Print>(rt: &R, unresolved: &NamedUnresolved<'_>) -> io::Result<()> {
-    let (word, text) = match &unresolved.kind {
+fn print_unresolved<R: Print>(rt: &R, unresolved: &UnresolvedBySpecifier<'_>) -> io::Result<()> {
+    let (keyword, text) = match &unresolved.kind {
         DefinitionUnresolvedKind::Id(id) => ("name", &id.name),
         DefinitionUnresolvedKind::Specifier(text) => ("text", text),
         DefinitionUnresolvedKind::Part(name) => ("part", name),
     };
     println!(rt;
-        "      no {word} {text} of {}, then {:?}",
+        "      no {keyword} {text} of {}, then {:?}",
         unresolved.module, unresolved.parts
     )
 }
 
-impl Lines for NamedEnd<'_> {
+impl Lines for PathEndBySpecifier<'_> {
     fn print_lines<R: Print>(&self, rt: &R) -> io::Result<()> {
         match self {
-            NamedEnd::Definition(definition) => definition.print_lines(rt),
-            NamedEnd::Unresolved(unresolved) => print_unresolved(rt, unresolved),
+            PathEndBySpecifier::Definition(definition) => definition.print_lines(rt),
+            PathEndBySpecifier::Unresolved(unresolved) => print_unresolved(rt, unresolved),
         }
     }
 }
 
-fn print_link<R: Print>(rt: &R, link: &NamedLink<'_>) -> io::Result<()> {
+fn print_link<R: Print>(rt: &R, link: &PathLinkBySpecifier<'_>) -> io::Result<()> {
     let symbol = link.symbol;
     println!(rt; "      link to symbol {symbol:?}, then {:?}", link.parts)?;
     print_decl(rt, link.module, link.decl)
 }
 
-/// The first step of a path.
-fn print_step<R: Print>(rt: &R, path: &NamedPath<'_>) -> io::Result<()> {
+/// Prints the first step of a path.
+fn print_step<R: Print>(rt: &R, path: &PathBySpecifier<'_>) -> io::Result<()> {
     match path {
-        NamedPath::Link(link) => print_link(rt, link),
-        NamedPath::Definition(definition) => definition.print_lines(rt),
-        NamedPath::Unresolved(unresolved) => print_unresolved(rt, unresolved),
+        PathBySpecifier::Link(link) => print_link(rt, link),
+        PathBySpecifier::Definition(definition) => definition.print_lines(rt),
+        PathBySpecifier::Unresolved(unresolved) => print_unresolved(rt, unresolved),
     }
 }
 
-impl Lines for NamedPath<'_> {
-    /// The first two steps of a path: those that are asked for have no more.
+impl Lines for PathBySpecifier<'_> {
+    /// Prints the first two steps of a path. No path of these queries has more.
     fn print_lines<R: Print>(&self, rt: &R) -> io::Result<()> {
         print_step(rt, self)?;
-        if let NamedPath::Link(link) = self {
+        if let PathBySpecifier::Link(link) = self {
             for next in &link.next {
                 print_step(rt, next)?;
             }
@@ -131,11 +132,11 @@ impl Lines for NamedPath<'_> {
     }
 }
 
-impl Lines for NamedEntry<'_> {
+impl Lines for DepEntryBySpecifier<'_> {
     fn print_lines<R: Print>(&self, rt: &R) -> io::Result<()> {
         match self {
-            NamedEntry::Path(path) => path.print_lines(rt),
-            NamedEntry::ImportType(specifier) => println!(rt; "      all of {specifier}"),
+            DepEntryBySpecifier::Path(path) => path.print_lines(rt),
+            DepEntryBySpecifier::ImportType(specifier) => println!(rt; "      all of {specifier}"),
         }
     }
 }

@@ -1,4 +1,4 @@
-//! The graph that is asked, and what is asked of it.
+//! The graph of the calls, and the queries over it.
 
 use deno_symbols::deps::{ResolveDepsMode, SymbolNodeDep};
 use deno_symbols::ids::SymbolId;
@@ -7,10 +7,11 @@ use deno_symbols::tree::Id;
 use std::alloc::{AllocError, Global};
 use std::borrow::CowStr;
 
-/// `a` owns `x` and passes on `b` and `c`, which own `y`, and `b` passes on `a`. `q` imports `y` from `a`, and a name that is
-/// nowhere.
+/// `a` exports `x` locally and has `export *` from `b` and `c`. These export `y` locally, and `b`
+/// has `export *` from `a`. `q` imports `y` from `a`, and a name that is unresolved.
 pub(crate) const GRAPH: &str = r#"{"modules": [
-{"specifier": "a", "kind": "esm", "text": "export const x = 1; export * from \"./b\"; export * from \"./c\";", "tree": {"nodes": [
+{"specifier": "a", "kind": "esm", "text": "export const x = 1; export * from \"./b\"; export * from \"./c\";",
+    "tree": {"nodes": [
     {"kind": "Program", "range": [0, 61], "body": [1, 6, 7]},
     {"kind": "ExportDecl", "range": [0, 19], "decl": 2},
     {"kind": "VarDecl", "range": [7, 19], "decls": [3]},
@@ -20,7 +21,8 @@ pub(crate) const GRAPH: &str = r#"{"modules": [
     {"kind": "ExportAll", "range": [20, 40], "src": "./b"},
     {"kind": "ExportAll", "range": [41, 61], "src": "./c"}
 ]}},
-{"specifier": "b", "kind": "esm", "text": "export const x = 1, y = 2; export default 1; export * from \"./a\";", "tree": {"nodes": [
+{"specifier": "b", "kind": "esm", "text": "export const x = 1, y = 2; export default 1; export * from \"./a\";",
+    "tree": {"nodes": [
     {"kind": "Program", "range": [0, 65], "body": [1, 9, 11]},
     {"kind": "ExportDecl", "range": [0, 26], "decl": 2},
     {"kind": "VarDecl", "range": [7, 26], "decls": [3, 6]},
@@ -63,17 +65,17 @@ pub(crate) const GRAPH: &str = r#"{"modules": [
 /// The specifiers of its modules, in the order in which the queries need them.
 pub(crate) const SPECIFIERS: [&str; 4] = ["a", "b", "c", "q"];
 
-/// The reference `import("./a").z`.
+/// Returns the reference `import("./a").z`.
 fn reference(alloc: Global) -> Result<SymbolNodeDep<'static>, AllocError> {
     let mut parts = Vec::new(alloc);
     parts.push(CowStr::Borrowed("z"))?;
     Ok(SymbolNodeDep::ImportType("./a", parts))
 }
 
-/// The modules that the queries are on, in the order in which they are asked. There is none of the first name.
-const ASKED: [&str; 11] = ["absent", "a", "a", "b", "a", "b", "q", "q", "q", "q", "q"];
+/// The modules of the queries, in their order. The first specifier resolves to no module.
+const QUERIED: [&str; 11] = ["absent", "a", "a", "b", "a", "b", "q", "q", "q", "q", "q"];
 
-/// The name `x` of scope 1.
+/// Returns the name `x` of scope 1.
 fn name_x(alloc: Global) -> Result<Id, AllocError> {
     Ok(Id {
         name: String::from_str(alloc, "x")?,
@@ -81,12 +83,13 @@ fn name_x(alloc: Global) -> Result<Id, AllocError> {
     })
 }
 
-/// The query of a place among them, on its module. Symbol 1 of `q` is `y`, 2 is `w` and 3 is `v`; symbol 2 of `b` is `y`.
-fn query(alloc: Global, place: usize, module: &'static str) -> Result<Query<'static>, AllocError> {
+/// Returns the query with this index, on its module. Symbol 1 of `q` is `y`, 2 is `w` and 3 is `v`;
+/// symbol 2 of `b` is `y`.
+fn query(alloc: Global, index: usize, module: &'static str) -> Result<Query<'static>, AllocError> {
     let first = SymbolId::from_number(1);
     let second = SymbolId::from_number(2);
     let third = SymbolId::from_number(3);
-    Ok(match place {
+    Ok(match index {
         2 => Query::Symbol(module, name_x(alloc)?),
         3 => Query::Name(module, second),
         4 => Query::Exports(module),
@@ -100,11 +103,11 @@ fn query(alloc: Global, place: usize, module: &'static str) -> Result<Query<'sta
     })
 }
 
-/// A query of each form, and one on a module that isn't there.
+/// Returns a query of each form, and one on a module that doesn't exist.
 pub(crate) fn queries(alloc: Global) -> Result<Vec<Query<'static>>, AllocError> {
     let mut queries = Vec::new(alloc);
-    for (place, module) in ASKED.iter().enumerate() {
-        queries.push(query(alloc, place, *module)?)?;
+    for (index, module) in QUERIED.iter().enumerate() {
+        queries.push(query(alloc, index, *module)?)?;
     }
     Ok(queries)
 }

@@ -1,4 +1,4 @@
-//! The tables of the modules that are stored. They are lent, so no memory is taken.
+//! Prints the tables of the stored modules. They are borrowed, so nothing is allocated.
 
 use deno_symbols::decl::{Symbol, SymbolDecl};
 use deno_symbols::ids::ModuleId;
@@ -9,12 +9,12 @@ use std::io;
 fn print_decl<R: Print>(rt: &R, decl: &SymbolDecl<'_>) -> io::Result<()> {
     let start = decl.range.start;
     let end = decl.range.end;
-    let word = if decl.kind.is_definition() {
+    let keyword = if decl.kind.is_definition() {
         "defined"
     } else {
         "taken"
     };
-    println!(rt; "      {word} at {start}..{end}")
+    println!(rt; "      {keyword} at {start}..{end}")
 }
 
 fn print_symbol<R: Print>(rt: &R, symbol: &Symbol<'_>) -> io::Result<()> {
@@ -44,7 +44,7 @@ fn print_module<R: Print>(rt: &R, info: ModuleInfoRef<'_, '_>) -> io::Result<()>
     Ok(())
 }
 
-/// The modules in the order of their numbers.
+/// Prints the modules in the order of their numbers.
 pub(crate) fn print_stored<R: Print>(rt: &R, root: &RootSymbol<'_>) -> io::Result<()> {
     for number in 0..=u32::MAX {
         match root.module_from_id(ModuleId::from_number(number)) {

@@ -1,4 +1,5 @@
-//! Calls that take no memory: views of a graph, of a root and of its modules, of ways and of definitions.
+//! Calls that allocate nothing: views of a graph, of a root and its modules, of chains and of
+//! definitions.
 
 use crate::graph::SPECIFIERS;
 use crate::tables::print_stored;
@@ -42,30 +43,30 @@ fn print_root<R: Print>(rt: &R, root: &RootSymbol<'_>) -> io::Result<()> {
     print_stored(rt, root)
 }
 
-fn print_way<R: Print>(
+fn print_chain<R: Print>(
     rt: &R,
     root: &RootSymbol<'_>,
-    way: &ResolvedExportOrReExportAllPath<'_>,
+    re_exports: &ResolvedExportOrReExportAllPath<'_>,
 ) -> io::Result<()> {
-    for rest in way.iter() {
+    for rest in re_exports.iter() {
         if let ResolvedExportOrReExportAllPath::ReExportAllPath(link) = rest {
             println!(rt; "    by {} to {}", link.specifier, link.resolved_module())?;
         }
     }
-    let export = way.as_resolved_export();
+    let export = re_exports.as_resolved_export();
     let is_there = export.symbol(root).is_some();
     let symbol = export.symbol_id;
     println!(rt; "    to symbol {symbol:?} of {}: {is_there}", export.module)
 }
 
-fn print_ways<R: Print>(
+fn print_chains<R: Print>(
     rt: &R,
     root: &RootSymbol<'_>,
     found: &ModuleExports<'_>,
 ) -> io::Result<()> {
-    for (name, way) in &found.resolved {
+    for (name, re_exports) in &found.resolved {
         println!(rt; "  {name}")?;
-        print_way(rt, root, way)?;
+        print_chain(rt, root, re_exports)?;
     }
     Ok(())
 }
@@ -96,8 +97,8 @@ fn print_definitions<R: Print>(
     Ok(())
 }
 
-/// What is lent of a graph, of a root and of the names that a module of it exports.
-fn print_lent<'a, R: Print>(
+/// Prints what is borrowed from a graph, a root and the exports of a module.
+fn print_borrowed<'a, R: Print>(
     rt: &R,
     graph: &ModuleGraph,
     root: &RootSymbol<'a>,
@@ -106,7 +107,7 @@ fn print_lent<'a, R: Print>(
     println!(rt; "views")?;
     print_graph(rt, graph)?;
     print_root(rt, root)?;
-    print_ways(rt, root, found)
+    print_chains(rt, root, found)
 }
 
 fn print_found<'a, R: Print>(
@@ -117,11 +118,11 @@ fn print_found<'a, R: Print>(
 ) -> Result<()> {
     let q = ModuleId::from_number(3);
     let definitions = root.go_to_definitions(q, SymbolId::from_number(1))?;
-    print_lent(rt, graph, root, found)?;
+    print_borrowed(rt, graph, root, found)?;
     Ok(print_definitions(rt, root, definitions)?)
 }
 
-/// What the calls give that take no memory, behind what has to be asked for before.
+/// Prints the results of calls that allocate nothing, after the calls that they need.
 pub(crate) fn print_views<'a, R: Print>(
     rt: &R,
     graph: &'a ModuleGraph,

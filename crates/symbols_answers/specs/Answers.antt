@@ -1,23 +1,26 @@
--- What an answer says.
+-- The answers to queries.
 use Rattle.std.specs.Prelude.{ℕ, List, Option}
-use Rattle.symbols_syntax.specs.declared.ids.SymbolId.{SymbolId}
-use Rattle.symbols_nodes.specs.References.{Dependency}
-use Rattle.symbols_exports.specs.PublicNames.{NameItem}
-use Rattle.symbols_exports.specs.Shared.{Shared}
-use Rattle.symbols_exports.specs.Told.{ToldExport, ToldStatement}
-use Rattle.symbols_paths.specs.Trees.{Defined, Leaf, Forest}
-use Rattle.symbols_paths.specs.DepAnswers.{EntryView}
+use Rattle.symbols_ast.specs.declared.ids.SymbolId.{SymbolId}
+use Rattle.symbols_nodes.specs.References.{SymbolDependency}
+use Rattle.symbols_exports.specs.PublicNames.{PublicNameView}
+use Rattle.symbols_exports.specs.SharedNames.{NameWithExporters}
+use Rattle.symbols_exports.specs.ExportViews.{ExportView, StarStatementView}
+use Rattle.symbols_paths.specs.PathTrees.{DefinitionView, PathLeaf, PathForest}
+use Rattle.symbols_paths.specs.DepAnswers.{DepEntryView}
 
--- nothing, where the specifier stands for no module; which module it stands for; what is exported, by strict rules the names that modules share, and the statements `export *` that lead to no module; the names that a module gives to the world; which symbol a name stands for, if any; what a symbol is called in full, if it has a name; what each declaration of a symbol depends on; the paths to what a symbol is defined by; the definitions at their ends; all their ends; and what a reference stands for
+-- the answers: that the specifier resolves to no module; the module; the exports, the shared names by strict rules, and the unresolved
+-- `export *` statements; the public names; the symbol of a name, if any; the fully qualified name of a symbol, if any; the dependencies of
+-- each declaration of a symbol; the definition paths of a symbol; the definitions at their ends; all their ends; and the entries of a
+-- reference
 pub data AnswerView : Type 0 where
-  tells_nothing : AnswerView
-  tells_module : List ℕ → AnswerView
-  tells_exports : List ToldExport → Option (List (Shared ToldExport)) → List ToldStatement → AnswerView
-  tells_names : List NameItem → AnswerView
-  tells_symbol : Option SymbolId → AnswerView
-  tells_name : Option (List ℕ) → AnswerView
-  tells_deps : List (List Dependency) → AnswerView
-  tells_paths : Forest → AnswerView
-  tells_definitions : List Defined → AnswerView
-  tells_leaves : List Leaf → AnswerView
-  tells_entries : List EntryView → AnswerView
+  answer_no_module : AnswerView
+  answer_module : List ℕ → AnswerView
+  answer_exports : List ExportView → Option (List (NameWithExporters ExportView)) → List StarStatementView → AnswerView
+  answer_names : List PublicNameView → AnswerView
+  answer_symbol : Option SymbolId → AnswerView
+  answer_name : Option (List ℕ) → AnswerView
+  answer_deps : List (List SymbolDependency) → AnswerView
+  answer_paths : PathForest → AnswerView
+  answer_definitions : List DefinitionView → AnswerView
+  answer_leaves : List PathLeaf → AnswerView
+  answer_resolve : List DepEntryView → AnswerView

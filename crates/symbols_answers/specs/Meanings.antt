@@ -1,73 +1,102 @@
--- What an answer says, by the definitions of exports, of shared names, of paths and of the entries of a reference.
-use Rattle.std.specs.Prelude.{◌≡◌, ◌≢◌, ℕ, List, map, flat_map, AllPairs, Some, MatchOption}
-use Rattle.std.specs.Option.{option_map}
-use Rattle.symbols_syntax.specs.declared.ids.SymbolId.{SymbolId}
-use Rattle.symbols_syntax.specs.Graph.{GraphView}
-use Rattle.symbols_nodes.specs.References.{Reference}
-use Rattle.symbols_table.specs.Changes.{mapped_after}
+-- The meaning of answers, by the definitions of exports, of shared names, of paths and of the entries of a reference.
+use Rattle.std.specs.Prelude.{◌≡◌, ◌≢◌, ℕ, List, map, flat_map, find, reverse, AllPairs, Option, Some, MatchOption}
+use Rattle.std.specs.List.{AllZip}
+use Rattle.symbols_ast.specs.declared.ids.SymbolId.{SymbolId}
+use Rattle.symbols_ast.specs.Graph.{GraphView, ModuleView}
+use Rattle.symbols_nodes.specs.declared.deps.dep.ResolveDepsMode.{ResolveDepsMode}
+use Rattle.symbols_nodes.specs.References.{SymbolReference, SymbolDependency}
+use Rattle.symbols_table.specs.Changes.{mapped_symbol_after}
 use Rattle.symbols_table.specs.QualifiedNames.{qualified_name}
-use Rattle.symbols_root.specs.declared.root.rules.Rules.{Rules}
-use Rattle.symbols_root.specs.GraphModules.{changes_under, symbol_under}
-use Rattle.symbols_root.specs.TypesChains.{stands_for}
-use Rattle.symbols_exports.specs.Exports.{Entry, Statement, AreExports, AreUnresolved}
-use Rattle.symbols_exports.specs.PublicNames.{NameItem, exported_by, items_under}
-use Rattle.symbols_exports.specs.Shared.{Shared, AreShared}
-use Rattle.symbols_exports.specs.Sharing.{told_shared}
-use Rattle.symbols_exports.specs.StarStatements.{statements_of, owned_of}
-use Rattle.symbols_exports.specs.Told.{told_export, told_statement}
-use Rattle.symbols_paths.specs.Trees.{Forest, leaves_in, definitions_in}
-use Rattle.symbols_paths.specs.Answers.{ArePaths}
-use Rattle.symbols_paths.specs.DepAnswers.{EntryView, IsDepAnswer}
-use Rattle.symbols_answers.specs.Questions.{QuestionView, asks_module, asks_exports, asks_names, asks_symbol, asks_name, asks_deps, asks_paths, asks_definitions, asks_leaves, asks_entries, QueryView}
-use Rattle.symbols_answers.specs.Answers.{AnswerView, tells_nothing, tells_module, tells_exports, tells_names, tells_symbol, tells_name, tells_paths, tells_definitions, tells_leaves, tells_entries}
-use Rattle.symbols_answers.specs.QueryAnswers.{by_strict, dependencies_told}
+use Rattle.symbols_table.specs.SymbolViews.{SymbolView}
+use Rattle.symbols_deps.specs.DeclDependencies.{AreDeclDependencies}
+use Rattle.symbols_root.specs.declared.rules.Rules.{Rules}
+use Rattle.symbols_root.specs.GraphModules.{changes_of_module, symbol_in_module}
+use Rattle.symbols_root.specs.TypesChains.{is_analyzable, IsOnlyTypesChain}
+use Rattle.symbols_exports.specs.Exports.{ExportEntry, StarPosition, AreExports, AreUnresolvedStars}
+use Rattle.symbols_exports.specs.PublicNames.{PublicNameView, exports_of_symbol, name_with_members}
+use Rattle.symbols_exports.specs.SharedNames.{NameWithExporters, AreSharedNames}
+use Rattle.symbols_exports.specs.SharedNameLists.{shared_name_entry_view}
+use Rattle.symbols_exports.specs.StarStatements.{star_targets_of, explicit_exports_of}
+use Rattle.symbols_exports.specs.ExportViews.{entry_export_view, star_statement_view}
+use Rattle.symbols_paths.specs.PathTrees.{PathForest, leaves_of_forest, definitions_among}
+use Rattle.symbols_paths.specs.Answers.{AreDefinitionPaths}
+use Rattle.symbols_paths.specs.DepAnswers.{DepEntryView, IsDepAnswer}
+use Rattle.symbols_answers.specs.Questions.{QuestionView, query_module, query_exports, query_names, query_symbol, query_name}
+use Rattle.symbols_answers.specs.Questions.{query_deps, query_paths, query_definitions, query_leaves, query_resolve, QueryView}
+use Rattle.symbols_answers.specs.Answers.{AnswerView, answer_no_module, answer_module, answer_exports, answer_names, answer_symbol}
+use Rattle.symbols_answers.specs.Answers.{answer_name, answer_deps, answer_paths, answer_definitions, answer_leaves, answer_resolve}
+use Rattle.symbols_answers.specs.QueryAnswers.{some_if_strict}
 
--- the exports of a module, by strict rules the names that modules share, and the statements that lead nowhere, in order, as they are told
-pub record TellsExports (rules : Rules) (graph : GraphView) (specifier : List ℕ) (answer : AnswerView) : Type 0 where
-  pub entries : List Entry
-  pub are_exports : AreExports (statements_of graph) (owned_of graph) specifier entries
-  pub shared : List (Shared Entry)
-  pub are_shared : AreShared (statements_of graph) (owned_of graph) specifier shared
-  pub missed : List Statement
-  pub are_unresolved : AreUnresolved (statements_of graph) specifier missed
-  pub is : answer ≡ tells_exports (map (told_export graph specifier) entries) (by_strict rules (map (told_shared graph specifier) shared)) (map (told_statement graph) missed)
+-- the answer has the exports of a module, the shared names by strict rules, and the unresolved statements, in order
+pub record IsAnswerOfExports (rules : Rules) (graph : GraphView) (specifier : List ℕ) (answer : AnswerView) : Type 0 where
+  pub entries : List ExportEntry
+  pub are_exports : AreExports (star_targets_of graph) (explicit_exports_of graph) specifier entries
+  pub shared : List (NameWithExporters ExportEntry)
+  pub are_shared : AreSharedNames (star_targets_of graph) (explicit_exports_of graph) specifier shared
+  pub unresolved : List StarPosition
+  pub are_unresolved : AreUnresolvedStars (star_targets_of graph) specifier unresolved
+  pub is : answer ≡ answer_exports (map (entry_export_view graph specifier) entries)
+      (some_if_strict rules (map (shared_name_entry_view graph specifier) shared)) (map
+      (star_statement_view graph) unresolved)
 
--- the names that these exports give to the world: each without member, then with each that its symbol exports itself
-abbrev pub names_by : GraphView → List Entry → List NameItem
-names_by graph entries = flat_map (λ (entry : Entry). items_under entry.name (exported_by graph entry.owner entry.symbol)) entries
+-- the public names by these exports: each name without a member, then with each name that its symbol itself exports
+abbrev pub public_names_of_entries : GraphView → List ExportEntry → List PublicNameView
+public_names_of_entries graph entries = flat_map (λ (entry : ExportEntry). name_with_members entry.name (exports_of_symbol graph entry.exporter entry.symbol))
+    entries
 
--- so those of a module, by its exports, and none of them twice
-pub record TellsNames (graph : GraphView) (specifier : List ℕ) (answer : AnswerView) : Type 0 where
-  pub entries : List Entry
-  pub are_exports : AreExports (statements_of graph) (owned_of graph) specifier entries
-  pub once : AllPairs (λ (x y : NameItem). x ≢ y) (names_by graph entries)
-  pub is : answer ≡ tells_names (names_by graph entries)
+-- the answer has the public names of a module, by its exports, and none of them twice
+pub record IsAnswerOfPublicNames (graph : GraphView) (specifier : List ℕ) (answer : AnswerView) : Type 0 where
+  pub entries : List ExportEntry
+  pub are_exports : AreExports (star_targets_of graph) (explicit_exports_of graph) specifier entries
+  pub once : AllPairs (λ (x y : PublicNameView). x ≢ y) (public_names_of_entries graph entries)
+  pub is : answer ≡ answer_names (public_names_of_entries graph entries)
 
--- paths of a symbol, in the form in which they are told
-pub record TellsPaths (rules : Rules) (graph : GraphView) (specifier : List ℕ) (s : SymbolId) (told : Forest → AnswerView) (answer : AnswerView) : Type 0 where
-  pub paths : Forest
-  pub are_paths : ArePaths rules graph (record { specifier = specifier; number = s }) paths
-  pub is : answer ≡ told paths
+-- the answer has for each declaration of a symbol, in order, the list of its dependencies
+pub record IsAnswerOfDeps (graph : GraphView) (specifier : List ℕ) (s : SymbolId) (mode : ResolveDepsMode) (answer : AnswerView) : Type 0 where
+  pub symbol : SymbolView
+  pub in_module : symbol_in_module graph specifier s ≡ Some symbol
+  pub lists : List (List SymbolDependency)
+  pub are_dependencies : AllZip (AreDeclDependencies mode) symbol.decls lists
+  pub is : answer ≡ answer_deps lists
 
--- the entries of a reference
-pub record TellsEntries (rules : Rules) (graph : GraphView) (specifier : List ℕ) (reference : Reference) (answer : AnswerView) : Type 0 where
-  pub entries : List EntryView
-  pub are_entries : IsDepAnswer rules graph specifier reference entries
-  pub is : answer ≡ tells_entries entries
+-- the answer is made from the definition paths of a symbol
+pub record IsAnswerOfPaths (rules : Rules) (graph : GraphView) (specifier : List ℕ) (s : SymbolId) (answer_of : PathForest → AnswerView)
+    (answer : AnswerView) : Type 0
+  where
+    pub paths : PathForest
+    pub are_paths : AreDefinitionPaths rules graph (record { specifier = specifier; number = s }) paths
+    pub is : answer ≡ answer_of paths
 
--- what an answer to a question on the module of this specifier says: that module; its exports; its public names; of a name its symbol; of a symbol its name in full, and what its declarations depend on; its paths, the definitions at their ends, and all ends, from left to right; and the entries of a reference
-abbrev pub IsModuleAnswer : Rules → GraphView → List ℕ → QuestionView → AnswerView → Type 0
-IsModuleAnswer rules graph specifier asks_module answer = answer ≡ tells_module specifier
-IsModuleAnswer rules graph specifier asks_exports answer = TellsExports rules graph specifier answer
-IsModuleAnswer rules graph specifier asks_names answer = TellsNames graph specifier answer
-IsModuleAnswer rules graph specifier (asks_symbol name) answer = answer ≡ tells_symbol (mapped_after (changes_under graph specifier) name)
-IsModuleAnswer rules graph specifier (asks_name s) answer = answer ≡ tells_name (qualified_name (symbol_under graph specifier) s)
-IsModuleAnswer rules graph specifier (asks_deps s mode) answer = Some answer ≡ option_map (dependencies_told mode) (symbol_under graph specifier s)
-IsModuleAnswer rules graph specifier (asks_paths s) answer = TellsPaths rules graph specifier s tells_paths answer
-IsModuleAnswer rules graph specifier (asks_definitions s) answer = TellsPaths rules graph specifier s (λ paths. tells_definitions (definitions_in (leaves_in paths))) answer
-IsModuleAnswer rules graph specifier (asks_leaves s) answer = TellsPaths rules graph specifier s (λ paths. tells_leaves (leaves_in paths)) answer
-IsModuleAnswer rules graph specifier (asks_entries reference) answer = TellsEntries rules graph specifier reference answer
+-- the answer has the entries of a reference
+pub record IsAnswerOfDepEntries (rules : Rules) (graph : GraphView) (specifier : List ℕ) (reference : SymbolReference) (answer : AnswerView) : Type 0 where
+  pub entries : List DepEntryView
+  pub are_dep_entries : IsDepAnswer rules graph specifier reference entries
+  pub is : answer ≡ answer_resolve entries
 
--- what an answer to a query says: that on the module that its specifier stands for, and nothing where it stands for none
-abbrev pub IsAnswerTo : Rules → GraphView → QueryView → AnswerView → Type 0
-IsAnswerTo rules graph query answer = MatchOption (stands_for graph query.specifier) (answer ≡ tells_nothing) (λ specifier. IsModuleAnswer rules graph specifier query.question answer)
+-- the meaning of an answer to a question on the module of this specifier: the module; its exports; its public names; the symbol of a name;
+-- the fully qualified name of a symbol, and the dependencies of its declarations; its paths, the definitions at their ends, and all ends,
+-- from left to right; and the entries of a reference
+abbrev pub IsAnswerToQuestion : Rules → GraphView → List ℕ → QuestionView → AnswerView → Type 0
+IsAnswerToQuestion rules graph specifier query_module answer = answer ≡ answer_module specifier
+IsAnswerToQuestion rules graph specifier query_exports answer = IsAnswerOfExports rules graph specifier answer
+IsAnswerToQuestion rules graph specifier query_names answer = IsAnswerOfPublicNames graph specifier answer
+IsAnswerToQuestion rules graph specifier (query_symbol name) answer = answer ≡ answer_symbol (mapped_symbol_after (changes_of_module graph specifier) name)
+IsAnswerToQuestion rules graph specifier (query_name s) answer = answer ≡ answer_name (qualified_name (symbol_in_module graph specifier) s)
+IsAnswerToQuestion rules graph specifier (query_deps s mode) answer = IsAnswerOfDeps graph specifier s mode answer
+IsAnswerToQuestion rules graph specifier (query_paths s) answer = IsAnswerOfPaths rules graph specifier s answer_paths answer
+IsAnswerToQuestion rules graph specifier (query_definitions s) answer =
+    IsAnswerOfPaths rules graph specifier s (λ paths. answer_definitions (definitions_among (leaves_of_forest paths))) answer
+IsAnswerToQuestion rules graph specifier (query_leaves s) answer = IsAnswerOfPaths rules graph specifier s (λ paths. answer_leaves (leaves_of_forest paths))
+    answer
+IsAnswerToQuestion rules graph specifier (query_resolve reference) answer = IsAnswerOfDepEntries rules graph specifier reference answer
+
+-- the last module with symbols on a types chain
+abbrev pub last_analyzable_module : List ModuleView → Option ModuleView
+last_analyzable_module chain = find is_analyzable (reverse chain)
+
+-- the meaning of an answer to a query: that on the last module with symbols on the types chain of its specifier, or that there is none
+pub record IsAnswerToQuery (rules : Rules) (graph : GraphView) (query : QueryView) (answer : AnswerView) : Type 0 where
+  pub chain : List ModuleView
+  pub is_chain : IsOnlyTypesChain graph query.specifier chain
+  pub means : MatchOption (last_analyzable_module chain) (answer ≡ answer_no_module)
+      (λ found. IsAnswerToQuestion rules graph found.specifier query.question answer)

@@ -1,56 +1,66 @@
--- What a query is answered with: a matter of the rules and the graph alone.
+-- The answer to a query. It depends on the rules and the graph alone.
 use Rattle.std.specs.Prelude.{ℕ, List, map, Option, Some, None}
 use Rattle.std.specs.Option.{option_map, option_map_or}
-use Rattle.symbols_syntax.specs.declared.ids.SymbolId.{SymbolId}
-use Rattle.symbols_syntax.specs.Graph.{GraphView}
+use Rattle.symbols_ast.specs.declared.ids.SymbolId.{SymbolId}
+use Rattle.symbols_ast.specs.Graph.{GraphView}
 use Rattle.symbols_nodes.specs.declared.deps.dep.ResolveDepsMode.{ResolveDepsMode}
-use Rattle.symbols_table.specs.Changes.{mapped_after}
-use Rattle.symbols_table.specs.DeclViews.{decl_dependencies}
+use Rattle.symbols_table.specs.Changes.{mapped_symbol_after}
+use Rattle.symbols_deps.specs.DeclDependencies.{decl_dependencies}
 use Rattle.symbols_table.specs.SymbolViews.{SymbolView}
 use Rattle.symbols_table.specs.QualifiedNames.{qualified_name}
-use Rattle.symbols_root.specs.declared.root.rules.Rules.{Rules}
-use Rattle.symbols_root.specs.declared.root.rules.Rules.TheVariants.{Deno, Strict}
-use Rattle.symbols_root.specs.TypesChains.{stands_for}
-use Rattle.symbols_root.specs.GraphModules.{changes_under, symbol_under}
+use Rattle.symbols_root.specs.declared.rules.Rules.{Rules}
+use Rattle.symbols_root.specs.declared.rules.Rules.TheVariants.{Deno, Strict}
+use Rattle.symbols_root.specs.TypesChains.{resolved_module_specifier}
+use Rattle.symbols_root.specs.GraphModules.{changes_of_module, symbol_in_module}
 use Rattle.symbols_exports.specs.PublicNames.{public_names_of}
-use Rattle.symbols_exports.specs.Sharing.{shared_told}
-use Rattle.symbols_exports.specs.Ways.{exports_told, unresolved_told_in}
-use Rattle.symbols_paths.specs.Trees.{Forest, leaves_in, definitions_in}
-use Rattle.symbols_paths.specs.Computed.{paths_of}
-use Rattle.symbols_paths.specs.DepAnswers.{entries_of}
-use Rattle.symbols_answers.specs.Questions.{QuestionView, asks_module, asks_exports, asks_names, asks_symbol, asks_name, asks_deps, asks_paths, asks_definitions, asks_leaves, asks_entries, QueryView}
-use Rattle.symbols_answers.specs.Answers.{AnswerView, tells_nothing, tells_module, tells_exports, tells_names, tells_symbol, tells_name, tells_deps, tells_paths, tells_definitions, tells_leaves, tells_entries}
+use Rattle.symbols_exports.specs.SharedNameLists.{views_of_shared_names}
+use Rattle.symbols_exports.specs.Traces.{views_of_exports, views_of_unresolved}
+use Rattle.symbols_paths.specs.PathTrees.{PathForest, leaves_of_forest, definitions_among}
+use Rattle.symbols_paths.specs.Computed.{definition_paths_of}
+use Rattle.symbols_paths.specs.DepAnswers.{dep_entries_of}
+use Rattle.symbols_answers.specs.Questions.{QuestionView, query_module, query_exports, query_names, query_symbol, query_name}
+use Rattle.symbols_answers.specs.Questions.{query_deps, query_paths, query_definitions, query_leaves, query_resolve, QueryView}
+use Rattle.symbols_answers.specs.Answers.{AnswerView, answer_no_module, answer_module, answer_exports, answer_names, answer_symbol}
+use Rattle.symbols_answers.specs.Answers.{answer_name, answer_deps, answer_paths, answer_definitions, answer_leaves, answer_resolve}
 
--- what strict rules alone tell
-abbrev pub by_strict : {A : Type 0} → Rules → A → Option A
-by_strict Deno x = None
-by_strict Strict x = Some x
+-- the value by strict rules, and none by Deno's
+abbrev pub some_if_strict : {A : Type 0} → Rules → A → Option A
+some_if_strict Deno x = None
+some_if_strict Strict x = Some x
 
--- the paths to what a symbol of the module of this specifier is defined by
-abbrev pub paths_from : Rules → GraphView → List ℕ → SymbolId → Forest
-paths_from rules graph specifier s = paths_of rules graph (record { specifier = specifier; number = s })
+-- the definition paths of a symbol of the module of this specifier
+abbrev pub definition_paths_from : Rules → GraphView → List ℕ → SymbolId → PathForest
+definition_paths_from rules graph specifier s = definition_paths_of rules graph (record { specifier = specifier; number = s })
 
-abbrev pub dependencies_told : ResolveDepsMode → SymbolView → AnswerView
-dependencies_told mode symbol = tells_deps (map (decl_dependencies mode) symbol.decls)
+abbrev pub dependencies_answer : ResolveDepsMode → SymbolView → AnswerView
+dependencies_answer mode symbol = answer_deps (map (decl_dependencies mode) symbol.decls)
 
--- what is told of a symbol; nothing where there is none
-abbrev pub told_of : Option SymbolView → AnswerView → Option AnswerView
-told_of None told = None
-told_of (Some symbol) told = Some told
+-- the answer, if there is such a symbol
+abbrev pub answer_if_symbol : Option SymbolView → AnswerView → Option AnswerView
+answer_if_symbol None answer_of = None
+answer_if_symbol (Some symbol) answer_of = Some answer_of
 
--- the answer to a question on the module of this specifier; none where it has no such symbol
-abbrev pub module_answer : Rules → GraphView → List ℕ → QuestionView → Option AnswerView
-module_answer rules graph specifier asks_module = Some (tells_module specifier)
-module_answer rules graph specifier asks_exports = Some (tells_exports (exports_told graph specifier) (by_strict rules (shared_told graph specifier)) (unresolved_told_in graph specifier))
-module_answer rules graph specifier asks_names = Some (tells_names (public_names_of graph specifier))
-module_answer rules graph specifier (asks_symbol name) = Some (tells_symbol (mapped_after (changes_under graph specifier) name))
-module_answer rules graph specifier (asks_name s) = told_of (symbol_under graph specifier s) (tells_name (qualified_name (symbol_under graph specifier) s))
-module_answer rules graph specifier (asks_deps s mode) = option_map (dependencies_told mode) (symbol_under graph specifier s)
-module_answer rules graph specifier (asks_paths s) = told_of (symbol_under graph specifier s) (tells_paths (paths_from rules graph specifier s))
-module_answer rules graph specifier (asks_definitions s) = told_of (symbol_under graph specifier s) (tells_definitions (definitions_in (leaves_in (paths_from rules graph specifier s))))
-module_answer rules graph specifier (asks_leaves s) = told_of (symbol_under graph specifier s) (tells_leaves (leaves_in (paths_from rules graph specifier s)))
-module_answer rules graph specifier (asks_entries reference) = Some (tells_entries (entries_of rules graph specifier reference))
+-- the answer to a question on the module of this specifier; none if the module has no such symbol
+abbrev pub question_answer : Rules → GraphView → List ℕ → QuestionView → Option AnswerView
+question_answer rules graph specifier query_module = Some (answer_module specifier)
+question_answer rules graph specifier query_exports =
+    Some (answer_exports (views_of_exports graph specifier) (some_if_strict rules (views_of_shared_names graph specifier))
+    (views_of_unresolved graph specifier))
+question_answer rules graph specifier query_names = Some (answer_names (public_names_of graph specifier))
+question_answer rules graph specifier (query_symbol name) = Some (answer_symbol (mapped_symbol_after (changes_of_module graph specifier) name))
+question_answer rules graph specifier (query_name s) =
+    answer_if_symbol (symbol_in_module graph specifier s) (answer_name (qualified_name (symbol_in_module graph specifier) s))
+question_answer rules graph specifier (query_deps s mode) = option_map (dependencies_answer mode) (symbol_in_module graph specifier s)
+question_answer rules graph specifier (query_paths s) =
+    answer_if_symbol (symbol_in_module graph specifier s) (answer_paths (definition_paths_from rules graph specifier s))
+question_answer rules graph specifier (query_definitions s) =
+    answer_if_symbol (symbol_in_module graph specifier s)
+    (answer_definitions (definitions_among (leaves_of_forest (definition_paths_from rules graph specifier s))))
+question_answer rules graph specifier (query_leaves s) =
+    answer_if_symbol (symbol_in_module graph specifier s) (answer_leaves (leaves_of_forest (definition_paths_from rules graph specifier s)))
+question_answer rules graph specifier (query_resolve reference) = Some (answer_resolve (dep_entries_of rules graph specifier reference))
 
--- the answer to a query: on the module that its specifier stands for
+-- the answer to a query, on the module that its specifier resolves to
 abbrev pub query_answer : Rules → GraphView → QueryView → Option AnswerView
-query_answer rules graph query = option_map_or (λ (specifier : List ℕ). module_answer rules graph specifier query.question) (stands_for graph query.specifier) (Some tells_nothing)
+query_answer rules graph query = option_map_or (λ (specifier : List ℕ). question_answer rules graph specifier query.question)
+    (resolved_module_specifier graph query.specifier) (Some answer_no_module)

@@ -1,24 +1,26 @@
--- What is asked.
+-- The queries on modules.
 use Rattle.std.specs.Prelude.{ℕ, List}
-use Rattle.symbols_syntax.specs.declared.ids.SymbolId.{SymbolId}
-use Rattle.symbols_syntax.specs.Ids.{IdView}
+use Rattle.symbols_ast.specs.declared.ids.SymbolId.{SymbolId}
+use Rattle.symbols_ast.specs.Ids.{IdView}
 use Rattle.symbols_nodes.specs.declared.deps.dep.ResolveDepsMode.{ResolveDepsMode}
-use Rattle.symbols_nodes.specs.References.{Reference}
+use Rattle.symbols_nodes.specs.References.{SymbolReference}
 
--- a question on a module: which it is; what it exports; the names that it gives to the world; which symbol a name stands for; of a symbol, what it is called in full, what its declarations depend on, the paths to what it is defined by, the definitions at their ends, and all their ends; and what a reference stands for
+-- a question on a module: which module it is; its exports; its public names; the symbol of a name; the fully qualified name of a symbol,
+-- the dependencies of its declarations, its definition paths, the definitions at their ends, and all their ends; and the entries of a
+-- reference
 pub data QuestionView : Type 0 where
-  asks_module : QuestionView
-  asks_exports : QuestionView
-  asks_names : QuestionView
-  asks_symbol : IdView → QuestionView
-  asks_name : SymbolId → QuestionView
-  asks_deps : SymbolId → ResolveDepsMode → QuestionView
-  asks_paths : SymbolId → QuestionView
-  asks_definitions : SymbolId → QuestionView
-  asks_leaves : SymbolId → QuestionView
-  asks_entries : Reference → QuestionView
+  query_module : QuestionView
+  query_exports : QuestionView
+  query_names : QuestionView
+  query_symbol : IdView → QuestionView
+  query_name : SymbolId → QuestionView
+  query_deps : SymbolId → ResolveDepsMode → QuestionView
+  query_paths : SymbolId → QuestionView
+  query_definitions : SymbolId → QuestionView
+  query_leaves : SymbolId → QuestionView
+  query_resolve : SymbolReference → QuestionView
 
--- a question on the module that a specifier stands for
+-- a question on the module that a specifier resolves to
 pub record QueryView : Type 0 where
   pub specifier : List ℕ
   pub question : QuestionView

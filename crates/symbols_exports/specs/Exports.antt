@@ -1,57 +1,59 @@
--- What a module exports, and which of the statements that it passes on lead nowhere.
+-- The exports of a module, and the unresolved statements of the modules that it reaches.
 use Rattle.std.specs.Prelude.{◌≡◌, ℕ, ◌<◌, ◌⊎◌, ◌↔◌, List, [], ◌∷◌, ◌++◌, length, take, None, Contains, AllPairs, slice_get, Some}
-use Rattle.symbols_syntax.specs.declared.ids.SymbolId.{SymbolId}
-use Rattle.symbols_table.specs.Events.{default_name}
-use Rattle.symbols_exports.specs.Chains.{Statements, statement_target, IsSimpleChain, IsBefore, IsUpTo, IsLeastChain, IsReached}
+use Rattle.symbols_ast.specs.declared.ids.SymbolId.{SymbolId}
+use Rattle.symbols_table.specs.Events.{default_export_name}
+use Rattle.symbols_exports.specs.Chains.{StarTargets, star_target_at, IsSimpleChain, IsChainBefore, IsChainUpTo, IsLeastChain, IsReachedByStars}
 
--- for each module the names that it exports itself, with their symbols
-abbrev pub Owned : Type 0
-Owned = List ℕ → List (List ℕ × SymbolId)
+-- for each module its local exports: names with their symbols
+abbrev pub ExplicitExports : Type 0
+ExplicitExports = List ℕ → List (List ℕ × SymbolId)
 
--- a name with the chain that it comes by, the module at its end, and its symbol there
-pub record Entry : Type 0 where
+-- an export: its name, its chain, the module at the end of the chain, and its symbol there
+pub record ExportEntry : Type 0 where
   pub name : List ℕ
   pub chain : List ℕ
-  pub owner : List ℕ
+  pub exporter : List ℕ
   pub symbol : SymbolId
 
--- a simple chain leads to a module that owns the name, and passes it on: no `export *` passes `default` on
-pub record IsOffered (statements : Statements) (owned : Owned) (start : List ℕ) (entry : Entry) : Type 0 where
-  pub leads : IsSimpleChain statements start entry.chain entry.owner
-  pub owns : Contains (owned entry.owner) (entry.name, entry.symbol)
-  pub passed : entry.name ≡ default_name → entry.chain ≡ []
+-- a candidate: a simple chain ends at a module that exports the name locally. For `default` the chain is empty: no `export *` re-exports it
+pub record IsExportCandidate (statements : StarTargets) (explicit : ExplicitExports) (start : List ℕ) (entry : ExportEntry) : Type 0 where
+  pub ends_at : IsSimpleChain statements start entry.chain entry.exporter
+  pub exports_name : Contains (explicit entry.exporter) (entry.name, entry.symbol)
+  pub passed : entry.name ≡ default_export_name → entry.chain ≡ []
 
--- of what is offered by a name, what comes by the least chain
-pub record IsExport (statements : Statements) (owned : Owned) (start : List ℕ) (entry : Entry) : Type 0 where
-  pub offered : IsOffered statements owned start entry
-  pub least : (other : Entry) → IsOffered statements owned start other → other.name ≡ entry.name → IsUpTo entry.chain other.chain
+-- an export: the candidate with the least chain among those of its name
+pub record IsExport (statements : StarTargets) (explicit : ExplicitExports) (start : List ℕ) (entry : ExportEntry) : Type 0 where
+  pub candidate : IsExportCandidate statements explicit start entry
+  pub least : (other : ExportEntry) → IsExportCandidate statements explicit start other → other.name ≡ entry.name → IsChainUpTo entry.chain other.chain
 
--- the one stands in the list before a place of the other
-abbrev pub StandsBefore : {A : Type 0} → List A → A → A → Type 0
-StandsBefore xs x y = (j : ℕ) × (slice_get xs j ≡ Some y) × Contains (take j xs) x
+-- x occurs in the list before an occurrence of y
+abbrev pub IsListedBefore : {A : Type 0} → List A → A → A → Type 0
+IsListedBefore xs x y = (j : ℕ) × (slice_get xs j ≡ Some y) × Contains (take j xs) x
 
--- by chain, and by one chain as in the owner's list
-abbrev pub InOrder : Owned → Entry → Entry → Type 0
-InOrder owned x y = IsBefore x.chain y.chain ⊎ ((x.chain ≡ y.chain) × StandsBefore (owned x.owner) (x.name, x.symbol) (y.name, y.symbol))
+-- in chain order, and for the same chain in the order of the exporter's local exports
+abbrev pub IsExportEntryBefore : ExplicitExports → ExportEntry → ExportEntry → Type 0
+IsExportEntryBefore explicit x y =
+    IsChainBefore x.chain y.chain ⊎ ((x.chain ≡ y.chain) × IsListedBefore (explicit x.exporter) (x.name, x.symbol) (y.name, y.symbol))
 
 -- the exports of a module, in order
-pub record AreExports (statements : Statements) (owned : Owned) (start : List ℕ) (entries : List Entry) : Type 0 where
-  pub all : (entry : Entry) → Contains entries entry ↔ IsExport statements owned start entry
-  pub ordered : AllPairs (InOrder owned) entries
+pub record AreExports (statements : StarTargets) (explicit : ExplicitExports) (start : List ℕ) (entries : List ExportEntry) : Type 0 where
+  pub all : (entry : ExportEntry) → Contains entries entry ↔ IsExport statements explicit start entry
+  pub ordered : AllPairs (IsExportEntryBefore explicit) entries
 
--- a statement by its module and its position there
-abbrev pub Statement : Type 0
-Statement = List ℕ × ℕ
+-- a statement by its module and its index there
+abbrev pub StarPosition : Type 0
+StarPosition = List ℕ × ℕ
 
--- a statement of a module that is reached, which leads nowhere
-abbrev pub IsUnresolved : Statements → List ℕ → Statement → Type 0
-IsUnresolved statements start at = IsReached statements start at.0 × (at.1 < length (statements at.0)) × (statement_target statements at.0 at.1 ≡ None)
+-- a statement of a reachable module that resolves to no module
+abbrev pub IsUnresolvedStar : StarTargets → List ℕ → StarPosition → Type 0
+IsUnresolvedStar statements start at = IsReachedByStars statements start at.0 × (at.1 < length (statements at.0)) × (star_target_at statements at.0 at.1 ≡ None)
 
--- by the least chain to the module, followed by the position
-abbrev pub StatementsInOrder : Statements → List ℕ → Statement → Statement → Type 0
-StatementsInOrder statements start x y = (c d : List ℕ) → IsLeastChain statements start c x.0 → IsLeastChain statements start d y.0 → IsBefore (c ++ x.1 ∷ []) (d ++ y.1 ∷ [])
+-- in the order of the least chains to their modules, each followed by the index
+abbrev pub IsStarStatementBefore : StarTargets → List ℕ → StarPosition → StarPosition → Type 0
+IsStarStatementBefore statements start x y =
+    (c d : List ℕ) → IsLeastChain statements start c x.0 → IsLeastChain statements start d y.0 → IsChainBefore (c ++ x.1 ∷ []) (d ++ y.1 ∷ [])
 
--- the unresolved statements, in order
-pub record AreUnresolved (statements : Statements) (start : List ℕ) (found : List Statement) : Type 0 where
-  pub all : (at : Statement) → Contains found at ↔ IsUnresolved statements start at
-  pub ordered : AllPairs (StatementsInOrder statements start) found
+-- the unresolved statements of the reachable modules, in order
+pub record AreUnresolvedStars (statements : StarTargets) (start : List ℕ) (found : List StarPosition) : Type 0 where
+  pub all : (at : StarPosition) → Contains found at ↔ IsUnresolvedStar statements start at
+  pub ordered : AllPairs (IsStarStatementBefore statements start) found

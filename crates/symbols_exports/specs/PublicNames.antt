@@ -1,50 +1,53 @@
--- The names that a module gives to the world: what it exports, and what those symbols export themselves, as classes their statics and namespaces their exports. Nothing is followed.
+-- The public names of a module: its exports, and what their symbols themselves export, such as static members of a class. Nothing is
+-- followed.
 use Rattle.std.specs.Prelude.{◌≡◌, ℕ, ◌<◌, Bool, ◌||◌, not, List, ◌∷◌, length, map, filter, flat_map, Option, None, Some, option_map, string_bytes, codes}
 use Rattle.std.specs.Str.{bytes_eq}
-use Rattle.symbols_syntax.specs.declared.ids.ModuleId.{ModuleId}
-use Rattle.symbols_syntax.specs.declared.ids.SymbolId.{SymbolId}
-use Rattle.symbols_syntax.specs.Graph.{GraphView}
+use Rattle.symbols_ast.specs.declared.ids.ModuleId.{ModuleId}
+use Rattle.symbols_ast.specs.declared.ids.SymbolId.{SymbolId}
+use Rattle.symbols_ast.specs.Graph.{GraphView}
 use Rattle.symbols_table.specs.Changes.{exports_after}
-use Rattle.symbols_root.specs.GraphModules.{changes_under}
-use Rattle.symbols_root.specs.Roots.{RootView, specifier_in, all_stored}
-use Rattle.symbols_exports.specs.declared.exports.public.PublicName.{PublicName}
-use Rattle.symbols_exports.specs.Chains.{AreReached}
-use Rattle.symbols_exports.specs.Exports.{Entry}
-use Rattle.symbols_exports.specs.StarStatements.{statements_of}
-use Rattle.symbols_exports.specs.Ways.{exports_of}
+use Rattle.symbols_root.specs.GraphModules.{changes_of_module}
+use Rattle.symbols_root.specs.Roots.{RootView, specifier_in, with_stored_modules}
+use Rattle.symbols_exports.specs.declared.public_name.PublicName.{PublicName}
+use Rattle.symbols_exports.specs.Chains.{AreReachedByStars}
+use Rattle.symbols_exports.specs.Exports.{ExportEntry}
+use Rattle.symbols_exports.specs.StarStatements.{star_targets_of}
+use Rattle.symbols_exports.specs.Traces.{exports_of}
 
--- an exported name; with a member, a name that its symbol exports itself
-pub record NameItem : Type 0 where
+-- an exported name; with a member, a name that its symbol itself exports
+pub record PublicNameView : Type 0 where
   pub name : List ℕ
   pub member : Option (List ℕ)
 
-abbrev pub name_item : PublicName → NameItem
-name_item public = record { name = string_bytes public.name; member = option_map string_bytes public.member }
+abbrev pub public_name_view : PublicName → PublicNameView
+public_name_view public = record { name = string_bytes public.name; member = option_map string_bytes public.member }
 
--- constructors and index signatures are no names
-abbrev pub is_nameless : List ℕ → Bool
-is_nameless member = bytes_eq member (codes "%%dg_ctor%%") || bytes_eq member (codes "%%dg_index%%")
+-- whether the member is a constructor or an index signature, which have a name only in the symbol table
+abbrev pub is_constructor_or_index_signature : List ℕ → Bool
+is_constructor_or_index_signature member = bytes_eq member (codes "%%dg_ctor%%") || bytes_eq member (codes "%%dg_index%%")
 
--- what a symbol of a module exports itself
-abbrev pub exported_by : GraphView → List ℕ → SymbolId → List (List ℕ × SymbolId)
-exported_by graph specifier symbol = exports_after (changes_under graph specifier) symbol
+-- the exports of a symbol of a module itself
+abbrev pub exports_of_symbol : GraphView → List ℕ → SymbolId → List (List ℕ × SymbolId)
+exports_of_symbol graph specifier symbol = exports_after (changes_of_module graph specifier) symbol
 
--- one item for each export of a symbol, in order
-abbrev pub members_under : List ℕ → List (List ℕ × SymbolId) → List NameItem
-members_under name members = map (λ (member : List ℕ × SymbolId). record { name = name; member = Some member.0 }) (filter (λ (member : List ℕ × SymbolId). not (is_nameless member.0)) members)
+-- one item for each export of a symbol, in order; constructors and index signatures are left out
+abbrev pub member_name_views : List ℕ → List (List ℕ × SymbolId) → List PublicNameView
+member_name_views name members = map (λ (member : List ℕ × SymbolId). record { name = name; member = Some member.0 })
+    (filter (λ (member : List ℕ × SymbolId). not (is_constructor_or_index_signature member.0)) members)
 
--- the name without member, then those
-abbrev pub items_under : List ℕ → List (List ℕ × SymbolId) → List NameItem
-items_under name members = record { name = name; member = None } ∷ members_under name members
+-- the name without a member, then with each member
+abbrev pub name_with_members : List ℕ → List (List ℕ × SymbolId) → List PublicNameView
+name_with_members name members = record { name = name; member = None } ∷ member_name_views name members
 
--- so for each export of the module, in order
-abbrev pub public_names_of : GraphView → List ℕ → List NameItem
-public_names_of graph start = flat_map (λ (entry : Entry). items_under entry.name (exported_by graph entry.owner entry.symbol)) (exports_of graph start)
+-- the public names of a module: those of each export, in order
+abbrev pub public_names_of : GraphView → List ℕ → List PublicNameView
+public_names_of graph start = flat_map (λ (entry : ExportEntry). name_with_members entry.name (exports_of_symbol graph entry.exporter entry.symbol))
+    (exports_of graph start)
 
--- an answer: these names of the stored module of this number. The modules that are reached are stored then
-pub record IsNamesAnswer (old new : RootView) (start : ModuleId) (items : List NameItem) : Type 0 where
+-- `public_names` succeeds: the public names of the stored module of this number are returned, and all reachable modules are stored
+pub record IsPublicNamesAnswer (old new : RootView) (start : ModuleId) (items : List PublicNameView) : Type 0 where
   pub known : start.0 < length old.stored
   pub items_are : items ≡ public_names_of old.graph (specifier_in old start)
   pub reached : List (List ℕ × List ℕ)
-  pub are_reached : AreReached (statements_of old.graph) (specifier_in old start) reached
-  pub stored : new ≡ all_stored old (map (λ (m : List ℕ × List ℕ). m.1) reached)
+  pub are_reached : AreReachedByStars (star_targets_of old.graph) (specifier_in old start) reached
+  pub stored : new ≡ with_stored_modules old (map (λ (m : List ℕ × List ℕ). m.1) reached)

@@ -1,6 +1,6 @@
--- For inner functions and proofs alone: nothing in this folder has to be trusted.
-pub mod Taking
+-- Definitions for inner functions and proofs only: nothing in this directory has to be trusted.
+pub mod Collecting
 pub mod Sharing
-pub mod Wanted
+pub mod NameFilter
 pub mod OneName
 pub mod PublicNames

@@ -1,13 +1,13 @@
-//! Laws of the definitions, for the crates above. A function here does nothing: what holds is its
-//! contract.
+//! Laws of the definitions, for the crates above. The functions here do nothing: a law is the
+//! contract of a function.
 
 ghost use Rattle.std.specs.Prelude.{ℕ, List};
-ghost use Rattle.symbols_exports.specs.Answers.{AreListed};
+ghost use Rattle.symbols_exports.specs.ExportAnswers.{AreExportListsCorrectAndUnique};
 
-use symbols_root::root::RootSymbol;
+use symbols_root::RootSymbol;
 
-/// The lists of exports and of unresolved statements that can be computed are those of the
-/// definitions, whatever module they begin in.
+/// States that the computed lists of exports, unresolved statements and shared names are those of
+/// the definitions, for every module at which they begin.
 pub fn exports_are_listed(root: &RootSymbol<'_>)
-    ensures { (start : List ℕ) → AreListed root.now.graph start }
+    ensures { (start : List ℕ) → AreExportListsCorrectAndUnique root.now.graph start }
 {}

@@ -1,39 +1,39 @@
--- Assignments that add a property to a function: `f.p = ..` and `f["p"] = ..`.
+-- Expando assignments, which add a property to a function: `f.p = ..` and `f["p"] = ..`.
 use Rattle.std.specs.Prelude.{ℕ, Bool, true, false, ◌&&◌, ◌||◌, ◌==◌, if◌then◌else◌, List, [], ◌∷◌, Option, Some, None, string_bytes}
 use Rattle.std.specs.Option.{option_map_or, option_and_then}
 use Rattle.std.specs.List.{list_all}
 use Rattle.std.specs.Str.{chars}
 use Rattle.unicode_ident.specs.Ident.{is_xid_start, is_xid_continue}
-use Rattle.symbols_syntax.specs.declared.tree.kinds.Kind.{Kind}
-use Rattle.symbols_syntax.specs.declared.tree.kinds.Expr.TheVariants as Expr
-use Rattle.symbols_syntax.specs.ChildFields.{left_of, obj_of, prop_of, right_of, expr_of}
-use Rattle.symbols_syntax.specs.NodeRefs.{TreeNode, kind_of, child_of}
+use Rattle.symbols_ast.specs.declared.tree.kinds.Kind.{Kind}
+use Rattle.symbols_ast.specs.declared.tree.kinds.Expr.TheVariants as Expr
+use Rattle.symbols_ast.specs.ChildFields.{left_of, obj_of, prop_of, right_of, expr_of}
+use Rattle.symbols_ast.specs.NodeRefs.{TreeNode, kind_of, child_in_field}
 
--- `$`, `_` or a letter may start an identifier,
-abbrev pub may_start : ℕ → Bool
-may_start c = (c == 36) || (c == 95) || is_xid_start c
+-- An identifier may start with `$`, `_` or a letter.
+abbrev pub is_identifier_start : ℕ → Bool
+is_identifier_start c = (c == 36) || (c == 95) || is_xid_start c
 
--- and digits, marks and the two joiners may go on
-abbrev pub may_continue : ℕ → Bool
-may_continue c = (c == 36) || (c == 95) || (c == 8204) || (c == 8205) || is_xid_continue c
+-- It may continue with digits, combining marks and the two joiners too.
+abbrev pub is_identifier_part : ℕ → Bool
+is_identifier_part c = (c == 36) || (c == 95) || (c == 8204) || (c == 8205) || is_xid_continue c
 
--- characters that are an identifier, a reserved word too
+-- The characters are an identifier. A reserved word is one here.
 abbrev pub is_identifier : List ℕ → Bool
 is_identifier [] = false
-is_identifier (c ∷ cs) = may_start c && list_all may_continue cs
+is_identifier (c ∷ cs) = is_identifier_start c && list_all is_identifier_part cs
 
-abbrev pub is_plain : Kind → Bool
-is_plain (Kind.Expr (Expr.Assign plain _ _)) = plain
-is_plain _ = false
+abbrev pub is_simple_assignment : Kind → Bool
+is_simple_assignment (Kind.Expr (Expr.Assign is_simple _ _)) = is_simple
+is_simple_assignment _ = false
 
-abbrev pub string_text : Kind → Option (List ℕ)
-string_text (Kind.Expr (Expr.Str value)) = Some (string_bytes value)
-string_text _ = None
+abbrev pub str_literal_value : Kind → Option (List ℕ)
+str_literal_value (Kind.Expr (Expr.Str value)) = Some (string_bytes value)
+str_literal_value _ = None
 
--- the name after the dot, or the string in brackets
+-- The name after the dot, or the string in brackets.
 abbrev pub prop_text : TreeNode → Kind → Option (List ℕ)
 prop_text prop (Kind.Expr (Expr.IdentName name)) = Some (string_bytes name)
-prop_text prop (Kind.Expr (Expr.Computed _)) = option_and_then string_text (option_and_then kind_of (child_of prop expr_of))
+prop_text prop (Kind.Expr (Expr.Computed _)) = option_and_then str_literal_value (option_and_then kind_of (child_in_field prop expr_of))
 prop_text prop _ = None
 
 abbrev pub prop_name : TreeNode → Option (List ℕ)
@@ -43,7 +43,7 @@ abbrev pub is_ident : Kind → Bool
 is_ident (Kind.Expr (Expr.Ident _)) = true
 is_ident _ = false
 
--- the parts of such an assignment
+-- The parts of an expando assignment.
 pub record Expando : Type 0 where
   pub member : TreeNode
   pub object : TreeNode
@@ -51,22 +51,23 @@ pub record Expando : Type 0 where
   pub name : List ℕ
   pub right : TreeNode
 
--- the object is an identifier, and so is the name of its property
-abbrev pub expando_if : Expando → Option Expando
-expando_if expando = if option_map_or is_ident (kind_of expando.object) false && is_identifier (chars expando.name) then Some expando else None
+-- The assignment is an expando assignment if the object is an identifier, and so is the property's name.
+abbrev pub expando_if_valid : Expando → Option Expando
+expando_if_valid expando = if option_map_or is_ident (kind_of expando.object) false && is_identifier (chars expando.name) then Some expando else None
 
--- of the member expression on the left
-abbrev pub expando_of : TreeNode → TreeNode → Option Expando
-expando_of right member =
+-- The expando assignment of a member expression on the left and the expression on the right.
+abbrev pub expando_of_member_expr : TreeNode → TreeNode → Option Expando
+expando_of_member_expr right member =
     option_and_then (λ (object : TreeNode).
     option_and_then (λ (prop : TreeNode).
-    option_and_then (λ (name : List ℕ). expando_if (record { member = member; object = object; prop = prop; name = name; right = right })) (prop_name prop))
-    (child_of member prop_of))
-    (child_of member obj_of)
+    option_and_then (λ (name : List ℕ). expando_if_valid (record { member = member; object = object; prop = prop; name = name; right = right }))
+    (prop_name prop))
+    (child_in_field member prop_of))
+    (child_in_field member obj_of)
 
--- of a node that is such an assignment
-abbrev pub expando_in : TreeNode → Option Expando
-expando_in node =
-    if option_map_or is_plain (kind_of node) false
-    then option_and_then (λ (right : TreeNode). option_and_then (expando_of right) (child_of node left_of)) (child_of node right_of)
+-- The expando assignment that a node is, if it is one.
+abbrev pub expando_of_assignment : TreeNode → Option Expando
+expando_of_assignment node =
+    if option_map_or is_simple_assignment (kind_of node) false
+    then option_and_then (λ (right : TreeNode). option_and_then (expando_of_member_expr right) (child_in_field node left_of)) (child_in_field node right_of)
     else None

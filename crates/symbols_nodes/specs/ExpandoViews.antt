@@ -1,7 +1,7 @@
--- Properties that are assigned to a function, as contracts see them.
-use Rattle.symbols_syntax.specs.NodeRefs.{TreeNode, node_view}
+-- The view of expando properties that contracts use.
+use Rattle.symbols_ast.specs.NodeRefs.{TreeNode, node_view}
 use Rattle.symbols_nodes.specs.declared.nodes.refs.ExpandoPropertyRef.{ExpandoPropertyRef}
 
--- the assignment
-abbrev pub expando_node : ExpandoPropertyRef → TreeNode
-expando_node expando = node_view expando.inner
+-- The node of the assignment.
+abbrev pub expando_property_view : ExpandoPropertyRef → TreeNode
+expando_property_view expando = node_view expando.inner

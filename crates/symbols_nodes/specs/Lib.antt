@@ -7,10 +7,7 @@ pub mod NodeMembers
 pub mod NodeNamespaces
 pub mod Readings
 pub mod DottedNames
-pub mod Annotations
 pub mod References
-pub mod EdgeRules
-pub mod EdgeTable
-pub mod DepPaths
-pub mod Dependencies
+pub mod NameViews
+pub mod laws
 pub mod inner

@@ -1,17 +1,19 @@
--- Which nodes of declarations are members, and which of them are private.
+-- Tests of declaration nodes: members, and private members.
 use Rattle.std.specs.Prelude.{Bool, true, false, not, ◌||◌, Option, Some, None}
 use Rattle.std.specs.Option.{option_and_then, option_map_or}
-use Rattle.symbols_syntax.specs.NodeRefs.{TreeNode, kind_of, child_of}
-use Rattle.symbols_syntax.specs.ChildFields.{key_of}
-use Rattle.symbols_syntax.specs.declared.tree.kinds.Accessibility.{Accessibility}
-use Rattle.symbols_syntax.specs.declared.tree.kinds.Kind.{Kind}
-use Rattle.symbols_syntax.specs.declared.tree.kinds.Expr.TheVariants as Expr
-use Rattle.symbols_syntax.specs.declared.tree.kinds.Member.TheVariants as Member
-use Rattle.symbols_nodes.specs.NodeViews.{NodeView, auto_accessor, class_method, class_prop, class_param_prop, constructor, expando_property, ts_index_signature, ts_call_signature_decl, ts_construct_signature_decl, ts_property_signature, ts_getter_signature, ts_setter_signature, ts_method_signature}
+use Rattle.symbols_ast.specs.NodeRefs.{TreeNode, kind_of, child_in_field}
+use Rattle.symbols_ast.specs.ChildFields.{key_of}
+use Rattle.symbols_ast.specs.declared.tree.member_kinds.Accessibility.{Accessibility}
+use Rattle.symbols_ast.specs.declared.tree.kinds.Kind.{Kind}
+use Rattle.symbols_ast.specs.declared.tree.kinds.Expr.TheVariants as Expr
+use Rattle.symbols_ast.specs.declared.tree.kinds.Member.TheVariants as Member
+use Rattle.symbols_nodes.specs.NodeViews.{SymbolNodeView, auto_accessor, class_method, class_prop, class_param_prop, constructor}
+use Rattle.symbols_nodes.specs.NodeViews.{expando_property, ts_index_signature, ts_call_signature_decl, ts_construct_signature_decl}
+use Rattle.symbols_nodes.specs.NodeViews.{ts_property_signature, ts_getter_signature, ts_setter_signature, ts_method_signature}
 use Rattle.symbols_nodes.specs.NodeTests.{is_module}
 
--- a member of a class or an interface, or a property that is assigned to a function
-abbrev pub is_member_node : NodeView → Bool
+-- A member of a class or interface, or an expando property.
+abbrev pub is_member_node : SymbolNodeView → Bool
 is_member_node (auto_accessor _) = true
 is_member_node (class_method _) = true
 is_member_node (class_prop _) = true
@@ -27,11 +29,11 @@ is_member_node (ts_setter_signature _) = true
 is_member_node (ts_method_signature _) = true
 is_member_node _ = false
 
--- neither a module nor a member
-abbrev pub is_decl : NodeView → Bool
+-- Neither the module nor a member.
+abbrev pub is_decl : SymbolNodeView → Bool
 is_decl node = not (is_module node || is_member_node node)
 
--- who may reach a member of a class, where that is written
+-- The accessibility modifier of a class member, if one is written.
 abbrev pub accessibility_of : Kind → Option Accessibility
 accessibility_of (Kind.Member (Member.Constructor _ _ accessibility)) = accessibility
 accessibility_of (Kind.Member (Member.TsParamProp _ accessibility)) = accessibility
@@ -40,27 +42,27 @@ accessibility_of (Kind.Member (Member.ClassProp _ _ _ _ accessibility)) = access
 accessibility_of (Kind.Member (Member.AutoAccessor _ _ _ _ accessibility)) = accessibility
 accessibility_of _ = None
 
-abbrev pub is_private : Option Accessibility → Bool
-is_private (Some Accessibility.Private) = true
-is_private _ = false
+abbrev pub is_private_accessibility : Option Accessibility → Bool
+is_private_accessibility (Some Accessibility.Private) = true
+is_private_accessibility _ = false
 
--- `private` is written before the node
-abbrev pub is_marked_private : TreeNode → Bool
-is_marked_private node = is_private (option_and_then accessibility_of (kind_of node))
+-- The node has the modifier `private`.
+abbrev pub has_private_modifier : TreeNode → Bool
+has_private_modifier node = is_private_accessibility (option_and_then accessibility_of (kind_of node))
 
 abbrev pub is_private_name : Kind → Bool
 is_private_name (Kind.Expr (Expr.PrivateName _)) = true
 is_private_name _ = false
 
--- the node's key is a name with `#`
+-- The node's key is a private name, written with `#`.
 abbrev pub has_private_name : TreeNode → Bool
-has_private_name node = option_map_or is_private_name (option_and_then kind_of (child_of node key_of)) false
+has_private_name node = option_map_or is_private_name (option_and_then kind_of (child_in_field node key_of)) false
 
--- a member of a class before which `private` is written, or an accessor with a private name
-abbrev pub is_private_member : NodeView → Bool
-is_private_member (auto_accessor node) = is_marked_private node || has_private_name node
-is_private_member (class_method node) = is_marked_private node
-is_private_member (class_prop node) = is_marked_private node
-is_private_member (class_param_prop node) = is_marked_private node
-is_private_member (constructor node) = is_marked_private node
+-- A class member with the modifier `private`, or an auto-accessor with a private name.
+abbrev pub is_private_member : SymbolNodeView → Bool
+is_private_member (auto_accessor node) = has_private_modifier node || has_private_name node
+is_private_member (class_method node) = has_private_modifier node
+is_private_member (class_prop node) = has_private_modifier node
+is_private_member (class_param_prop node) = has_private_modifier node
+is_private_member (constructor node) = has_private_modifier node
 is_private_member _ = false

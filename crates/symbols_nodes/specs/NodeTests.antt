@@ -1,69 +1,71 @@
--- What holds of the node of a declaration.
+-- Tests of declaration nodes by their kinds.
 use Rattle.std.specs.Prelude.{Bool, true, false, is_some, Option, Some}
 use Rattle.std.specs.Option.{option_and_then, option_map_or}
-use Rattle.symbols_syntax.specs.NodeRefs.{TreeNode, kind_of, child_of}
-use Rattle.symbols_syntax.specs.ChildFields.{function_of, body_node_of, decl_of}
-use Rattle.symbols_syntax.specs.declared.tree.kinds.Kind.{Kind}
-use Rattle.symbols_syntax.specs.declared.tree.kinds.Decl.TheVariants as Decl
-use Rattle.symbols_syntax.specs.declared.tree.kinds.Member.TheVariants as Member
-use Rattle.symbols_syntax.specs.declared.tree.kinds.MethodKind.TheVariants as MethodKind
-use Rattle.symbols_nodes.specs.NodeViews.{ExportDeclView, NodeView, exported_class, exported_fn, exported_var, exported_ts_enum, exported_ts_interface, exported_ts_module, exported_ts_type_alias, program, export_decl, export_default_decl, export_default_expr, class_decl, fn_decl, ts_enum, ts_interface, ts_namespace, var, class_method, constructor}
+use Rattle.symbols_ast.specs.NodeRefs.{TreeNode, kind_of, child_in_field}
+use Rattle.symbols_ast.specs.ChildFields.{function_of, body_node_of, decl_of}
+use Rattle.symbols_ast.specs.declared.tree.kinds.Kind.{Kind}
+use Rattle.symbols_ast.specs.declared.tree.kinds.Decl.TheVariants as Decl
+use Rattle.symbols_ast.specs.declared.tree.kinds.Member.TheVariants as Member
+use Rattle.symbols_ast.specs.declared.tree.member_kinds.MethodKind.TheVariants as MethodKind
+use Rattle.symbols_nodes.specs.NodeViews.{ExportDeclView, SymbolNodeView, exported_class, exported_fn, exported_var, exported_ts_enum, exported_ts_interface}
+use Rattle.symbols_nodes.specs.NodeViews.{exported_ts_module, exported_ts_type_alias, program, export_decl, export_default_decl, export_default_expr}
+use Rattle.symbols_nodes.specs.NodeViews.{class_decl, fn_decl, ts_enum, ts_interface, ts_namespace, var, class_method, constructor}
 
--- what holds of the kind of the declaration after `export default`
-abbrev pub default_test : (Kind → Bool) → TreeNode → Bool
-default_test test node = option_map_or test (option_and_then kind_of (child_of node decl_of)) false
+-- A test of the kind of the declaration after `export default`; false without a declaration.
+abbrev pub default_decl_satisfies : (Kind → Bool) → TreeNode → Bool
+default_decl_satisfies test node = option_map_or test (option_and_then kind_of (child_in_field node decl_of)) false
 
-abbrev pub is_class_kind : Kind → Bool
-is_class_kind (Kind.Decl (Decl.ClassExpr _ _)) = true
-is_class_kind _ = false
+abbrev pub is_class_expr : Kind → Bool
+is_class_expr (Kind.Decl (Decl.ClassExpr _ _)) = true
+is_class_expr _ = false
 
-abbrev pub is_function_kind : Kind → Bool
-is_function_kind (Kind.Decl (Decl.FnExpr _ _)) = true
-is_function_kind _ = false
+abbrev pub is_fn_expr : Kind → Bool
+is_fn_expr (Kind.Decl (Decl.FnExpr _ _)) = true
+is_fn_expr _ = false
 
-abbrev pub is_interface_kind : Kind → Bool
-is_interface_kind (Kind.Decl (Decl.TsInterfaceDecl _ _ _ _)) = true
-is_interface_kind _ = false
+abbrev pub is_interface_decl : Kind → Bool
+is_interface_decl (Kind.Decl (Decl.TsInterfaceDecl _ _ _ _)) = true
+is_interface_decl _ = false
 
 abbrev pub is_exported_class : ExportDeclView → Bool
 is_exported_class (exported_class _) = true
 is_exported_class _ = false
 
--- a class: plain, exported or default
-abbrev pub is_class : NodeView → Bool
+-- A class: without `export`, exported, or default.
+abbrev pub is_class : SymbolNodeView → Bool
 is_class (class_decl _) = true
 is_class (export_decl _ exported) = is_exported_class exported
-is_class (export_default_decl node) = default_test is_class_kind node
+is_class (export_default_decl node) = default_decl_satisfies is_class_expr node
 is_class _ = false
 
 abbrev pub is_exported_function : ExportDeclView → Bool
 is_exported_function (exported_fn _) = true
 is_exported_function _ = false
 
--- a function: plain, exported or default
-abbrev pub is_function : NodeView → Bool
+-- A function: without `export`, exported, or default.
+abbrev pub is_function : SymbolNodeView → Bool
 is_function (fn_decl _) = true
 is_function (export_decl _ exported) = is_exported_function exported
-is_function (export_default_decl node) = default_test is_function_kind node
+is_function (export_default_decl node) = default_decl_satisfies is_fn_expr node
 is_function _ = false
 
 abbrev pub is_exported_interface : ExportDeclView → Bool
 is_exported_interface (exported_ts_interface _) = true
 is_exported_interface _ = false
 
--- an interface: plain, exported or default
-abbrev pub is_interface : NodeView → Bool
+-- An interface: without `export`, exported, or default.
+abbrev pub is_interface : SymbolNodeView → Bool
 is_interface (ts_interface _) = true
 is_interface (export_decl _ exported) = is_exported_interface exported
-is_interface (export_default_decl node) = default_test is_interface_kind node
+is_interface (export_default_decl node) = default_decl_satisfies is_interface_decl node
 is_interface _ = false
 
 abbrev pub is_exported_ts_namespace : ExportDeclView → Bool
 is_exported_ts_namespace (exported_ts_module _) = true
 is_exported_ts_namespace _ = false
 
--- a namespace: plain or exported
-abbrev pub is_ts_namespace : NodeView → Bool
+-- A namespace, exported or not.
+abbrev pub is_ts_namespace : SymbolNodeView → Bool
 is_ts_namespace (ts_namespace _) = true
 is_ts_namespace (export_decl _ exported) = is_exported_ts_namespace exported
 is_ts_namespace _ = false
@@ -72,34 +74,34 @@ abbrev pub is_exported_var : ExportDeclView → Bool
 is_exported_var (exported_var _ _ _) = true
 is_exported_var _ = false
 
--- a variable of `var`, `let` or `const`: plain or exported
-abbrev pub is_var : NodeView → Bool
+-- A variable of `var`, `let` or `const`, exported or not.
+abbrev pub is_var : SymbolNodeView → Bool
 is_var (var _ _ _) = true
 is_var (export_decl _ exported) = is_exported_var exported
 is_var _ = false
 
-abbrev pub is_ctor : NodeView → Bool
+abbrev pub is_ctor : SymbolNodeView → Bool
 is_ctor (constructor _) = true
 is_ctor _ = false
 
-abbrev pub is_module : NodeView → Bool
+abbrev pub is_module : SymbolNodeView → Bool
 is_module (program _) = true
 is_module _ = false
 
--- a declaration or an expression after `export` or `export default`
-abbrev pub has_export_keyword : NodeView → Bool
+-- A declaration or an expression after `export` or `export default`.
+abbrev pub has_export_keyword : SymbolNodeView → Bool
 has_export_keyword (export_decl _ _) = true
 has_export_keyword (export_default_decl _) = true
 has_export_keyword (export_default_expr _) = true
 has_export_keyword _ = false
 
--- the node itself has a body, as a namespace or a constructor may
-abbrev pub has_own_body : TreeNode → Bool
-has_own_body node = is_some (child_of node body_node_of)
+-- The node itself has a body, as a namespace or a constructor may have.
+abbrev pub has_direct_body : TreeNode → Bool
+has_direct_body node = is_some (child_in_field node body_node_of)
 
--- the function of the node has a body
+-- The function of the node has a body.
 abbrev pub has_function_body : TreeNode → Bool
-has_function_body node = option_map_or has_own_body (child_of node function_of) false
+has_function_body node = option_map_or has_direct_body (child_in_field node function_of) false
 
 abbrev pub exported_has_body : ExportDeclView → Bool
 exported_has_body (exported_class _) = true
@@ -107,7 +109,7 @@ exported_has_body (exported_fn node) = has_function_body node
 exported_has_body (exported_var _ _ _) = false
 exported_has_body (exported_ts_enum _) = true
 exported_has_body (exported_ts_interface _) = true
-exported_has_body (exported_ts_module node) = has_own_body node
+exported_has_body (exported_ts_module node) = has_direct_body node
 exported_has_body (exported_ts_type_alias _) = false
 
 abbrev pub default_has_body : TreeNode → Option Kind → Bool
@@ -116,26 +118,26 @@ default_has_body node (Some (Kind.Decl (Decl.ClassExpr _ _))) = true
 default_has_body node (Some (Kind.Decl (Decl.TsInterfaceDecl _ _ _ _))) = true
 default_has_body node _ = false
 
--- it has a body: modules, classes, enums and interfaces always, functions, namespaces, methods and constructors where one stands
-abbrev pub has_body : NodeView → Bool
+-- Modules, classes, enums and interfaces always have a body. Functions, namespaces, methods and constructors have one if it is written.
+abbrev pub has_body : SymbolNodeView → Bool
 has_body (program _) = true
 has_body (export_decl _ exported) = exported_has_body exported
-has_body (export_default_decl node) = option_map_or (λ decl. default_has_body decl (kind_of decl)) (child_of node decl_of) false
+has_body (export_default_decl node) = option_map_or (λ decl. default_has_body decl (kind_of decl)) (child_in_field node decl_of) false
 has_body (class_decl _) = true
 has_body (ts_enum _) = true
 has_body (ts_interface _) = true
 has_body (fn_decl node) = has_function_body node
 has_body (class_method node) = has_function_body node
-has_body (ts_namespace node) = has_own_body node
-has_body (constructor node) = has_own_body node
+has_body (ts_namespace node) = has_direct_body node
+has_body (constructor node) = has_direct_body node
 has_body _ = false
 
 abbrev pub is_method_kind : Kind → Bool
 is_method_kind (Kind.Member (Member.ClassMethod _ _ MethodKind.Method _ _)) = true
 is_method_kind _ = false
 
--- a method that is no getter and no setter, or a constructor
-abbrev pub is_method : NodeView → Bool
+-- A constructor, or a method other than a getter or setter.
+abbrev pub is_method : SymbolNodeView → Bool
 is_method (class_method node) = option_map_or is_method_kind (kind_of node) false
 is_method (constructor _) = true
 is_method _ = false

@@ -1,12 +1,13 @@
--- Declarations as nodes, as contracts see them: nodes of a tree by their numbers.
+-- The views of declaration nodes that contracts use: nodes of a tree by their numbers. `symbols_table` calls such a view the form of a
+-- declaration.
 use Rattle.std.specs.Prelude.{List, [], ◌∷◌, Option, slice_get}
 use Rattle.std.specs.Option.{option_map}
-use Rattle.symbols_syntax.specs.declared.tree.arena.Tree.{Tree}
-use Rattle.symbols_syntax.specs.NodeRefs.{TreeNode, node_view}
+use Rattle.symbols_ast.specs.declared.tree.arena.Tree.{Tree}
+use Rattle.symbols_ast.specs.NodeRefs.{TreeNode, node_view}
 use Rattle.symbols_nodes.specs.declared.nodes.refs.ExportDeclRef.{ExportDeclRef}
 use Rattle.symbols_nodes.specs.declared.nodes.refs.SymbolNodeRef.{SymbolNodeRef}
 
--- the declaration after `export`
+-- The declaration after `export`.
 pub data ExportDeclView : Type 0 where
   exported_class : TreeNode → ExportDeclView
   exported_fn : TreeNode → ExportDeclView
@@ -16,32 +17,32 @@ pub data ExportDeclView : Type 0 where
   exported_ts_module : TreeNode → ExportDeclView
   exported_ts_type_alias : TreeNode → ExportDeclView
 
-pub data NodeView : Type 0 where
-  program : TreeNode → NodeView
-  export_decl : TreeNode → ExportDeclView → NodeView
-  export_default_decl : TreeNode → NodeView
-  export_default_expr : TreeNode → NodeView
-  class_decl : TreeNode → NodeView
-  fn_decl : TreeNode → NodeView
-  ts_enum : TreeNode → NodeView
-  ts_interface : TreeNode → NodeView
-  ts_namespace : TreeNode → NodeView
-  ts_type_alias : TreeNode → NodeView
-  var : TreeNode → TreeNode → TreeNode → NodeView
-  using_var : TreeNode → TreeNode → TreeNode → NodeView
-  auto_accessor : TreeNode → NodeView
-  class_method : TreeNode → NodeView
-  class_prop : TreeNode → NodeView
-  class_param_prop : TreeNode → NodeView
-  constructor : TreeNode → NodeView
-  expando_property : TreeNode → NodeView
-  ts_index_signature : TreeNode → NodeView
-  ts_call_signature_decl : TreeNode → NodeView
-  ts_construct_signature_decl : TreeNode → NodeView
-  ts_property_signature : TreeNode → NodeView
-  ts_getter_signature : TreeNode → NodeView
-  ts_setter_signature : TreeNode → NodeView
-  ts_method_signature : TreeNode → NodeView
+pub data SymbolNodeView : Type 0 where
+  program : TreeNode → SymbolNodeView
+  export_decl : TreeNode → ExportDeclView → SymbolNodeView
+  export_default_decl : TreeNode → SymbolNodeView
+  export_default_expr : TreeNode → SymbolNodeView
+  class_decl : TreeNode → SymbolNodeView
+  fn_decl : TreeNode → SymbolNodeView
+  ts_enum : TreeNode → SymbolNodeView
+  ts_interface : TreeNode → SymbolNodeView
+  ts_namespace : TreeNode → SymbolNodeView
+  ts_type_alias : TreeNode → SymbolNodeView
+  var : TreeNode → TreeNode → TreeNode → SymbolNodeView
+  using_var : TreeNode → TreeNode → TreeNode → SymbolNodeView
+  auto_accessor : TreeNode → SymbolNodeView
+  class_method : TreeNode → SymbolNodeView
+  class_prop : TreeNode → SymbolNodeView
+  class_param_prop : TreeNode → SymbolNodeView
+  constructor : TreeNode → SymbolNodeView
+  expando_property : TreeNode → SymbolNodeView
+  ts_index_signature : TreeNode → SymbolNodeView
+  ts_call_signature_decl : TreeNode → SymbolNodeView
+  ts_construct_signature_decl : TreeNode → SymbolNodeView
+  ts_property_signature : TreeNode → SymbolNodeView
+  ts_getter_signature : TreeNode → SymbolNodeView
+  ts_setter_signature : TreeNode → SymbolNodeView
+  ts_method_signature : TreeNode → SymbolNodeView
 
 abbrev pub export_decl_view : ExportDeclRef → ExportDeclView
 export_decl_view (ExportDeclRef.Class node) = exported_class (node_view node)
@@ -52,7 +53,7 @@ export_decl_view (ExportDeclRef.TsInterface node) = exported_ts_interface (node_
 export_decl_view (ExportDeclRef.TsModule node) = exported_ts_module (node_view node)
 export_decl_view (ExportDeclRef.TsTypeAlias node) = exported_ts_type_alias (node_view node)
 
-abbrev pub symbol_node_view : SymbolNodeRef → NodeView
+abbrev pub symbol_node_view : SymbolNodeRef → SymbolNodeView
 symbol_node_view (SymbolNodeRef.Module node) = program (node_view node)
 symbol_node_view (SymbolNodeRef.ExportDecl export exported) = export_decl (node_view export) (export_decl_view exported)
 symbol_node_view (SymbolNodeRef.ExportDefaultDecl node) = export_default_decl (node_view node)
@@ -79,44 +80,44 @@ symbol_node_view (SymbolNodeRef.TsGetterSignature node) = ts_getter_signature (n
 symbol_node_view (SymbolNodeRef.TsSetterSignature node) = ts_setter_signature (node_view node)
 symbol_node_view (SymbolNodeRef.TsMethodSignature node) = ts_method_signature (node_view node)
 
--- the nodes that a declaration after `export` is made of
-abbrev pub exported_nodes : ExportDeclView → List TreeNode
-exported_nodes (exported_class node) = node ∷ []
-exported_nodes (exported_fn node) = node ∷ []
-exported_nodes (exported_var decl declarator ident) = decl ∷ declarator ∷ ident ∷ []
-exported_nodes (exported_ts_enum node) = node ∷ []
-exported_nodes (exported_ts_interface node) = node ∷ []
-exported_nodes (exported_ts_module node) = node ∷ []
-exported_nodes (exported_ts_type_alias node) = node ∷ []
+-- The nodes that a declaration after `export` consists of.
+abbrev pub export_decl_nodes : ExportDeclView → List TreeNode
+export_decl_nodes (exported_class node) = node ∷ []
+export_decl_nodes (exported_fn node) = node ∷ []
+export_decl_nodes (exported_var decl declarator ident) = decl ∷ declarator ∷ ident ∷ []
+export_decl_nodes (exported_ts_enum node) = node ∷ []
+export_decl_nodes (exported_ts_interface node) = node ∷ []
+export_decl_nodes (exported_ts_module node) = node ∷ []
+export_decl_nodes (exported_ts_type_alias node) = node ∷ []
 
--- the nodes that a declaration is made of
-abbrev pub nodes_of : NodeView → List TreeNode
-nodes_of (program node) = node ∷ []
-nodes_of (export_decl node decl) = node ∷ exported_nodes decl
-nodes_of (export_default_decl node) = node ∷ []
-nodes_of (export_default_expr node) = node ∷ []
-nodes_of (class_decl node) = node ∷ []
-nodes_of (fn_decl node) = node ∷ []
-nodes_of (ts_enum node) = node ∷ []
-nodes_of (ts_interface node) = node ∷ []
-nodes_of (ts_namespace node) = node ∷ []
-nodes_of (ts_type_alias node) = node ∷ []
-nodes_of (var decl declarator ident) = decl ∷ declarator ∷ ident ∷ []
-nodes_of (using_var decl declarator ident) = decl ∷ declarator ∷ ident ∷ []
-nodes_of (auto_accessor node) = node ∷ []
-nodes_of (class_method node) = node ∷ []
-nodes_of (class_prop node) = node ∷ []
-nodes_of (class_param_prop node) = node ∷ []
-nodes_of (constructor node) = node ∷ []
-nodes_of (expando_property node) = node ∷ []
-nodes_of (ts_index_signature node) = node ∷ []
-nodes_of (ts_call_signature_decl node) = node ∷ []
-nodes_of (ts_construct_signature_decl node) = node ∷ []
-nodes_of (ts_property_signature node) = node ∷ []
-nodes_of (ts_getter_signature node) = node ∷ []
-nodes_of (ts_setter_signature node) = node ∷ []
-nodes_of (ts_method_signature node) = node ∷ []
+-- The nodes that a declaration consists of.
+abbrev pub decl_nodes : SymbolNodeView → List TreeNode
+decl_nodes (program node) = node ∷ []
+decl_nodes (export_decl node decl) = node ∷ export_decl_nodes decl
+decl_nodes (export_default_decl node) = node ∷ []
+decl_nodes (export_default_expr node) = node ∷ []
+decl_nodes (class_decl node) = node ∷ []
+decl_nodes (fn_decl node) = node ∷ []
+decl_nodes (ts_enum node) = node ∷ []
+decl_nodes (ts_interface node) = node ∷ []
+decl_nodes (ts_namespace node) = node ∷ []
+decl_nodes (ts_type_alias node) = node ∷ []
+decl_nodes (var decl declarator ident) = decl ∷ declarator ∷ ident ∷ []
+decl_nodes (using_var decl declarator ident) = decl ∷ declarator ∷ ident ∷ []
+decl_nodes (auto_accessor node) = node ∷ []
+decl_nodes (class_method node) = node ∷ []
+decl_nodes (class_prop node) = node ∷ []
+decl_nodes (class_param_prop node) = node ∷ []
+decl_nodes (constructor node) = node ∷ []
+decl_nodes (expando_property node) = node ∷ []
+decl_nodes (ts_index_signature node) = node ∷ []
+decl_nodes (ts_call_signature_decl node) = node ∷ []
+decl_nodes (ts_construct_signature_decl node) = node ∷ []
+decl_nodes (ts_property_signature node) = node ∷ []
+decl_nodes (ts_getter_signature node) = node ∷ []
+decl_nodes (ts_setter_signature node) = node ∷ []
+decl_nodes (ts_method_signature node) = node ∷ []
 
--- the tree of the first of these nodes, which each declaration has
-abbrev pub tree_of_node : NodeView → Option Tree
-tree_of_node node = option_map (λ (first : TreeNode). first.tree) (slice_get (nodes_of node) 0)
+-- The tree of the first of these nodes, which every declaration has.
+abbrev pub tree_of_node : SymbolNodeView → Option Tree
+tree_of_node node = option_map (λ (first : TreeNode). first.tree) (slice_get (decl_nodes node) 0)

@@ -1,15 +1,10 @@
-//! Dependencies: what the tree of a declaration refers to.
+//! References in the syntax tree of a declaration, and dotted names.
 
-mod annotations;
 mod dep;
 mod dotted_names;
-mod edge_table;
-mod known;
-mod node_deps;
-mod references;
-mod rules;
-mod starts;
-mod visit;
 
 pub use dep::{ReferenceNamespace, ResolveDepsMode, SymbolNodeDep};
-pub use dotted_names::{EntityName, entity_name};
+pub use dotted_names::{
+    EntityName, MemberExprName, Part, entity_name, member_expr_name, node_of_greater_number,
+    prop_part_below,
+};

@@ -1,7 +1,9 @@
-//! Declarations as nodes of a tree: their forms, what holds of them, and what they depend on.
+//! Declarations as nodes of a syntax tree: their names, namespaces and tests, and what a reference
+//! is.
 //!
-//! Marks say where a rule comes from: '(as deno_graph)' where it is that of Deno's crate of this
-//! name, '(own rule)' where this library sets it.
+//! Marks say where a rule comes from. '(as deno_graph)' marks a rule of Deno's crate deno_graph,
+//! '(extension)' one that this library adds, '(own name ..)' a function that deno_graph has
+//! elsewhere.
 #![tactic(auto)]
 
 pub mod deps;

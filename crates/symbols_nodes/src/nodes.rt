@@ -1,4 +1,4 @@
-//! The nodes of declarations.
+//! The syntax nodes of declarations, in the roles in which they declare symbols.
 
 mod expando;
 mod member_tests;

@@ -1,140 +1,183 @@
--- What a search of its own answers.
-use Rattle.std.proofs.Common.{◌≡◌, ◌≢◌, ℕ, ◌<◌, ◌≤◌, ◌^◌, true, false, List, [], ◌∷◌, length, Option, None, Some, option_map, option_copied, slice_get, inr, sym, ap, subst, ◌∙◌, arith}
+-- The paths that a query's own search returns are those of the contract.
+use Rattle.std.proofs.Common.{◌≡◌, ◌≢◌, ℕ, ◌<◌, ◌≤◌, ◌^◌, true, false, List, [], ◌∷◌, length, Option, None}
+use Rattle.std.proofs.Common.{Some, option_map, option_copied, slice_get, inr, sym, ap, subst, ◌∙◌, arith}
 use Rattle.std.specs.Prelude.{is_some, Contains}
 use Rattle.std.specs.Borrow.{Bor}
 use Rattle.std.proofs.lemmas.List.{length-map}
-use Rattle.symbols_syntax.specs.declared.ids.ModuleId.{ModuleId}
-use Rattle.symbols_syntax.specs.declared.ids.SymbolId.{SymbolId}
-use Rattle.symbols_syntax.specs.declared.ids.UniqueSymbolId.{UniqueSymbolId}
-use Rattle.symbols_syntax.specs.Graph.{GraphView}
+use Rattle.symbols_ast.specs.declared.ids.ModuleId.{ModuleId}
+use Rattle.symbols_ast.specs.declared.ids.SymbolId.{SymbolId}
+use Rattle.symbols_ast.specs.declared.ids.UniqueSymbolId.{UniqueSymbolId}
+use Rattle.symbols_ast.specs.Graph.{GraphView}
 use Rattle.symbols_table.specs.declared.decl.symbol.Symbol.{Symbol}
 use Rattle.symbols_table.specs.declared.info.fault.SymbolsFault.TheVariants.{OutOfMemory}
-use Rattle.symbols_table.specs.Modules.{Table}
+use Rattle.symbols_table.specs.Modules.{SymbolTable}
 use Rattle.symbols_table.specs.SymbolViews.{symbol_view}
-use Rattle.symbols_root.specs.declared.root.rules.Rules.{Rules}
+use Rattle.symbols_root.specs.declared.rules.Rules.{Rules}
 use Rattle.symbols_root.specs.Roots.{RootView, IsStoredTable, specifier_in}
 use Rattle.symbols_root.specs.Growing.{HasGrown}
-use Rattle.symbols_root.specs.laws.Growing.{grown_not, same_specifier}
-use Rattle.symbols_root.specs.laws.StoredTables.{stored_symbol}
-use Rattle.symbols_paths.specs.declared.paths.trail.Trail.{Trail}
-use Rattle.symbols_paths.specs.Trees.{NamedSymbol, NamedDecl, Parts, Leaf, Forest, leaves_in}
-use Rattle.symbols_paths.specs.PartLeads.{Routes, routes_of, routes_in}
-use Rattle.symbols_paths.specs.Reach.{IsNearLeaf, GivesUnder}
-use Rattle.symbols_paths.specs.Searches.{IsFirstLeaf, IsFirstWalk}
-use Rattle.symbols_paths.specs.Searches as searches
-use Rattle.symbols_paths.specs.Choice.{Finds, Walks, no_parts, under, Changes}
-use Rattle.symbols_paths.specs.Computed.{search_limit, paths_under, paths_of}
-use Rattle.symbols_paths.specs.Views.{named_in}
-use Rattle.symbols_paths.specs.inner.Views.{symbol_told}
-use Rattle.symbols_paths.specs.inner.Trails.{trails_told, modules_of_trails}
-use Rattle.symbols_paths.specs.inner.Searching.{met_told, HasSearched, IsFound, IsFoundUnder}
-use Rattle.symbols_paths.specs.Answers.{ArePathsUnder, ArePaths, ArePathsFor, symbol_in_root, IsPathsFault}
-use Rattle.symbols_paths.proofs.Growing.{same_links}
-use Rattle.symbols_paths.proofs.Deriving.{finds_derived, walks_derived}
+use Rattle.symbols_root.specs.laws.Growing.{has_grown_refl, specifier_unchanged_by_growth}
+use Rattle.symbols_root.specs.laws.StoredTables.{stored_table_has_module_symbols}
+use Rattle.symbols_paths.specs.declared.path_builder.PathBuilder.{PathBuilder}
+use Rattle.symbols_paths.specs.PathTrees.{SymbolBySpecifier, DeclBySpecifier, QualifiedNameParts, PathLeaf, PathForest, leaves_of_forest}
+use Rattle.symbols_paths.specs.PartTargets.{SearchRoutes, routes_of, routes_of_root}
+use Rattle.symbols_paths.specs.FirstReach.{IsFirstCandidateLeaf, ReplacesLeafWithParts}
+use Rattle.symbols_paths.specs.AliasSearches.{IsLeafByFirstCandidates, IsLeafByFirstCandidatesWithParts}
+use Rattle.symbols_paths.specs.AliasSearches as searches
+use Rattle.symbols_paths.specs.Choice.{FindsPaths, ResolvesParts, no_parts, under, ReplacesDefinitions}
+use Rattle.symbols_paths.specs.Computed.{search_limit, paths_with_parts, definition_paths_of}
+use Rattle.symbols_paths.specs.Views.{symbol_by_specifier}
+use Rattle.symbols_paths.specs.inner.Views.{symbol_of_unique_id}
+use Rattle.symbols_paths.specs.inner.PathBuilders.{built_paths, modules_of_builders}
+use Rattle.symbols_paths.specs.inner.SearchSteps.{symbols_of_unique_ids, HasSearched, ArePathsFoundForSymbol, ArePathsFoundWithParts}
+use Rattle.symbols_paths.specs.Answers.{ArePathsWithParts, AreDefinitionPaths, ArePathsFor, symbol_in_root, IsPathsFault}
+use Rattle.symbols_paths.proofs.GrownRoots.{same_links}
+use Rattle.symbols_paths.proofs.ChosenDerived.{finds_derived, walks_derived}
 use Rattle.symbols_paths.proofs.Leaves.{finds_leaf, walks_leaf, changes_gives}
-use Rattle.symbols_paths.proofs.Covers.{near_given}
-use Rattle.symbols_paths.proofs.Repeats.{given_once}
-use Rattle.symbols_paths.proofs.Parts.{part_last}
-use Rattle.symbols_paths.proofs.Computing.{walks_computed}
+use Rattle.symbols_paths.proofs.FirstReachCovered.{near_given}
+use Rattle.symbols_paths.proofs.NoRepeats.{given_once}
+use Rattle.symbols_paths.proofs.UnresolvedLast.{part_last}
+use Rattle.symbols_paths.proofs.ChosenComputed.{walks_computed}
 use Rattle.symbols_paths.proofs.Lossless.{no_leaf_lost}
-use Rattle.symbols_paths.proofs.Plain.{plain_apart, plain_rest, one_rest_without_parts}
+use Rattle.symbols_paths.proofs.WithoutAlias.{without_alias_apart, without_alias_remaining, one_remaining_without_parts}
 
--- what a walk is made of
-found_in : {routes : Routes} {limit : ℕ} {running : List NamedDecl} {met after : List NamedSymbol} {s : NamedSymbol} {f : Forest} → Walks routes limit running met s [] f after → Finds routes limit running met s f after
+-- inversion: a search under parts is a search of the symbol, and the replacement of its definitions
+found_in : {routes : SearchRoutes} {limit : ℕ} {running : List DeclBySpecifier} {visited after : List SymbolBySpecifier} {s : SymbolBySpecifier}
+    {f : PathForest}
+    → ResolvesParts routes limit running visited s [] f after → FindsPaths routes limit running visited s f after
 found_in (no_parts x) = x
 
-changed_in : {routes : Routes} {limit : ℕ} {running : List NamedDecl} {met after : List NamedSymbol} {s : NamedSymbol} {p : List ℕ} {ps : Parts} {g : Forest} → Walks routes limit running met s (p ∷ ps) g after → (mid : List NamedSymbol) × ((f : Forest) × (Finds routes limit running met s f mid × Changes routes limit running mid p ps f g after))
+changed_in : {routes : SearchRoutes} {limit : ℕ} {running : List DeclBySpecifier} {visited after : List SymbolBySpecifier} {s : SymbolBySpecifier} {p : List ℕ}
+    {ps : QualifiedNameParts}
+    {g : PathForest} → ResolvesParts routes limit running visited s (p ∷ ps) g after → (mid : List SymbolBySpecifier)
+    × ((f : PathForest) × (FindsPaths routes limit running visited s f mid × ReplacesDefinitions routes limit running mid p ps f g after))
 changed_in (under {mid = mid} {f = f} x y) = (mid, (f, (x, y)))
 
--- what each leaf of first reach comes to
-first_given : (rules : Rules) (graph : GraphView) (limit : ℕ) (s : NamedSymbol) (ps : Parts) (f : Forest) (after : List NamedSymbol) → Walks (routes_of rules graph) limit [] [] s ps f after → (x y : Leaf) → IsNearLeaf (routes_of rules graph) s x → GivesUnder (routes_of rules graph) ps x y → Contains (leaves_in f) y
+-- a leaf of first reach is in the paths, as the leaf it comes to under the parts
+first_given : (rules : Rules) (graph : GraphView) (limit : ℕ) (s : SymbolBySpecifier) (ps : QualifiedNameParts) (f : PathForest)
+    (after : List SymbolBySpecifier)
+    → ResolvesParts (routes_of rules graph) limit [] [] s ps f after → (x y : PathLeaf) → IsFirstCandidateLeaf (routes_of rules graph) s x
+    → ReplacesLeafWithParts (routes_of rules graph) ps x y → Contains (leaves_of_forest f) y
 first_given rules graph limit s [] f after x y z near is = by x
   where
-    by : Walks (routes_of rules graph) limit [] [] s [] f after → Contains (leaves_in f) z
-    by w = subst (Contains (leaves_in f)) (sym is) (near_given (found_in w) y near)
+    by : ResolvesParts (routes_of rules graph) limit [] [] s [] f after → Contains (leaves_of_forest f) z
+    by w = subst (Contains (leaves_of_forest f)) (sym is) (near_given (found_in w) y near)
 first_given rules graph limit s (p ∷ ps) f after x y z near is = by x
   where
-    by : Walks (routes_of rules graph) limit [] [] s (p ∷ ps) f after → Contains (leaves_in f) z
+    by : ResolvesParts (routes_of rules graph) limit [] [] s (p ∷ ps) f after → Contains (leaves_of_forest f) z
     by w = let u = changed_in w in changes_gives (routes_of rules graph) limit u.1.1.1 y z (near_given u.1.1.0 y near) is
 
-are_paths_under : (rules : Rules) (graph : GraphView) (limit : ℕ) (s : NamedSymbol) (ps : Parts) (f : Forest) (after : List NamedSymbol) → Walks (routes_of rules graph) limit [] [] s ps f after → ArePathsUnder rules graph s ps f
+are_paths_under : (rules : Rules) (graph : GraphView) (limit : ℕ) (s : SymbolBySpecifier) (ps : QualifiedNameParts) (f : PathForest)
+    (after : List SymbolBySpecifier)
+    → ResolvesParts (routes_of rules graph) limit [] [] s ps f after → ArePathsWithParts rules graph s ps f
 are_paths_under rules graph limit s ps f after x = record {
   derived = walks_derived (routes_of rules graph) limit x;
   leaves = (walks_leaf (routes_of rules graph) limit x).each;
   first = first_given rules graph limit s ps f after x;
-  lossless = λ apart rests. no_leaf_lost (routes_of rules graph) limit s ps apart rests f after x;
-  all_without_alias = λ plain rest. no_leaf_lost (routes_of rules graph) limit s ps (plain_apart plain) (plain_rest plain rest) f after x;
+  lossless = λ apart suffixes. no_leaf_lost (routes_of rules graph) limit s ps apart suffixes f after x;
+  all_without_alias = λ without_alias rest.
+      no_leaf_lost (routes_of rules graph) limit s ps (without_alias_apart without_alias) (without_alias_remaining without_alias rest) f after x;
   chosen = (limit, after, x);
 }
 
-are_paths : (rules : Rules) (graph : GraphView) (limit : ℕ) (s : NamedSymbol) (f : Forest) (after : List NamedSymbol) → Finds (routes_of rules graph) limit [] [] s f after → ArePaths rules graph s f
+are_paths : (rules : Rules) (graph : GraphView) (limit : ℕ) (s : SymbolBySpecifier) (f : PathForest) (after : List SymbolBySpecifier)
+    → FindsPaths (routes_of rules graph) limit [] [] s f after → AreDefinitionPaths rules graph s f
 are_paths rules graph limit s f after x = record {
   derived = finds_derived (routes_of rules graph) limit x;
   leaves = (finds_leaf (routes_of rules graph) limit x).each;
   first = near_given x;
-  once = λ plain. given_once (routes_of rules graph) limit plain x;
+  once = λ without_alias. given_once (routes_of rules graph) limit without_alias x;
   parts = part_last rules graph limit x;
-  lossless = λ apart rests y h. no_leaf_lost (routes_of rules graph) limit s [] apart rests f after (no_parts x) y (first_walk h);
-  all_without_alias = λ plain y h. no_leaf_lost (routes_of rules graph) limit s [] (plain_apart plain) (plain_rest plain (one_rest_without_parts (routes_of rules graph) s)) f after (no_parts x) y (first_walk h);
+  lossless = λ apart suffixes y h. no_leaf_lost (routes_of rules graph) limit s [] apart suffixes f after (no_parts x) y (first_walk h);
+  all_without_alias = λ without_alias y h. no_leaf_lost (routes_of rules graph) limit s [] (without_alias_apart without_alias)
+      (without_alias_remaining without_alias (one_remaining_without_parts (routes_of rules graph) s)) f after (no_parts x) y (first_walk h);
   chosen = (limit, after, no_parts x);
 }
   where
-    first_walk : {y : Leaf} → IsFirstLeaf (routes_of rules graph) s y → IsFirstWalk (routes_of rules graph) s [] y
+    first_walk : {y : PathLeaf} → IsLeafByFirstCandidates (routes_of rules graph) s y → IsLeafByFirstCandidatesWithParts (routes_of rules graph) s [] y
     first_walk h = searches.no_parts h
 
-are_paths_for : (rules : Rules) (graph : GraphView) (limit : ℕ) (s : NamedSymbol) (ps : Parts) (f : Forest) (after : List NamedSymbol) → Walks (routes_of rules graph) limit [] [] s ps f after → ArePathsFor rules graph s ps f
+are_paths_for : (rules : Rules) (graph : GraphView) (limit : ℕ) (s : SymbolBySpecifier) (ps : QualifiedNameParts) (f : PathForest)
+    (after : List SymbolBySpecifier)
+    → ResolvesParts (routes_of rules graph) limit [] [] s ps f after → ArePathsFor rules graph s ps f
 are_paths_for rules graph limit s [] f after x = are_paths rules graph limit s f after (found_in x)
 are_paths_for rules graph limit s (p ∷ ps) f after x = are_paths_under rules graph limit s (p ∷ ps) f after x
 
-is_computed : (rules : Rules) (graph : GraphView) (s : NamedSymbol) (ps : Parts) (f : Forest) (after : List NamedSymbol) → Walks (routes_of rules graph) search_limit [] [] s ps f after → length after ≤ 2 ^ 64 → f ≡ paths_under rules graph s ps
-unfolding paths_under
-is_computed rules graph s ps f after x few = sym (walks_computed (routes_of rules graph) search_limit (omega arith) search_limit search_limit x (omega arith) (omega (arith, few))).0
+is_computed : (rules : Rules) (graph : GraphView) (s : SymbolBySpecifier) (ps : QualifiedNameParts) (f : PathForest) (after : List SymbolBySpecifier)
+    → ResolvesParts (routes_of rules graph) search_limit [] [] s ps f after → length after ≤ 2 ^ 64 → f ≡ paths_with_parts rules graph s ps
+unfolding paths_with_parts
+is_computed rules graph s ps f after x few =
+    sym (walks_computed (routes_of rules graph) search_limit (omega arith) search_limit search_limit x (omega arith) (omega (arith, few))).0
 
--- what was found from no met symbols, as it is told before more was stored
-module _ {old new : RootView} {module_id : ModuleId} {s : SymbolId} {u : UniqueSymbolId} (trails : List Trail) {after : List UniqueSymbolId} (known : module_id.0 < length old.stored) (in_module : u.module_id ≡ module_id) (number : u.symbol_id ≡ s) (grown : HasGrown old new) (found : IsFound new [] [] u trails after) (searched_it : HasSearched new [] after (modules_of_trails trails)) where
-  pub found_before : Finds (routes_in old) search_limit [] [] (named_in old module_id s) (trails_told new trails) (met_told new after)
+-- paths found from no visited symbols, stated for the root before more was stored
+module _ {old new : RootView} {module_id : ModuleId} {s : SymbolId} {u : UniqueSymbolId} (builders : List PathBuilder) {after : List UniqueSymbolId}
+    (known : module_id.0 < length old.stored) (in_module : u.module_id ≡ module_id) (number : u.symbol_id
+    ≡ s) (grown : HasGrown old new) (found : ArePathsFoundForSymbol new [] [] u builders after)
+    (searched_it : HasSearched new [] after (modules_of_builders builders)) where
+  pub found_before : FindsPaths (routes_of_root old) search_limit [] [] (symbol_by_specifier old module_id s) (built_paths new builders)
+      (symbols_of_unique_ids new after)
   found_before =
-      let called : symbol_told new u ≡ named_in old module_id s = (λ i. record { specifier = (ap (specifier_in new) in_module ∙ same_specifier grown module_id known) i; number = number i }) in
-      subst (λ routes. Finds routes search_limit [] [] (named_in old module_id s) (trails_told new trails) (met_told new after)) (same_links grown)
-      (subst (λ n. Finds (routes_in new) search_limit [] [] n (trails_told new trails) (met_told new after)) called (found new (grown_not new)))
+      let called : symbol_of_unique_id new u ≡ symbol_by_specifier old module_id s =
+      (λ i. record { specifier = (ap (specifier_in new) in_module ∙ specifier_unchanged_by_growth grown module_id known) i; number = number i }) in
+      subst (λ routes. FindsPaths routes search_limit [] [] (symbol_by_specifier old module_id s) (built_paths new builders) (symbols_of_unique_ids new after))
+      (same_links grown)
+      (subst (λ n. FindsPaths (routes_of_root new) search_limit [] [] n (built_paths new builders) (symbols_of_unique_ids new after)) called
+      (found new (has_grown_refl new)))
 
-  pub paths_found : ArePaths old.rules old.graph (named_in old module_id s) (trails_told new trails)
-  paths_found = are_paths old.rules old.graph search_limit (named_in old module_id s) (trails_told new trails) (met_told new after) found_before
+  pub paths_found : AreDefinitionPaths old.rules old.graph (symbol_by_specifier old module_id s) (built_paths new builders)
+  paths_found = are_paths old.rules old.graph search_limit (symbol_by_specifier old module_id s) (built_paths new builders) (symbols_of_unique_ids new after)
+      found_before
 
-  pub paths_listed : trails_told new trails ≡ paths_of old.rules old.graph (named_in old module_id s)
-  paths_listed = is_computed old.rules old.graph (named_in old module_id s) [] (trails_told new trails) (met_told new after) (no_parts found_before) (omega (arith, length-map after (symbol_told new), searched_it.few (omega arith)))
+  pub paths_listed : built_paths new builders ≡ definition_paths_of old.rules old.graph (symbol_by_specifier old module_id s)
+  paths_listed = is_computed old.rules old.graph (symbol_by_specifier old module_id s) [] (built_paths new builders) (symbols_of_unique_ids new after)
+      (no_parts found_before) (omega (arith, length-map after (symbol_of_unique_id new), searched_it.few (omega arith)))
 
--- the same under parts
-module _ {old new : RootView} (u : UniqueSymbolId) (parts : Parts) (trails : List Trail) {after : List UniqueSymbolId} (known : u.module_id.0 < length old.stored) (grown : HasGrown old new) (walked_it : IsFoundUnder new [] [] u parts trails after) (searched_it : HasSearched new [] after (modules_of_trails trails)) where
-  walked_before : Walks (routes_in old) search_limit [] [] (symbol_told old u) parts (trails_told new trails) (met_told new after)
+-- the same for paths under parts
+module _ {old new : RootView} (u : UniqueSymbolId) (parts : QualifiedNameParts) (builders : List PathBuilder) {after : List UniqueSymbolId}
+    (known : u.module_id.0
+    < length old.stored) (grown : HasGrown old new) (walked_it : ArePathsFoundWithParts new [] [] u parts builders after)
+    (searched_it : HasSearched new [] after
+    (modules_of_builders builders)) where
+  walked_before : ResolvesParts (routes_of_root old) search_limit [] [] (symbol_of_unique_id old u) parts (built_paths new builders)
+      (symbols_of_unique_ids new after)
   walked_before =
-      let called : symbol_told new u ≡ symbol_told old u = (λ i. record { specifier = same_specifier grown u.module_id known i; number = u.symbol_id }) in
-      subst (λ routes. Walks routes search_limit [] [] (symbol_told old u) parts (trails_told new trails) (met_told new after)) (same_links grown)
-      (subst (λ n. Walks (routes_in new) search_limit [] [] n parts (trails_told new trails) (met_told new after)) called (walked_it new (grown_not new)))
+      let called : symbol_of_unique_id new u ≡ symbol_of_unique_id old u =
+      (λ i. record { specifier = specifier_unchanged_by_growth grown u.module_id known i; number = u.symbol_id }) in
+      subst (λ routes. ResolvesParts routes search_limit [] [] (symbol_of_unique_id old u) parts (built_paths new builders) (symbols_of_unique_ids new after))
+      (same_links grown)
+      (subst (λ n. ResolvesParts (routes_of_root new) search_limit [] [] n parts (built_paths new builders) (symbols_of_unique_ids new after)) called
+      (walked_it new (has_grown_refl new)))
 
-  pub walked_found : ArePathsFor old.rules old.graph (symbol_told old u) parts (trails_told new trails)
-  walked_found = are_paths_for old.rules old.graph search_limit (symbol_told old u) parts (trails_told new trails) (met_told new after) walked_before
+  pub walked_found : ArePathsFor old.rules old.graph (symbol_of_unique_id old u) parts (built_paths new builders)
+  walked_found = are_paths_for old.rules old.graph search_limit (symbol_of_unique_id old u) parts (built_paths new builders) (symbols_of_unique_ids new after)
+      walked_before
 
-  pub walked_listed : trails_told new trails ≡ paths_under old.rules old.graph (symbol_told old u) parts
-  walked_listed = is_computed old.rules old.graph (symbol_told old u) parts (trails_told new trails) (met_told new after) walked_before (omega (arith, length-map after (symbol_told new), searched_it.few (omega arith)))
+  pub walked_listed : built_paths new builders ≡ paths_with_parts old.rules old.graph (symbol_of_unique_id old u) parts
+  walked_listed = is_computed old.rules old.graph (symbol_of_unique_id old u) parts (built_paths new builders) (symbols_of_unique_ids new after) walked_before
+      (omega (arith, length-map after (symbol_of_unique_id new), searched_it.few (omega arith)))
 
--- ---- what is refused once the paths are found is memory
+-- ---- after the paths are found only an allocation can fail
 
-pub memory_refused : {old new : RootView} {module_id : ModuleId} {s : SymbolId} → (module_id.0 < length old.stored) × (symbol_in_root old module_id s ≢ None) → IsPathsFault old new module_id s OutOfMemory
+pub memory_refused : {old new : RootView} {module_id : ModuleId} {s : SymbolId} → (module_id.0 < length old.stored) × (symbol_in_root old module_id s ≢ None)
+    → IsPathsFault old new module_id s OutOfMemory
 memory_refused there = inr (inr (record {
   known = there.0;
   has_symbol = there.1;
   refused = record { needed = None; is_needed = λ specifier e. absurd cc; refused = tt };
 }))
 
--- ---- whether there is such a symbol
+-- ---- whether the module has the symbol
 
-pub no_symbol_there : (root : RootView) (module_id : ModuleId) (table : Table) → IsStoredTable root module_id table → (s : SymbolId) (found : Option (Bor Symbol)) → option_copied found ≡ slice_get table.symbols s.0 → is_some found ≡ false → symbol_in_root root module_id s ≡ None
-no_symbol_there root module_id table stored s None e absent = sym (stored_symbol root module_id table stored s) ∙ ap (option_map symbol_view) (sym e)
+pub no_symbol_there : (root : RootView) (module_id : ModuleId) (table : SymbolTable) → IsStoredTable root module_id table
+    → (s : SymbolId) (found : Option (Bor Symbol)) → option_copied found ≡ slice_get table.symbols s.0 → is_some found ≡ false
+    → symbol_in_root root module_id s ≡ None
+no_symbol_there root module_id table stored s None e absent = sym (stored_table_has_module_symbols root module_id table stored s)
+    ∙ ap (option_map symbol_view) (sym e)
 no_symbol_there root module_id table stored s (Some x) e absent = absurd cc
 
-pub symbol_there : (root : RootView) (module_id : ModuleId) (table : Table) → IsStoredTable root module_id table → (s : SymbolId) (found : Option (Bor Symbol)) → option_copied found ≡ slice_get table.symbols s.0 → is_some found ≡ true → symbol_in_root root module_id s ≢ None
+pub symbol_there : (root : RootView) (module_id : ModuleId) (table : SymbolTable) → IsStoredTable root module_id table
+    → (s : SymbolId) (found : Option (Bor Symbol))
+    → option_copied found ≡ slice_get table.symbols s.0 → is_some found ≡ true → symbol_in_root root module_id s ≢ None
 symbol_there root module_id table stored s None e present = absurd cc
 symbol_there root module_id table stored s (Some x) e present = λ none.
-    let some : Some (symbol_view x.now) ≡ None = ap (option_map symbol_view) e ∙ (stored_symbol root module_id table stored s ∙ none) in
+    let some : Some (symbol_view x.now) ≡ None = ap (option_map symbol_view) e ∙ (stored_table_has_module_symbols root module_id table stored s ∙ none) in
     cc

@@ -1,38 +1,45 @@
--- A set, by its keys: one key more, and back.
-use Rattle.std.proofs.Common.{◌≡◌, ℕ, suc, ◌+◌, ◌<◌, ◌^◌, Bool, true, false, not, cond, ◌||◌, List, [], ◌∷◌, ◌++◌, length, Option, None, Some, option_to_list, refl, sym, ap, ◌∙◌, arith, true≢false}
+-- A set by its keys: with one key more, and without it again.
+use Rattle.std.proofs.Common.{◌≡◌, ℕ, suc, ◌+◌, ◌<◌, ◌^◌, Bool, true, false, not, cond, ◌||◌, List, [], ◌∷◌, ◌++◌}
+use Rattle.std.proofs.Common.{length, Option, None, Some, option_to_list, refl, sym, ap, ◌∙◌, arith, true≢false}
 use Rattle.std.specs.Prelude.{if◌then◌else◌, IsSome, ◌↔◌}
 use Rattle.std.specs.List.{list_any, position_or_len}
 use Rattle.std.proofs.lemmas.List.{length-append, same_from_push}
 use Rattle.indexmap.specs.IndexSet.{insert_key}
 
 module _ {A : Type 0} (same : A → A → Bool) where
-  pub new_key : (before after : List A) (x : A) (is_new : Bool) → is_new ≡ not (list_any (same x) before) → after ≡ insert_key same before x → is_new ≡ true → (list_any (same x) before ≡ false) × (after ≡ before ++ x ∷ [])
+  pub new_key : (before after : List A) (x : A) (is_new : Bool) → is_new ≡ not (list_any (same x) before) → after ≡ insert_key same before x → is_new ≡ true
+      → (list_any (same x) before ≡ false) × (after ≡ before ++ x ∷ [])
   new_key before after x is_new said inserted new = by (list_any (same x) before) (sym said ∙ new) inserted
     where
       by : (b : Bool) → not b ≡ true → after ≡ (if b then before else before ++ x ∷ []) → (b ≡ false) × (after ≡ before ++ x ∷ [])
       by true is equal = absurd (true≢false (sym is))
       by false is equal = (refl, equal)
 
-  pub old_key : (before after : List A) (x : A) (is_new : Bool) → is_new ≡ not (list_any (same x) before) → after ≡ insert_key same before x → is_new ≡ false → (list_any (same x) before ≡ true) × (after ≡ before)
+  pub old_key : (before after : List A) (x : A) (is_new : Bool) → is_new ≡ not (list_any (same x) before) → after ≡ insert_key same before x → is_new ≡ false
+      → (list_any (same x) before ≡ true) × (after ≡ before)
   old_key before after x is_new said inserted old = by (list_any (same x) before) (sym said ∙ old) inserted
     where
       by : (b : Bool) → not b ≡ false → after ≡ (if b then before else before ++ x ∷ []) → (b ≡ true) × (after ≡ before)
       by true is equal = (refl, equal)
       by false is equal = absurd (true≢false is)
 
-  -- its place is the number of those before it
-  new_place : (before : List A) (x : A) → list_any (same x) before ≡ false → position_or_len (same x) before ≡ length before
-  new_place [] x absent = refl
-  new_place (y ∷ before) x absent = by (same x y) absent (new_place before x)
+  -- the index of a new key is the number of keys before it
+  new_index : (before : List A) (x : A) → list_any (same x) before ≡ false → position_or_len (same x) before ≡ length before
+  new_index [] x absent = refl
+  new_index (y ∷ before) x absent = by (same x y) absent (new_index before x)
     where
-      by : (b : Bool) → (b || list_any (same x) before) ≡ false → (list_any (same x) before ≡ false → position_or_len (same x) before ≡ length before) → cond (not b) (1 + position_or_len (same x) before) 0 ≡ suc (length before)
+      by : (b : Bool) → (b || list_any (same x) before) ≡ false → (list_any (same x) before ≡ false → position_or_len (same x) before ≡ length before)
+          → cond (not b) (1 + position_or_len (same x) before) 0 ≡ suc (length before)
       by true is rest = absurd (true≢false is)
       by false is rest = omega (arith, rest is)
 
-  pub few_before : (before : List A) (x : A) (place : ℕ) → list_any (same x) before ≡ false → place ≡ position_or_len (same x) before → place < 2 ^ 64 → length before < 2 ^ 64
-  few_before before x place absent at fits = omega (arith, new_place before x absent, at, fits)
+  pub few_before : (before : List A) (x : A) (slot : ℕ) → list_any (same x) before ≡ false → slot ≡ position_or_len (same x) before → slot < 2 ^ 64
+      → length before < 2 ^ 64
+  few_before before x slot absent at fits = omega (arith, new_index before x absent, at, fits)
 
--- without the last
-pub popped : {A : Type 0} (before now after : List A) (x : A) (last : Option A) (count : ℕ) → now ≡ before ++ x ∷ [] → now ≡ after ++ option_to_list last → count ≡ length now → IsSome last ↔ (0 < count) → after ≡ before
-popped before now after x None count pushed split counted found = absurd (true≢false (sym (found.1 (omega (arith, counted, ap length pushed, length-append before (x ∷ []))))))
+-- removing the last key undoes adding it
+pub popped : {A : Type 0} (before now after : List A) (x : A) (last : Option A) (count : ℕ) → now ≡ before ++ x ∷ [] → now ≡ after ++ option_to_list last
+    → count ≡ length now → IsSome last ↔ (0 < count) → after ≡ before
+popped before now after x None count pushed split counted found =
+    absurd (true≢false (sym (found.1 (omega (arith, counted, ap length pushed, length-append before (x ∷ []))))))
 popped before now after x (Some y) count pushed split counted found = (same_from_push after before y x (sym split ∙ pushed)).0

@@ -1,93 +1,109 @@
--- The choice as a function of the rules and the graph, for whoever computes with it.
+-- The returned list of paths as a function of the rules and the graph, for whoever computes with it.
 use Rattle.std.specs.Prelude.{ℕ, zero, suc, ◌+◌, ◌^◌, List, [], ◌∷◌, ◌++◌, Option, if◌then◌else◌}
-use Rattle.symbols_syntax.specs.Graph.{GraphView}
-use Rattle.symbols_root.specs.declared.root.rules.Rules.{Rules}
-use Rattle.symbols_paths.specs.Trees.{NamedSymbol, NamedDecl, Parts, Defined, Missing, definition, unresolved, PathTree, Forest, leaf, link, no_trees, more_trees, one_tree, joined_forests, link_to}
-use Rattle.symbols_paths.specs.Leads.{DeclLead, defines, leads, alias}
-use Rattle.symbols_paths.specs.PartLeads.{PartLead, to, itself, lacks, Routes, routes_of}
-use Rattle.symbols_paths.specs.Derived.{decl_at, defined_at, head_at, alias_head, part_head, under_parts}
-use Rattle.symbols_paths.specs.Choice.{is_met, is_running, missing_in}
+use Rattle.symbols_ast.specs.Graph.{GraphView}
+use Rattle.symbols_root.specs.declared.rules.Rules.{Rules}
+use Rattle.symbols_paths.specs.PathTrees.{SymbolBySpecifier, DeclBySpecifier, QualifiedNameParts, DefinitionView, UnresolvedEntry, definition, unresolved}
+use Rattle.symbols_paths.specs.PathTrees.{PathTree}
+use Rattle.symbols_paths.specs.PathTrees.{PathForest, leaf, link, no_trees, more_trees, forest_of_tree, joined_forests, link_unless_empty}
+use Rattle.symbols_paths.specs.DeclTargets.{DeclTargetView, defines, forwards, alias}
+use Rattle.symbols_paths.specs.PartTargets.{PartTargetView, to, itself, lacks, SearchRoutes, routes_of}
+use Rattle.symbols_paths.specs.Derived.{decl_at, definition_of_decl, link_head_at, alias_link_head, part_link_head, link_head_with_parts}
+use Rattle.symbols_paths.specs.Choice.{is_visited, is_alias_being_resolved, forest_of_unresolved}
 
--- paths, and the symbols that are met then
-pub record Searched : Type 0 where
-  pub paths : Forest
-  pub met : List NamedSymbol
+-- the paths, and the symbols visited after the search
+pub record SearchResult : Type 0 where
+  pub paths : PathForest
+  pub visited : List SymbolBySpecifier
 
--- from the symbols that were met and a symbol
-abbrev pub Search : Type 0
-Search = List NamedSymbol → NamedSymbol → Searched
+-- the search of a symbol, from the symbols visited before
+abbrev pub SymbolSearch : Type 0
+SymbolSearch = List SymbolBySpecifier → SymbolBySpecifier → SearchResult
 
--- what an alias gives: from its declaration, and the symbol and the parts that it names
+-- the paths of an alias, given by its declaration, its symbol and its parts
 abbrev pub AliasSearch : Type 0
-AliasSearch = NamedDecl → NamedSymbol → Parts → Forest
+AliasSearch = DeclBySpecifier → SymbolBySpecifier → QualifiedNameParts → PathForest
 
-abbrev pub searched_or : Forest → Searched → Searched → Searched
-searched_or no_trees found next = next
-searched_or (more_trees t f) found next = found
+abbrev pub first_with_paths : PathForest → SearchResult → SearchResult → SearchResult
+first_with_paths no_trees found next = next
+first_with_paths (more_trees t f) found next = found
 
--- the first of the candidates that gives a path
-abbrev pub searched_candidates : Search → List NamedSymbol → List NamedSymbol → Option Missing → Searched
-searched_candidates search met [] otherwise = record { paths = missing_in otherwise; met = met }
-searched_candidates search met (c ∷ cs) otherwise = searched_or (search met c).paths (search met c) (searched_candidates search (search met c).met cs otherwise)
+-- the paths of the first candidate that has any, else the unresolved entry
+abbrev pub search_candidates : SymbolSearch → List SymbolBySpecifier → List SymbolBySpecifier → Option UnresolvedEntry → SearchResult
+search_candidates search visited [] otherwise = record { paths = forest_of_unresolved otherwise; visited = visited }
+search_candidates search visited (c ∷ cs) otherwise =
+    first_with_paths (search visited c).paths (search visited c) (search_candidates search (search visited c).visited cs otherwise)
 
-abbrev pub searched_lead : AliasSearch → Search → List NamedSymbol → NamedSymbol → ℕ → DeclLead → Searched
-searched_lead resolve search met s i (defines range star) = record { paths = one_tree (leaf (definition (defined_at s i range star))); met = met }
-searched_lead resolve search met s i (leads forward) = record { paths = link_to (head_at s i forward) (searched_candidates search met forward.candidates forward.otherwise).paths; met = (searched_candidates search met forward.candidates forward.otherwise).met }
-searched_lead resolve search met s i (alias t ps) = record { paths = link_to (alias_head s i ps) (resolve (decl_at s i) t ps); met = met }
+abbrev pub search_decl_target : AliasSearch → SymbolSearch → List SymbolBySpecifier → SymbolBySpecifier → ℕ → DeclTargetView → SearchResult
+search_decl_target resolve search visited s i (defines range star) =
+    record { paths = forest_of_tree (leaf (definition (definition_of_decl s i range star))); visited = visited }
+search_decl_target resolve search visited s i (forwards forward) =
+    record {
+      paths = link_unless_empty (link_head_at s i forward) (search_candidates search visited forward.candidates forward.otherwise).paths;
+      visited = (search_candidates search visited forward.candidates forward.otherwise).visited;
+    }
+search_decl_target resolve search visited s i (alias t ps) =
+    record { paths = link_unless_empty (alias_link_head s i ps) (resolve (decl_at s i) t ps); visited = visited }
 
--- the declarations in order
-abbrev pub searched_leads : AliasSearch → Search → List NamedSymbol → NamedSymbol → ℕ → List DeclLead → Searched
-searched_leads resolve search met s i [] = record { paths = no_trees; met = met }
-searched_leads resolve search met s i (x ∷ xs) =
-    let first = searched_lead resolve search met s i x in
-    let rest = searched_leads resolve search first.met s (i + 1) xs in
-    record { paths = joined_forests first.paths rest.paths; met = rest.met }
+-- the paths of the declarations, in order
+abbrev pub search_decl_targets : AliasSearch → SymbolSearch → List SymbolBySpecifier → SymbolBySpecifier → ℕ → List DeclTargetView → SearchResult
+search_decl_targets resolve search visited s i [] = record { paths = no_trees; visited = visited }
+search_decl_targets resolve search visited s i (x ∷ xs) =
+    let first = search_decl_target resolve search visited s i x in
+    let rest = search_decl_targets resolve search first.visited s (i + 1) xs in
+    record { paths = joined_forests first.paths rest.paths; visited = rest.visited }
 
--- a search that expands each symbol once, and no more than so many within one another
-unfoldable pub searched_symbol : Routes → AliasSearch → ℕ → Search
-searched_symbol routes resolve zero met s = record { paths = no_trees; met = met }
-searched_symbol routes resolve (suc depth) met s = if is_met met s then record { paths = no_trees; met = met } else searched_leads resolve (searched_symbol routes resolve depth) (met ++ s ∷ []) s 0 (routes.leads s)
+-- the paths of a symbol. The search expands each symbol once, and at most `depth` symbols within one another.
+unfoldable pub search_symbol_to_depth : SearchRoutes → AliasSearch → ℕ → SymbolSearch
+search_symbol_to_depth routes resolve zero visited s = record { paths = no_trees; visited = visited }
+search_symbol_to_depth routes resolve (suc depth) visited s = if is_visited visited s then record { paths = no_trees; visited = visited }
+    else search_decl_targets resolve (search_symbol_to_depth routes resolve depth) (visited ++ s ∷ []) s 0 (routes.decl_targets s)
 
--- what stands in the place of a definition
-abbrev pub searched_part : Search → List NamedSymbol → Defined → Parts → PartLead → Searched
-searched_part walk met x ps (to t) = record { paths = link_to (part_head x ps) (walk met t).paths; met = (walk met t).met }
-searched_part walk met x ps itself = record { paths = one_tree (leaf (definition x)); met = met }
-searched_part walk met x ps (lacks m) = record { paths = one_tree (link (part_head x ps) (one_tree (leaf (unresolved m)))); met = met }
+-- the replacement of a definition
+abbrev pub search_part_target : SymbolSearch → List SymbolBySpecifier → DefinitionView → QualifiedNameParts → PartTargetView → SearchResult
+search_part_target walk visited x ps (to t) =
+    record { paths = link_unless_empty (part_link_head x ps) (walk visited t).paths; visited = (walk visited t).visited }
+search_part_target walk visited x ps itself = record { paths = forest_of_tree (leaf (definition x)); visited = visited }
+search_part_target walk visited x ps (lacks m) =
+    record { paths = forest_of_tree (link (part_link_head x ps) (forest_of_tree (leaf (unresolved m)))); visited = visited }
 
--- paths under a part and the rest, by the search under the rest
+-- paths whose definitions are replaced, by the search under the parts after the first
 abbrev mutual
-  pub changed_tree : Routes → Search → List ℕ → Parts → PathTree → List NamedSymbol → Searched
-  changed_tree routes walk p ps (leaf (unresolved m)) met = record { paths = one_tree (leaf (unresolved m)); met = met }
-  changed_tree routes walk p ps (leaf (definition x)) met = searched_part walk met x (p ∷ ps) (routes.part x p ps)
-  changed_tree routes walk p ps (link head next) met =
-      let next_changed = changed_forest routes walk p ps next met in
-      record { paths = link_to (under_parts head (p ∷ ps)) next_changed.paths; met = next_changed.met }
+  pub resolve_parts_in_tree : SearchRoutes → SymbolSearch → List ℕ → QualifiedNameParts → PathTree → List SymbolBySpecifier → SearchResult
+  resolve_parts_in_tree routes walk p ps (leaf (unresolved m)) visited = record { paths = forest_of_tree (leaf (unresolved m)); visited = visited }
+  resolve_parts_in_tree routes walk p ps (leaf (definition x)) visited = search_part_target walk visited x (p ∷ ps) (routes.part x p ps)
+  resolve_parts_in_tree routes walk p ps (link head next) visited =
+      let next_changed = resolve_parts_in_forest routes walk p ps next visited in
+      record { paths = link_unless_empty (link_head_with_parts head (p ∷ ps)) next_changed.paths; visited = next_changed.visited }
 
-  pub changed_forest : Routes → Search → List ℕ → Parts → Forest → List NamedSymbol → Searched
-  changed_forest routes walk p ps no_trees met = record { paths = no_trees; met = met }
-  changed_forest routes walk p ps (more_trees t f) met =
-      let first = changed_tree routes walk p ps t met in
-      let rest = changed_forest routes walk p ps f first.met in
-      record { paths = joined_forests first.paths rest.paths; met = rest.met }
+  pub resolve_parts_in_forest : SearchRoutes → SymbolSearch → List ℕ → QualifiedNameParts → PathForest → List SymbolBySpecifier → SearchResult
+  resolve_parts_in_forest routes walk p ps no_trees visited = record { paths = no_trees; visited = visited }
+  resolve_parts_in_forest routes walk p ps (more_trees t f) visited =
+      let first = resolve_parts_in_tree routes walk p ps t visited in
+      let rest = resolve_parts_in_forest routes walk p ps f first.visited in
+      record { paths = joined_forests first.paths rest.paths; visited = rest.visited }
 
--- the walk under parts
-abbrev pub searched_under : Routes → Search → Parts → Search
-searched_under routes search [] met s = search met s
-searched_under routes search (p ∷ ps) met s = changed_forest routes (searched_under routes search ps) p ps (search met s).paths (search met s).met
+-- the search under parts
+abbrev pub search_with_parts : SearchRoutes → SymbolSearch → QualifiedNameParts → SymbolSearch
+search_with_parts routes search [] visited s = search visited s
+search_with_parts routes search (p ∷ ps) visited s =
+    resolve_parts_in_forest routes (search_with_parts routes search ps) p ps (search visited s).paths (search visited s).visited
 
--- more than any search can expand, and more than can be resolved within one another, since fewer symbols and declarations can be numbered
+-- more symbols than any search can expand, and more aliases than can be resolved within one another: fewer symbols and declarations can be
+-- numbered
 abbrev pub search_limit : ℕ
 search_limit = 2 ^ 64
 
--- what aliases give while these are being resolved, and no more than so many within one another
-unfoldable pub resolved_alias : Routes → ℕ → List NamedDecl → AliasSearch
+-- the paths of an alias while those in `running` are being resolved; at most `depth` more are resolved within one another
+unfoldable pub resolved_alias : SearchRoutes → ℕ → List DeclBySpecifier → AliasSearch
 resolved_alias routes zero running decl t ps = no_trees
-resolved_alias routes (suc depth) running decl t ps = if is_running running decl then no_trees else (searched_under routes (searched_symbol routes (resolved_alias routes depth (running ++ decl ∷ [])) search_limit) ps [] t).paths
+resolved_alias routes (suc depth) running decl t ps = if is_alias_being_resolved running decl then no_trees
+    else (search_with_parts routes (search_symbol_to_depth routes (resolved_alias routes depth (running ++ decl ∷ [])) search_limit) ps [] t).paths
 
 -- the paths of a symbol under parts: no other list is chosen
-unfoldable pub paths_under : Rules → GraphView → NamedSymbol → Parts → Forest
-paths_under rules graph s ps = (searched_under (routes_of rules graph) (searched_symbol (routes_of rules graph) (resolved_alias (routes_of rules graph) search_limit []) search_limit) ps [] s).paths
+unfoldable pub paths_with_parts : Rules → GraphView → SymbolBySpecifier → QualifiedNameParts → PathForest
+paths_with_parts rules graph s ps = (search_with_parts (routes_of rules graph)
+    (search_symbol_to_depth (routes_of rules graph) (resolved_alias (routes_of rules graph) search_limit []) search_limit) ps [] s).paths
 
--- those of a symbol
-abbrev pub paths_of : Rules → GraphView → NamedSymbol → Forest
-paths_of rules graph s = paths_under rules graph s []
+-- the paths of a symbol, without parts
+abbrev pub definition_paths_of : Rules → GraphView → SymbolBySpecifier → PathForest
+definition_paths_of rules graph s = paths_with_parts rules graph s []

@@ -1,106 +1,122 @@
--- What `resolve_symbol_dep` answers.
+-- The contract of `resolve_symbol_dep`.
 use Rattle.std.specs.Prelude.{◌≡◌, ◌<◌, ◌≤◌, ◌⊎◌, ℕ, List, [], ◌∷◌, length, map, Option, Some, None, MatchOption}
 use Rattle.std.specs.Option.{option_map, option_map_or}
-use Rattle.symbols_syntax.specs.declared.ids.ModuleId.{ModuleId}
-use Rattle.symbols_syntax.specs.declared.ids.SymbolId.{SymbolId}
-use Rattle.symbols_syntax.specs.Graph.{GraphView}
-use Rattle.symbols_syntax.specs.Ids.{IdView}
-use Rattle.symbols_nodes.specs.References.{Reference, id, qualified_id, import_type}
+use Rattle.symbols_ast.specs.declared.ids.ModuleId.{ModuleId}
+use Rattle.symbols_ast.specs.declared.ids.SymbolId.{SymbolId}
+use Rattle.symbols_ast.specs.Graph.{GraphView}
+use Rattle.symbols_ast.specs.Ids.{IdView}
+use Rattle.symbols_nodes.specs.References.{SymbolReference, id, qualified_id, import_type}
 use Rattle.symbols_table.specs.declared.info.fault.SymbolsFault.{SymbolsFault}
 use Rattle.symbols_table.specs.declared.info.fault.SymbolsFault.TheVariants.{UnknownModule}
-use Rattle.symbols_root.specs.declared.root.rules.Rules.{Rules}
+use Rattle.symbols_root.specs.declared.rules.Rules.{Rules}
 use Rattle.symbols_root.specs.Roots.{RootView, specifier_in}
-use Rattle.symbols_exports.specs.StarStatements.{text_target}
-use Rattle.symbols_paths.specs.declared.paths.resolve.ResolvedSymbolDepEntry.{ResolvedSymbolDepEntry}
-use Rattle.symbols_paths.specs.declared.paths.resolve.ResolvedSymbolDepEntry.TheVariants as entry
-use Rattle.symbols_paths.specs.Trees.{NamedSymbol, Parts, no_symbol, no_module, unresolved, PathTree, Forest, leaf, no_trees, more_trees, one_tree}
-use Rattle.symbols_paths.specs.Leads.{symbol_of_id}
-use Rattle.symbols_paths.specs.PartLeads.{PartLead, to, itself, lacks, text_part}
-use Rattle.symbols_paths.specs.Computed.{paths_under}
-use Rattle.symbols_paths.specs.Views.{tree_told, all_modules, modules_of}
-use Rattle.symbols_paths.specs.Needed.{IsRefused}
+use Rattle.symbols_exports.specs.StarStatements.{resolve_specifier}
+use Rattle.symbols_paths.specs.declared.symbol_dep.ResolvedSymbolDepEntry.{ResolvedSymbolDepEntry}
+use Rattle.symbols_paths.specs.declared.symbol_dep.ResolvedSymbolDepEntry.TheVariants as entry
+use Rattle.symbols_paths.specs.PathTrees.{SymbolBySpecifier, QualifiedNameParts, no_symbol, no_module, unresolved, PathTree, PathForest, leaf, no_trees}
+use Rattle.symbols_paths.specs.PathTrees.{more_trees, forest_of_tree}
+use Rattle.symbols_paths.specs.DeclTargets.{symbol_of_id}
+use Rattle.symbols_paths.specs.PartTargets.{PartTargetView, to, itself, lacks, import_part_target}
+use Rattle.symbols_paths.specs.Computed.{paths_with_parts}
+use Rattle.symbols_paths.specs.Views.{path_by_specifier, concat_module_ids, modules_of_path}
+use Rattle.symbols_paths.specs.NeededModules.{IsNeededModuleRefused}
 use Rattle.symbols_paths.specs.Answers.{ArePathsFor}
 
--- an entry: a path, or a module by its specifier
-pub data EntryView : Type 0 where
-  a_path : PathTree → EntryView
-  a_module : List ℕ → EntryView
+-- an entry: a path, or the specifier of a module
+pub data DepEntryView : Type 0 where
+  path_dep_entry : PathTree → DepEntryView
+  module_dep_entry : List ℕ → DepEntryView
 
-abbrev pub entry_told : RootView → ResolvedSymbolDepEntry → EntryView
-entry_told root (entry.Path path) = a_path (tree_told root path)
-entry_told root (entry.ImportType module_id) = a_module (specifier_in root module_id)
+abbrev pub resolved_dep_entry_view : RootView → ResolvedSymbolDepEntry → DepEntryView
+resolved_dep_entry_view root (entry.Path path) = path_dep_entry (path_by_specifier root path)
+resolved_dep_entry_view root (entry.ImportType module_id) = module_dep_entry (specifier_in root module_id)
 
--- the modules that entries name
+-- the modules of entries
 abbrev pub modules_of_entry : ResolvedSymbolDepEntry → List ModuleId
-modules_of_entry (entry.Path path) = modules_of path
+modules_of_entry (entry.Path path) = modules_of_path path
 modules_of_entry (entry.ImportType module_id) = module_id ∷ []
 
 abbrev pub modules_of_entries : List ResolvedSymbolDepEntry → List ModuleId
-modules_of_entries entries = all_modules (map modules_of_entry entries)
+modules_of_entries entries = concat_module_ids (map modules_of_entry entries)
 
--- each path an entry
-abbrev pub entries_in : Forest → List EntryView
-entries_in no_trees = []
-entries_in (more_trees t f) = a_path t ∷ entries_in f
+-- each path as an entry
+abbrev pub path_entries : PathForest → List DepEntryView
+path_entries no_trees = []
+path_entries (more_trees t f) = path_dep_entry t ∷ path_entries f
 
--- the symbol, and the parts that are looked for in it
-abbrev pub Asked : Type 0
-Asked = NamedSymbol × Parts
+-- a symbol, and the parts to resolve in it
+abbrev pub ReferencedSymbol : Type 0
+ReferencedSymbol = SymbolBySpecifier × QualifiedNameParts
 
--- a name in a module, with the parts behind it
-abbrev pub asked_by_id : GraphView → List ℕ → IdView → Parts → Option Asked
-asked_by_id graph specifier name parts = option_map (λ (t : SymbolId). (record { specifier = specifier; number = t }, parts)) (symbol_of_id graph specifier name)
+-- the symbol of a name in a module, with the parts after the name
+abbrev pub referenced_by_id : GraphView → List ℕ → IdView → QualifiedNameParts → Option ReferencedSymbol
+referenced_by_id graph specifier name parts =
+    option_map (λ (t : SymbolId). (record { specifier = specifier; number = t }, parts)) (symbol_of_id graph specifier name)
 
--- what the first part of a module leads to, with the others
-abbrev pub asked_by_part : Parts → PartLead → Option Asked
-asked_by_part rest (to t) = Some (t, rest)
-asked_by_part rest itself = None
-asked_by_part rest (lacks m) = None
+-- the symbol that the first part resolves to, with the other parts
+abbrev pub referenced_by_part : QualifiedNameParts → PartTargetView → Option ReferencedSymbol
+referenced_by_part remaining (to t) = Some (t, remaining)
+referenced_by_part remaining itself = None
+referenced_by_part remaining (lacks m) = None
 
--- what a reference in a module asks for; nothing where its name stands for no symbol, its module has no such part, or it is a module itself
-abbrev pub asked_for : GraphView → List ℕ → Reference → Option Asked
-asked_for graph specifier (id name) = asked_by_id graph specifier name []
-asked_for graph specifier (qualified_id name parts) = asked_by_id graph specifier name parts
-asked_for graph specifier (import_type text []) = None
-asked_for graph specifier (import_type text (part ∷ rest)) = asked_by_part rest (text_part graph specifier text part rest (text_target graph specifier text))
+-- the symbol and the parts of a reference in a module. None if the name has no symbol, the specifier resolves to no module, the module
+-- doesn't export the first part, or the reference is to a module itself.
+abbrev pub referenced_symbol : GraphView → List ℕ → SymbolReference → Option ReferencedSymbol
+referenced_symbol graph specifier (id name) = referenced_by_id graph specifier name []
+referenced_symbol graph specifier (qualified_id name parts) = referenced_by_id graph specifier name parts
+referenced_symbol graph specifier (import_type specifier_text []) = None
+referenced_symbol graph specifier (import_type specifier_text (part ∷ remaining)) =
+    referenced_by_part remaining (import_part_target graph specifier specifier_text part remaining (resolve_specifier graph specifier specifier_text))
 
--- one unresolved entry
-abbrev pub missing_id : List ℕ → IdView → Parts → Forest
-missing_id specifier name parts = one_tree (leaf (unresolved (record { specifier = specifier; reason = no_symbol name; parts = parts })))
+-- the unresolved entry of a name without a symbol
+abbrev pub missing_id_path : List ℕ → IdView → QualifiedNameParts → PathForest
+missing_id_path specifier name parts = forest_of_tree (leaf (unresolved (record { specifier = specifier; reason = no_symbol name; parts = parts })))
 
-abbrev pub missing_part : PartLead → Forest
-missing_part (to t) = no_trees
-missing_part itself = no_trees
-missing_part (lacks m) = one_tree (leaf (unresolved m))
+abbrev pub missing_part_path : PartTargetView → PathForest
+missing_part_path (to t) = no_trees
+missing_part_path itself = no_trees
+missing_part_path (lacks m) = forest_of_tree (leaf (unresolved m))
 
-abbrev pub module_entry : List ℕ → List ℕ → Option (List ℕ) → EntryView
-module_entry specifier text (Some leads_to) = a_module leads_to
-module_entry specifier text None = a_path (leaf (unresolved (record { specifier = specifier; reason = no_module text; parts = [] })))
+abbrev pub module_entry : List ℕ → List ℕ → Option (List ℕ) → DepEntryView
+module_entry specifier specifier_text (Some target_specifier) = module_dep_entry target_specifier
+module_entry specifier specifier_text None =
+    path_dep_entry (leaf (unresolved (record { specifier = specifier; reason = no_module specifier_text; parts = [] })))
 
--- the entries where a reference asks for no symbol: one unresolved entry, or the module
-abbrev pub other_entries : GraphView → List ℕ → Reference → List EntryView
-other_entries graph specifier (id name) = entries_in (missing_id specifier name [])
-other_entries graph specifier (qualified_id name parts) = entries_in (missing_id specifier name parts)
-other_entries graph specifier (import_type text []) = module_entry specifier text (text_target graph specifier text) ∷ []
-other_entries graph specifier (import_type text (part ∷ rest)) = entries_in (missing_part (text_part graph specifier text part rest (text_target graph specifier text)))
+-- the entries of a reference without a symbol: one unresolved entry, or the module
+abbrev pub entries_without_symbol : GraphView → List ℕ → SymbolReference → List DepEntryView
+entries_without_symbol graph specifier (id name) = path_entries (missing_id_path specifier name [])
+entries_without_symbol graph specifier (qualified_id name parts) = path_entries (missing_id_path specifier name parts)
+entries_without_symbol graph specifier (import_type specifier_text []) =
+    module_entry specifier specifier_text (resolve_specifier graph specifier specifier_text) ∷ []
+entries_without_symbol graph specifier (import_type specifier_text (part ∷ remaining)) =
+    path_entries (missing_part_path (import_part_target graph specifier specifier_text part remaining (resolve_specifier graph specifier specifier_text)))
 
--- the entries as a function of the rules and the graph
-abbrev pub entries_of : Rules → GraphView → List ℕ → Reference → List EntryView
-entries_of rules graph specifier reference = option_map_or (λ (asked : Asked). entries_in (paths_under rules graph asked.0 asked.1)) (asked_for graph specifier reference) (other_entries graph specifier reference)
+-- the entries, as a function of the rules and the graph
+abbrev pub dep_entries_of : Rules → GraphView → List ℕ → SymbolReference → List DepEntryView
+dep_entries_of rules graph specifier reference =
+    option_map_or (λ (referenced : ReferencedSymbol). path_entries (paths_with_parts rules graph referenced.0 referenced.1))
+    (referenced_symbol graph specifier reference) (entries_without_symbol graph specifier reference)
 
--- an answer: the paths of the symbol under the parts, where one is asked for
-abbrev pub IsDepAnswer : Rules → GraphView → List ℕ → Reference → List EntryView → Type 0
-IsDepAnswer rules graph specifier reference entries = MatchOption (asked_for graph specifier reference) (entries ≡ other_entries graph specifier reference) (λ asked. (paths : Forest) × ArePathsFor rules graph asked.0 asked.1 paths × (entries ≡ entries_in paths))
+-- a result: the paths of the symbol under the parts if the reference has one, else the other entries
+abbrev pub IsDepAnswer : Rules → GraphView → List ℕ → SymbolReference → List DepEntryView → Type 0
+IsDepAnswer rules graph specifier reference entries = MatchOption (referenced_symbol graph specifier reference) (entries
+    ≡ entries_without_symbol graph specifier reference) (λ referenced. (paths : PathForest) × ArePathsFor rules graph referenced.0 referenced.1 paths
+    × (entries ≡ path_entries paths))
 
--- no answer: no module of this number is stored, and nothing changes; else what was refused is a module that is needed on from the module, or from that which an import type stands for, or memory
-pub data IsDepRefused (root : RootView) (specifier : List ℕ) (reference : Reference) (fault : SymbolsFault) : Type 0 where
-  on_the_way : IsRefused root specifier fault → IsDepRefused root specifier reference fault
-  of_import : (text : List ℕ) (parts : Parts) (leads_to : List ℕ) → reference ≡ import_type text parts → text_target root.graph specifier text ≡ Some leads_to → IsRefused root leads_to fault → IsDepRefused root specifier reference fault
+-- a fault: storing a module failed that is needed from this module, or from the module of an import type; or an allocation failed
+pub data IsDepRefused (root : RootView) (specifier : List ℕ) (reference : SymbolReference) (fault : SymbolsFault) : Type 0 where
+  along_search : IsNeededModuleRefused root specifier fault → IsDepRefused root specifier reference fault
+  of_import : (specifier_text : List ℕ) (parts : QualifiedNameParts) (target_specifier : List ℕ) → reference ≡ import_type specifier_text parts
+      → resolve_specifier root.graph specifier specifier_text ≡ Some target_specifier → IsNeededModuleRefused root target_specifier fault
+      → IsDepRefused root specifier reference fault
 
-pub record IsUnknownHere (old new : RootView) (module_id : ModuleId) (fault : SymbolsFault) : Type 0 where
+-- a fault: no module with this id is stored, and the root is unchanged
+pub record IsUnknownDepModule (old new : RootView) (module_id : ModuleId) (fault : SymbolsFault) : Type 0 where
   pub unknown : length old.stored ≤ module_id.0
   pub fault_is : fault ≡ UnknownModule
   pub unchanged : new ≡ old
 
-abbrev pub IsDepFault : RootView → RootView → ModuleId → Reference → SymbolsFault → Type 0
-IsDepFault old new module_id reference fault = IsUnknownHere old new module_id fault ⊎ ((module_id.0 < length old.stored) × IsDepRefused new (specifier_in old module_id) reference fault)
+-- the faults of a call
+abbrev pub IsDepFault : RootView → RootView → ModuleId → SymbolReference → SymbolsFault → Type 0
+IsDepFault old new module_id reference fault =
+    IsUnknownDepModule old new module_id fault ⊎ ((module_id.0 < length old.stored) × IsDepRefused new (specifier_in old module_id) reference fault)

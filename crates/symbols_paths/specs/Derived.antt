@@ -1,65 +1,88 @@
--- When a list of paths is derived for a symbol.
+-- The lists of paths that can be derived for a symbol, from any of the candidates.
 use Rattle.std.specs.Prelude.{◌≡◌, ℕ, ◌+◌, List, [], ◌∷◌, Some, Option, Contains}
-use Rattle.symbols_syntax.specs.declared.tree.arena.SourceRange.{SourceRange}
-use Rattle.symbols_table.specs.DeclViews.{DepView}
-use Rattle.symbols_paths.specs.Trees.{NamedSymbol, NamedDecl, Parts, Defined, Missing, definition, unresolved, LinkHead, PathTree, Forest, leaf, link, no_trees, more_trees, one_tree}
-use Rattle.symbols_paths.specs.Leads.{Forward, DeclLead, defines, leads, alias}
-use Rattle.symbols_paths.specs.PartLeads.{to, itself, lacks, Routes}
+use Rattle.symbols_ast.specs.declared.tree.arena.SourceRange.{SourceRange}
+use Rattle.symbols_table.specs.DeclViews.{FileDepView}
+use Rattle.symbols_paths.specs.PathTrees.{SymbolBySpecifier, DeclBySpecifier, QualifiedNameParts, DefinitionView, UnresolvedEntry, definition, unresolved}
+use Rattle.symbols_paths.specs.PathTrees.{LinkHead, PathTree, PathForest, leaf, link, no_trees, more_trees, forest_of_tree}
+use Rattle.symbols_paths.specs.DeclTargets.{ForwardTarget, DeclTargetView, defines, forwards, alias}
+use Rattle.symbols_paths.specs.PartTargets.{to, itself, lacks, SearchRoutes}
 
-abbrev pub decl_at : NamedSymbol → ℕ → NamedDecl
+abbrev pub decl_at : SymbolBySpecifier → ℕ → DeclBySpecifier
 decl_at s i = record { symbol = s; index = i }
 
 -- a declaration as a definition or a star import
-abbrev pub defined_at : NamedSymbol → ℕ → SourceRange → Option DepView → Defined
-defined_at s i range star = record { decl = decl_at s i; range = range; star = star }
+abbrev pub definition_of_decl : SymbolBySpecifier → ℕ → SourceRange → Option FileDepView → DefinitionView
+definition_of_decl s i range star = record { decl = decl_at s i; range = range; star = star }
 
--- the link of a declaration that leads on
-abbrev pub head_at : NamedSymbol → ℕ → Forward → LinkHead
-head_at s i forward = record { symbol = forward.symbol; decl = decl_at s i; parts = forward.parts }
+-- the link of a declaration that forwards
+abbrev pub link_head_at : SymbolBySpecifier → ℕ → ForwardTarget → LinkHead
+link_head_at s i forward = record { symbol = forward.symbol; decl = decl_at s i; parts = forward.parts }
 
--- that of an alias
-abbrev pub alias_head : NamedSymbol → ℕ → Parts → LinkHead
-alias_head s i ps = record { symbol = s; decl = decl_at s i; parts = ps }
+-- the link of an alias
+abbrev pub alias_link_head : SymbolBySpecifier → ℕ → QualifiedNameParts → LinkHead
+alias_link_head s i ps = record { symbol = s; decl = decl_at s i; parts = ps }
 
--- the link in a definition's place, where parts are looked for in it
-abbrev pub part_head : Defined → Parts → LinkHead
-part_head x ps = record { symbol = x.decl.symbol; decl = x.decl; parts = ps }
+-- the link that replaces a definition in which parts are resolved
+abbrev pub part_link_head : DefinitionView → QualifiedNameParts → LinkHead
+part_link_head x ps = record { symbol = x.decl.symbol; decl = x.decl; parts = ps }
 
--- the same link, where these parts are looked for
-abbrev pub under_parts : LinkHead → Parts → LinkHead
-under_parts head ps = record { symbol = head.symbol; decl = head.decl; parts = ps }
+-- the same link, with these parts instead of its own
+abbrev pub link_head_with_parts : LinkHead → QualifiedNameParts → LinkHead
+link_head_with_parts head ps = record { symbol = head.symbol; decl = head.decl; parts = ps }
 
 mutual
-  -- by the declarations in order, at most one path for each
-  pub data IsDerivedFrom (routes : Routes) : NamedSymbol → ℕ → List DeclLead → Forest → Type 0 where
-    at_end : {s : NamedSymbol} {i : ℕ} → IsDerivedFrom routes s i [] no_trees
-    drops : {s : NamedSymbol} {i : ℕ} {x : DeclLead} {xs : List DeclLead} {f : Forest} → IsDerivedFrom routes s (i + 1) xs f → IsDerivedFrom routes s i (x ∷ xs) f
-    takes : {s : NamedSymbol} {i : ℕ} {x : DeclLead} {xs : List DeclLead} {t : PathTree} {f : Forest} → IsPathOf routes s i x t → IsDerivedFrom routes s (i + 1) xs f → IsDerivedFrom routes s i (x ∷ xs) (more_trees t f)
+  -- at most one path for each declaration, in order from the index on
+  pub data IsDerivedByDecls (routes : SearchRoutes) : SymbolBySpecifier → ℕ → List DeclTargetView → PathForest → Type 0 where
+    at_end : {s : SymbolBySpecifier} {i : ℕ} → IsDerivedByDecls routes s i [] no_trees
+    drops : {s : SymbolBySpecifier} {i : ℕ} {x : DeclTargetView} {xs : List DeclTargetView} {f : PathForest} → IsDerivedByDecls routes s (i + 1) xs f
+        → IsDerivedByDecls routes s i (x ∷ xs) f
+    takes : {s : SymbolBySpecifier} {i : ℕ} {x : DeclTargetView} {xs : List DeclTargetView} {t : PathTree} {f : PathForest} → IsPathOfDecl routes s i x t
+        → IsDerivedByDecls routes s (i + 1) xs f → IsDerivedByDecls routes s i (x ∷ xs) (more_trees t f)
 
-  -- itself; or a link, and next, wholly from one candidate, what is derived for it, which isn't empty; or next the unresolved entry; or, of an alias, next what is derived for its symbol under its parts
-  pub data IsPathOf (routes : Routes) : NamedSymbol → ℕ → DeclLead → PathTree → Type 0 where
-    as_itself : {s : NamedSymbol} {i : ℕ} {range : SourceRange} {star : Option DepView} → IsPathOf routes s i (defines range star) (leaf (definition (defined_at s i range star)))
-    by_candidate : {s : NamedSymbol} {i : ℕ} {forward : Forward} {t : PathTree} {f : Forest} (c : NamedSymbol) → Contains forward.candidates c → IsDerivedFrom routes c 0 (routes.leads c) (more_trees t f) → IsPathOf routes s i (leads forward) (link (head_at s i forward) (more_trees t f))
-    by_missing : {s : NamedSymbol} {i : ℕ} {forward : Forward} (missing : Missing) → forward.otherwise ≡ Some missing → IsPathOf routes s i (leads forward) (link (head_at s i forward) (one_tree (leaf (unresolved missing))))
-    by_alias : {s t : NamedSymbol} {i : ℕ} {ps : Parts} {x : PathTree} {f : Forest} → IsDerivedUnder routes t ps (more_trees x f) → IsPathOf routes s i (alias t ps) (link (alias_head s i ps) (more_trees x f))
+  -- the path of a declaration. A definition is a leaf. A forward is a link, in front of a list derived for one candidate, which isn't
+  -- empty, or of the unresolved entry. An alias is a link in front of a list derived for its symbol under its parts, which isn't empty.
+  pub data IsPathOfDecl (routes : SearchRoutes) : SymbolBySpecifier → ℕ → DeclTargetView → PathTree → Type 0 where
+    as_itself : {s : SymbolBySpecifier} {i : ℕ} {range : SourceRange} {star : Option FileDepView}
+        → IsPathOfDecl routes s i (defines range star) (leaf (definition (definition_of_decl s i range star)))
+    by_candidate : {s : SymbolBySpecifier} {i : ℕ} {forward : ForwardTarget} {t : PathTree} {f : PathForest} (c : SymbolBySpecifier)
+        → Contains forward.candidates c
+        → IsDerivedByDecls routes c 0 (routes.decl_targets c) (more_trees t f)
+        → IsPathOfDecl routes s i (forwards forward) (link (link_head_at s i forward) (more_trees t f))
+    by_missing : {s : SymbolBySpecifier} {i : ℕ} {forward : ForwardTarget} (missing : UnresolvedEntry) → forward.otherwise ≡ Some missing
+        → IsPathOfDecl routes s i (forwards forward) (link (link_head_at s i forward) (forest_of_tree (leaf (unresolved missing))))
+    by_alias : {s t : SymbolBySpecifier} {i : ℕ} {ps : QualifiedNameParts} {x : PathTree} {f : PathForest} → IsDerivedWithParts routes t ps (more_trees x f)
+        → IsPathOfDecl routes s i (alias t ps) (link (alias_link_head s i ps) (more_trees x f))
 
-  -- under parts: from a list derived for the symbol, by changing its paths and dropping some
-  pub data IsDerivedUnder (routes : Routes) : NamedSymbol → Parts → Forest → Type 0 where
-    no_parts : {s : NamedSymbol} {f : Forest} → IsDerivedFrom routes s 0 (routes.leads s) f → IsDerivedUnder routes s [] f
-    under : {s : NamedSymbol} {p : List ℕ} {ps : Parts} {f g : Forest} → IsDerivedFrom routes s 0 (routes.leads s) f → IsChanged routes p ps f g → IsDerivedUnder routes s (p ∷ ps) g
+  -- under parts: a list derived for the symbol, with each path changed or dropped
+  pub data IsDerivedWithParts (routes : SearchRoutes) : SymbolBySpecifier → QualifiedNameParts → PathForest → Type 0 where
+    no_parts : {s : SymbolBySpecifier} {f : PathForest} → IsDerivedByDecls routes s 0 (routes.decl_targets s) f → IsDerivedWithParts routes s [] f
+    under : {s : SymbolBySpecifier} {p : List ℕ} {ps : QualifiedNameParts} {f g : PathForest} → IsDerivedByDecls routes s 0 (routes.decl_targets s) f
+        → IsForestWithPartsResolved routes p ps f g
+        → IsDerivedWithParts routes s (p ∷ ps) g
 
-  pub data IsChanged (routes : Routes) : List ℕ → Parts → Forest → Forest → Type 0 where
-    no_path : {p : List ℕ} {ps : Parts} → IsChanged routes p ps no_trees no_trees
-    dropped : {p : List ℕ} {ps : Parts} {t : PathTree} {f g : Forest} → IsChanged routes p ps f g → IsChanged routes p ps (more_trees t f) g
-    changed : {p : List ℕ} {ps : Parts} {t u : PathTree} {f g : Forest} → IsChange routes p ps t u → IsChanged routes p ps f g → IsChanged routes p ps (more_trees t f) (more_trees u g)
+  -- some paths changed, the others dropped
+  pub data IsForestWithPartsResolved (routes : SearchRoutes) : List ℕ → QualifiedNameParts → PathForest → PathForest → Type 0 where
+    no_path : {p : List ℕ} {ps : QualifiedNameParts} → IsForestWithPartsResolved routes p ps no_trees no_trees
+    dropped : {p : List ℕ} {ps : QualifiedNameParts} {t : PathTree} {f g : PathForest} → IsForestWithPartsResolved routes p ps f g
+        → IsForestWithPartsResolved routes p ps (more_trees t f) g
+    changed : {p : List ℕ} {ps : QualifiedNameParts} {t u : PathTree} {f g : PathForest} → IsTreeWithPartsResolved routes p ps t u
+        → IsForestWithPartsResolved routes p ps f g
+        → IsForestWithPartsResolved routes p ps (more_trees t f) (more_trees u g)
 
-  -- an unresolved entry stays; a link has the parts, and next what is changed, which isn't empty; in a definition's place stands a link, and next what is derived for the symbol that the part leads to, or the unresolved entry; or the definition stays
-  pub data IsChange (routes : Routes) : List ℕ → Parts → PathTree → PathTree → Type 0 where
-    stays : {p : List ℕ} {ps : Parts} {m : Missing} → IsChange routes p ps (leaf (unresolved m)) (leaf (unresolved m))
-    links_on : {p : List ℕ} {ps : Parts} {head : LinkHead} {f g : Forest} {x : PathTree} → IsChanged routes p ps f (more_trees x g) → IsChange routes p ps (link head f) (link (under_parts head (p ∷ ps)) (more_trees x g))
-    goes : {p : List ℕ} {ps : Parts} {y : Defined} {t : NamedSymbol} {x : PathTree} {g : Forest} → routes.part y p ps ≡ to t → IsDerivedUnder routes t ps (more_trees x g) → IsChange routes p ps (leaf (definition y)) (link (part_head y (p ∷ ps)) (more_trees x g))
-    is_itself : {p : List ℕ} {ps : Parts} {y : Defined} → routes.part y p ps ≡ itself → IsChange routes p ps (leaf (definition y)) (leaf (definition y))
-    lacking : {p : List ℕ} {ps : Parts} {y : Defined} {m : Missing} → routes.part y p ps ≡ lacks m → IsChange routes p ps (leaf (definition y)) (link (part_head y (p ∷ ps)) (one_tree (leaf (unresolved m))))
+  -- a changed path. An unresolved entry stays. A link gets the parts, and its next paths are changed, of which one is left at least. A
+  -- definition stays, or is replaced by a link: in front of a list derived for the symbol of the part, or of the unresolved entry.
+  pub data IsTreeWithPartsResolved (routes : SearchRoutes) : List ℕ → QualifiedNameParts → PathTree → PathTree → Type 0 where
+    stays : {p : List ℕ} {ps : QualifiedNameParts} {m : UnresolvedEntry} → IsTreeWithPartsResolved routes p ps (leaf (unresolved m)) (leaf (unresolved m))
+    links_on : {p : List ℕ} {ps : QualifiedNameParts} {head : LinkHead} {f g : PathForest} {x : PathTree}
+        → IsForestWithPartsResolved routes p ps f (more_trees x g)
+        → IsTreeWithPartsResolved routes p ps (link head f) (link (link_head_with_parts head (p ∷ ps)) (more_trees x g))
+    goes : {p : List ℕ} {ps : QualifiedNameParts} {y : DefinitionView} {t : SymbolBySpecifier} {x : PathTree} {g : PathForest} → routes.part y p ps ≡ to t
+        → IsDerivedWithParts routes t ps (more_trees x g)
+        → IsTreeWithPartsResolved routes p ps (leaf (definition y)) (link (part_link_head y (p ∷ ps)) (more_trees x g))
+    is_itself : {p : List ℕ} {ps : QualifiedNameParts} {y : DefinitionView} → routes.part y p ps ≡ itself
+        → IsTreeWithPartsResolved routes p ps (leaf (definition y)) (leaf (definition y))
+    lacking : {p : List ℕ} {ps : QualifiedNameParts} {y : DefinitionView} {m : UnresolvedEntry} → routes.part y p ps ≡ lacks m
+        → IsTreeWithPartsResolved routes p ps (leaf (definition y)) (link (part_link_head y (p ∷ ps)) (forest_of_tree (leaf (unresolved m))))
 
-abbrev pub IsDerived : Routes → NamedSymbol → Forest → Type 0
-IsDerived routes s f = IsDerivedFrom routes s 0 (routes.leads s) f
+abbrev pub IsDerivedForest : SearchRoutes → SymbolBySpecifier → PathForest → Type 0
+IsDerivedForest routes s f = IsDerivedByDecls routes s 0 (routes.decl_targets s) f

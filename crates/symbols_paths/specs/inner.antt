@@ -1,7 +1,7 @@
--- For inner functions and proofs alone: nothing in this folder has to be trusted.
-pub mod Rebuilt
+-- For inner functions and proofs alone: nothing in this directory has to be trusted.
+pub mod ReplacedDefinitions
 pub mod Views
-pub mod Trails
+pub mod PathBuilders
 pub mod Needed
-pub mod Searching
+pub mod SearchSteps
 pub mod DepAnswers

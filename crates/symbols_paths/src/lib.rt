@@ -1,4 +1,26 @@
-//! Where a symbol is defined, across modules.
+//! Finds where a symbol is defined, across modules.
 #![tactic(auto)]
 
-pub mod paths;
+mod alias_decl;
+mod build_paths;
+mod decl_target;
+mod definition;
+mod definition_iter;
+mod definition_path;
+mod definition_search;
+mod definition_unresolved;
+mod find_definitions;
+mod part_target;
+mod path_builder;
+mod path_links;
+mod re_exported_symbol;
+mod replace_definitions;
+mod shared_parts;
+mod symbol_dep;
+
+pub use definition::{DeclRef, Definition, DefinitionKind};
+pub use definition_iter::{DefinitionOrUnresolved, DefinitionsIter, DefinitionsOrUnresolvedsIter};
+pub use definition_path::{DefinitionPathLink, DefinitionPathNode, DefinitionPathNodeResolved};
+pub use definition_unresolved::{DefinitionUnresolved, DefinitionUnresolvedKind};
+pub use find_definitions::FindDefinitions;
+pub use symbol_dep::ResolvedSymbolDepEntry;

@@ -2,6 +2,7 @@ mod Naming
 mod Known
 mod Weights
 mod Storing
-mod Asking
+mod QueriesAnswered
 mod Running
 mod PathModules
+mod StoredForQuery

@@ -1,77 +1,93 @@
--- Why a query has no answer.
-use Rattle.std.specs.Prelude.{◌≡◌, ◌≢◌, ◌⊎◌, ℕ, List, ◌∷◌, ◌++◌, All, Option, Some, None}
-use Rattle.symbols_syntax.specs.Graph.{GraphView}
-use Rattle.symbols_nodes.specs.References.{Reference, id, qualified_id, import_type}
+-- Why a query fails.
+use Rattle.std.specs.Prelude.{◌≡◌, ◌≢◌, ◌⊎◌, ℕ, List, ◌∷◌, ◌++◌, All, Contains, Option, Some, None}
+use Rattle.symbols_ast.specs.Graph.{GraphView}
 use Rattle.symbols_table.specs.declared.info.fault.SymbolsFault.{SymbolsFault}
-use Rattle.symbols_table.specs.declared.info.fault.SymbolsFault.TheVariants.{UnknownSymbol}
-use Rattle.symbols_root.specs.TypesChains.{stands_for}
-use Rattle.symbols_root.specs.Roots.{RootView, with_stored, IsRefusal}
-use Rattle.symbols_exports.specs.Chains.{IsReached}
-use Rattle.symbols_exports.specs.StarStatements.{text_target, statements_of}
+use Rattle.symbols_table.specs.declared.info.fault.SymbolsFault.TheVariants.{OutOfMemory, UnknownSymbol}
+use Rattle.symbols_root.specs.TypesChains.{resolved_module_specifier}
+use Rattle.symbols_root.specs.Roots.{RootView, with_stored_module, IsStoringFault}
+use Rattle.symbols_exports.specs.Chains.{IsReachedByStars}
+use Rattle.symbols_exports.specs.StarStatements.{star_targets_of}
 use Rattle.symbols_root.specs.Growing.{HasGrown}
-use Rattle.symbols_paths.specs.Needed.{IsNeeded}
-use Rattle.symbols_answers.specs.Questions.{QuestionView, asks_module, asks_exports, asks_names, asks_symbol, asks_name, asks_deps, asks_paths, asks_definitions, asks_leaves, asks_entries, QueryView}
+use Rattle.symbols_paths.specs.NeededModules.{IsModuleNeeded, IsNeededByReference, StoresOnly}
+use Rattle.symbols_answers.specs.Questions.{QuestionView, query_module, query_exports, query_names, query_symbol, query_name}
+use Rattle.symbols_answers.specs.Questions.{query_deps, query_paths, query_definitions, query_leaves, query_resolve, QueryView}
 use Rattle.symbols_answers.specs.Answers.{AnswerView}
 use Rattle.symbols_answers.specs.QueryAnswers.{query_answer}
-use Rattle.symbols_answers.specs.Stored.{HasStoredFor}
+use Rattle.symbols_answers.specs.Stored.{AreQueryModulesStored}
 
--- the modules that a reference in a module may need: those needed on from the module, and from that which an import type stands for
-abbrev pub IsNeededFor : GraphView → List ℕ → Reference → List ℕ → Type 0
-IsNeededFor graph specifier (id name) v = IsNeeded graph specifier v
-IsNeededFor graph specifier (qualified_id name parts) v = IsNeeded graph specifier v
-IsNeededFor graph specifier (import_type text parts) v = IsNeeded graph specifier v ⊎ ((k : List ℕ) × (text_target graph specifier text ≡ Some k) × IsNeeded graph k v)
-
--- the modules that a question on a module may need besides it: for its exports and its public names those that are reached from it, and for where something is defined those of the search
+-- the other modules that a question on a module may need: for its exports and public names the reachable ones, for definitions and
+-- references those of the search
 abbrev pub IsNeededByQuestion : GraphView → List ℕ → QuestionView → List ℕ → Type 0
-IsNeededByQuestion graph specifier asks_module v = ⊥
-IsNeededByQuestion graph specifier asks_exports v = IsReached (statements_of graph) specifier v
-IsNeededByQuestion graph specifier asks_names v = IsReached (statements_of graph) specifier v
-IsNeededByQuestion graph specifier (asks_symbol name) v = ⊥
-IsNeededByQuestion graph specifier (asks_name s) v = ⊥
-IsNeededByQuestion graph specifier (asks_deps s mode) v = ⊥
-IsNeededByQuestion graph specifier (asks_paths s) v = IsNeeded graph specifier v
-IsNeededByQuestion graph specifier (asks_definitions s) v = IsNeeded graph specifier v
-IsNeededByQuestion graph specifier (asks_leaves s) v = IsNeeded graph specifier v
-IsNeededByQuestion graph specifier (asks_entries reference) v = IsNeededFor graph specifier reference v
+IsNeededByQuestion graph specifier query_module v = ⊥
+IsNeededByQuestion graph specifier query_exports v = IsReachedByStars (star_targets_of graph) specifier v
+IsNeededByQuestion graph specifier query_names v = IsReachedByStars (star_targets_of graph) specifier v
+IsNeededByQuestion graph specifier (query_symbol name) v = ⊥
+IsNeededByQuestion graph specifier (query_name s) v = ⊥
+IsNeededByQuestion graph specifier (query_deps s mode) v = ⊥
+IsNeededByQuestion graph specifier (query_paths s) v = IsModuleNeeded graph specifier v
+IsNeededByQuestion graph specifier (query_definitions s) v = IsModuleNeeded graph specifier v
+IsNeededByQuestion graph specifier (query_leaves s) v = IsModuleNeeded graph specifier v
+IsNeededByQuestion graph specifier (query_resolve reference) v = IsNeededByReference graph specifier reference v
 
--- the modules that a query may need besides that which its specifier stands for
-abbrev pub IsNeededBesides : GraphView → QueryView → List ℕ → Type 0
-IsNeededBesides graph query v = (specifier : List ℕ) × (stands_for graph query.specifier ≡ Some specifier) × IsNeededByQuestion graph specifier query.question v
+-- the modules that a query may need besides the one that its specifier resolves to
+abbrev pub IsNeededByQuery : GraphView → QueryView → List ℕ → Type 0
+IsNeededByQuery graph query v = (specifier : List ℕ) × (resolved_module_specifier graph query.specifier ≡ Some specifier)
+    × IsNeededByQuestion graph specifier query.question v
 
--- the module that the specifier stands for has no such symbol: it alone is stored, if it wasn't
-pub record IsSymbolAbsent (old new : RootView) (query : QueryView) (fault : SymbolsFault) : Type 0 where
+-- the modules that a query may store: the one that its specifier resolves to, and those that it may need besides
+abbrev pub IsStoredForQuery : GraphView → QueryView → List ℕ → Type 0
+IsStoredForQuery graph query v = (resolved_module_specifier graph query.specifier ≡ Some v) ⊎ IsNeededByQuery graph query v
+
+-- the modules that one of some queries may store
+abbrev pub IsStoredForQueries : GraphView → List QueryView → List ℕ → Type 0
+IsStoredForQueries graph queries v = (query : QueryView) × Contains queries query × IsStoredForQuery graph query v
+
+-- the queried module has no such symbol: it alone is stored, if it wasn't
+pub record IsUnknownSymbolQueryFault (old new : RootView) (query : QueryView) (fault : SymbolsFault) : Type 0 where
   pub no_answer : query_answer old.rules old.graph query ≡ None
   pub fault_is : fault ≡ UnknownSymbol
-  pub stored : new ≡ with_stored old (stands_for old.graph query.specifier)
+  pub stored : new ≡ with_stored_module old (resolved_module_specifier old.graph query.specifier)
 
--- that module was refused, or memory for it: nothing changes
-pub record IsModuleRefused (old new : RootView) (query : QueryView) (fault : SymbolsFault) : Type 0 where
-  pub refused : IsRefusal old (stands_for old.graph query.specifier) fault
+-- the queried module is refused, or an allocation failed for it: nothing changes
+pub record IsQueriedModuleRefused (old new : RootView) (query : QueryView) (fault : SymbolsFault) : Type 0 where
+  pub refused : IsStoringFault old (resolved_module_specifier old.graph query.specifier) fault
   pub unchanged : new ≡ old
 
--- there is an answer, and that module is stored; what was refused is one that may be needed besides, or memory
-pub record IsAnswerRefused (old new : RootView) (query : QueryView) (fault : SymbolsFault) : Type 0 where
+-- the query has an answer, and the queried module is stored; another module that may be needed is refused, or an allocation failed. Besides
+-- the queried module only such as may be needed are newly stored
+pub record IsModuleForQueryRefused (old new : RootView) (query : QueryView) (fault : SymbolsFault) : Type 0 where
   pub has_answer : query_answer old.rules old.graph query ≢ None
-  pub stored : HasGrown (with_stored old (stands_for old.graph query.specifier)) new
+  pub stored : HasGrown (with_stored_module old (resolved_module_specifier old.graph query.specifier)) new
+  pub only : StoresOnly (with_stored_module old (resolved_module_specifier old.graph query.specifier)) new (IsNeededByQuery old.graph query)
   pub needed : Option (List ℕ)
-  pub is_needed : (v : List ℕ) → needed ≡ Some v → IsNeededBesides old.graph query v
-  pub refused : IsRefusal new needed fault
+  pub is_needed : (v : List ℕ) → needed ≡ Some v → IsNeededByQuery old.graph query v
+  pub refused : IsStoringFault new needed fault
 
--- why a query has no answer: one of these
+-- why a query fails: one of these
 abbrev pub IsQueryFault : RootView → RootView → QueryView → SymbolsFault → Type 0
-IsQueryFault old new query fault = IsSymbolAbsent old new query fault ⊎ IsModuleRefused old new query fault ⊎ IsAnswerRefused old new query fault
+IsQueryFault old new query fault = IsUnknownSymbolQueryFault old new query fault ⊎ IsQueriedModuleRefused old new query fault ⊎ IsModuleForQueryRefused old new
+    query fault
 
--- a query was answered: it has an answer, and what that needs is stored
-abbrev pub IsAnswered : RootView → QueryView → Type 0
-IsAnswered root query = (answer : AnswerView) × (query_answer root.rules root.graph query ≡ Some answer) × HasStoredFor root query answer
+-- a query is answered: it has an answer, and the modules that it needs are stored
+abbrev pub IsQueryAnswered : RootView → QueryView → Type 0
+IsQueryAnswered root query = (answer : AnswerView) × (query_answer root.rules root.graph query ≡ Some answer) × AreQueryModulesStored root query answer
 
--- of some queries: those before one were answered, in a root that has stored what they need, and in that root it has no answer, for this fault
-pub record IsRunFault (old new : RootView) (queries : List QueryView) (fault : SymbolsFault) : Type 0 where
+-- the query is answered, and an allocation failed for the list of answers
+pub record IsAnswerLost (old new : RootView) (query : QueryView) (fault : SymbolsFault) : Type 0 where
+  pub fault_is : fault ≡ OutOfMemory
+  pub answered : IsQueryAnswered new query
+  pub grown : HasGrown old new
+  pub only : StoresOnly old new (IsStoredForQuery old.graph query)
+
+-- why a list of queries fails: those before one are answered, in a root that has stored what they need, and newly stored only what they may
+-- store; from that root on this one fails, or its answer is lost
+pub record IsQueryListFault (old new : RootView) (queries : List QueryView) (fault : SymbolsFault) : Type 0 where
   pub before : List QueryView
   pub query : QueryView
-  pub behind : List QueryView
-  pub are : queries ≡ before ++ query ∷ behind
+  pub later : List QueryView
+  pub are : queries ≡ before ++ query ∷ later
   pub between : RootView
   pub grown : HasGrown old between
-  pub answered : All (IsAnswered between) before
-  pub fails : IsQueryFault between new query fault
+  pub only : StoresOnly old between (IsStoredForQueries old.graph before)
+  pub answered : All (IsQueryAnswered between) before
+  pub fails : IsQueryFault between new query fault ⊎ IsAnswerLost between new query fault

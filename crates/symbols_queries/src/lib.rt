@@ -1,4 +1,21 @@
-//! Queries on the modules of a graph, and what they are answered with.
+//! Queries on the modules of a graph, and their answers.
 #![tactic(auto)]
 
-pub mod queries;
+mod answer;
+mod answer_queries;
+mod decl_deps;
+mod exports_by_specifier;
+mod paths_by_specifier;
+mod query;
+mod shared_name_by_specifier;
+
+pub use answer::Answer;
+pub use answer_queries::AnswerQueries;
+pub use decl_deps::DeclDeps;
+pub use exports_by_specifier::{ExportBySpecifier, ExportsBySpecifier, StarStatementBySpecifier};
+pub use paths_by_specifier::{
+    DefinitionBySpecifier, DepEntryBySpecifier, PathBySpecifier, PathEndBySpecifier,
+    PathLinkBySpecifier, UnresolvedBySpecifier,
+};
+pub use query::Query;
+pub use shared_name_by_specifier::{ExporterBySpecifier, SharedNameBySpecifier};

@@ -1,5 +1,6 @@
--- A walk along a types chain.
-use Rattle.std.proofs.Common.{◌≡◌, ℕ, zero, suc, ◌+◌, ◌≤◌, Bool, true, false, ◌||◌, List, [], ◌∷◌, ◌++◌, length, map, reverse, find, IfSome, option_copied, option_and_then, Option, None, Some, refl, sym, ap, subst, ◌∙◌, arith, append_assoc, append-nil}
+-- The loop that follows a types chain.
+use Rattle.std.proofs.Common.{◌≡◌, ℕ, zero, suc, ◌+◌, ◌≤◌, Bool, true, false, ◌||◌, List, [], ◌∷◌, ◌++◌, length, map, reverse, find, IfSome}
+use Rattle.std.proofs.Common.{option_copied, option_and_then, Option, None, Some, refl, sym, ap, subst, ◌∙◌, arith, append_assoc, append-nil}
 use Rattle.std.specs.Prelude.{if◌then◌else◌}
 use Rattle.std.specs.Borrow.{Bor}
 use Rattle.std.specs.List.{IsDistinct, list_any}
@@ -8,30 +9,30 @@ use Rattle.std.proofs.lemmas.List.{length_push, map-append, reverse-append}
 use Rattle.std.proofs.lemmas.Map.Keys.{IsDistinct-push}
 use Rattle.std.proofs.lemmas.Option.{none-some, same_Some}
 use Rattle.indexmap.specs.IndexSet.{insert_key}
-use Rattle.symbols_syntax.specs.Graph.{GraphView, ModuleView, module_of, types_of, IsChecked}
-use Rattle.symbols_root.specs.Specifiers.{module_under, is_among}
-use Rattle.symbols_root.specs.TypesChains.{is_analyzable, types_module, chain_from, types_chain, standing_module}
+use Rattle.symbols_ast.specs.Graph.{GraphView, ModuleView, module_after_redirect, content_types_dependency, IsCheckedContent}
+use Rattle.symbols_root.specs.Specifiers.{module_with_specifier, contains_specifier}
+use Rattle.symbols_root.specs.TypesChains.{is_analyzable, types_module, types_chain_from, types_chain, get_prefer_types}
 use Rattle.symbols_root.proofs.Among.{laws, nothing_once, AreIn, none_in, one_more_in, looked_up_under, types_under}
 use Rattle.symbols_root.proofs.Chains.{from_none, from_old, from_new, room}
 
--- what is known of a module that was found
+-- a module that was found: it has its own specifier in the graph, and its content is checked
 pub record IsKnown (graph : GraphView) (m : ModuleView) : Type 0 where
-  pub under : module_under graph m.specifier ≡ Some m
-  pub checked : IsChecked m.content
+  pub under : module_with_specifier graph m.specifier ≡ Some m
+  pub checked : IsCheckedContent m.content
 
--- the modules passed so far, the last of them with symbols, and the module that was looked up
-pub record IsFollowing (graph : GraphView) (specifier : List ℕ) (before : List (List ℕ)) (standing found : Option ModuleView) : Type 0 where
+-- the state of the loop: the modules passed so far, the last of them with symbols, and the module that was looked up
+pub record IsFollowing (graph : GraphView) (specifier : List ℕ) (before : List (List ℕ)) (resolved_to found : Option ModuleView) : Type 0 where
   pub passed : List ModuleView
   pub more : ℕ
   pub enough : length graph.modules ≤ more + length before
   pub once : IsDistinct bytes_eq before
   pub inside : AreIn graph before
-  pub chain : types_chain graph specifier ≡ passed ++ chain_from graph more before found
-  pub last : standing ≡ find is_analyzable (reverse passed)
-  pub known : (m : ModuleView) → standing ≡ Some m → IsKnown graph m
-  pub under : (m : ModuleView) → found ≡ Some m → module_under graph m.specifier ≡ Some m
+  pub chain : types_chain graph specifier ≡ passed ++ types_chain_from graph more before found
+  pub last : resolved_to ≡ find is_analyzable (reverse passed)
+  pub known : (m : ModuleView) → resolved_to ≡ Some m → IsKnown graph m
+  pub under : (m : ModuleView) → found ≡ Some m → module_with_specifier graph m.specifier ≡ Some m
 
-pub following_first : (graph : GraphView) (specifier : List ℕ) → IsFollowing graph specifier [] None (module_of graph specifier)
+pub following_first : (graph : GraphView) (specifier : List ℕ) → IsFollowing graph specifier [] None (module_after_redirect graph specifier)
 following_first graph specifier = record {
   passed = [];
   more = length graph.modules;
@@ -45,31 +46,39 @@ following_first graph specifier = record {
 }
 
 -- the chain ends here
-stands_at_end : (graph : GraphView) (specifier : List ℕ) (passed rest : List ModuleView) (standing : Option ModuleView) → types_chain graph specifier ≡ passed ++ rest → rest ≡ [] → standing ≡ find is_analyzable (reverse passed) → standing ≡ standing_module graph specifier
-stands_at_end graph specifier passed rest standing chain none last = last ∙ ap (λ modules. find is_analyzable (reverse modules)) (sym (chain ∙ (ap (λ r. passed ++ r) none ∙ append-nil passed)))
+occurs_at_end : (graph : GraphView) (specifier : List ℕ) (passed rest : List ModuleView) (resolved_to : Option ModuleView) → types_chain graph specifier
+    ≡ passed ++ rest → rest ≡ [] → resolved_to ≡ find is_analyzable (reverse passed) → resolved_to ≡ get_prefer_types graph specifier
+occurs_at_end graph specifier passed rest resolved_to chain none last =
+    last ∙ ap (λ modules. find is_analyzable (reverse modules)) (sym (chain ∙ (ap (λ r. passed ++ r) none ∙ append-nil passed)))
 
-last_of : (standing : Option ModuleView) (passed : List ModuleView) (m : ModuleView) → standing ≡ find is_analyzable (reverse passed) → (if is_analyzable m then Some m else standing) ≡ find is_analyzable (reverse (passed ++ m ∷ []))
-last_of standing passed m last = ap (λ o. if is_analyzable m then Some m else o) last ∙ ap (find is_analyzable) (sym (reverse-append passed (m ∷ [])))
+last_of : (resolved_to : Option ModuleView) (passed : List ModuleView) (m : ModuleView) → resolved_to ≡ find is_analyzable (reverse passed)
+    → (if is_analyzable m then Some m else resolved_to) ≡ find is_analyzable (reverse (passed ++ m ∷ []))
+last_of resolved_to passed m last = ap (λ o. if is_analyzable m then Some m else o) last ∙ ap (find is_analyzable) (sym (reverse-append passed (m ∷ [])))
 
-module _ {graph : GraphView} {specifier : List ℕ} {before : List (List ℕ)} {standing : Option ModuleView} where
-  pub following_over : IsFollowing graph specifier before standing None → standing ≡ standing_module graph specifier
-  following_over w = stands_at_end graph specifier w.passed _ standing w.chain (from_none graph w.more before) w.last
+module _ {graph : GraphView} {specifier : List ℕ} {before : List (List ℕ)} {resolved_to : Option ModuleView} where
+  pub following_over : IsFollowing graph specifier before resolved_to None → resolved_to ≡ get_prefer_types graph specifier
+  following_over w = occurs_at_end graph specifier w.passed _ resolved_to w.chain (from_none graph w.more before) w.last
 
-  pub following_back : (m : ModuleView) → IsFollowing graph specifier before standing (Some m) → is_among before m.specifier ≡ true → standing ≡ standing_module graph specifier
-  following_back m w is = stands_at_end graph specifier w.passed _ standing w.chain (from_old graph w.more before m is) w.last
+  pub following_back : (m : ModuleView) → IsFollowing graph specifier before resolved_to (Some m) → contains_specifier before m.specifier ≡ true
+      → resolved_to ≡ get_prefer_types graph specifier
+  following_back m w is = occurs_at_end graph specifier w.passed _ resolved_to w.chain (from_old graph w.more before m is) w.last
 
-  pub following_room : (m : ModuleView) → IsFollowing graph specifier before standing (Some m) → is_among before m.specifier ≡ false → length before + 1 ≤ length graph.modules
+  pub following_room : (m : ModuleView) → IsFollowing graph specifier before resolved_to (Some m) → contains_specifier before m.specifier ≡ false
+      → length before + 1 ≤ length graph.modules
   following_room m w new = room graph before m w.once w.inside (w.under m refl) new
 
-  -- on behind a new module
-  pub following_next : (m : ModuleView) → IsFollowing graph specifier before standing (Some m) → is_among before m.specifier ≡ false → IsChecked m.content → IsFollowing graph specifier (before ++ m.specifier ∷ []) (if is_analyzable m then Some m else standing) (types_module graph m)
+  -- the state after a new module
+  pub following_next : (m : ModuleView) → IsFollowing graph specifier before resolved_to (Some m) → contains_specifier before m.specifier ≡ false
+      → IsCheckedContent m.content
+      → IsFollowing graph specifier (before ++ m.specifier ∷ []) (if is_analyzable m then Some m else resolved_to) (types_module graph m)
   following_next m w new checked = by w.more w.enough w.chain
     where
-      known_later : (b : Bool) (x : ModuleView) → (if b then Some m else standing) ≡ Some x → IsKnown graph x
+      known_later : (b : Bool) (x : ModuleView) → (if b then Some m else resolved_to) ≡ Some x → IsKnown graph x
       known_later true x e = subst (IsKnown graph) (same_Some m x e) (record { under = w.under m refl; checked = checked })
       known_later false x e = w.known x e
 
-      by : (more : ℕ) → length graph.modules ≤ more + length before → types_chain graph specifier ≡ w.passed ++ chain_from graph more before (Some m) → IsFollowing graph specifier (before ++ m.specifier ∷ []) (if is_analyzable m then Some m else standing) (types_module graph m)
+      by : (more : ℕ) → length graph.modules ≤ more + length before → types_chain graph specifier ≡ w.passed ++ types_chain_from graph more before (Some m)
+          → IsFollowing graph specifier (before ++ m.specifier ∷ []) (if is_analyzable m then Some m else resolved_to) (types_module graph m)
       by zero enough chain = absurd (omega (arith, following_room m w new, enough))
       by (suc more) enough chain = record {
         passed = w.passed ++ m ∷ [];
@@ -77,44 +86,58 @@ module _ {graph : GraphView} {specifier : List ℕ} {before : List (List ℕ)} {
         enough = omega (arith, enough, length_push before m.specifier);
         once = IsDistinct-push laws before m.specifier w.once new;
         inside = one_more_in graph before m w.inside (w.under m refl);
-        chain = chain ∙ (ap (λ rest. w.passed ++ rest) (from_new graph more before m new) ∙ sym (append_assoc w.passed (m ∷ []) (chain_from graph more (before ++ m.specifier ∷ []) (types_module graph m))));
-        last = last_of standing w.passed m w.last;
+        chain = chain ∙ (ap (λ rest. w.passed ++ rest) (from_new graph more before m new)
+            ∙ sym (append_assoc w.passed (m ∷ []) (types_chain_from graph more (before ++ m.specifier ∷ []) (types_module graph m))));
+        last = last_of resolved_to w.passed m w.last;
         known = known_later (is_analyzable m);
-        under = types_under graph (types_of m.content);
+        under = types_under graph (content_types_dependency m.content);
       }
 
   -- a new module without a types dependency ends the chain
-  pub following_last : (m : ModuleView) → IsFollowing graph specifier before standing (Some m) → is_among before m.specifier ≡ false → IsChecked m.content → types_of m.content ≡ None → (if is_analyzable m then Some m else standing) ≡ standing_module graph specifier
+  pub following_last : (m : ModuleView) → IsFollowing graph specifier before resolved_to (Some m) → contains_specifier before m.specifier ≡ false
+      → IsCheckedContent m.content
+      → content_types_dependency m.content ≡ None → (if is_analyzable m then Some m else resolved_to) ≡ get_prefer_types graph specifier
   following_last m w new checked none =
       let next = following_next m w new checked in
-      stands_at_end graph specifier next.passed _ (if is_analyzable m then Some m else standing) next.chain (ap (λ t. chain_from graph next.more (before ++ m.specifier ∷ []) (option_and_then (module_of graph) t)) none ∙ from_none graph next.more (before ++ m.specifier ∷ [])) next.last
+      occurs_at_end graph specifier next.passed _ (if is_analyzable m then Some m else resolved_to) next.chain (ap (λ t. types_chain_from graph next.more
+      (before ++ m.specifier ∷ []) (option_and_then (module_after_redirect graph) t)) none ∙ from_none graph next.more (before ++ m.specifier ∷ [])) next.last
 
 -- the same at the values of a step
-pub following_step : {graph : GraphView} {specifier : List ℕ} {before : List (List ℕ)} {standing found : Option ModuleView} (m : ModuleView) (types : List ℕ) (new_before : List (List ℕ)) (new_standing new_found : Option ModuleView) → IsFollowing graph specifier before standing found
-    → found ≡ Some m → is_among before m.specifier ≡ false → IsChecked m.content → types_of m.content ≡ Some types → new_before ≡ before ++ m.specifier ∷ [] → new_standing ≡ (if is_analyzable m then Some m else standing) → new_found ≡ module_of graph types → IsFollowing graph specifier new_before new_standing new_found
-following_step {graph} {specifier} {before} {standing} m types new_before new_standing new_found w is new checked has e f g =
-    let next = following_next m (subst (IsFollowing graph specifier before standing) is w) new checked in
-    rw (e, f, g) (subst (λ o. IsFollowing graph specifier (before ++ m.specifier ∷ []) (if is_analyzable m then Some m else standing) (option_and_then (module_of graph) o)) has next)
+pub following_step : {graph : GraphView} {specifier : List ℕ} {before : List (List ℕ)} {resolved_to found : Option ModuleView} (m : ModuleView) (types : List
+    ℕ) (new_before : List (List ℕ)) (new_resolved new_found : Option ModuleView) → IsFollowing graph specifier before resolved_to found
+    → found ≡ Some m → contains_specifier before m.specifier ≡ false → IsCheckedContent m.content → content_types_dependency m.content ≡ Some types
+    → new_before ≡ before ++ m.specifier ∷ []
+    → new_resolved ≡ (if is_analyzable m then Some m else resolved_to) → new_found ≡ module_after_redirect graph types
+    → IsFollowing graph specifier new_before new_resolved new_found
+following_step {graph} {specifier} {before} {resolved_to} m types new_before new_resolved new_found w is new checked has e f g =
+    let next = following_next m (subst (IsFollowing graph specifier before resolved_to) is w) new checked in
+    rw (e, f, g) (subst (λ o. IsFollowing graph specifier (before ++ m.specifier ∷ []) (if is_analyzable m then Some m
+    else resolved_to) (option_and_then (module_after_redirect graph) o)) has next)
 
--- ---- values that are lent
+-- ---- borrowed values
 
 pub if_some : (P : ModuleView → Type 0) (o : Option (Bor ModuleView)) → ((m : ModuleView) → option_copied o ≡ Some m → P m) → IfSome o (λ m. P m.now)
 if_some P None holds = tt
 if_some P (Some m) holds = holds m.now refl
 
-abbrev pub lent_specifiers : List (Bor (List ℕ)) → List (List ℕ)
-lent_specifiers keys = map (λ (key : Bor (List ℕ)). key.now) keys
+abbrev pub borrowed_specifiers : List (Bor (List ℕ)) → List (List ℕ)
+borrowed_specifiers keys = map (λ (key : Bor (List ℕ)). key.now) keys
 
-pub lent_among : (keys : List (Bor (List ℕ))) (q : List ℕ) → list_any (λ (key : Bor (List ℕ)). bytes_eq q key.now) keys ≡ is_among (lent_specifiers keys) q
-lent_among [] q = refl
-lent_among (key ∷ keys) q = ap (λ b. bytes_eq q key.now || b) (lent_among keys q)
+pub borrowed_among : (keys : List (Bor (List ℕ))) (q : List ℕ)
+    → list_any (λ (key : Bor (List ℕ)). bytes_eq q key.now) keys ≡ contains_specifier (borrowed_specifiers keys) q
+borrowed_among [] q = refl
+borrowed_among (key ∷ keys) q = ap (λ b. bytes_eq q key.now || b) (borrowed_among keys q)
 
--- whether a module is among those before it
-pub met_is : (keys : List (Bor (List ℕ))) (s q : List ℕ) (b : Bool) → b ≡ list_any (λ (key : Bor (List ℕ)). bytes_eq s key.now) keys → s ≡ q → is_among (lent_specifiers keys) q ≡ b
-met_is keys s q b is same = subst (λ x. is_among (lent_specifiers keys) x ≡ b) same (sym (lent_among keys s) ∙ sym is)
+-- a module is among those before if and only if the set has its specifier
+pub visited_is : (keys : List (Bor (List ℕ))) (s q : List ℕ) (b : Bool) → b ≡ list_any (λ (key : Bor (List ℕ)). bytes_eq s key.now) keys → s ≡ q
+    → contains_specifier (borrowed_specifiers keys) q ≡ b
+visited_is keys s q b is same = subst (λ x. contains_specifier (borrowed_specifiers keys) x ≡ b) same (sym (borrowed_among keys s) ∙ sym is)
 
--- the specifiers behind a new one
-pub met_push : (keys new : List (Bor (List ℕ))) (key : Bor (List ℕ)) (q : List ℕ) → new ≡ insert_key (λ (x y : Bor (List ℕ)). bytes_eq x.now y.now) keys key → key.now ≡ q → is_among (lent_specifiers keys) q ≡ false → lent_specifiers new ≡ lent_specifiers keys ++ q ∷ []
-met_push keys new key q is same fresh =
-    let none : list_any (λ (x : Bor (List ℕ)). bytes_eq key.now x.now) keys ≡ false = lent_among keys key.now ∙ (ap (is_among (lent_specifiers keys)) same ∙ fresh) in
-    ap lent_specifiers is ∙ (ap (λ b. lent_specifiers (if b then keys else keys ++ key ∷ [])) none ∙ (map-append (λ (x : Bor (List ℕ)). x.now) keys (key ∷ []) ∙ ap (λ x. lent_specifiers keys ++ x ∷ []) same))
+-- the specifiers after a new one was added
+pub visited_push : (keys new : List (Bor (List ℕ))) (key : Bor (List ℕ)) (q : List ℕ) → new ≡ insert_key (λ (x y : Bor (List ℕ)). bytes_eq x.now y.now) keys key
+    → key.now ≡ q → contains_specifier (borrowed_specifiers keys) q ≡ false → borrowed_specifiers new ≡ borrowed_specifiers keys ++ q ∷ []
+visited_push keys new key q is same fresh =
+    let none : list_any (λ (x : Bor (List ℕ)). bytes_eq key.now x.now) keys ≡ false =
+    borrowed_among keys key.now ∙ (ap (contains_specifier (borrowed_specifiers keys)) same ∙ fresh) in
+    ap borrowed_specifiers is ∙ (ap (λ b. borrowed_specifiers (if b then keys else keys ++ key ∷ [])) none
+    ∙ (map-append (λ (x : Bor (List ℕ)). x.now) keys (key ∷ []) ∙ ap (λ x. borrowed_specifiers keys ++ x ∷ []) same))

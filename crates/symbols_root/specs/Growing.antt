@@ -1,14 +1,14 @@
--- A root after more was stored.
+-- A root after more modules were stored.
 use Rattle.std.specs.Prelude.{◌≡◌, ℕ, ◌++◌, List}
 use Rattle.std.specs.List.{IsDistinct}
 use Rattle.std.specs.Str.{bytes_eq}
 use Rattle.symbols_root.specs.Roots.{RootView}
 
--- the same graph, rules and limits; what was stored stays in its place, what is stored since comes behind, and no module is stored twice if none was
+-- the same graph, rules and limits; stored modules keep their index, new ones come after them, and no module is stored twice if none was
 pub record HasGrown (old new : RootView) : Type 0 where
   pub graph : new.graph ≡ old.graph
   pub rules : new.rules ≡ old.rules
   pub limits : new.limits ≡ old.limits
-  pub behind : List (List ℕ)
-  pub stored : new.stored ≡ old.stored ++ behind
+  pub added : List (List ℕ)
+  pub stored : new.stored ≡ old.stored ++ added
   pub once : IsDistinct bytes_eq old.stored → IsDistinct bytes_eq new.stored

@@ -1,4 +1,4 @@
--- What the map of a root holds. Public contracts see of it the specifiers alone.
+-- The entries of the map of a root. Public contracts see only their specifiers.
 use Rattle.std.specs.Prelude.{ℕ, List, map}
 use Rattle.std.specs.Borrow.{Bor}
 use Rattle.symbols_table.specs.declared.info.module_info.ModuleInfo.{ModuleInfo}

@@ -1,2 +1,2 @@
--- For inner functions and proofs alone: nothing in this folder has to be trusted.
+-- Definitions for inner functions and proofs only: nothing in this directory has to be trusted.
 pub mod StoredModules

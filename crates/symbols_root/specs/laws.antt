@@ -1,4 +1,4 @@
--- Laws of the definitions beside this folder, for the crates above. They are proved: nothing in them has to be trusted.
+-- Laws of the definitions, for the crates above. They are proved: nothing in this directory has to be trusted.
 pub mod Growing
 pub mod Calls
 pub mod Numbers

@@ -1,13 +1,13 @@
-//! Laws of the definitions, for the crates above. A function here does nothing: what holds is its
-//! contract.
+//! Laws of the definitions, for the crates above. The functions here do nothing: a law is the
+//! contract of a function.
 
 ghost use Rattle.std.specs.List.{IsDistinct};
 ghost use Rattle.std.specs.Str.{bytes_eq};
 
-use crate::root::RootSymbol;
+use crate::RootSymbol;
 
-/// A root stores no module twice.
-pub fn stored_once(root: &RootSymbol<'_>)
+/// States that a root stores no module twice.
+pub fn stored_modules_distinct(root: &RootSymbol<'_>)
     ensures { IsDistinct bytes_eq root.now.stored }
 {
     root.stores_once();

@@ -1,8 +1,15 @@
-//! Symbols of the modules of a graph, which are analysed and stored when a call needs them.
+//! A root over a module graph, which analyzes and stores modules when a call needs them.
 //!
 //! Marks say where a rule comes from: '(as deno_graph)' where it is that of Deno's crate of this
-//! name, '(own rule)' where this library sets it.
+//! name, '(extension)' where this library adds it.
 #![tactic(auto)]
 
 pub mod laws;
-pub mod root;
+mod limits;
+mod root_symbol;
+mod rules;
+mod types_chain;
+
+pub use limits::Limits;
+pub use root_symbol::RootSymbol;
+pub use rules::Rules;

@@ -1,5 +1,6 @@
 -- A checked tree has no more symbols, and no more declarations, than nodes.
-use Rattle.std.proofs.Common.{◌≡◌, ℕ, zero, suc, ◌<◌, ◌≤◌, Bool, true, false, ◌||◌, eqb, take, get_or, inl, inr, List, [], ◌∷◌, length, Contains, Option, Some, None, option_map, refl, sym, ap, ◌∙◌, arith, eq-eqb, eqb-true}
+use Rattle.std.proofs.Common.{◌≡◌, ℕ, zero, suc, ◌<◌, ◌≤◌, Bool, true, false, ◌||◌, eqb, take, get_or, inl, inr, List, [], ◌∷◌}
+use Rattle.std.proofs.Common.{length, Contains, Option, Some, None, option_map, refl, sym, ap, ◌∙◌, arith, eq-eqb, eqb-true}
 use Rattle.std.specs.List.{list_any}
 use Rattle.std.specs.Option.{option_map_or}
 use Rattle.std.proofs.lemmas.Bool.{false≢true}
@@ -7,23 +8,24 @@ use Rattle.std.proofs.lemmas.Bool.Decides.{eqb_tells}
 use Rattle.std.proofs.lemmas.List.{get_or_default}
 use Rattle.std.proofs.lemmas.Map.Views.{Contains-from_any}
 use Rattle.std.proofs.lemmas.Option.{slice_get_past, none-some}
-use Rattle.symbols_syntax.specs.declared.tree.arena.Node.{Node}
-use Rattle.symbols_syntax.specs.declared.tree.arena.Tree.{Tree}
-use Rattle.symbols_syntax.specs.declared.tree.kinds.Kind.{Kind}
-use Rattle.symbols_syntax.specs.declared.graph.faults.TreeFault.TheVariants.{SharedChild}
-use Rattle.symbols_syntax.specs.Nodes.{kind_at, children, child_numbers}
-use Rattle.symbols_syntax.specs.TreeFaults.{is_program, begins_with_program, IsFaultless}
-use Rattle.symbols_syntax.specs.WellFormed.{IsWellFormed}
+use Rattle.symbols_ast.specs.declared.tree.arena.Node.{Node}
+use Rattle.symbols_ast.specs.declared.tree.arena.Tree.{Tree}
+use Rattle.symbols_ast.specs.declared.tree.kinds.Kind.{Kind}
+use Rattle.symbols_ast.specs.declared.graph.faults.TreeFault.TheVariants.{SharedChild}
+use Rattle.symbols_ast.specs.Nodes.{kind_at, children, child_numbers}
+use Rattle.symbols_ast.specs.TreeFaults.{is_program, begins_with_program, IsFaultlessTree}
+use Rattle.symbols_ast.specs.WellFormed.{IsWellFormedTree}
 use Rattle.symbols_table.specs.TreeEvents.{tree_events}
-use Rattle.symbols_table.specs.Analysis.{tree_changes, symbol_count}
-use Rattle.symbols_table.specs.Symbols.{decls_in}
+use Rattle.symbols_table.specs.Analysis.{table_changes_from_tree, symbol_count}
+use Rattle.symbols_table.specs.Symbols.{symbol_decls}
 use Rattle.symbols_table.specs.Changes.{decls_after}
 use Rattle.symbols_table.specs.declared.decl.symbol.Symbol.{Symbol}
-use Rattle.symbols_syntax.specs.declared.ids.SymbolId.{SymbolId}
+use Rattle.symbols_ast.specs.declared.ids.SymbolId.{SymbolId}
 use Rattle.std.specs.Prelude.{slice_get}
-use Rattle.symbols_table.specs.Laws.{AreFewIn}
+use Rattle.symbols_table.specs.Laws.{AreBoundedByNodes}
 use Rattle.symbols_table.proofs.Sums.{declaration_count}
-use Rattle.symbols_table.proofs.CountsWeights.{weights, weights_zero, same, same_yes, same_no, here, there, last_below, last_passes, last_found, weight, weight_few, weight_heavy}
+use Rattle.symbols_table.proofs.CountsWeights.{weights, weights_zero, same, same_yes, same_no, here, there}
+use Rattle.symbols_table.proofs.CountsWeights.{last_below, last_passes, last_found, weight, weight_few, weight_heavy}
 use Rattle.symbols_table.proofs.CountsEvents.{count, few_by, symbols_by}
 use Rattle.symbols_table.proofs.CountsItems.{light_tree}
 use Rattle.symbols_table.proofs.CountsSound.{sound_by}
@@ -40,23 +42,25 @@ any_where_contained (x ∷ xs) c (suc k, inside, is) = by (eqb c x) (any_where_c
     by true rest = refl
     by false rest = rest
 
--- the lower node that has m as a child
+-- The parent of node m: the node of a lower number that has m as a child, if any.
 abbrev pub parent_of : List Node → ℕ → Option ℕ
 parent_of nodes m = last_below (λ n. list_any (eqb m) (children nodes n)) m
 
 pub parent_lower : (nodes : List Node) (m p : ℕ) → parent_of nodes m ≡ Some p → p < m
 parent_lower nodes m p is = (last_passes (λ n. list_any (eqb m) (children nodes n)) m p is).0
 
-pub parent_is : (nodes : List Node) (n c : ℕ) → IsWellFormed nodes → n < length nodes → Contains (children nodes n) c → (n < c) × (parent_of nodes c ≡ Some n)
+pub parent_is : (nodes : List Node) (n c : ℕ) → IsWellFormedTree nodes → n < length nodes → Contains (children nodes n) c → (n < c)
+    × (parent_of nodes c ≡ Some n)
 parent_is nodes n c formed inside child =
     let test : ℕ → Bool = λ k. list_any (eqb c) (children nodes k) in
     let order = formed.ordered n c inside child in
     let found = last_found test c n order.0 (any_where_contained (children nodes n) c child) in
     let passes = last_passes test c found.0 found.1 in
-    let one : found.0 ≡ n = formed.alone found.0 n c (omega (arith, passes.0, order.1)) inside (Contains-from_any (λ x y. eqb-true x y) c (children nodes found.0) passes.1) child in
+    let one : found.0 ≡ n = formed.alone found.0 n c (omega (arith, passes.0, order.1)) inside (Contains-from_any (λ x y. eqb-true x y) c
+    (children nodes found.0) passes.1) child in
     (order.0, found.1 ∙ ap Some one)
 
--- ---- a node stands once among the children of its parent
+-- ---- a node occurs once among the children of its parent
 
 once_where_apart : (xs : List ℕ) → ((i : ℕ) → i < length xs → Contains (take i xs) (get_or xs i 0) → ⊥) → (m : ℕ) → weights (λ c. same c m) xs ≤ 1
 once_where_apart [] apart m = omega arith
@@ -70,10 +74,10 @@ once_where_apart (x ∷ xs) apart m = elim (eqb_tells x m) [
         let at : get_or xs k.0 0 ≡ x = get_or_default xs k.0 0 y k.1 ∙ k.2 ∙ is in
         apart (suc k.0) (omega (arith, k.1)) (rw at (here x (take k.0 xs)))
 
-once : (text : List ℕ) (nodes : List Node) (n : ℕ) → IsFaultless text nodes → (m : ℕ) → weights (λ c. same c m) (children nodes n) ≤ 1
+once : (text : List ℕ) (nodes : List Node) (n : ℕ) → IsFaultlessTree text nodes → (m : ℕ) → weights (λ c. same c m) (children nodes n) ≤ 1
 once text nodes n none m = once_where_apart (children nodes n) (λ i inside k. none (SharedChild n) (i, inside, inr k)) m
 
--- ---- what the nodes of a checked tree weigh
+-- ---- the weights of the nodes of a checked tree
 
 children_are : (nodes : List Node) (n : ℕ) (kind : Kind) → kind_at nodes n ≡ Some kind → children nodes n ≡ child_numbers kind
 unfolding children
@@ -87,10 +91,13 @@ inside_where_kind nodes n kind is =
 abbrev pub node_weight : List Node → ℕ → ℕ
 node_weight nodes n = weight (parent_of nodes) (length nodes) n
 
-pub node_weighs : (text : List ℕ) (nodes : List Node) → IsFaultless text nodes → IsWellFormed nodes → (n : ℕ) (kind : Kind) → kind_at nodes n ≡ Some kind → suc (weights (node_weight nodes) (child_numbers kind)) ≤ node_weight nodes n
+pub node_weighs : (text : List ℕ) (nodes : List Node) → IsFaultlessTree text nodes → IsWellFormedTree nodes → (n : ℕ) (kind : Kind)
+    → kind_at nodes n ≡ Some kind
+    → suc (weights (node_weight nodes) (child_numbers kind)) ≤ node_weight nodes n
 node_weighs text nodes none formed n kind is =
     let inside = inside_where_kind nodes n kind is in
-    rw (← children_are nodes n kind is) (weight_heavy (parent_of nodes) (parent_lower nodes) (length nodes) n (children nodes n) inside (λ c child. parent_is nodes n c formed inside child) (once text nodes n none))
+    rw (← children_are nodes n kind is) (weight_heavy (parent_of nodes) (parent_lower nodes) (length nodes) n (children nodes n) inside
+    (λ c child. parent_is nodes n c formed inside child) (once text nodes n none))
 
 first_kind : (nodes : List Node) → begins_with_program nodes ≡ true → (kind : Kind) × (kind_at nodes 0 ≡ Some kind)
 first_kind nodes is = by (kind_at nodes 0) refl
@@ -99,24 +106,37 @@ first_kind nodes is = by (kind_at nodes 0) refl
     by None at = absurd (false≢true (sym (ap (λ (o : Option Kind). option_map_or is_program o false) at) ∙ is))
     by (Some kind) at = (kind, refl)
 
-few_events : (tree : Tree) (text : List ℕ) → IsFaultless text tree.nodes.items → IsWellFormed tree.nodes.items → count (tree_events tree) ≤ length tree.nodes.items
+few_events : (tree : Tree) (text : List ℕ) → IsFaultlessTree text tree.nodes.items → IsWellFormedTree tree.nodes.items
+    → count (tree_events tree) ≤ length tree.nodes.items
 few_events tree text none formed =
     let nodes = tree.nodes.items in
     let first = first_kind nodes formed.begins in
-    omega (arith, light_tree tree (node_weight nodes) (node_weighs text nodes none formed) first.0 first.1, weight_few (parent_of nodes) (parent_lower nodes) (length nodes) 0)
+    omega (
+      arith,
+      light_tree tree (node_weight nodes) (node_weighs text nodes none formed) first.0 first.1,
+      weight_few (parent_of nodes) (parent_lower nodes) (length nodes) 0,
+    )
 
--- no more symbols than nodes,
-pub few_symbols : (tree : Tree) (text : List ℕ) → IsFaultless text tree.nodes.items → IsWellFormed tree.nodes.items → symbol_count (tree_changes tree) ≤ length tree.nodes.items
+-- A checked tree has no more symbols than nodes.
+pub few_symbols : (tree : Tree) (text : List ℕ) → IsFaultlessTree text tree.nodes.items → IsWellFormedTree tree.nodes.items
+    → symbol_count (table_changes_from_tree tree) ≤ length tree.nodes.items
 few_symbols tree text none formed = omega (arith, symbols_by (tree_events tree), few_events tree text none formed)
 
--- and no more declarations
-pub few_declarations : (tree : Tree) (text : List ℕ) → IsFaultless text tree.nodes.items → IsWellFormed tree.nodes.items → declaration_count (tree_changes tree) ≤ length tree.nodes.items
+-- A checked tree has no more declarations than nodes.
+pub few_declarations : (tree : Tree) (text : List ℕ) → IsFaultlessTree text tree.nodes.items → IsWellFormedTree tree.nodes.items
+    → declaration_count (table_changes_from_tree tree) ≤ length tree.nodes.items
 few_declarations tree text none formed = omega (arith, (few_by (tree_events tree)).declarations, few_events tree text none formed)
 
--- the same of symbols that hold what a tree changes
-pub are_few : (tree : Tree) (text : List ℕ) (symbols : List Symbol) → IsFaultless text tree.nodes.items → IsWellFormed tree.nodes.items → length symbols ≡ symbol_count (tree_changes tree)
-    → ((s : SymbolId) (symbol : Symbol) → slice_get symbols s.0 ≡ Some symbol → decls_in symbol ≡ decls_after (tree_changes tree) s) → AreFewIn tree symbols
-are_few tree text symbols none formed counted held = record {
+-- A table with the symbols of the tree's changes has no more symbols and declarations than nodes.
+pub are_few : (tree : Tree) (text : List ℕ) (symbols : List Symbol) → IsFaultlessTree text tree.nodes.items → IsWellFormedTree tree.nodes.items
+    → length symbols ≡ symbol_count (table_changes_from_tree tree)
+    → ((s : SymbolId) (symbol : Symbol) → slice_get symbols s.0 ≡ Some symbol → symbol_decls symbol ≡ decls_after (table_changes_from_tree tree) s)
+    → AreBoundedByNodes tree symbols
+are_few tree text symbols none formed counted borrowed_symbol = record {
   few_symbols = omega (arith, counted, few_symbols tree text none formed);
-  few_declarations = omega (arith, module_declarations symbols (tree_changes tree) counted held (sound_by (tree_events tree)), few_declarations tree text none formed);
+  few_declarations = omega (
+    arith,
+    module_declarations symbols (table_changes_from_tree tree) counted borrowed_symbol (sound_by (tree_events tree)),
+    few_declarations tree text none formed,
+  );
 }

@@ -1,18 +1,18 @@
--- Each field weighs no more than the children of its kind.
+-- The weight of a field is at most that of all children of its node's kind.
 use Rattle.std.proofs.Common.{ℕ, ◌≤◌, List, [], ◌∷◌, ◌++◌, option_to_list, arith}
-use Rattle.symbols_syntax.specs.declared.tree.kinds.Kind.{Kind}
-use Rattle.symbols_syntax.specs.declared.tree.kinds.Item.TheVariants as Item
-use Rattle.symbols_syntax.specs.declared.tree.kinds.Decl.TheVariants as Decl
-use Rattle.symbols_syntax.specs.declared.tree.kinds.Member.TheVariants as Member
-use Rattle.symbols_syntax.specs.declared.tree.kinds.Pat.TheVariants as Pat
-use Rattle.symbols_syntax.specs.declared.tree.kinds.Expr.TheVariants as Expr
-use Rattle.symbols_syntax.specs.Nodes.{child_numbers}
-use Rattle.symbols_syntax.specs.ChildFields.{body_of, name_of, class_of, body_node_of, decl_of}
+use Rattle.symbols_ast.specs.declared.tree.kinds.Kind.{Kind}
+use Rattle.symbols_ast.specs.declared.tree.kinds.Item.TheVariants as Item
+use Rattle.symbols_ast.specs.declared.tree.kinds.Decl.TheVariants as Decl
+use Rattle.symbols_ast.specs.declared.tree.kinds.Member.TheVariants as Member
+use Rattle.symbols_ast.specs.declared.tree.kinds.Pat.TheVariants as Pat
+use Rattle.symbols_ast.specs.declared.tree.kinds.Expr.TheVariants as Expr
+use Rattle.symbols_ast.specs.Nodes.{child_numbers}
+use Rattle.symbols_ast.specs.ChildFields.{body_of, name_of, class_of, body_node_of, decl_of}
 use Rattle.symbols_table.specs.Patterns.{pattern_parts}
 use Rattle.symbols_table.proofs.CountsWeights.{weights, weights-append}
 
 module _ (w : ℕ → ℕ) where
-  -- parts of a list that is put together
+  -- Part of a concatenated list weighs at most as much as the whole.
   w_first : (xs ys : List ℕ) → weights w xs ≤ weights w (xs ++ ys)
   w_first xs ys = omega (arith, weights-append w xs ys)
 
@@ -48,7 +48,8 @@ module _ (w : ℕ → ℕ) where
   body_node_weighs (Kind.Decl (Decl.TsNamespaceDecl id body)) = omega arith
   body_node_weighs (Kind.Member (Member.Constructor params body _)) = w_after params.items _ (option_to_list body) (w_first (option_to_list body) [])
   body_node_weighs (Kind.Expr (Expr.Arrow type_params params return_type _ body)) =
-      w_after (option_to_list type_params) _ (body ∷ []) (w_after params.items _ (body ∷ []) (w_after (option_to_list return_type) _ (body ∷ []) (w_first (body ∷ []) [])))
+      w_after (option_to_list type_params) _ (body ∷ [])
+      (w_after params.items _ (body ∷ []) (w_after (option_to_list return_type) _ (body ∷ []) (w_first (body ∷ []) [])))
   body_node_weighs _ = omega arith
 
   pub decl_weighs : (kind : Kind) → weights w (option_to_list (decl_of kind)) ≤ weights w (child_numbers kind)

@@ -6,7 +6,7 @@ pub mod SymbolSets
 pub mod OneChange
 pub mod Rows
 pub mod Views
-pub mod Keeping
+pub mod ModuleBuilderSteps
 pub mod Walks
 pub mod EventReads
 pub mod PatternLemmas
@@ -23,8 +23,8 @@ pub mod Counts
 pub mod Bounds
 pub mod CountsDecls
 pub mod CountsSound
-pub mod OwnEvents
-pub mod OwnChanges
+pub mod EventsOfTree
+pub mod ChangesOfTree
 pub mod ExportLaws
 pub mod Lawful
 pub mod Sources

@@ -1,63 +1,68 @@
--- What the analysis of a module gives.
+-- The result of the analysis of a module.
 use Rattle.std.specs.Prelude.{◌≡◌, ℕ, ◌<◌, ◌≤◌, List, length, Option, Some, None, string_bytes}
-use Rattle.symbols_syntax.specs.declared.ids.ModuleId.{ModuleId}
-use Rattle.symbols_syntax.specs.declared.ids.SymbolId.{SymbolId}
-use Rattle.symbols_syntax.specs.declared.tree.arena.Tree.{Tree}
-use Rattle.symbols_syntax.specs.Graph.{ModuleView}
-use Rattle.symbols_syntax.specs.Ids.{IdView}
+use Rattle.symbols_ast.specs.declared.ids.ModuleId.{ModuleId}
+use Rattle.symbols_ast.specs.declared.ids.SymbolId.{SymbolId}
+use Rattle.symbols_ast.specs.declared.tree.arena.Tree.{Tree}
+use Rattle.symbols_ast.specs.Graph.{ModuleView}
+use Rattle.symbols_ast.specs.Ids.{IdView}
 use Rattle.symbols_table.specs.declared.info.module_info.ModuleInfo.{ModuleInfo}
 use Rattle.symbols_table.specs.declared.info.fault.SymbolsFault.{SymbolsFault}
 use Rattle.symbols_table.specs.declared.info.fault.SymbolsFault.TheVariants as fault
-use Rattle.symbols_table.specs.Changes.{Change, parents_after, settings_after, AreExportsBy, exports_after, stars_after, mapped_after}
-use Rattle.symbols_table.specs.Events.{changes_by}
+use Rattle.symbols_table.specs.Changes.{Change, parents_after, export_insertions_after, AreExportsOfInsertions, exports_after, export_stars_after}
+use Rattle.symbols_table.specs.Changes.{mapped_symbol_after}
+use Rattle.symbols_table.specs.Events.{changes_of_events}
 use Rattle.symbols_table.specs.TreeEvents.{tree_events}
 use Rattle.symbols_table.specs.JsonEvents.{json_events}
-use Rattle.symbols_table.specs.SymbolViews.{symbol_after}
-use Rattle.symbols_table.specs.Modules.{Source, parsed, json_text, source_of, Table, table_of, symbol_in, mapped_in}
+use Rattle.symbols_table.specs.SymbolViews.{symbol_after_changes}
+use Rattle.symbols_table.specs.Modules.{AnalyzableSource, parsed, json_text, analyzable_source, SymbolTable, symbol_table_of, symbol_in, mapped_symbol_in}
 
--- what the events of a tree, and those of a JSON text, change
-abbrev pub tree_changes : Tree → List Change
-tree_changes tree = changes_by (tree_events tree)
+-- The changes made by the events of a tree, and by those of a JSON text.
+abbrev pub table_changes_from_tree : Tree → List Change
+table_changes_from_tree tree = changes_of_events (tree_events tree)
 
-abbrev pub json_changes : List ℕ → List Change
-json_changes text = changes_by (json_events text)
+abbrev pub table_changes_from_json : List ℕ → List Change
+table_changes_from_json text = changes_of_events (json_events text)
 
-abbrev pub source_changes : Source → List Change
-source_changes (parsed _ tree) = tree_changes tree
-source_changes (json_text text) = json_changes text
+abbrev pub table_changes_from_tree_or_json : AnalyzableSource → List Change
+table_changes_from_tree_or_json (parsed _ tree) = table_changes_from_tree tree
+table_changes_from_tree_or_json (json_text text) = table_changes_from_json text
 
--- how many symbols changes make
+-- The number of symbols that the changes make.
 abbrev pub symbol_count : List Change → ℕ
 symbol_count changes = length (parents_after changes)
 
--- the table is that of the changes: its symbols, each with all that it shows, what its names stand for, and its `export *`. What a symbol exports, each name once, stands at the place of the name's first setting with the value of its last
-pub record HasTables (table : Table) (changes : List Change) : Type 0 where
-  pub symbols : (s : SymbolId) → symbol_in table s ≡ symbol_after changes s
-  pub exports_by : (s : SymbolId) → AreExportsBy (settings_after changes s) (exports_after changes s)
-  pub names : (id : IdView) → mapped_in table id ≡ mapped_after changes id
-  pub stars : table.stars ≡ stars_after changes
+-- The table has the contents that the changes give: its symbols with all that their views show, the bindings of identifiers, and the
+-- `export *` statements. The exports have each name once, at the position of its first setting, with the symbol of its last.
+pub record IsTableMadeBy (table : SymbolTable) (changes : List Change) : Type 0 where
+  pub symbols : (s : SymbolId) → symbol_in table s ≡ symbol_after_changes changes s
+  pub exports_of_each_symbol : (s : SymbolId) → AreExportsOfInsertions (export_insertions_after changes s) (exports_after changes s)
+  pub names : (id : IdView) → mapped_symbol_in table id ≡ mapped_symbol_after changes id
+  pub stars : table.stars ≡ export_stars_after changes
 
--- the table of a module of this number and specifier, from its source
-pub record IsAnalyzed (module_id : ModuleId) (name : List ℕ) (content : Source) (limit : ℕ) (table : Table) : Type 0 where
+-- The table has this module number and specifier, and the contents that the source's events give.
+pub record IsAnalyzedTable (module_id : ModuleId) (name : List ℕ) (content : AnalyzableSource) (limit : ℕ) (table : SymbolTable) : Type 0 where
   pub number : table.module_id ≡ module_id
   pub specifier : table.specifier ≡ name
   pub source : table.source ≡ content
-  pub tables : HasTables table (source_changes content)
-  pub within : symbol_count (source_changes content) ≤ limit
+  pub tables : IsTableMadeBy table (table_changes_from_tree_or_json content)
+  pub within : symbol_count (table_changes_from_tree_or_json content) ≤ limit
 
--- nothing where the module has no source of symbols, and else the module with its table
-abbrev pub IsAnalysis : ModuleId → ModuleView → ℕ → Option ModuleInfo → Type 0
-IsAnalysis module_id graph_module limit None = source_of graph_module.content ≡ None
-IsAnalysis module_id graph_module limit (Some info) = (source : Source) × (source_of graph_module.content ≡ Some source) × IsAnalyzed module_id graph_module.specifier source limit (table_of info)
+-- The result is `None` if the module has no source of symbols, and else the analyzed module.
+abbrev pub IsAnalysisResult : ModuleId → ModuleView → ℕ → Option ModuleInfo → Type 0
+IsAnalysisResult module_id graph_module limit None = analyzable_source graph_module.content ≡ None
+IsAnalysisResult module_id graph_module limit (Some info) =
+    (source : AnalyzableSource) × (analyzable_source graph_module.content ≡ Some source)
+    × IsAnalyzedTable module_id graph_module.specifier source limit (symbol_table_of info)
 
--- the module's source makes more symbols than the limit
-abbrev pub IsTooMany : ModuleView → ℕ → Type 0
-IsTooMany graph_module limit = (source : Source) × (source_of graph_module.content ≡ Some source) × (limit < symbol_count (source_changes source))
+-- The module's source needs more symbols than the limit.
+abbrev pub HasTooManySymbols : ModuleView → ℕ → Type 0
+HasTooManySymbols graph_module limit = (source : AnalyzableSource) × (analyzable_source graph_module.content ≡ Some source)
+    × (limit < symbol_count (table_changes_from_tree_or_json source))
 
--- why there is no analysis: want of memory, or a source of more symbols than the limit
+-- The faults of an analysis: a failed allocation, or a source that needs more symbols than the limit.
 abbrev pub IsAnalysisFault : ModuleView → ℕ → SymbolsFault → Type 0
 IsAnalysisFault graph_module limit fault.OutOfMemory = Unit {0}
-IsAnalysisFault graph_module limit (fault.TooManySymbols specifier) = (string_bytes specifier ≡ graph_module.specifier) × IsTooMany graph_module limit
+IsAnalysisFault graph_module limit (fault.TooManySymbols specifier) = (string_bytes specifier ≡ graph_module.specifier) × HasTooManySymbols graph_module limit
 IsAnalysisFault graph_module limit fault.TooManyModules = ⊥
 IsAnalysisFault graph_module limit fault.UnknownModule = ⊥
 IsAnalysisFault graph_module limit fault.UnknownSymbol = ⊥

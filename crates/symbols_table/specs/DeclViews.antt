@@ -1,126 +1,123 @@
--- Declarations and symbols as contracts see them.
-use Rattle.std.specs.Prelude.{ℕ, Bool, true, false, ◌&&◌, if◌then◌else◌, List, [], ◌∷◌, ◌++◌, length, map, slice_get, ◌-◌, Option, Some, None, String, string_bytes}
+-- The views of declarations and symbols that contracts use.
+use Rattle.std.specs.Prelude.{ℕ, Bool, true, false, ◌&&◌, if◌then◌else◌, List, [], ◌∷◌, ◌++◌}
+use Rattle.std.specs.Prelude.{length, map, slice_get, ◌-◌, Option, Some, None, String, string_bytes}
 use Rattle.std.specs.Option.{option_map, option_map_or, option_and_then}
 use Rattle.std.specs.List.{filter_map}
 use Rattle.std.specs.Global.{Global}
 use Rattle.std.specs.Borrow.{Bor}
-use Rattle.symbols_syntax.specs.declared.tree.arena.SourceRange.{SourceRange}
-use Rattle.symbols_syntax.specs.declared.tree.arena.Tree.{Tree}
-use Rattle.symbols_syntax.specs.declared.ids.SymbolId.{SymbolId}
-use Rattle.symbols_syntax.specs.Ids.{IdView, id_view}
-use Rattle.symbols_nodes.specs.NodeViews.{NodeView, symbol_node_view, tree_of_node}
+use Rattle.symbols_ast.specs.declared.tree.arena.SourceRange.{SourceRange}
+use Rattle.symbols_ast.specs.declared.tree.arena.Tree.{Tree}
+use Rattle.symbols_ast.specs.declared.ids.SymbolId.{SymbolId}
+use Rattle.symbols_ast.specs.Ids.{IdView, id_view}
+use Rattle.symbols_nodes.specs.NodeViews.{SymbolNodeView, symbol_node_view, tree_of_node}
 use Rattle.symbols_nodes.specs.NodeNames.{node_name}
 use Rattle.symbols_nodes.specs.NodeTests.{is_function, has_body, is_method}
 use Rattle.symbols_nodes.specs.NodeNamespaces.{namespaces, value_and_type}
-use Rattle.symbols_nodes.specs.declared.deps.dep.ResolveDepsMode.{ResolveDepsMode}
-use Rattle.symbols_nodes.specs.References.{Dependency}
-use Rattle.symbols_nodes.specs.Dependencies.{dependencies}
 use Rattle.symbols_table.specs.declared.decl.dep.FileDep.{FileDep}
 use Rattle.symbols_table.specs.declared.decl.dep.FileDepName.{FileDepName}
 use Rattle.symbols_table.specs.declared.decl.symbol_decl.SymbolDeclKind.{SymbolDeclKind}
 use Rattle.symbols_table.specs.declared.decl.symbol_decl.SymbolDecl.{SymbolDecl}
 
--- what an import takes of a module: all of it, or a name
-pub data DepName : Type 0 where
-  all_names : DepName
-  one_name : List ℕ → DepName
+-- The part of a module that is imported: all names, or one name.
+pub data FileDepNameView : Type 0 where
+  all_names : FileDepNameView
+  one_name : List ℕ → FileDepNameView
 
--- what is taken of another module, and the text that stands for the module
-pub record DepView : Type 0 where
-  pub name : DepName
+-- A name of another module, or all of them, with the specifier of that module.
+pub record FileDepView : Type 0 where
+  pub name : FileDepNameView
   pub specifier : List ℕ
 
--- what a declaration is: a name of the same module, a name with parts after it, a name of another module by its text, or a node
-pub data DeclKind : Type 0 where
-  target : IdView → DeclKind
-  qualified_target : IdView → List (List ℕ) → DeclKind
-  file_ref : DepName → List ℕ → DeclKind
-  definition : Option NodeView → DeclKind
+-- The kind of a declaration: an alias of a name of the same module, a dotted name, a name of another module with its specifier, or a
+-- definition.
+pub data DeclKindView : Type 0 where
+  target : IdView → DeclKindView
+  qualified_target : IdView → List (List ℕ) → DeclKindView
+  file_ref : FileDepNameView → List ℕ → DeclKindView
+  definition : Option SymbolNodeView → DeclKindView
 
 pub record Declaration : Type 0 where
-  pub kind : DeclKind
+  pub kind : DeclKindView
   pub range : SourceRange
   pub has_overloads : Bool
 
-abbrev pub dep_name_view : FileDepName → DepName
-dep_name_view FileDepName.Star = all_names
-dep_name_view (FileDepName.Name name) = one_name name.now
+abbrev pub file_dep_name_view : FileDepName → FileDepNameView
+file_dep_name_view FileDepName.Star = all_names
+file_dep_name_view (FileDepName.Name name) = one_name name.now
 
-abbrev pub dep_view : FileDep → DepView
-dep_view dep = record { name = dep_name_view dep.name; specifier = dep.specifier.now }
+abbrev pub file_dep_view : FileDep → FileDepView
+file_dep_view dep = record { name = file_dep_name_view dep.name; specifier = dep.specifier.now }
 
--- the name that is taken; none where all are
-abbrev pub taken_name : DepName → Option (List ℕ)
-taken_name all_names = None
-taken_name (one_name name) = Some name
+-- The imported name; `None` if all names are imported.
+abbrev pub imported_name : FileDepNameView → Option (List ℕ)
+imported_name all_names = None
+imported_name (one_name name) = Some name
 
-abbrev pub decl_kind_view : SymbolDeclKind → DeclKind
+abbrev pub decl_kind_view : SymbolDeclKind → DeclKindView
 decl_kind_view (SymbolDeclKind.Target id) = target (id_view id.now)
 decl_kind_view (SymbolDeclKind.QualifiedTarget id parts) = qualified_target (id_view id.now) (map (λ (part : Bor (List ℕ)). part.now) parts.items)
-decl_kind_view (SymbolDeclKind.FileRef dep) = file_ref (dep_name_view dep.name) dep.specifier.now
+decl_kind_view (SymbolDeclKind.FileRef dep) = file_ref (file_dep_name_view dep.name) dep.specifier.now
 decl_kind_view (SymbolDeclKind.Definition node) = definition (option_map symbol_node_view node.node)
 
 abbrev pub decl_view : SymbolDecl → Declaration
 decl_view decl = record { kind = decl_kind_view decl.kind; range = decl.range; has_overloads = decl.flags.has_overloads }
 
--- the node of a definition that has one
-abbrev pub node_of_kind : DeclKind → Option NodeView
-node_of_kind (definition node) = node
-node_of_kind _ = None
+-- The node of a definition, if it has one.
+abbrev pub decl_kind_node : DeclKindView → Option SymbolNodeView
+decl_kind_node (definition node) = node
+decl_kind_node _ = None
 
--- the tree that this node is of
-abbrev pub tree_of_kind : DeclKind → Option Tree
-tree_of_kind kind = option_and_then tree_of_node (node_of_kind kind)
+-- The syntax tree of that node.
+abbrev pub decl_kind_tree : DeclKindView → Option Tree
+decl_kind_tree kind = option_and_then tree_of_node (decl_kind_node kind)
 
--- what a declaration takes of another module
-abbrev pub dep_of_kind : DeclKind → Option DepView
-dep_of_kind (file_ref name specifier) = Some (record { name = name; specifier = specifier })
-dep_of_kind _ = None
+-- The name of another module that a declaration refers to, if it does.
+abbrev pub decl_kind_dep : DeclKindView → Option FileDepView
+decl_kind_dep (file_ref name specifier) = Some (record { name = name; specifier = specifier })
+decl_kind_dep _ = None
 
--- the first of what these declarations take of other modules
-abbrev pub first_dep : List Declaration → Option DepView
-first_dep decls = slice_get (filter_map (λ (decl : Declaration). dep_of_kind decl.kind) decls) 0
+-- The first name of another module that these declarations refer to.
+abbrev pub first_file_dep : List Declaration → Option FileDepView
+first_file_dep decls = slice_get (filter_map (λ (decl : Declaration). decl_kind_dep decl.kind) decls) 0
 
--- what holds of a declaration is what holds of its node; without a node nothing does
-abbrev pub node_test : (NodeView → Bool) → Declaration → Bool
-node_test test decl = option_map_or test (node_of_kind decl.kind) false
+-- A test of a declaration is that test of its node; it is false without a node.
+abbrev pub decl_node_satisfies : (SymbolNodeView → Bool) → Declaration → Bool
+decl_node_satisfies test decl = option_map_or test (decl_kind_node decl.kind) false
 
--- a declaration is called what its node is called; without a node it has no name
+-- The name of a declaration is that of its node; `None` without a node.
 abbrev pub decl_name : Declaration → Option (List ℕ)
-decl_name decl = option_and_then node_name (node_of_kind decl.kind)
+decl_name decl = option_and_then node_name (decl_kind_node decl.kind)
 
--- a declaration is in the namespaces that its node is in; without a node it is in both
-abbrev pub decl_namespaces : Declaration → Bool × Bool
-decl_namespaces decl = option_map_or namespaces (node_of_kind decl.kind) value_and_type
+-- A declaration is in the namespaces of its node; without a node it is in both.
+abbrev pub value_type_namespaces_of_decl : Declaration → Bool × Bool
+value_type_namespaces_of_decl decl = option_map_or namespaces (decl_kind_node decl.kind) value_and_type
 
--- a declaration depends on what its node depends on; without a node on nothing
-abbrev pub decl_dependencies : ResolveDepsMode → Declaration → List Dependency
-decl_dependencies mode decl = option_map_or (dependencies mode) (node_of_kind decl.kind) []
-
-abbrev pub is_definition : DeclKind → Bool
+abbrev pub is_definition : DeclKindView → Bool
 is_definition (definition _) = true
 is_definition _ = false
 
--- a declaration of this kind that stands there, with no flag so far
-abbrev pub declaration_at : DeclKind → SourceRange → Declaration
-declaration_at kind range = record { kind = kind; range = range; has_overloads = false }
+-- A declaration of this kind and range, with no overload flag.
+abbrev pub declaration_of_kind : DeclKindView → SourceRange → Declaration
+declaration_of_kind kind range = record { kind = kind; range = range; has_overloads = false }
 
--- a definition by its node, with no flag so far
-abbrev pub definition_at : NodeView → SourceRange → Declaration
-definition_at node range = declaration_at (definition (Some node)) range
+-- A definition by its node, with no overload flag.
+abbrev pub definition_of_node : SymbolNodeView → SourceRange → Declaration
+definition_of_node node range = declaration_of_kind (definition (Some node)) range
 
--- the last of the declarations
+-- The last declaration of a list.
 abbrev pub last_decl : List Declaration → Option Declaration
 last_decl decls = slice_get decls (length decls - 1)
 
--- a declaration has the flag of an overload where its symbol had a declaration already, it has a body, and it is a function whose declaration just before is a function, or a method of kind method, or a constructor
+-- A declaration gets the overload flag if its symbol has an earlier declaration, it has a body, and it is one of these: a function right
+-- after a function; a method that is no getter or setter; a constructor.
 abbrev pub is_overload_after : Option Declaration → Declaration → Bool
 is_overload_after None decl = false
-is_overload_after (Some before) decl = node_test has_body decl && (if node_test is_function decl then node_test is_function before else node_test is_method decl)
+is_overload_after (Some before) decl = decl_node_satisfies has_body decl
+    && (if decl_node_satisfies is_function decl then decl_node_satisfies is_function before else decl_node_satisfies is_method decl)
 
-abbrev pub with_decl : List Declaration → Declaration → List Declaration
-with_decl decls decl = decls ++ (record decl { has_overloads = is_overload_after (last_decl decls) decl }) ∷ []
+abbrev pub append_decl : List Declaration → Declaration → List Declaration
+append_decl decls decl = decls ++ (record decl { has_overloads = is_overload_after (last_decl decls) decl }) ∷ []
 
--- the exports of a symbol by the bytes of their names
+-- The exports of a symbol, with names as bytes.
 abbrev pub exports_view : List (String Global × SymbolId) → List (List ℕ × SymbolId)
 exports_view entries = map (λ entry. (string_bytes entry.0, entry.1)) entries

@@ -1,108 +1,119 @@
--- The events of declarations: variables, functions, classes, interfaces, enums and aliases.
+-- The events of declarations: variables, functions, classes, interfaces, enums and type aliases.
 use Rattle.std.specs.Prelude.{ℕ, Bool, true, false, ◌&&◌, ◌||◌, not, if◌then◌else◌, is_some, List, [], ◌∷◌, ◌++◌, Option, None, Some, unwrap_or}
 use Rattle.std.specs.Option.{option_or, option_and_then}
-use Rattle.symbols_syntax.specs.declared.tree.arena.Id.{Id}
-use Rattle.symbols_syntax.specs.declared.tree.arena.SourceRange.{SourceRange}
-use Rattle.symbols_syntax.specs.declared.tree.kinds.Kind.{Kind}
-use Rattle.symbols_syntax.specs.declared.tree.kinds.Decl.TheVariants as Decl
-use Rattle.symbols_syntax.specs.NodeRefs.{TreeNode, kind_of, node_in, child_of, list_of}
-use Rattle.symbols_syntax.specs.ChildFields.{decls_of, id_of, ident_of, name_of}
-use Rattle.symbols_syntax.specs.Ids.{IdView, id_view, sym_of}
-use Rattle.symbols_nodes.specs.NodeViews.{NodeView, ExportDeclView, export_decl, class_decl, fn_decl, ts_enum, ts_interface, ts_namespace, ts_type_alias, var, using_var, exported_class, exported_fn, exported_ts_enum, exported_ts_interface, exported_ts_module, exported_ts_type_alias, exported_var}
+use Rattle.symbols_ast.specs.declared.tree.arena.Id.{Id}
+use Rattle.symbols_ast.specs.declared.tree.arena.SourceRange.{SourceRange}
+use Rattle.symbols_ast.specs.declared.tree.kinds.Kind.{Kind}
+use Rattle.symbols_ast.specs.declared.tree.kinds.Decl.TheVariants as Decl
+use Rattle.symbols_ast.specs.NodeRefs.{TreeNode, kind_of, node_in, child_in_field, child_list_in_field}
+use Rattle.symbols_ast.specs.ChildFields.{decls_of, id_of, ident_of, name_of}
+use Rattle.symbols_ast.specs.Ids.{IdView, id_view, ident_id}
+use Rattle.symbols_nodes.specs.NodeViews.{SymbolNodeView, ExportDeclView, export_decl, class_decl, fn_decl, ts_enum, ts_interface}
+use Rattle.symbols_nodes.specs.NodeViews.{ts_namespace, ts_type_alias, var, using_var, exported_class, exported_fn, exported_ts_enum}
+use Rattle.symbols_nodes.specs.NodeViews.{exported_ts_interface, exported_ts_module, exported_ts_type_alias, exported_var}
 use Rattle.symbols_table.specs.declared.builder.scope.Scope.{Scope}
-use Rattle.symbols_table.specs.DeclViews.{Declaration, definition_at}
-use Rattle.symbols_table.specs.Events.{Event, declare, child, export}
-use Rattle.symbols_table.specs.PlacedEvents.{PlacedEvents, no_placed_events, events_if_there, with_next, events_of_each, range_in, sym_in}
-use Rattle.symbols_table.specs.Patterns.{pattern_leaves}
-use Rattle.symbols_table.specs.MemberEvents.{member_at, member_nodes}
+use Rattle.symbols_table.specs.DeclViews.{Declaration, definition_of_node}
+use Rattle.symbols_table.specs.Events.{DeclarationEvent, declare, child, export}
+use Rattle.symbols_table.specs.EventsByPosition.{EventsByPosition, no_events_by_position, events_if_some, events_followed_by, events_of_each, range_or_empty}
+use Rattle.symbols_table.specs.EventsByPosition.{child_ident_id}
+use Rattle.symbols_table.specs.Patterns.{pattern_bindings}
+use Rattle.symbols_table.specs.MemberEvents.{member_events_at, member_nodes}
 
--- the plain form of a declaration, where no `export` stands before it
-abbrev pub unexported_form : ExportDeclView → NodeView
-unexported_form (exported_class node) = class_decl node
-unexported_form (exported_fn node) = fn_decl node
-unexported_form (exported_var decl declarator ident) = var decl declarator ident
-unexported_form (exported_ts_enum node) = ts_enum node
-unexported_form (exported_ts_interface node) = ts_interface node
-unexported_form (exported_ts_module node) = ts_namespace node
-unexported_form (exported_ts_type_alias node) = ts_type_alias node
+-- The form of a declaration without `export`.
+abbrev pub unexported_node_view : ExportDeclView → SymbolNodeView
+unexported_node_view (exported_class node) = class_decl node
+unexported_node_view (exported_fn node) = fn_decl node
+unexported_node_view (exported_var decl declarator ident) = var decl declarator ident
+unexported_node_view (exported_ts_enum node) = ts_enum node
+unexported_node_view (exported_ts_interface node) = ts_interface node
+unexported_node_view (exported_ts_module node) = ts_namespace node
+unexported_node_view (exported_ts_type_alias node) = ts_type_alias node
 
--- a declaration, after the `export` if one stands before it
-abbrev pub declaration_form : Option TreeNode → ExportDeclView → NodeView
-declaration_form None decl = unexported_form decl
-declaration_form (Some node) decl = export_decl node decl
+-- The form of a declaration, with the `export` before it, if any.
+abbrev pub maybe_exported_node : Option TreeNode → ExportDeclView → SymbolNodeView
+maybe_exported_node None decl = unexported_node_view decl
+maybe_exported_node (Some node) decl = export_decl node decl
 
--- where the `export` stands, or the declaration where none is before it
-abbrev pub whole_range : Option TreeNode → TreeNode → SourceRange
-whole_range exported node = range_in (unwrap_or exported node)
+-- The range of the `export`, or of the declaration if it has no `export`.
+abbrev pub statement_range : Option TreeNode → TreeNode → SourceRange
+statement_range exported node = range_or_empty (unwrap_or exported node)
 
--- exported is what stands after `export`, and in a namespace all that is ambient
+-- A declaration is exported if it has `export`, or if it is ambient in a namespace.
 abbrev pub is_exported : Scope → Option TreeNode → Bool
 is_exported scope exported = is_some exported || (scope.ambient && not scope.is_module)
 
-abbrev pub export_if : Bool → ℕ → List ℕ → ℕ → List Event
+abbrev pub export_if : Bool → ℕ → List ℕ → ℕ → List DeclarationEvent
 export_if test holder name of = if test then export holder name of ∷ [] else []
 
--- a symbol becomes a child of its holder, and an export of it where it is exported
-abbrev pub adding_events : Bool → ℕ → List ℕ → ℕ → List Event
-adding_events test holder name of = child holder of ∷ export_if test holder name of
+-- The symbol becomes a child of its holder, and an export of it if it is exported.
+abbrev pub child_and_export_events : Bool → ℕ → List ℕ → ℕ → List DeclarationEvent
+child_and_export_events test holder name of = child holder of ∷ export_if test holder name of
 
--- a name is declared; then come the events under its symbol, and then it is added to its holder
-abbrev pub declaring_events : Bool → IdView → Declaration → PlacedEvents → PlacedEvents
-declaring_events test id decl inner holder start = with_next (declare holder id decl ∷ []) (inner start) start ++ adding_events test holder id.name start
+-- An identifier is declared. The events of its inner declarations follow, and then it is added to its holder.
+abbrev pub declare_and_add_events : Bool → IdView → Declaration → EventsByPosition → EventsByPosition
+declare_and_add_events test id decl inner holder start = events_followed_by (declare holder id decl ∷ []) (inner start) start
+    ++ child_and_export_events test holder id.name start
 
 -- ---- variables
 
-abbrev pub variable_form : Option TreeNode → Bool → TreeNode → TreeNode → TreeNode → NodeView
-variable_form exported is_using decl declarator ident = if is_using then using_var decl declarator ident else declaration_form exported (exported_var decl declarator ident)
+abbrev pub variable_node : Option TreeNode → Bool → TreeNode → TreeNode → TreeNode → SymbolNodeView
+variable_node exported is_using decl declarator ident =
+    if is_using then using_var decl declarator ident else maybe_exported_node exported (exported_var decl declarator ident)
 
--- a statement of variables, as it stands
-pub record Variables : Type 0 where
+-- A variable statement with its scope and the `export` before it, if any.
+pub record VariableStatement : Type 0 where
   pub scope : Scope
   pub exported : Option TreeNode
   pub is_using : Bool
   pub decl : TreeNode
 
--- of a name that the pattern of a declarator binds: it is declared where the declarator stands
-abbrev pub binding_events : Variables → TreeNode → TreeNode → PlacedEvents
+-- The events of an identifier that a declarator's pattern binds. It is declared at the range of the declarator.
+abbrev pub binding_events : VariableStatement → TreeNode → TreeNode → EventsByPosition
 binding_events vars declarator ident =
-    events_if_there (option_and_then sym_of (kind_of ident))
-    (λ (id : Id). declaring_events (is_exported vars.scope vars.exported) (id_view id) (definition_at (variable_form vars.exported vars.is_using vars.decl declarator ident) (range_in declarator)) no_placed_events)
+    events_if_some (option_and_then ident_id (kind_of ident))
+    (λ (id : Id). declare_and_add_events (is_exported vars.scope vars.exported) (id_view id)
+    (definition_of_node (variable_node vars.exported vars.is_using vars.decl declarator ident) (range_or_empty declarator)) no_events_by_position)
 
-abbrev pub binding_at : Variables → TreeNode → ℕ → PlacedEvents
-binding_at vars declarator n = events_if_there (node_in vars.decl.tree (Some n)) (binding_events vars declarator)
+abbrev pub binding_events_at : VariableStatement → TreeNode → ℕ → EventsByPosition
+binding_events_at vars declarator n = events_if_some (node_in vars.decl.tree (Some n)) (binding_events vars declarator)
 
--- of a declarator: each name that its pattern binds, in order
-abbrev pub declarator_events : Variables → TreeNode → PlacedEvents
-declarator_events vars declarator = events_if_there (child_of declarator name_of) (λ (pattern : TreeNode). events_of_each (binding_at vars declarator) (pattern_leaves vars.decl.tree pattern.number))
+-- The events of a declarator: each identifier that its pattern binds, in order.
+abbrev pub declarator_events : VariableStatement → TreeNode → EventsByPosition
+declarator_events vars declarator = events_if_some (child_in_field declarator name_of)
+    (λ (pattern : TreeNode). events_of_each (binding_events_at vars declarator) (pattern_bindings vars.decl.tree pattern.number))
 
-abbrev pub declarator_at : Variables → ℕ → PlacedEvents
-declarator_at vars n = events_if_there (node_in vars.decl.tree (Some n)) (declarator_events vars)
+abbrev pub declarator_events_at : VariableStatement → ℕ → EventsByPosition
+declarator_events_at vars n = events_if_some (node_in vars.decl.tree (Some n)) (declarator_events vars)
 
-abbrev pub variables_events : Variables → PlacedEvents
-variables_events vars = events_of_each (declarator_at vars) (list_of vars.decl decls_of)
+abbrev pub variable_statement_events : VariableStatement → EventsByPosition
+variable_statement_events vars = events_of_each (declarator_events_at vars) (child_list_in_field vars.decl decls_of)
 
--- ---- what has a name of its own
+-- ---- declarations with an identifier
 
-abbrev pub named_form : TreeNode → Kind → Option ExportDeclView
-named_form node (Kind.Decl (Decl.ClassDecl _ _)) = Some (exported_class node)
-named_form node (Kind.Decl (Decl.FnDecl _ _)) = Some (exported_fn node)
-named_form node (Kind.Decl (Decl.TsInterfaceDecl _ _ _ _)) = Some (exported_ts_interface node)
-named_form node (Kind.Decl (Decl.TsTypeAliasDecl _ _ _)) = Some (exported_ts_type_alias node)
-named_form node (Kind.Decl (Decl.TsEnumDecl _ _)) = Some (exported_ts_enum node)
-named_form node _ = None
+abbrev pub export_decl_view_of_kind : TreeNode → Kind → Option ExportDeclView
+export_decl_view_of_kind node (Kind.Decl (Decl.ClassDecl _ _)) = Some (exported_class node)
+export_decl_view_of_kind node (Kind.Decl (Decl.FnDecl _ _)) = Some (exported_fn node)
+export_decl_view_of_kind node (Kind.Decl (Decl.TsInterfaceDecl _ _ _ _)) = Some (exported_ts_interface node)
+export_decl_view_of_kind node (Kind.Decl (Decl.TsTypeAliasDecl _ _ _)) = Some (exported_ts_type_alias node)
+export_decl_view_of_kind node (Kind.Decl (Decl.TsEnumDecl _ _)) = Some (exported_ts_enum node)
+export_decl_view_of_kind node _ = None
 
--- the name of a declaration: it stands in one of two fields
-abbrev pub own_name : TreeNode → Option Id
-own_name node = option_or (sym_in ident_of node) (sym_in id_of node)
+-- The identifier of a declaration, which is in one of two fields.
+abbrev pub declared_name : TreeNode → Option Id
+declared_name node = option_or (child_ident_id ident_of node) (child_ident_id id_of node)
 
--- it is declared where the whole statement stands, with its members
-abbrev pub named_events : Scope → Option TreeNode → TreeNode → ExportDeclView → PlacedEvents
-named_events scope exported node form =
-    events_if_there (own_name node)
-    (λ (id : Id). declaring_events (is_exported scope exported) (id_view id) (definition_at (declaration_form exported form) (whole_range exported node)) (events_of_each (member_at node.tree) (member_nodes node)))
+-- The identifier is declared at the range of the whole statement, with its members.
+abbrev pub named_decl_events : Scope → Option TreeNode → TreeNode → ExportDeclView → EventsByPosition
+named_decl_events scope exported node form =
+    events_if_some (declared_name node)
+    (λ (id : Id). declare_and_add_events (is_exported scope exported) (id_view id)
+    (definition_of_node (maybe_exported_node exported form) (statement_range exported node))
+    (events_of_each (member_events_at node.tree) (member_nodes node)))
 
--- of a declaration, after the `export` if one stands before it
-abbrev pub declaration_events : Scope → Option TreeNode → TreeNode → Kind → PlacedEvents
-declaration_events scope exported node (Kind.Decl (Decl.VarDecl _)) = variables_events (record { scope = scope; exported = exported; is_using = false; decl = node })
-declaration_events scope exported node (Kind.Decl (Decl.UsingDecl _)) = variables_events (record { scope = scope; exported = exported; is_using = true; decl = node })
-declaration_events scope exported node kind = events_if_there (named_form node kind) (named_events scope exported node)
+-- The events of a declaration, with the `export` before it, if any.
+abbrev pub declaration_events : Scope → Option TreeNode → TreeNode → Kind → EventsByPosition
+declaration_events scope exported node (Kind.Decl (Decl.VarDecl _)) =
+    variable_statement_events (record { scope = scope; exported = exported; is_using = false; decl = node })
+declaration_events scope exported node (Kind.Decl (Decl.UsingDecl _)) =
+    variable_statement_events (record { scope = scope; exported = exported; is_using = true; decl = node })
+declaration_events scope exported node kind = events_if_some (export_decl_view_of_kind node kind) (named_decl_events scope exported node)

@@ -1,131 +1,143 @@
--- The events of a walk over a tree, and what each stands for, read from the events before it.
+-- Events, which are the declaration steps found in a tree in order, and the effect of each on the symbol table, given the events before it.
 use Rattle.std.specs.Prelude.{ℕ, Bool, true, false, if◌then◌else◌, List, [], ◌∷◌, ◌++◌, length, slice_index_or, map, Option, None, Some, codes}
 use Rattle.std.specs.List.{flat_map}
 use Rattle.std.specs.Option.{option_or}
-use Rattle.symbols_syntax.specs.declared.ids.SymbolId.{SymbolId}
-use Rattle.symbols_syntax.specs.Ids.{IdView}
+use Rattle.symbols_ast.specs.declared.ids.SymbolId.{SymbolId}
+use Rattle.symbols_ast.specs.Ids.{IdView}
 use Rattle.symbols_table.specs.DeclViews.{Declaration, decl_name, is_definition}
-use Rattle.symbols_table.specs.Changes.{Change, Star, makes, declares, exports, has_child, has_member, maps, passes_on, parents_after, mapped_after, exported_symbol, child_named, member_named, has_function}
+use Rattle.symbols_table.specs.Changes.{Change, Star, makes_symbol, adds_decl, exports, adds_child, adds_member, maps, re_exports_all}
+use Rattle.symbols_table.specs.Changes.{parents_after, mapped_symbol_after, exported_symbol, child_named, member_named, has_function_decl}
 
--- an event names earlier ones by their places: that of its holder, and, for a child, an export and a binding, that of the symbol it speaks of
-pub data Event : Type 0 where
-  begins : Declaration → Event
-  declare : ℕ → IdView → Declaration → Event
-  declare_alias : ℕ → IdView → Declaration → Event
-  fresh : ℕ → Declaration → Event
-  default : ℕ → Declaration → Event
-  binds : IdView → ℕ → Event
-  member : ℕ → Declaration → Bool → Event
-  expando : IdView → Declaration → Event
-  export : ℕ → List ℕ → ℕ → Event
-  child : ℕ → ℕ → Event
-  star : Star → Event
+-- A declaration step of the table's builder, like 'declare this identifier' or 'export that symbol'. Numbers are positions of earlier
+-- events, by which an event refers to their symbols: first its holder's, then, for `binds`, `export` and `child`, the symbol's own.
+pub data DeclarationEvent : Type 0 where
+  begins : Declaration → DeclarationEvent
+  declare : ℕ → IdView → Declaration → DeclarationEvent
+  declare_alias : ℕ → IdView → Declaration → DeclarationEvent
+  declare_unnamed : ℕ → Declaration → DeclarationEvent
+  default : ℕ → Declaration → DeclarationEvent
+  binds : IdView → ℕ → DeclarationEvent
+  member : ℕ → Declaration → Bool → DeclarationEvent
+  expando : IdView → Declaration → DeclarationEvent
+  export : ℕ → List ℕ → ℕ → DeclarationEvent
+  child : ℕ → ℕ → DeclarationEvent
+  star : Star → DeclarationEvent
 
--- what an event comes to: its symbol, if it has one, and what it changes
-pub record Row : Type 0 where
+-- The effect of an event: the symbol that it yields, if any, and the changes to the table.
+pub record EventEffect : Type 0 where
   pub symbol : Option SymbolId
   pub changes : List Change
 
-abbrev pub empty_row : Row
-empty_row = record { symbol = None; changes = [] }
+abbrev pub empty_effect : EventEffect
+empty_effect = record { symbol = None; changes = [] }
 
--- only changes, and no symbol
-abbrev pub row_of_changes : List Change → Row
-row_of_changes changes = record { symbol = None; changes = changes }
+-- The effect of an event that yields no symbol.
+abbrev pub effect_of_changes : List Change → EventEffect
+effect_of_changes changes = record { symbol = None; changes = changes }
 
-abbrev pub row_of_symbol : SymbolId → List Change → Row
-row_of_symbol s changes = record { symbol = Some s; changes = changes }
+abbrev pub effect_yielding_symbol : SymbolId → List Change → EventEffect
+effect_yielding_symbol s changes = record { symbol = Some s; changes = changes }
 
--- a new symbol's number is the count of the symbols before
-abbrev pub next_symbol : List Change → SymbolId
-next_symbol before = record { 0 = length (parents_after before) }
+-- The number of the next new symbol is the count of the symbols before it.
+abbrev pub next_symbol_id : List Change → SymbolId
+next_symbol_id before = record { 0 = length (parents_after before) }
 
--- a new symbol with its first declaration, and what else changes
-abbrev pub new_row : List Change → Option SymbolId → Declaration → (SymbolId → List Change) → Row
-new_row before parent decl more = row_of_symbol (next_symbol before) (makes parent ∷ declares (next_symbol before) decl ∷ more (next_symbol before))
+-- The effect that adds a new symbol with its first declaration, and further changes.
+abbrev pub new_symbol_effect : List Change → Option SymbolId → Declaration → (SymbolId → List Change) → EventEffect
+new_symbol_effect before parent decl more = effect_yielding_symbol (next_symbol_id before) (makes_symbol parent ∷ adds_decl (next_symbol_id before) decl
+    ∷ more (next_symbol_id before))
 
--- a declaration more of the symbol that was found, or else a new symbol
-abbrev pub found_or : Option SymbolId → Declaration → Row → Row
-found_or None decl row = row
-found_or (Some s) decl row = row_of_symbol s (declares s decl ∷ [])
+-- A found symbol gets the declaration; otherwise the given row applies.
+abbrev pub redeclare_effect_or : Option SymbolId → Declaration → EventEffect → EventEffect
+redeclare_effect_or None decl row = row
+redeclare_effect_or (Some s) decl row = effect_yielding_symbol s (adds_decl s decl ∷ [])
 
--- to declare a name: its symbol where it has one, else a new symbol of the holder that the name then stands for
-abbrev pub declare_row : List Change → SymbolId → IdView → Declaration → Row
-declare_row before holder id decl = found_or (mapped_after before id) decl (new_row before (Some holder) decl (λ s. maps id s ∷ []))
+-- Declaring an identifier: a bound one gives its symbol another declaration, an unbound one is bound to a new symbol of the holder.
+abbrev pub declare_effect : List Change → SymbolId → IdView → Declaration → EventEffect
+declare_effect before holder id decl =
+    redeclare_effect_or (mapped_symbol_after before id) decl (new_symbol_effect before (Some holder) decl (λ s. maps id s ∷ []))
 
--- `import a = ..`: the same, but a name that stands for a symbol gets no declaration more
-abbrev pub known_or : Option SymbolId → Row → Row
-known_or None row = row
-known_or (Some s) row = row_of_symbol s []
+-- For `import a = ..`: a bound identifier keeps its symbol, which gets no further declaration.
+abbrev pub existing_symbol_effect_or : Option SymbolId → EventEffect → EventEffect
+existing_symbol_effect_or None row = row
+existing_symbol_effect_or (Some s) row = effect_yielding_symbol s []
 
-abbrev pub alias_row : List Change → SymbolId → IdView → Declaration → Row
-alias_row before holder id decl = known_or (mapped_after before id) (new_row before (Some holder) decl (λ s. maps id s ∷ []))
+abbrev pub declare_alias_effect : List Change → SymbolId → IdView → Declaration → EventEffect
+declare_alias_effect before holder id decl =
+    existing_symbol_effect_or (mapped_symbol_after before id) (new_symbol_effect before (Some holder) decl (λ s. maps id s ∷ []))
 
--- the name of a default export
-abbrev pub default_name : List ℕ
-default_name = codes "default"
+-- The exported name of a default export.
+abbrev pub default_export_name : List ℕ
+default_export_name = codes "default"
 
--- a default export: the symbol that the holder exports as `default`, else a new one, which is a child only where it is a definition
-abbrev pub default_row : List Change → SymbolId → Declaration → Row
-default_row before holder decl =
-    found_or (exported_symbol before holder default_name) decl
-    (new_row before (Some holder) decl (λ s. exports holder default_name s ∷ (if is_definition decl.kind then has_child holder s ∷ [] else [])))
+-- A default export: the holder's export `default` gets the declaration, else a new symbol, which is a child only if it is a definition.
+abbrev pub default_export_effect : List Change → SymbolId → Declaration → EventEffect
+default_export_effect before holder decl =
+    redeclare_effect_or (exported_symbol before holder default_export_name) decl
+    (new_symbol_effect before (Some holder) decl (λ s. exports holder default_export_name s
+    ∷ (if is_definition decl.kind then adds_child holder s ∷ [] else [])))
 
--- the symbol that a member goes to: a static one to the export of its name, else to the first child of that name; an instance one to the first member of that name; one without a name to none
-abbrev pub member_found : List Change → SymbolId → Bool → Option (List ℕ) → Option SymbolId
-member_found before holder is_static None = None
-member_found before holder true (Some name) = option_or (exported_symbol before holder name) (child_named before holder name)
-member_found before holder false (Some name) = member_named before holder name
+-- The symbol that gets a member's declaration. For a static member it is the export of its name, else the first child of that local name.
+-- For an instance member it is the first member of that local name. A member without a name has none.
+abbrev pub find_member_symbol : List Change → SymbolId → Bool → Option (List ℕ) → Option SymbolId
+find_member_symbol before holder is_static None = None
+find_member_symbol before holder true (Some name) = option_or (exported_symbol before holder name) (child_named before holder name)
+find_member_symbol before holder false (Some name) = member_named before holder name
 
--- what a new member is of its holder: a static one an export by its name and a child, an instance one a member
-abbrev pub member_changes : SymbolId → Bool → Option (List ℕ) → SymbolId → List Change
-member_changes holder true None s = has_child holder s ∷ []
-member_changes holder true (Some name) s = exports holder name s ∷ has_child holder s ∷ []
-member_changes holder false name s = has_member holder s ∷ []
+-- The changes that add a new member to its holder: a static one is an export by its name and a child, an instance one a member.
+abbrev pub new_member_changes : SymbolId → Bool → Option (List ℕ) → SymbolId → List Change
+new_member_changes holder true None s = adds_child holder s ∷ []
+new_member_changes holder true (Some name) s = exports holder name s ∷ adds_child holder s ∷ []
+new_member_changes holder false name s = adds_member holder s ∷ []
 
-abbrev pub named_member_row : List Change → SymbolId → Declaration → Bool → Option (List ℕ) → Row
-named_member_row before holder decl is_static name = found_or (member_found before holder is_static name) decl (new_row before (Some holder) decl (member_changes holder is_static name))
+abbrev pub named_member_effect : List Change → SymbolId → Declaration → Bool → Option (List ℕ) → EventEffect
+named_member_effect before holder decl is_static name =
+    redeclare_effect_or (find_member_symbol before holder is_static name) decl
+    (new_symbol_effect before (Some holder) decl (new_member_changes holder is_static name))
 
-abbrev pub member_row : List Change → SymbolId → Declaration → Bool → Row
-member_row before holder decl is_static = named_member_row before holder decl is_static (decl_name decl)
+abbrev pub member_effect : List Change → SymbolId → Declaration → Bool → EventEffect
+member_effect before holder decl is_static = named_member_effect before holder decl is_static (decl_name decl)
 
--- a property that is assigned: a static member of the symbol that the name stands for, where that is a function
-abbrev pub expando_row : List Change → Option SymbolId → Declaration → Row
-expando_row before None decl = empty_row
-expando_row before (Some s) decl = if has_function before s then member_row before s decl true else empty_row
+-- An assigned property `f.p = ..` is a static member of the symbol that `f` is bound to, if that symbol has a function among its
+-- declarations.
+abbrev pub expando_effect : List Change → Option SymbolId → Declaration → EventEffect
+expando_effect before None decl = empty_effect
+expando_effect before (Some s) decl = if has_function_decl before s then member_effect before s decl true else empty_effect
 
--- where the event has a symbol
-abbrev pub with_symbol : Option SymbolId → (SymbolId → Row) → Row
-with_symbol None row = empty_row
-with_symbol (Some s) row = row s
+-- The row for a symbol, or the empty row without one.
+abbrev pub effect_if_symbol : Option SymbolId → (SymbolId → EventEffect) → EventEffect
+effect_if_symbol None row = empty_effect
+effect_if_symbol (Some s) row = row s
 
--- the row of an event, from the changes and the symbols of the events before it
-abbrev pub row_of : List Change → (ℕ → Option SymbolId) → Event → Row
-row_of before at (begins decl) = new_row before None decl (λ _. [])
-row_of before at (declare holder id decl) = with_symbol (at holder) (λ h. declare_row before h id decl)
-row_of before at (declare_alias holder id decl) = with_symbol (at holder) (λ h. alias_row before h id decl)
-row_of before at (fresh holder decl) = with_symbol (at holder) (λ h. new_row before (Some h) decl (λ _. []))
-row_of before at (default holder decl) = with_symbol (at holder) (λ h. default_row before h decl)
-row_of before at (binds id of) = with_symbol (at of) (λ s. row_of_symbol s (maps id s ∷ []))
-row_of before at (member holder decl is_static) = with_symbol (at holder) (λ h. member_row before h decl is_static)
-row_of before at (expando id decl) = expando_row before (mapped_after before id) decl
-row_of before at (export holder name of) = with_symbol (at holder) (λ h. with_symbol (at of) (λ s. row_of_changes (exports h name s ∷ [])))
-row_of before at (child holder of) = with_symbol (at holder) (λ h. with_symbol (at of) (λ s. row_of_changes (has_child h s ∷ [])))
-row_of before at (star statement) = row_of_changes (passes_on statement ∷ [])
+-- The effect of an event, from the changes before it and the symbols of the earlier events by position.
+abbrev pub effect_of_event : List Change → (ℕ → Option SymbolId) → DeclarationEvent → EventEffect
+effect_of_event before at (begins decl) = new_symbol_effect before None decl (λ _. [])
+effect_of_event before at (declare holder id decl) = effect_if_symbol (at holder) (λ h. declare_effect before h id decl)
+effect_of_event before at (declare_alias holder id decl) = effect_if_symbol (at holder) (λ h. declare_alias_effect before h id decl)
+effect_of_event before at (declare_unnamed holder decl) = effect_if_symbol (at holder) (λ h. new_symbol_effect before (Some h) decl (λ _. []))
+effect_of_event before at (default holder decl) = effect_if_symbol (at holder) (λ h. default_export_effect before h decl)
+effect_of_event before at (binds id of) = effect_if_symbol (at of) (λ s. effect_yielding_symbol s (maps id s ∷ []))
+effect_of_event before at (member holder decl is_static) = effect_if_symbol (at holder) (λ h. member_effect before h decl is_static)
+effect_of_event before at (expando id decl) = expando_effect before (mapped_symbol_after before id) decl
+effect_of_event before at (export holder name of) =
+    effect_if_symbol (at holder) (λ h. effect_if_symbol (at of) (λ s. effect_of_changes (exports h name s ∷ [])))
+effect_of_event before at (child holder of) = effect_if_symbol (at holder) (λ h. effect_if_symbol (at of) (λ s. effect_of_changes (adds_child h s ∷ [])))
+effect_of_event before at (star statement) = effect_of_changes (re_exports_all statement ∷ [])
 
--- what rows change, in order
-unfoldable pub changes_of : List Row → List Change
-changes_of rows = flat_map (λ row. row.changes) rows
+-- The changes of a list of rows, in order.
+unfoldable pub changes_of_effects : List EventEffect → List Change
+changes_of_effects rows = flat_map (λ row. row.changes) rows
 
--- the symbol of the event at a place
-unfoldable pub symbol_at : List Row → ℕ → Option SymbolId
-symbol_at rows place = slice_index_or (map (λ row. row.symbol) rows) place None
+-- The symbol of the event at a position.
+unfoldable pub symbol_of_event_at : List EventEffect → ℕ → Option SymbolId
+symbol_of_event_at rows index = slice_index_or (map (λ row. row.symbol) rows) index None
 
--- the rows of events in order, each read from the rows before it
-unfoldable pub rows_after : List Row → List Event → List Row
-rows_after rows [] = rows
-rows_after rows (event ∷ events) = rows_after (rows ++ row_of (changes_of rows) (symbol_at rows) event ∷ []) events
+-- The rows of a list of events, each computed from the rows before it.
+unfoldable pub effects_after_events : List EventEffect → List DeclarationEvent → List EventEffect
+effects_after_events rows [] = rows
+effects_after_events rows (event ∷ events) = effects_after_events (rows ++ effect_of_event (changes_of_effects rows) (symbol_of_event_at rows) event ∷ [])
+    events
 
--- what the events of a whole walk change
-abbrev pub changes_by : List Event → List Change
-changes_by events = changes_of (rows_after [] events)
+-- The changes that a whole list of events makes, from an empty table.
+abbrev pub changes_of_events : List DeclarationEvent → List Change
+changes_of_events events = changes_of_effects (effects_after_events [] events)

@@ -1,70 +1,71 @@
--- Laws of every module with its symbols, which its type keeps.
+-- The invariants of every analyzed module, which its type guarantees.
 use Rattle.std.specs.Prelude.{◌≡◌, ℕ, ◌<◌, ◌≤◌, List, [], length, Option, Some, None, MatchOption, All, slice_get, string_bytes}
 use Rattle.std.specs.List.{sum_by, IsDistinct}
 use Rattle.std.specs.Map.{lookup}
 use Rattle.std.specs.Str.{bytes_eq}
 use Rattle.std.specs.Option.{option_and_then, option_map_or}
-use Rattle.symbols_syntax.specs.declared.ids.ModuleId.{ModuleId}
-use Rattle.symbols_syntax.specs.declared.ids.SymbolId.{SymbolId}
-use Rattle.symbols_syntax.specs.declared.tree.arena.Tree.{Tree}
-use Rattle.symbols_syntax.specs.declared.tree.kinds.Kind.{Kind}
-use Rattle.symbols_syntax.specs.declared.tree.kinds.Item.TheVariants as Item
-use Rattle.symbols_syntax.specs.Ids.{IdView, same_id}
-use Rattle.symbols_syntax.specs.NodeRefs.{TreeNode}
-use Rattle.symbols_syntax.specs.Nodes.{kind_at}
-use Rattle.symbols_nodes.specs.NodeViews.{nodes_of}
+use Rattle.symbols_ast.specs.declared.ids.ModuleId.{ModuleId}
+use Rattle.symbols_ast.specs.declared.ids.SymbolId.{SymbolId}
+use Rattle.symbols_ast.specs.declared.tree.arena.Tree.{Tree}
+use Rattle.symbols_ast.specs.declared.tree.kinds.Kind.{Kind}
+use Rattle.symbols_ast.specs.declared.tree.kinds.Item.TheVariants as Item
+use Rattle.symbols_ast.specs.Ids.{IdView, is_same_id}
+use Rattle.symbols_ast.specs.NodeRefs.{TreeNode}
+use Rattle.symbols_ast.specs.Nodes.{kind_at}
+use Rattle.symbols_nodes.specs.NodeViews.{decl_nodes}
 use Rattle.symbols_table.specs.declared.decl.symbol.Symbol.{Symbol}
-use Rattle.symbols_table.specs.Changes.{Star, names_set}
-use Rattle.symbols_table.specs.DeclViews.{Declaration, node_of_kind}
-use Rattle.symbols_table.specs.Symbols.{module_number_in, number_in, parent_in, decls_in, exports_in, children_in, members_in}
+use Rattle.symbols_table.specs.Changes.{Star, names_of_export_entries}
+use Rattle.symbols_table.specs.DeclViews.{Declaration, decl_kind_node}
+use Rattle.symbols_table.specs.Symbols.{symbol_module_id, symbol_local_id, symbol_parent, symbol_decls, symbol_export_entries, symbol_children, symbol_members}
 
--- a parent of the symbol n: symbol 0 has none, and the others have a lower one
-abbrev pub IsParentOf : ℕ → Option SymbolId → Type 0
-IsParentOf n parent = MatchOption parent (n ≡ 0) (λ s. s.0 < n)
+-- A valid parent of symbol n: symbol 0 has none, any other symbol has one of a lower number.
+abbrev pub IsLawfulParent : ℕ → Option SymbolId → Type 0
+IsLawfulParent n parent = MatchOption parent (n ≡ 0) (λ s. s.0 < n)
 
--- a symbol of so many in a module: it knows its module and its number; its parent's number is smaller than its own, and only symbol 0 has none; something is declared of it; what it exports and has as children and members are symbols of the module; and it exports no name twice
+-- The invariants of a symbol in a module of `count` symbols. It has its module's number and its own. Its parent has a lower number, and
+-- only symbol 0 has none. It has a declaration. Its exports, children and members are symbols of the module. It exports no name twice.
 pub record IsLawfulSymbol (module_id : ModuleId) (count : ℕ) (s : SymbolId) (symbol : Symbol) : Type 0 where
-  pub of_module : module_number_in symbol ≡ module_id
-  pub number : number_in symbol ≡ s
-  pub parent : IsParentOf s.0 (parent_in symbol)
-  pub declared : 0 < length (decls_in symbol)
-  pub exports : All (λ entry. entry.1.0 < count) (exports_in symbol)
-  pub children : All (λ child. child.0 < count) (children_in symbol)
-  pub members : All (λ member. member.0 < count) (members_in symbol)
-  pub once : IsDistinct bytes_eq (names_set (exports_in symbol))
+  pub of_module : symbol_module_id symbol ≡ module_id
+  pub number : symbol_local_id symbol ≡ s
+  pub parent : IsLawfulParent s.0 (symbol_parent symbol)
+  pub declared : 0 < length (symbol_decls symbol)
+  pub exports : All (λ entry. entry.1.0 < count) (symbol_export_entries symbol)
+  pub children : All (λ child. child.0 < count) (symbol_children symbol)
+  pub members : All (λ member. member.0 < count) (symbol_members symbol)
+  pub once : IsDistinct bytes_eq (names_of_export_entries (symbol_export_entries symbol))
 
-abbrev pub AreLawful : ModuleId → List Symbol → Type 0
-AreLawful module_id symbols = (s : SymbolId) (symbol : Symbol) → slice_get symbols s.0 ≡ Some symbol → IsLawfulSymbol module_id (length symbols) s symbol
+abbrev pub AreLawfulSymbols : ModuleId → List Symbol → Type 0
+AreLawfulSymbols module_id symbols = (s : SymbolId) (symbol : Symbol) → slice_get symbols s.0 ≡ Some symbol → IsLawfulSymbol module_id (length symbols) s symbol
 
--- how many declarations symbols have together
+-- The total number of declarations of the symbols.
 abbrev pub count_of_declarations : List Symbol → ℕ
-count_of_declarations symbols = sum_by (λ (symbol : Symbol). length (decls_in symbol)) symbols
+count_of_declarations symbols = sum_by (λ (symbol : Symbol). length (symbol_decls symbol)) symbols
 
--- there are no more symbols, and no more declarations, than nodes in the tree
-pub record AreFewIn (tree : Tree) (symbols : List Symbol) : Type 0 where
+-- The tree has at least as many nodes as there are symbols, and as there are declarations.
+pub record AreBoundedByNodes (tree : Tree) (symbols : List Symbol) : Type 0 where
   pub few_symbols : length symbols ≤ length tree.nodes.items
   pub few_declarations : count_of_declarations symbols ≤ length tree.nodes.items
 
--- each name that stands for a symbol stands for one of so many
-abbrev pub AreNamesOf : ℕ → List (IdView × SymbolId) → Type 0
-AreNamesOf count names = (id : IdView) (s : SymbolId) → lookup (same_id id) names ≡ Some s → s.0 < count
+-- Each bound identifier is bound to one of the module's symbols.
+abbrev pub AreMappedToSymbols : ℕ → List (IdView × SymbolId) → Type 0
+AreMappedToSymbols count names = (id : IdView) (s : SymbolId) → lookup (is_same_id id) names ≡ Some s → s.0 < count
 
--- a node of the tree
-abbrev pub IsNodeOf : Tree → TreeNode → Type 0
-IsNodeOf tree node = (node.tree ≡ tree) × (node.number < length tree.nodes.items)
+-- The node is one of the tree's.
+abbrev pub IsTreeNode : Tree → TreeNode → Type 0
+IsTreeNode tree node = (node.tree ≡ tree) × (node.number < length tree.nodes.items)
 
--- each node that the declaration is made of is one of the tree
-abbrev pub IsDeclaredIn : Tree → Declaration → Type 0
-IsDeclaredIn tree decl = All (IsNodeOf tree) (option_map_or nodes_of (node_of_kind decl.kind) [])
+-- Each node of the declaration is one of the tree's.
+abbrev pub IsDeclaredInTree : Tree → Declaration → Type 0
+IsDeclaredInTree tree decl = All (IsTreeNode tree) (option_map_or decl_nodes (decl_kind_node decl.kind) [])
 
-abbrev pub AreDeclaredIn : Tree → List Symbol → Type 0
-AreDeclaredIn tree symbols = (s : SymbolId) (symbol : Symbol) → slice_get symbols s.0 ≡ Some symbol → All (IsDeclaredIn tree) (decls_in symbol)
+abbrev pub AreDeclaredInTree : Tree → List Symbol → Type 0
+AreDeclaredInTree tree symbols = (s : SymbolId) (symbol : Symbol) → slice_get symbols s.0 ≡ Some symbol → All (IsDeclaredInTree tree) (symbol_decls symbol)
 
--- the text of an `export *`
-abbrev pub star_text : Kind → Option (List ℕ)
-star_text (Kind.Item (Item.ExportAll src)) = Some (string_bytes src)
-star_text _ = None
+-- The specifier of an `export *`.
+abbrev pub export_star_specifier : Kind → Option (List ℕ)
+export_star_specifier (Kind.Item (Item.ExportAll src)) = Some (string_bytes src)
+export_star_specifier _ = None
 
--- an `export *` of the tree, with its own text
-abbrev pub IsStarOf : Tree → Star → Type 0
-IsStarOf tree star = option_and_then star_text (kind_at tree.nodes.items star.number) ≡ Some star.text
+-- The statement is an `export *` node of the tree, with its specifier.
+abbrev pub IsExportStarInTree : Tree → Star → Type 0
+IsExportStarInTree tree star = option_and_then export_star_specifier (kind_at tree.nodes.items star.number) ≡ Some star.specifier_text

@@ -1,59 +1,64 @@
 -- The events of the members of classes and interfaces.
 use Rattle.std.specs.Prelude.{ℕ, Bool, true, false, List, [], ◌∷◌, Option, None, Some}
 use Rattle.std.specs.Option.{option_map_or}
-use Rattle.symbols_syntax.specs.declared.tree.arena.Tree.{Tree}
-use Rattle.symbols_syntax.specs.declared.tree.kinds.Kind.{Kind}
-use Rattle.symbols_syntax.specs.declared.tree.kinds.Decl.TheVariants as Decl
-use Rattle.symbols_syntax.specs.declared.tree.kinds.Member.TheVariants as Member
-use Rattle.symbols_syntax.specs.NodeRefs.{TreeNode, kind_of, node_in, child_of, list_of}
-use Rattle.symbols_syntax.specs.ChildFields.{body_of, class_of}
-use Rattle.symbols_nodes.specs.NodeViews.{NodeView, class_method, class_prop, auto_accessor, class_param_prop, constructor, ts_index_signature, ts_call_signature_decl, ts_construct_signature_decl, ts_property_signature, ts_getter_signature, ts_setter_signature, ts_method_signature}
-use Rattle.symbols_table.specs.DeclViews.{definition_at}
+use Rattle.symbols_ast.specs.declared.tree.arena.Tree.{Tree}
+use Rattle.symbols_ast.specs.declared.tree.kinds.Kind.{Kind}
+use Rattle.symbols_ast.specs.declared.tree.kinds.Decl.TheVariants as Decl
+use Rattle.symbols_ast.specs.declared.tree.kinds.Member.TheVariants as Member
+use Rattle.symbols_ast.specs.NodeRefs.{TreeNode, kind_of, node_in, child_in_field, child_list_in_field}
+use Rattle.symbols_ast.specs.ChildFields.{body_of, class_of}
+use Rattle.symbols_nodes.specs.NodeViews.{SymbolNodeView, class_method, class_prop, auto_accessor, class_param_prop, constructor}
+use Rattle.symbols_nodes.specs.NodeViews.{ts_index_signature, ts_call_signature_decl, ts_construct_signature_decl}
+use Rattle.symbols_nodes.specs.NodeViews.{ts_property_signature, ts_getter_signature, ts_setter_signature, ts_method_signature}
+use Rattle.symbols_table.specs.DeclViews.{definition_of_node}
 use Rattle.symbols_table.specs.Events.{member}
-use Rattle.symbols_table.specs.PlacedEvents.{PlacedEvents, no_placed_events, events_if_there, with_next, events_of_each, range_in}
+use Rattle.symbols_table.specs.EventsByPosition.{EventsByPosition, no_events_by_position, events_if_some, events_followed_by, events_of_each, range_or_empty}
 
-abbrev pub members_of_kind : TreeNode → Kind → List ℕ
-members_of_kind node (Kind.Decl (Decl.TsInterfaceDecl _ _ _ _)) = list_of node body_of
-members_of_kind node _ = option_map_or (λ (class : TreeNode). list_of class body_of) (child_of node class_of) []
+abbrev pub class_or_interface_member_nodes : TreeNode → Kind → List ℕ
+class_or_interface_member_nodes node (Kind.Decl (Decl.TsInterfaceDecl _ _ _ _)) = child_list_in_field node body_of
+class_or_interface_member_nodes node _ = option_map_or (λ (class : TreeNode). child_list_in_field class body_of) (child_in_field node class_of) []
 
--- the members of a class or an interface
+-- The member nodes of a class or an interface; empty for any other node.
 abbrev pub member_nodes : TreeNode → List ℕ
-member_nodes node = option_map_or (members_of_kind node) (kind_of node) []
+member_nodes node = option_map_or (class_or_interface_member_nodes node) (kind_of node) []
 
--- one member, where its node stands
-abbrev pub one_member : NodeView → TreeNode → Bool → PlacedEvents
-one_member form node is_static holder start = member holder (definition_at form (range_in node)) is_static ∷ []
+-- The event of a member, at the range of its node.
+abbrev pub member_event : SymbolNodeView → TreeNode → Bool → EventsByPosition
+member_event form node is_static holder start = member holder (definition_of_node form (range_or_empty node)) is_static ∷ []
 
--- of a parameter of a constructor: it may be a property too
-abbrev pub param_events : TreeNode → Kind → PlacedEvents
-param_events node (Kind.Member (Member.TsParamProp _ _)) = one_member (class_param_prop node) node false
-param_events node _ = no_placed_events
+-- The events of a constructor's parameter, which is declared if it is a parameter property.
+abbrev pub constructor_param_events : TreeNode → Kind → EventsByPosition
+constructor_param_events node (Kind.Member (Member.TsParamProp _ _)) = member_event (class_param_prop node) node false
+constructor_param_events node _ = no_events_by_position
 
-abbrev pub param_at : Tree → ℕ → PlacedEvents
-param_at tree n = events_if_there (node_in tree (Some n)) (λ (node : TreeNode). events_if_there (kind_of node) (param_events node))
+abbrev pub constructor_param_events_at : Tree → ℕ → EventsByPosition
+constructor_param_events_at tree n = events_if_some (node_in tree (Some n)) (λ (node : TreeNode). events_if_some (kind_of node) (constructor_param_events node))
 
--- a constructor, and then its parameters
-abbrev pub constructor_events : TreeNode → List ℕ → PlacedEvents
-constructor_events node params holder start = with_next (member holder (definition_at (constructor node) (range_in node)) true ∷ []) (events_of_each (param_at node.tree) params holder) start
+-- The events of a constructor, followed by those of its parameters.
+abbrev pub constructor_events : TreeNode → List ℕ → EventsByPosition
+constructor_events node params holder start =
+    events_followed_by (member holder (definition_of_node (constructor node) (range_or_empty node)) true ∷ [])
+    (events_of_each (constructor_param_events_at node.tree) params holder) start
 
--- a member as it is declared, and whether it is static; all else that stands in a class counts for nothing
-abbrev pub simple_member : TreeNode → Kind → Option (NodeView × Bool)
-simple_member node (Kind.Member (Member.ClassMethod _ _ _ is_static _)) = Some (class_method node, is_static)
-simple_member node (Kind.Member (Member.ClassProp _ _ _ is_static _)) = Some (class_prop node, is_static)
-simple_member node (Kind.Member (Member.AutoAccessor _ _ _ is_static _)) = Some (auto_accessor node, is_static)
-simple_member node (Kind.Member (Member.TsIndexSignature _ _ is_static)) = Some (ts_index_signature node, is_static)
-simple_member node (Kind.Member (Member.TsCallSignatureDecl _ _ _)) = Some (ts_call_signature_decl node, false)
-simple_member node (Kind.Member (Member.TsConstructSignatureDecl _ _ _)) = Some (ts_construct_signature_decl node, false)
-simple_member node (Kind.Member (Member.TsPropertySignature _ _ _)) = Some (ts_property_signature node, false)
-simple_member node (Kind.Member (Member.TsGetterSignature _ _ _)) = Some (ts_getter_signature node, false)
-simple_member node (Kind.Member (Member.TsSetterSignature _ _ _)) = Some (ts_setter_signature node, false)
-simple_member node (Kind.Member (Member.TsMethodSignature _ _ _ _ _)) = Some (ts_method_signature node, false)
-simple_member node _ = None
+-- The form of a member other than a constructor or a parameter property, and whether it is static. Anything else in a class declares
+-- nothing.
+abbrev pub non_constructor_member : TreeNode → Kind → Option (SymbolNodeView × Bool)
+non_constructor_member node (Kind.Member (Member.ClassMethod _ _ _ is_static _)) = Some (class_method node, is_static)
+non_constructor_member node (Kind.Member (Member.ClassProp _ _ _ is_static _)) = Some (class_prop node, is_static)
+non_constructor_member node (Kind.Member (Member.AutoAccessor _ _ _ is_static _)) = Some (auto_accessor node, is_static)
+non_constructor_member node (Kind.Member (Member.TsIndexSignature _ _ is_static)) = Some (ts_index_signature node, is_static)
+non_constructor_member node (Kind.Member (Member.TsCallSignatureDecl _ _ _)) = Some (ts_call_signature_decl node, false)
+non_constructor_member node (Kind.Member (Member.TsConstructSignatureDecl _ _ _)) = Some (ts_construct_signature_decl node, false)
+non_constructor_member node (Kind.Member (Member.TsPropertySignature _ _ _)) = Some (ts_property_signature node, false)
+non_constructor_member node (Kind.Member (Member.TsGetterSignature _ _ _)) = Some (ts_getter_signature node, false)
+non_constructor_member node (Kind.Member (Member.TsSetterSignature _ _ _)) = Some (ts_setter_signature node, false)
+non_constructor_member node (Kind.Member (Member.TsMethodSignature _ _ _ _ _)) = Some (ts_method_signature node, false)
+non_constructor_member node _ = None
 
--- of a member by its kind
-abbrev pub member_events : TreeNode → Kind → PlacedEvents
+-- The events of a member, by its kind.
+abbrev pub member_events : TreeNode → Kind → EventsByPosition
 member_events node (Kind.Member (Member.Constructor params _ _)) = constructor_events node params.items
-member_events node kind = events_if_there (simple_member node kind) (λ (m : NodeView × Bool). one_member m.0 node m.1)
+member_events node kind = events_if_some (non_constructor_member node kind) (λ (m : SymbolNodeView × Bool). member_event m.0 node m.1)
 
-abbrev pub member_at : Tree → ℕ → PlacedEvents
-member_at tree n = events_if_there (node_in tree (Some n)) (λ (node : TreeNode). events_if_there (kind_of node) (member_events node))
+abbrev pub member_events_at : Tree → ℕ → EventsByPosition
+member_events_at tree n = events_if_some (node_in tree (Some n)) (λ (node : TreeNode). events_if_some (kind_of node) (member_events node))

@@ -1,61 +1,61 @@
--- Modules with their symbols, as contracts see them.
+-- The view of an analyzed module that contracts use.
 use Rattle.std.specs.Prelude.{ℕ, List, [], map, Option, Some, None}
 use Rattle.std.specs.Map.{lookup}
 use Rattle.std.specs.Option.{option_map}
-use Rattle.symbols_syntax.specs.declared.ids.ModuleId.{ModuleId}
-use Rattle.symbols_syntax.specs.declared.ids.SymbolId.{SymbolId}
-use Rattle.symbols_syntax.specs.declared.tree.arena.Tree.{Tree}
-use Rattle.symbols_syntax.specs.Graph.{Content, esm, json, external}
-use Rattle.symbols_syntax.specs.Ids.{IdView, same_id}
+use Rattle.symbols_ast.specs.declared.ids.ModuleId.{ModuleId}
+use Rattle.symbols_ast.specs.declared.ids.SymbolId.{SymbolId}
+use Rattle.symbols_ast.specs.declared.tree.arena.Tree.{Tree}
+use Rattle.symbols_ast.specs.Graph.{ModuleContent, esm, json, external}
+use Rattle.symbols_ast.specs.Ids.{IdView, is_same_id}
 use Rattle.symbols_table.specs.declared.decl.symbol.Symbol.{Symbol}
 use Rattle.symbols_table.specs.declared.info.es_module.EsModuleInfo.{EsModuleInfo}
 use Rattle.symbols_table.specs.declared.info.json_module.JsonModuleInfo.{JsonModuleInfo}
 use Rattle.symbols_table.specs.declared.info.module_info.ModuleInfo.{ModuleInfo}
 use Rattle.symbols_table.specs.declared.info.module_info.ModuleInfoRef.{ModuleInfoRef}
 use Rattle.symbols_table.specs.Changes.{Star}
-use Rattle.symbols_table.specs.ModuleViews.{ids_view, star_view}
-use Rattle.symbols_table.specs.SymbolViews.{SymbolView, symbol_numbered}
+use Rattle.symbols_table.specs.ModuleViews.{identifier_bindings_view, export_star_view}
+use Rattle.symbols_table.specs.SymbolViews.{SymbolView, symbol_view_of_number}
 
--- what symbols are made from: the text of a module with its tree, or a JSON text
-pub data Source : Type 0 where
-  parsed : List ℕ → Tree → Source
-  json_text : List ℕ → Source
+-- The source of a symbol table: the text of a module with its tree, or a JSON text.
+pub data AnalyzableSource : Type 0 where
+  parsed : List ℕ → Tree → AnalyzableSource
+  json_text : List ℕ → AnalyzableSource
 
--- that of a module of the graph, if it has one
-abbrev pub source_of : Content → Option Source
-source_of (esm text tree _) = option_map (parsed text) tree
-source_of (json text) = Some (json_text text)
-source_of external = None
+-- The source of a module of the graph, if it has one.
+abbrev pub analyzable_source : ModuleContent → Option AnalyzableSource
+analyzable_source (esm text tree _) = option_map (parsed text) tree
+analyzable_source (json text) = Some (json_text text)
+analyzable_source external = None
 
-abbrev pub source_text : Source → List ℕ
+abbrev pub source_text : AnalyzableSource → List ℕ
 source_text (parsed text _) = text
 source_text (json_text text) = text
 
-abbrev pub source_tree : Source → Option Tree
+abbrev pub source_tree : AnalyzableSource → Option Tree
 source_tree (parsed _ tree) = Some tree
 source_tree (json_text _) = None
 
--- a module with its symbols: the names that stand for symbols and the statements `export *` are those of its tree; a JSON text has none
-pub record Table : Type 0 where
+-- An analyzed module. Its bound identifiers and `export *` statements are those of its tree; for a JSON text both are empty.
+pub record SymbolTable : Type 0 where
   pub module_id : ModuleId
   pub specifier : List ℕ
-  pub source : Source
+  pub source : AnalyzableSource
   pub symbols : List Symbol
   pub names : List (IdView × SymbolId)
   pub stars : List Star
 
-abbrev pub esm_table : EsModuleInfo → Table
-esm_table info = record {
+abbrev pub esm_symbol_table : EsModuleInfo → SymbolTable
+esm_symbol_table info = record {
   module_id = info.module_id;
   specifier = info.specifier.now;
   source = parsed info.text.now info.source.now;
   symbols = info.symbols.items;
-  names = ids_view info.ids.entries;
-  stars = map star_view info.stars.items;
+  names = identifier_bindings_view info.ids.entries;
+  stars = map export_star_view info.stars.items;
 }
 
-abbrev pub json_table : JsonModuleInfo → Table
-json_table info = record {
+abbrev pub json_symbol_table : JsonModuleInfo → SymbolTable
+json_symbol_table info = record {
   module_id = info.module_id;
   specifier = info.specifier.now;
   source = json_text info.text.now;
@@ -64,35 +64,35 @@ json_table info = record {
   stars = [];
 }
 
-abbrev pub table_of : ModuleInfo → Table
-table_of (ModuleInfo.Json info) = json_table info
-table_of (ModuleInfo.Esm info) = esm_table info
+abbrev pub symbol_table_of : ModuleInfo → SymbolTable
+symbol_table_of (ModuleInfo.Json info) = json_symbol_table info
+symbol_table_of (ModuleInfo.Esm info) = esm_symbol_table info
 
-abbrev pub lent_table : ModuleInfoRef → Table
-lent_table (ModuleInfoRef.Json info) = json_table info.now
-lent_table (ModuleInfoRef.Esm info) = esm_table info.now
+abbrev pub symbol_table_of_ref : ModuleInfoRef → SymbolTable
+symbol_table_of_ref (ModuleInfoRef.Json info) = json_symbol_table info.now
+symbol_table_of_ref (ModuleInfoRef.Esm info) = esm_symbol_table info.now
 
--- the symbol of a number
-abbrev pub symbol_in : Table → SymbolId → Option SymbolView
-symbol_in table s = symbol_numbered table.symbols s
+-- The symbol of a number, if the module has one.
+abbrev pub symbol_in : SymbolTable → SymbolId → Option SymbolView
+symbol_in table s = symbol_view_of_number table.symbols s
 
--- the symbol that a name stands for
-abbrev pub mapped_in : Table → IdView → Option SymbolId
-mapped_in table id = lookup (same_id id) table.names
+-- The symbol that an identifier is bound to, if any.
+abbrev pub mapped_symbol_in : SymbolTable → IdView → Option SymbolId
+mapped_symbol_in table id = lookup (is_same_id id) table.names
 
--- the module of its kind that a module is
-abbrev pub esm_in : ModuleInfo → Option EsModuleInfo
-esm_in (ModuleInfo.Json _) = None
-esm_in (ModuleInfo.Esm info) = Some info
+-- The module as one of its kind, if it is of that kind.
+abbrev pub maybe_esm_info : ModuleInfo → Option EsModuleInfo
+maybe_esm_info (ModuleInfo.Json _) = None
+maybe_esm_info (ModuleInfo.Esm info) = Some info
 
-abbrev pub json_in : ModuleInfo → Option JsonModuleInfo
-json_in (ModuleInfo.Json info) = Some info
-json_in (ModuleInfo.Esm _) = None
+abbrev pub maybe_json_info : ModuleInfo → Option JsonModuleInfo
+maybe_json_info (ModuleInfo.Json info) = Some info
+maybe_json_info (ModuleInfo.Esm _) = None
 
-abbrev pub lent_esm : ModuleInfoRef → Option EsModuleInfo
-lent_esm (ModuleInfoRef.Json _) = None
-lent_esm (ModuleInfoRef.Esm info) = Some info.now
+abbrev pub maybe_esm_of_ref : ModuleInfoRef → Option EsModuleInfo
+maybe_esm_of_ref (ModuleInfoRef.Json _) = None
+maybe_esm_of_ref (ModuleInfoRef.Esm info) = Some info.now
 
-abbrev pub lent_json : ModuleInfoRef → Option JsonModuleInfo
-lent_json (ModuleInfoRef.Json info) = Some info.now
-lent_json (ModuleInfoRef.Esm _) = None
+abbrev pub maybe_json_of_ref : ModuleInfoRef → Option JsonModuleInfo
+maybe_json_of_ref (ModuleInfoRef.Json info) = Some info.now
+maybe_json_of_ref (ModuleInfoRef.Esm _) = None

@@ -1,24 +1,24 @@
--- The nodes of the statements `export *`.
+-- The nodes of the `export *` statements.
 use Rattle.std.specs.Prelude.{List, map, Option, Some, None}
 use Rattle.std.specs.Slice.Iter.{iter_rest}
-use Rattle.symbols_syntax.specs.declared.tree.arena.Tree.{Tree}
-use Rattle.symbols_syntax.specs.NodeRefs.{TreeNode}
+use Rattle.symbols_ast.specs.declared.tree.arena.Tree.{Tree}
+use Rattle.symbols_ast.specs.NodeRefs.{TreeNode}
 use Rattle.symbols_table.specs.declared.info.re_exports.ReExportNodes.{ReExportNodes}
 use Rattle.symbols_table.specs.Changes.{Star}
-use Rattle.symbols_table.specs.ModuleViews.{star_view}
-use Rattle.symbols_table.specs.Modules.{Source, parsed, json_text, Table}
+use Rattle.symbols_table.specs.ModuleViews.{export_star_view}
+use Rattle.symbols_table.specs.Modules.{AnalyzableSource, parsed, json_text, SymbolTable}
 
-abbrev pub star_node : Tree → Star → TreeNode
-star_node tree star = record { tree = tree; number = star.number }
+abbrev pub export_star_node : Tree → Star → TreeNode
+export_star_node tree star = record { tree = tree; number = star.number }
 
--- those that an iterator still gives
-abbrev pub nodes_left : ReExportNodes → List TreeNode
-nodes_left nodes = map (star_node nodes.source.now) (map star_view (iter_rest nodes.stars))
+-- The nodes that an iterator has not returned yet.
+abbrev pub remaining_export_star_nodes : ReExportNodes → List TreeNode
+remaining_export_star_nodes nodes = map (export_star_node nodes.source.now) (map export_star_view (iter_rest nodes.stars))
 
--- those of a module; a JSON module can have none
-abbrev pub star_nodes_by : List Star → Source → Option (List TreeNode)
-star_nodes_by stars (parsed _ tree) = Some (map (star_node tree) stars)
-star_nodes_by stars (json_text _) = None
+-- The nodes of a module's `export *` statements; `None` for a JSON module.
+abbrev pub export_star_nodes_unless_json : List Star → AnalyzableSource → Option (List TreeNode)
+export_star_nodes_unless_json stars (parsed _ tree) = Some (map (export_star_node tree) stars)
+export_star_nodes_unless_json stars (json_text _) = None
 
-abbrev pub star_nodes_in : Table → Option (List TreeNode)
-star_nodes_in table = star_nodes_by table.stars table.source
+abbrev pub export_star_nodes_of_table : SymbolTable → Option (List TreeNode)
+export_star_nodes_of_table table = export_star_nodes_unless_json table.stars table.source

@@ -1,10 +1,10 @@
--- A symbol as contracts see it: all that it shows but the module that it is of.
+-- The view of a symbol that contracts use: everything but its module.
 use Rattle.std.specs.Prelude.{ℕ, Bool, false, List, map, Option, slice_get}
 use Rattle.std.specs.Option.{option_map, option_map_or, option_and_then}
-use Rattle.symbols_syntax.specs.declared.ids.SymbolId.{SymbolId}
-use Rattle.symbols_nodes.specs.NodeViews.{NodeView}
+use Rattle.symbols_ast.specs.declared.ids.SymbolId.{SymbolId}
+use Rattle.symbols_nodes.specs.NodeViews.{SymbolNodeView}
 use Rattle.symbols_table.specs.declared.decl.symbol.Symbol.{Symbol}
-use Rattle.symbols_table.specs.DeclViews.{Declaration, decl_view, decl_name, node_of_kind}
+use Rattle.symbols_table.specs.DeclViews.{Declaration, decl_view, decl_name, decl_kind_node}
 use Rattle.symbols_table.specs.Changes.{Change, parents_after, decls_after, exports_after, children_after, members_after}
 
 pub record SymbolView : Type 0 where
@@ -28,21 +28,21 @@ symbol_view symbol = record {
 abbrev pub first_decl : SymbolView → Option Declaration
 first_decl symbol = slice_get symbol.decls 0
 
--- a symbol is called what its first declaration is called; without one it has no name
+-- The name of a symbol is that of its first declaration; `None` without a declaration.
 abbrev pub symbol_name : SymbolView → Option (List ℕ)
 symbol_name symbol = option_and_then decl_name (first_decl symbol)
 
--- the node of its first declaration, if that has one
-abbrev pub first_node : SymbolView → Option NodeView
-first_node symbol = option_and_then (λ (decl : Declaration). node_of_kind decl.kind) (first_decl symbol)
+-- The node of the symbol's first declaration, if that has one.
+abbrev pub node_of_first_decl : SymbolView → Option SymbolNodeView
+node_of_first_decl symbol = option_and_then (λ (decl : Declaration). decl_kind_node decl.kind) (first_decl symbol)
 
--- what holds of a symbol is what holds of this node; without it nothing does
-abbrev pub symbol_test : (NodeView → Bool) → SymbolView → Bool
-symbol_test test symbol = option_map_or test (first_node symbol) false
+-- A test of a symbol is that test of its first declaration's node; it is false without a node.
+abbrev pub first_decl_node_satisfies : (SymbolNodeView → Bool) → SymbolView → Bool
+first_decl_node_satisfies test symbol = option_map_or test (node_of_first_decl symbol) false
 
--- a symbol after changes, with this parent
-abbrev pub symbol_made : List Change → SymbolId → Option SymbolId → SymbolView
-symbol_made changes s parent = record {
+-- The symbol that the changes give for a number and a parent.
+abbrev pub symbol_from_changes : List Change → SymbolId → Option SymbolId → SymbolView
+symbol_from_changes changes s parent = record {
   number = s;
   parent = parent;
   decls = decls_after changes s;
@@ -51,10 +51,10 @@ symbol_made changes s parent = record {
   members = members_after changes s;
 }
 
--- the symbol of a number after changes, where they make one
-abbrev pub symbol_after : List Change → SymbolId → Option SymbolView
-symbol_after changes s = option_map (symbol_made changes s) (slice_get (parents_after changes) s.0)
+-- The symbol of a number after the changes, if they make it.
+abbrev pub symbol_after_changes : List Change → SymbolId → Option SymbolView
+symbol_after_changes changes s = option_map (symbol_from_changes changes s) (slice_get (parents_after changes) s.0)
 
--- the symbol of a number in a list of symbols
-abbrev pub symbol_numbered : List Symbol → SymbolId → Option SymbolView
-symbol_numbered symbols s = option_map symbol_view (slice_get symbols s.0)
+-- The symbol of a number in a list of symbols.
+abbrev pub symbol_view_of_number : List Symbol → SymbolId → Option SymbolView
+symbol_view_of_number symbols s = option_map symbol_view (slice_get symbols s.0)

@@ -1,23 +1,24 @@
--- The events of a tree: of its items, and of those in its namespaces.
+-- The events of a tree: of its items, and of the items in its namespaces.
 use Rattle.std.specs.Prelude.{ℕ, suc, zero, Bool, true, false, ◌||◌, List, [], ◌∷◌, length, Option, None, Some}
 use Rattle.std.specs.Option.{option_and_then}
-use Rattle.symbols_syntax.specs.declared.tree.arena.Tree.{Tree}
-use Rattle.symbols_syntax.specs.declared.tree.arena.Id.{Id}
-use Rattle.symbols_syntax.specs.declared.tree.kinds.Kind.{Kind}
-use Rattle.symbols_syntax.specs.declared.tree.kinds.Item.TheVariants as Item
-use Rattle.symbols_syntax.specs.declared.tree.kinds.Decl.TheVariants as Decl
-use Rattle.symbols_syntax.specs.NodeRefs.{TreeNode, kind_of, node_in, child_of, list_of}
-use Rattle.symbols_syntax.specs.ChildFields.{body_of, body_node_of, decl_of, id_of}
-use Rattle.symbols_syntax.specs.Ids.{id_view}
+use Rattle.symbols_ast.specs.declared.tree.arena.Tree.{Tree}
+use Rattle.symbols_ast.specs.declared.tree.arena.Id.{Id}
+use Rattle.symbols_ast.specs.declared.tree.kinds.Kind.{Kind}
+use Rattle.symbols_ast.specs.declared.tree.kinds.Item.TheVariants as Item
+use Rattle.symbols_ast.specs.declared.tree.kinds.Decl.TheVariants as Decl
+use Rattle.symbols_ast.specs.NodeRefs.{TreeNode, kind_of, node_in, child_in_field, child_list_in_field}
+use Rattle.symbols_ast.specs.ChildFields.{body_of, body_node_of, decl_of, id_of}
+use Rattle.symbols_ast.specs.Ids.{id_view}
 use Rattle.symbols_nodes.specs.NodeViews.{program, ts_namespace, exported_ts_module}
 use Rattle.symbols_table.specs.declared.builder.scope.Scope.{Scope}
-use Rattle.symbols_table.specs.DeclViews.{Declaration, definition_at}
-use Rattle.symbols_table.specs.Events.{Event, begins, declare, export, child}
-use Rattle.symbols_table.specs.PlacedEvents.{PlacedEvents, no_placed_events, events_if_there, with_next, events_of_each, range_in, sym_in}
-use Rattle.symbols_table.specs.DeclarationEvents.{declaration_form, whole_range, is_exported, declaring_events, declaration_events}
-use Rattle.symbols_table.specs.ModuleEvents.{module_events}
+use Rattle.symbols_table.specs.DeclViews.{Declaration, definition_of_node}
+use Rattle.symbols_table.specs.Events.{DeclarationEvent, begins, declare, export, child}
+use Rattle.symbols_table.specs.EventsByPosition.{EventsByPosition, no_events_by_position, events_if_some, events_followed_by, events_of_each, range_or_empty}
+use Rattle.symbols_table.specs.EventsByPosition.{child_ident_id}
+use Rattle.symbols_table.specs.DeclarationEvents.{maybe_exported_node, statement_range, is_exported, declare_and_add_events, declaration_events}
+use Rattle.symbols_table.specs.ModuleEvents.{import_export_or_expando_events}
 
--- a namespace: the `export` before it, and the namespace itself
+-- A namespace declaration, and the `export` before it, if any.
 pub record Namespace : Type 0 where
   pub exported : Option TreeNode
   pub decl : TreeNode
@@ -30,92 +31,102 @@ abbrev pub exported_namespace : TreeNode → TreeNode → Option Namespace
 exported_namespace node decl = option_and_then (as_namespace (Some node) decl) (kind_of decl)
 
 abbrev pub namespace_of : TreeNode → Kind → Option Namespace
-namespace_of node (Kind.Item (Item.ExportDecl _)) = option_and_then (exported_namespace node) (child_of node decl_of)
+namespace_of node (Kind.Item (Item.ExportDecl _)) = option_and_then (exported_namespace node) (child_in_field node decl_of)
 namespace_of node kind = as_namespace None node kind
 
--- `declare` before a namespace makes its items ambient
-abbrev pub declares_items : Kind → Bool
-declares_items (Kind.Decl (Decl.TsModuleDecl _ is_declared _)) = is_declared
-declares_items _ = false
+-- The items of a namespace with `declare` are ambient.
+abbrev pub is_ambient_namespace : Kind → Bool
+is_ambient_namespace (Kind.Decl (Decl.TsModuleDecl _ is_declared _)) = is_declared
+is_ambient_namespace _ = false
 
--- the scope of the items of a namespace
-abbrev pub inner_scope : Bool → Scope
-inner_scope ambient = record { ambient = ambient; is_module = false }
+-- The scope of the items of a namespace.
+abbrev pub namespace_scope : Bool → Scope
+namespace_scope ambient = record { ambient = ambient; is_module = false }
 
--- the events of a list of items in a scope
-abbrev pub Block : Type 0
-Block = Scope → List ℕ → PlacedEvents
+-- The events of a list of items, as a function of their scope.
+abbrev pub ItemListEvents : Type 0
+ItemListEvents = Scope → List ℕ → EventsByPosition
 
--- a later part of a dotted name: declared in the part before, by the whole namespace where the part stands, and its export and its child,
-abbrev pub part_first : TreeNode → TreeNode → Id → PlacedEvents
-part_first whole node id holder start = declare holder (id_view id) (definition_at (ts_namespace whole) (range_in node)) ∷ export holder (id_view id).name start ∷ child holder start ∷ []
+-- A later part of a dotted name is declared in the part before it, with the whole namespace as its node, and becomes its export and its
+-- child.
+abbrev pub declare_name_part_events : TreeNode → TreeNode → Id → EventsByPosition
+declare_name_part_events whole node id holder start = declare holder (id_view id) (definition_of_node (ts_namespace whole) (range_or_empty node))
+    ∷ export holder (id_view id).name start
+    ∷ child holder start ∷ []
 
--- and then what is in it
-abbrev pub part_events : TreeNode → TreeNode → PlacedEvents → Id → PlacedEvents
-part_events whole node inner id holder start = with_next (part_first whole node id holder start) (inner start) start
+-- The events of a later part, followed by those of the declarations in it.
+abbrev pub namespace_name_part_events : TreeNode → TreeNode → EventsByPosition → Id → EventsByPosition
+namespace_name_part_events whole node inner id holder start = events_followed_by (declare_name_part_events whole node id holder start) (inner start) start
 
-abbrev pub body_events : (ℕ → PlacedEvents) → Block → TreeNode → Bool → TreeNode → Kind → PlacedEvents
-body_events inner block whole ambient node (Kind.Decl (Decl.TsModuleBlock items)) = block (inner_scope ambient) items.items
-body_events inner block whole ambient node (Kind.Decl (Decl.TsNamespaceDecl _ body)) = events_if_there (sym_in id_of node) (part_events whole node (inner body))
-body_events inner block whole ambient node _ = no_placed_events
+abbrev pub namespace_body_events_of_kind : (ℕ → EventsByPosition) → ItemListEvents → TreeNode → Bool → TreeNode → Kind → EventsByPosition
+namespace_body_events_of_kind inner block whole ambient node (Kind.Decl (Decl.TsModuleBlock items)) = block (namespace_scope ambient) items.items
+namespace_body_events_of_kind inner block whole ambient node (Kind.Decl (Decl.TsNamespaceDecl _ body)) =
+    events_if_some (child_ident_id id_of node) (namespace_name_part_events whole node (inner body))
+namespace_body_events_of_kind inner block whole ambient node _ = no_events_by_position
 
--- of the body of a namespace: the later parts of its name, and its items in the last of them
-unfoldable pub body_within : Block → TreeNode → Bool → ℕ → ℕ → PlacedEvents
-body_within block whole ambient zero n = no_placed_events
-body_within block whole ambient (suc levels) n = events_if_there (node_in whole.tree (Some n)) (λ (node : TreeNode). events_if_there (kind_of node) (body_events (body_within block whole ambient levels) block whole ambient node))
+-- The events of a namespace's body: the later parts of its dotted name, and the items in the last part.
+unfoldable pub namespace_body_events_within : ItemListEvents → TreeNode → Bool → ℕ → ℕ → EventsByPosition
+namespace_body_events_within block whole ambient zero n = no_events_by_position
+namespace_body_events_within block whole ambient (suc levels) n = events_if_some (node_in whole.tree (Some n))
+    (λ (node : TreeNode). events_if_some (kind_of node)
+    (namespace_body_events_of_kind (namespace_body_events_within block whole ambient levels) block whole ambient node))
 
-abbrev pub body_at : Block → TreeNode → Bool → TreeNode → PlacedEvents
-body_at block whole ambient body = body_within block whole ambient (length whole.tree.nodes.items) body.number
+abbrev pub namespace_body_events : ItemListEvents → TreeNode → Bool → TreeNode → EventsByPosition
+namespace_body_events block whole ambient body = namespace_body_events_within block whole ambient (length whole.tree.nodes.items) body.number
 
--- a namespace that has a name is declared, with the events of its body; one that is a text is not
-abbrev pub namespace_events : Block → Scope → Namespace → Kind → PlacedEvents
+-- A namespace with an identifier is declared, with the events of its body. A namespace whose name is a string is skipped.
+abbrev pub namespace_events : ItemListEvents → Scope → Namespace → Kind → EventsByPosition
 namespace_events block scope namespace kind =
-    events_if_there (sym_in id_of namespace.decl)
-    (λ (id : Id). declaring_events (is_exported scope namespace.exported) (id_view id) (definition_at (declaration_form namespace.exported (exported_ts_module namespace.decl)) (whole_range namespace.exported namespace.decl))
-    (events_if_there (child_of namespace.decl body_node_of) (body_at block namespace.decl (scope.ambient || declares_items kind))))
+    events_if_some (child_ident_id id_of namespace.decl)
+    (λ (id : Id). declare_and_add_events (is_exported scope namespace.exported) (id_view id)
+    (definition_of_node (maybe_exported_node namespace.exported (exported_ts_module namespace.decl)) (statement_range namespace.exported namespace.decl))
+    (events_if_some (child_in_field namespace.decl body_node_of) (namespace_body_events block namespace.decl (scope.ambient || is_ambient_namespace kind))))
 
--- `export` before a declaration, and all else
-abbrev pub exported_events : Scope → TreeNode → TreeNode → PlacedEvents
-exported_events scope node decl = events_if_there (kind_of decl) (declaration_events scope (Some node) decl)
+-- The events of a declaration after `export`, and of any other item that is no namespace.
+abbrev pub export_decl_events : Scope → TreeNode → TreeNode → EventsByPosition
+export_decl_events scope node decl = events_if_some (kind_of decl) (declaration_events scope (Some node) decl)
 
-abbrev pub other_item_events : Scope → TreeNode → Kind → PlacedEvents
-other_item_events scope node (Kind.Item (Item.ExportDecl _)) = events_if_there (child_of node decl_of) (exported_events scope node)
-other_item_events scope node (Kind.Item item) = module_events node (Kind.Item item)
-other_item_events scope node kind = declaration_events scope None node kind
+abbrev pub non_namespace_item_events : Scope → TreeNode → Kind → EventsByPosition
+non_namespace_item_events scope node (Kind.Item (Item.ExportDecl _)) = events_if_some (child_in_field node decl_of) (export_decl_events scope node)
+non_namespace_item_events scope node (Kind.Item item) = import_export_or_expando_events node (Kind.Item item)
+non_namespace_item_events scope node kind = declaration_events scope None node kind
 
-abbrev pub item_or : Option Namespace → (Namespace → PlacedEvents) → PlacedEvents → PlacedEvents
-item_or None namespace other = other
-item_or (Some found) namespace other = namespace found
+abbrev pub namespace_events_or : Option Namespace → (Namespace → EventsByPosition) → EventsByPosition → EventsByPosition
+namespace_events_or None namespace other = other
+namespace_events_or (Some found) namespace other = namespace found
 
--- of an item: a namespace, or another one
-abbrev pub item_events : Block → Scope → TreeNode → Kind → PlacedEvents
+-- The events of an item: a namespace, or any other item.
+abbrev pub item_events : ItemListEvents → Scope → TreeNode → Kind → EventsByPosition
 item_events block scope node kind =
-    item_or (namespace_of node kind) (λ (namespace : Namespace). events_if_there (kind_of namespace.decl) (namespace_events block scope namespace)) (other_item_events scope node kind)
+    namespace_events_or (namespace_of node kind) (λ (namespace : Namespace). events_if_some (kind_of namespace.decl) (namespace_events block scope namespace))
+    (non_namespace_item_events scope node kind)
 
--- of the item n, down to so many levels
-unfoldable pub item_within : Tree → ℕ → Scope → ℕ → PlacedEvents
-item_within tree zero scope n = no_placed_events
-item_within tree (suc levels) scope n =
-    events_if_there (node_in tree (Some n)) (λ (node : TreeNode). events_if_there (kind_of node) (item_events (λ (inner : Scope). events_of_each (item_within tree levels inner)) scope node))
+-- The events of item n, down to a number of levels.
+unfoldable pub item_events_within : Tree → ℕ → Scope → ℕ → EventsByPosition
+item_events_within tree zero scope n = no_events_by_position
+item_events_within tree (suc levels) scope n =
+    events_if_some (node_in tree (Some n))
+    (λ (node : TreeNode). events_if_some (kind_of node) (item_events (λ (inner : Scope). events_of_each (item_events_within tree levels inner)) scope node))
 
--- the items of a list, down to so many levels
-abbrev pub block_within : Tree → ℕ → Block
-block_within tree levels scope = events_of_each (item_within tree levels scope)
+-- The events of a list of items, down to a number of levels.
+abbrev pub item_list_events_within : Tree → ℕ → ItemListEvents
+item_list_events_within tree levels scope = events_of_each (item_events_within tree levels scope)
 
--- of a list of items: no namespace is deeper than the tree
-abbrev pub items_at : Tree → Scope → List ℕ → PlacedEvents
-items_at tree = block_within tree (length tree.nodes.items)
+-- The events of a list of items. No namespace is nested deeper than the number of nodes.
+abbrev pub item_list_events : Tree → Scope → List ℕ → EventsByPosition
+item_list_events tree = item_list_events_within tree (length tree.nodes.items)
 
-abbrev pub root_of : Tree → TreeNode
-root_of tree = record { tree = tree; number = 0 }
+abbrev pub program_node : Tree → TreeNode
+program_node tree = record { tree = tree; number = 0 }
 
--- the definition of the module itself: the program
-abbrev pub root_decl : Tree → Declaration
-root_decl tree = definition_at (program (root_of tree)) (range_in (root_of tree))
+-- The definition of the module itself, by its `Program` node.
+abbrev pub program_decl : Tree → Declaration
+program_decl tree = definition_of_node (program (program_node tree)) (range_or_empty (program_node tree))
 
 abbrev pub module_scope : Tree → Scope
 module_scope tree = record { ambient = tree.declaration; is_module = true }
 
--- of a tree: the module, and then the items of its body, whose holder is the module
-abbrev pub tree_events : Tree → List Event
-tree_events tree = with_next (begins (root_decl tree) ∷ []) (items_at tree (module_scope tree) (list_of (root_of tree) body_of) 0) 0
+-- The events of a tree: the module, followed by the items of its body, with the module as their holder.
+abbrev pub tree_events : Tree → List DeclarationEvent
+tree_events tree =
+    events_followed_by (begins (program_decl tree) ∷ []) (item_list_events tree (module_scope tree) (child_list_in_field (program_node tree) body_of) 0) 0

@@ -1,4 +1,4 @@
--- For inner functions and proofs alone: nothing in this folder has to be trusted.
+-- Definitions that only inner functions and proofs use. Nothing in this directory has to be trusted.
 pub mod Patterns
 pub mod MemberViews
 pub mod VariablesViews
@@ -8,5 +8,5 @@ pub mod NamePaths
 pub mod LocalNames
 pub mod SymbolSets
 pub mod Tables
-pub mod Keeping
+pub mod ModuleBuilderSteps
 pub mod Levels

@@ -1,4 +1,4 @@
-//! From a tree to the table of its symbols.
+//! Builds the symbol table of a module from its syntax tree.
 
 mod analysis;
 mod declarations;

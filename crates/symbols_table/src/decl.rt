@@ -1,4 +1,4 @@
-//! Declarations and symbols.
+//! Symbols and their declarations.
 
 mod child_ids;
 mod dep;

@@ -1,4 +1,4 @@
-//! Modules with their symbols.
+//! Analyzed modules: a module's number, specifier and source with its symbol table.
 
 mod es_module;
 mod fault;

@@ -1,7 +1,9 @@
-//! The symbols of a module: its declarations, and the tables that they fill.
+//! The symbol table of one module: its symbols with their declarations, exports, children and
+//! members.
 //!
-//! Marks say where a rule comes from: '(as deno_graph)' where it is that of Deno's crate of this
-//! name, '(own rule)' where this library sets it.
+//! Marks say where a rule comes from. '(as deno_graph)' marks a rule of Deno's crate deno_graph,
+//! '(extension)' one that this library adds, '(own name ..)' a function that deno_graph has
+//! elsewhere.
 #![tactic(auto)]
 
 mod builder;

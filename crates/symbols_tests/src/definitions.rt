@@ -1,7 +1,8 @@
-//! Where symbols are defined: what is stored on the way, how far ways go, and what the parts of a path give.
+//! Tests where symbols are defined: which modules are stored, how long paths are, and what the
+//! parts of a path return.
 
-use crate::lending::{Checked, module_id_of, of_root};
-use crate::many::{OWNS, of_row};
+use crate::lifetimes::{module_id_of, of_root};
+use crate::many::{EXPORTS_A_NAME, of_row};
 use deno_symbols::ids::{ModuleId, SymbolId};
 use deno_symbols::paths::{
     Definition, DefinitionOrUnresolved, DefinitionPathNode, DefinitionPathNodeResolved,
@@ -9,19 +10,22 @@ use deno_symbols::paths::{
 };
 use deno_symbols::root::RootSymbol;
 use std::alloc::Global;
+use symbols_test_support::lifetimes::Checked;
+use symbols_test_support::{holds, there};
 
-/// The symbol that a module declares first.
+/// Returns the symbol that a module declares first.
 fn first() -> SymbolId {
     SymbolId::from_number(1)
 }
 
-/// And the one that it declares next.
+/// Returns the symbol that a module declares second.
 fn second() -> SymbolId {
     SymbolId::from_number(2)
 }
 
-/// `q` imports n from a, which passes on b and c, and both own n. In b it is declared behind m.
-const TWO_OWNERS: &str = r#"{"modules": [
+/// `q` imports n from a. a has `export *` from b and c, which both export n locally. In b, n is
+/// declared after m.
+const TWO_EXPORTERS: &str = r#"{"modules": [
 {"specifier": "q", "kind": "esm", "text": "", "tree": {"nodes": [
     {"kind": "Program", "range": [0, 0], "body": [1]},
     {"kind": "Import", "range": [0, 0], "specifiers": [2], "src": "a"},
@@ -52,7 +56,7 @@ const TWO_OWNERS: &str = r#"{"modules": [
 ],
 "resolutions": [["q", "a", "a"], ["a", "b", "b"], ["a", "c", "c"]]}"#;
 
-/// How many paths the first symbol of a module has.
+/// Returns how many definition paths the first symbol of a module has.
 fn path_count(root: &mut RootSymbol<'_>, module_id: ModuleId) -> Option<usize> {
     match root.find_definition_paths(module_id, first()) {
         Ok(paths) => Some(paths.len()),
@@ -69,11 +73,11 @@ fn stores_no_candidate(root: &mut RootSymbol<'_>) -> Checked {
 }
 
 #[test]
-fn stores_no_candidate_behind_the_one_that_is_taken(rt: HostRuntime) -> Checked {
-    of_root(rt.alloc(), TWO_OWNERS, stores_no_candidate)
+fn stores_no_candidate_after_the_one_that_is_chosen(rt: HostRuntime) -> Checked {
+    of_root(rt.alloc(), TWO_EXPORTERS, stores_no_candidate)
 }
 
-/// The definition that a path is.
+/// Returns the definition if a path is one.
 fn definition_of<'p, 'a>(path: &'p DefinitionPathNode<'a>) -> Option<&'p Definition<'a>> {
     match path {
         DefinitionPathNode::Resolved(DefinitionPathNodeResolved::Definition(definition)) => {
@@ -83,7 +87,7 @@ fn definition_of<'p, 'a>(path: &'p DefinitionPathNode<'a>) -> Option<&'p Definit
     }
 }
 
-/// The one path that a link goes on by.
+/// Returns the first path after a link.
 fn next_of<'p, 'a>(path: &'p DefinitionPathNode<'a>) -> Option<&'p DefinitionPathNode<'a>> {
     match path {
         DefinitionPathNode::Resolved(DefinitionPathNodeResolved::Link(link)) => link.next.first(),
@@ -91,8 +95,8 @@ fn next_of<'p, 'a>(path: &'p DefinitionPathNode<'a>) -> Option<&'p DefinitionPat
     }
 }
 
-/// The path leads from module 0 to a definition in an empty text.
-fn leads(path: &DefinitionPathNode<'_>) -> Checked {
+/// Checks that the path goes from module 0 to a definition in an empty text.
+fn resolves_to(path: &DefinitionPathNode<'_>) -> Checked {
     holds!(path.module().number() == 0, "the module of the path");
     holds!(path.symbol() == Some(first()), "the symbol of the path");
     let next = there!(next_of(path), "a link");
@@ -117,7 +121,7 @@ fn leads(path: &DefinitionPathNode<'_>) -> Checked {
     Ok(())
 }
 
-/// The ends of the path: one definition.
+/// Checks that the path ends in one definition.
 fn ends(alloc: Global, path: DefinitionPathNode<'_>) -> Checked {
     let Ok(definitions) = path.into_definitions(alloc) else {
         return Err("no memory");
@@ -131,7 +135,7 @@ fn ends(alloc: Global, path: DefinitionPathNode<'_>) -> Checked {
     Ok(())
 }
 
-/// The last path of the first symbol of a module.
+/// Returns the last definition path of the first symbol of a module.
 fn last_path<'a>(root: &mut RootSymbol<'a>, module_id: ModuleId) -> Option<DefinitionPathNode<'a>> {
     match root.find_definition_paths(module_id, first()) {
         Ok(mut paths) => paths.pop(),
@@ -139,28 +143,29 @@ fn last_path<'a>(root: &mut RootSymbol<'a>, module_id: ModuleId) -> Option<Defin
     }
 }
 
-fn leads_and_ends(root: &mut RootSymbol<'_>) -> Checked {
+fn resolves_and_ends(root: &mut RootSymbol<'_>) -> Checked {
     let q = there!(module_id_of(root, "q"), "the module q");
     let path = there!(last_path(root, q), "a path");
-    match leads(&path) {
+    match resolves_to(&path) {
         Ok(()) => ends(root.alloc(), path),
         wrong => wrong,
     }
 }
 
 #[test]
-fn tells_a_path_by_its_parts(rt: HostRuntime) -> Checked {
-    of_root(rt.alloc(), TWO_OWNERS, leads_and_ends)
+fn returns_a_path_by_its_parts(rt: HostRuntime) -> Checked {
+    of_root(rt.alloc(), TWO_EXPORTERS, resolves_and_ends)
 }
 
-/// The nodes of a module that passes on `n` of the text `next`.
+/// The nodes of a module that re-exports `n` from the specifier `next`.
 const PASSES_ON_N: &str = r#"
     {"kind": "Program", "range": [0, 0], "body": [1]},
     {"kind": "ExportNamed", "range": [0, 0], "specifiers": [2], "src": "next"},
     {"kind": "ExportSpecifier", "range": [0, 0], "orig": 3},
     {"kind": "Ident", "range": [0, 0], "sym": ["n", 1]}"#;
 
-/// How many definitions the first symbol of module 0 has, and the number of the module of the last.
+/// Returns how many definitions the first symbol of module 0 has, and the number of the module of
+/// the last.
 fn defining(root: &mut RootSymbol<'_>) -> Result<(usize, Option<u32>), &'static str> {
     let start = there!(module_id_of(root, "0"), "module 0");
     let Ok(definitions) = root.go_to_definitions(start, first()) else {
@@ -177,7 +182,7 @@ fn defining(root: &mut RootSymbol<'_>) -> Result<(usize, Option<u32>), &'static 
 
 #[test]
 fn goes_along_a_row(rt: HostRuntime) -> Checked {
-    let found = of_row(rt.alloc(), 500, (PASSES_ON_N, OWNS), defining);
+    let found = of_row(rt.alloc(), 500, (PASSES_ON_N, EXPORTS_A_NAME), defining);
     holds!(found == Ok((1, Some(499))), "one definition, in module 499");
     Ok(())
 }
@@ -189,8 +194,8 @@ fn goes_round_a_ring(rt: HostRuntime) -> Checked {
     Ok(())
 }
 
-/// The module 0, which imports n from the text `next`, of which nothing is known.
-const NOWHERE: &str = r#"{"modules": [
+/// The module 0, which imports n from the specifier `next`, which is unresolved.
+const UNRESOLVED: &str = r#"{"modules": [
 {"specifier": "0", "kind": "esm", "text": "", "tree": {"nodes": [
     {"kind": "Program", "range": [0, 0], "body": [1]},
     {"kind": "Import", "range": [0, 0], "specifiers": [2], "src": "next"},
@@ -199,18 +204,19 @@ const NOWHERE: &str = r#"{"modules": [
 ]}}
 ]}"#;
 
-/// Whether a path ends since this text leads nowhere.
-fn is_lost(end: &DefinitionOrUnresolved<'_>, wanted: &str) -> bool {
+/// Returns whether a path ends because this specifier is unresolved.
+fn is_lost(end: &DefinitionOrUnresolved<'_>, expected: &str) -> bool {
     match end {
         DefinitionOrUnresolved::Unresolved(unresolved) => match &unresolved.kind {
-            DefinitionUnresolvedKind::Specifier(text) => text.as_str() == wanted,
+            DefinitionUnresolvedKind::Specifier(text) => text.as_str() == expected,
             _ => false,
         },
         DefinitionOrUnresolved::Definition(_) => false,
     }
 }
 
-/// The last end of the paths of the first symbol of module 0 is in it, since a text leads nowhere.
+/// Checks that the last path of the first symbol of module 0 ends in module 0, because a specifier
+/// is unresolved.
 fn ends_open(root: &mut RootSymbol<'_>) -> Checked {
     let start = there!(module_id_of(root, "0"), "module 0");
     let Ok(ends) = root.go_to_definitions_or_unresolveds(start, first()) else {
@@ -225,6 +231,6 @@ fn ends_open(root: &mut RootSymbol<'_>) -> Checked {
 }
 
 #[test]
-fn ends_where_a_text_leads_nowhere(rt: HostRuntime) -> Checked {
-    of_root(rt.alloc(), NOWHERE, ends_open)
+fn ends_at_an_unresolved_specifier(rt: HostRuntime) -> Checked {
+    of_root(rt.alloc(), UNRESOLVED, ends_open)
 }

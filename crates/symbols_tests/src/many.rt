@@ -1,24 +1,26 @@
-//! Texts of graphs of many modules in a row, whose specifiers are numbers, and roots of such graphs.
+//! Builds the texts of graphs with many modules in a row, whose specifiers are numbers, and roots
+//! of such graphs.
 
-use crate::lending::{Told, of_root};
+use crate::lifetimes::of_root;
 use deno_symbols::root::RootSymbol;
 use std::alloc::{AllocError, Global};
+use symbols_test_support::lifetimes::CheckResult;
 
-/// The nodes of a module that passes on what the text `next` stands for.
+/// The nodes of a module with `export *` from the specifier `next`.
 pub(crate) const PASSES_ON: &str = r#"
     {"kind": "Program", "range": [0, 0], "body": [1]},
     {"kind": "ExportAll", "range": [0, 0], "src": "next"}"#;
 
-/// The nodes of a module that owns the name `n`.
-pub(crate) const OWNS: &str = r#"
+/// The nodes of a module that exports the name `n` locally.
+pub(crate) const EXPORTS_A_NAME: &str = r#"
     {"kind": "Program", "range": [0, 0], "body": [1]},
     {"kind": "ExportDecl", "range": [0, 0], "decl": 2},
     {"kind": "VarDecl", "range": [0, 0], "decls": [3]},
     {"kind": "VarDeclarator", "range": [0, 0], "name": 4},
     {"kind": "BindingIdent", "range": [0, 0], "sym": ["n", 1]}"#;
 
-/// The nodes of a module that does both.
-pub(crate) const OWNS_AND_PASSES_ON: &str = r#"
+/// The nodes of a module with both.
+pub(crate) const EXPORTS_AND_RE_EXPORTS: &str = r#"
     {"kind": "Program", "range": [0, 0], "body": [1, 5]},
     {"kind": "ExportDecl", "range": [0, 0], "decl": 2},
     {"kind": "VarDecl", "range": [0, 0], "decls": [3]},
@@ -34,8 +36,8 @@ fn push_module(text: &mut String, number: u32, nodes: &str) -> Result<(), AllocE
     )
 }
 
-/// Adds the graph of so many modules, all but the last of the same nodes. In each the text `next` stands for the module
-/// behind it, in the last for the first.
+/// Adds a graph of `count` modules, all but the last with the same nodes. The specifier `next`
+/// resolves to the following module, and in the last module to the first.
 fn push_row(text: &mut String, count: u32, each: &str, last: &str) -> Result<(), AllocError> {
     let end = count.saturating_sub(1);
     text.push_str(r#"{"modules":["#)?;
@@ -52,19 +54,19 @@ fn push_row(text: &mut String, count: u32, each: &str, last: &str) -> Result<(),
     write!(text, r#"["{end}","next","0"]]}}"#)
 }
 
-/// What is told of a root of these modules.
-pub(crate) fn of_row<R: Told, F: FnOnce(&mut RootSymbol<'_>) -> R + Drop>(
+/// Runs a check on a root of these modules.
+pub(crate) fn of_row<R: CheckResult, F: FnOnce(&mut RootSymbol<'_>) -> R + Drop>(
     alloc: Global,
     count: u32,
     nodes: (&str, &str),
-    told: F,
+    returned: F,
 ) -> R
-    requires { F.IsAlwaysCallable told }
+    requires { F.IsAlwaysCallable returned }
 {
     let (each, last) = nodes;
     let mut text = String::new(alloc);
     if push_row(&mut text, count, each, last).is_err() {
         return R::nothing();
     }
-    of_root(alloc, text.as_str(), told)
+    of_root(alloc, text.as_str(), returned)
 }

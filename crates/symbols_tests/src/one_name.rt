@@ -1,14 +1,17 @@
-//! One exported name at a time: where it is found, how often the table of resolutions is asked for it, and which modules
-//! are stored for it.
+//! Tests one exported name at a time: where it is found, how many resolutions are looked up for it,
+//! and which modules are stored for it.
 
-use crate::lending::{Checked, graph_of, module_id_of, of_graph, of_root};
+use crate::lifetimes::{module_id_of, of_root};
 use crate::webs::statement_count;
 use deno_symbols::check::ModuleGraph;
-use deno_symbols::exports::{Steps, export_of_counted};
+use deno_symbols::exports::{LookupCounter, export_of_counted};
 use deno_symbols::root::RootSymbol;
 use std::alloc::Global;
+use symbols_test_support::lifetimes::{Checked, graph_from_text, with_graph};
+use symbols_test_support::{holds, there};
 
-/// `a` owns x and passes on b and c; `b` owns x, y and `default`, and passes on a; `c` owns y and z.
+/// `a` exports x locally and has `export *` from b and c. `b` exports x, y and `default` locally
+/// and has `export *` from a. `c` exports y and z locally.
 pub(crate) const DIAMOND: &str = r#"{"modules": [
 {"specifier": "a", "kind": "esm", "text": "", "tree": {"nodes": [
     {"kind": "Program", "range": [0, 0], "body": [1, 5, 6]},
@@ -47,10 +50,10 @@ pub(crate) const DIAMOND: &str = r#"{"modules": [
 ],
 "resolutions": [["a", "b", "b"], ["a", "c", "c"], ["b", "a", "a"]]}"#;
 
-/// The number of the module that owns a name, that of the symbol there, and how many statements lead to it.
+/// The number of the exporting module, the number of the symbol there, and the length of the chain.
 type Found = Option<(u32, u32, usize)>;
 
-/// A name, where `a` has it from, and how many steps that takes.
+/// A name, where `a` resolves it to, and the number of steps for that.
 const ROWS: [(&str, Found, u128); 5] = [
     ("x", Some((0, 1, 0)), 0),
     ("y", Some((1, 2, 1)), 1),
@@ -59,15 +62,15 @@ const ROWS: [(&str, Found, u128); 5] = [
     ("w", None, 3),
 ];
 
-/// Where `a` has a name from, and how many steps that took.
-fn asked(root: &mut RootSymbol<'_>, name: &str) -> Result<(Found, u128), &'static str> {
+/// Returns where `a` resolves a name to, and the number of steps for that.
+fn queried(root: &mut RootSymbol<'_>, name: &str) -> Result<(Found, u128), &'static str> {
     let module_id = there!(module_id_of(root, "a"), "the module a");
-    let mut steps = Steps::new();
+    let mut steps = LookupCounter::new();
     match export_of_counted(root, module_id, name, &mut steps) {
         Ok(Some(path)) => {
             let export = path.as_resolved_export();
-            let owner = export.module.number();
-            let found = (owner, export.symbol_id.number(), statement_count(&path));
+            let exporter = export.module.number();
+            let found = (exporter, export.symbol_id.number(), statement_count(&path));
             Ok((Some(found), steps.count()))
         }
         Ok(None) => Ok((None, steps.count())),
@@ -75,17 +78,17 @@ fn asked(root: &mut RootSymbol<'_>, name: &str) -> Result<(Found, u128), &'stati
     }
 }
 
-/// What a root that stores nothing yet finds.
+/// Returns the result for a root without stored modules.
 fn found_first(
     alloc: Global,
     graph: &ModuleGraph,
     name: &str,
 ) -> Result<(Found, u128), &'static str> {
     let mut root = RootSymbol::new(alloc, graph);
-    asked(&mut root, name)
+    queried(&mut root, name)
 }
 
-/// Each row is found, named by the name that is asked for.
+/// Checks each row; the result names the row that is wrong.
 fn finds_each(alloc: Global, graph: &ModuleGraph) -> Checked {
     for (name, found, steps) in ROWS {
         if found_first(alloc, graph, name) != Ok((found, steps)) {
@@ -98,18 +101,21 @@ fn finds_each(alloc: Global, graph: &ModuleGraph) -> Checked {
 #[test]
 fn finds_names_of_a_diamond(rt: HostRuntime) -> Checked {
     let alloc = rt.alloc();
-    of_graph(graph_of(alloc, DIAMOND), |graph| finds_each(alloc, graph))
+    with_graph(
+        graph_from_text(alloc, DIAMOND),
+        |graph| finds_each(alloc, graph),
+    )
 }
 
-/// What is stored for the name `y`.
+/// Checks what is stored for the name `y`.
 fn stores_no_more(root: &mut RootSymbol<'_>) -> Checked {
-    holds!(asked(root, "y").is_ok(), "y is asked for");
+    holds!(queried(root, "y").is_ok(), "y is asked for");
     holds!(root.has_analyzed("b"), "b is stored");
     holds!(!root.has_analyzed("c"), "c isn't stored");
     Ok(())
 }
 
 #[test]
-fn stores_no_module_behind_a_name(rt: HostRuntime) -> Checked {
+fn stores_no_module_past_a_name(rt: HostRuntime) -> Checked {
     of_root(rt.alloc(), DIAMOND, stores_no_more)
 }

@@ -1,16 +1,20 @@
-//! The names that modules give to the world.
+//! Tests the public names of modules.
 
-use crate::lending::{Checked, module_id_of, of_root};
-use crate::many::{OWNS, PASSES_ON, of_row};
+use crate::lifetimes::{module_id_of, of_root};
+use crate::many::{EXPORTS_A_NAME, PASSES_ON, of_row};
 use deno_symbols::exports::{PublicName, public_names};
 use deno_symbols::ids::ModuleId;
 use deno_symbols::info::SymbolsFault;
 use deno_symbols::root::RootSymbol;
 use std::alloc::{AllocError, Global};
+use symbols_test_support::lifetimes::Checked;
+use symbols_test_support::{holds, there};
 
 /// A class, a function with a property, a namespace, and another name of the class.
 const MEMBERS: &str = r#"{"modules": [
-{"specifier": "m", "kind": "esm", "text": "export class A { static s() {} m() {} constructor() {} } export function g() {} g.p = 1; export namespace N { export const c = 1 } export { A as B };", "tree": {"nodes": [
+{"specifier": "m", "kind": "esm",
+    "text": "export class A { static s() {} m() {} constructor() {} } export function g() {} g.p = 1; export namespace N { export const c = 1 } export { A as B };",
+    "tree": {"nodes": [
     {"kind": "Program", "range": [0, 149], "body": [1, 15, 20, 26, 35]},
     {"kind": "ExportDecl", "range": [0, 56], "decl": 2},
     {"kind": "ClassDecl", "range": [7, 56], "ident": 3, "class": 4},
@@ -53,9 +57,10 @@ const MEMBERS: &str = r#"{"modules": [
 ],
 "resolutions": [["m", "./m", "m"]]}"#;
 
-/// Module a passes on b and c, and b passes on a. Each has names of its own.
+/// Module a has `export *` from b and c, and b from a. Each has names of its own.
 const DIAMOND: &str = r#"{"modules": [
-{"specifier": "a", "kind": "esm", "text": "export const x = 1; export * from \"./b\"; export * from \"./c\";", "tree": {"nodes": [
+{"specifier": "a", "kind": "esm", "text": "export const x = 1; export * from \"./b\"; export * from \"./c\";",
+    "tree": {"nodes": [
     {"kind": "Program", "range": [0, 61], "body": [1, 6, 7]},
     {"kind": "ExportDecl", "range": [0, 19], "decl": 2},
     {"kind": "VarDecl", "range": [7, 19], "decls": [3]},
@@ -65,7 +70,8 @@ const DIAMOND: &str = r#"{"modules": [
     {"kind": "ExportAll", "range": [20, 40], "src": "./b"},
     {"kind": "ExportAll", "range": [41, 61], "src": "./c"}
 ]}},
-{"specifier": "b", "kind": "esm", "text": "export const x = 1, y = 2; export default 1; export * from \"./a\";", "tree": {"nodes": [
+{"specifier": "b", "kind": "esm", "text": "export const x = 1, y = 2; export default 1; export * from \"./a\";",
+    "tree": {"nodes": [
     {"kind": "Program", "range": [0, 65], "body": [1, 9, 11]},
     {"kind": "ExportDecl", "range": [0, 26], "decl": 2},
     {"kind": "VarDecl", "range": [7, 26], "decls": [3, 6]},
@@ -93,9 +99,11 @@ const DIAMOND: &str = r#"{"modules": [
 ],
 "resolutions": [["a", "./a", "a"], ["a", "./b", "b"], ["a", "./c", "c"], ["b", "./a", "a"], ["b", "./b", "b"], ["b", "./c", "c"], ["c", "./a", "a"], ["c", "./b", "b"], ["c", "./c", "c"]]}"#;
 
-/// Module o passes on a class of n with an index signature, a constructor and one more static member.
+/// Module o has `export *` from n. Its class has an index signature, a constructor and one more
+/// static member.
 const PASSED_ON: &str = r#"{"modules": [
-{"specifier": "n", "kind": "esm", "text": "export class C { static [k: string]: any; static t: any; constructor() {} }", "tree": {"nodes": [
+{"specifier": "n", "kind": "esm", "text": "export class C { static [k: string]: any; static t: any; constructor() {} }",
+    "tree": {"nodes": [
     {"kind": "Program", "range": [0, 75], "body": [1]},
     {"kind": "ExportDecl", "range": [0, 75], "decl": 2},
     {"kind": "ClassDecl", "range": [7, 75], "ident": 3, "class": 4},
@@ -121,12 +129,12 @@ const PASSED_ON: &str = r#"{"modules": [
 ],
 "resolutions": [["o", "./n", "n"]]}"#;
 
-/// A module of no text.
+/// A module without text.
 const EMPTY: &str = r#"{"modules": [
 {"specifier": "m", "kind": "esm", "text": "", "tree": {"nodes": [{"kind": "Program", "range": [0, 0]}]}}
 ]}"#;
 
-/// The items in order, a space behind each, and a point before a member.
+/// Returns the names in order, with a space after each, and a point before a member.
 fn text_of(alloc: Global, names: &[PublicName]) -> Result<String, AllocError> {
     let mut text = String::new(alloc);
     for item in names {
@@ -140,8 +148,8 @@ fn text_of(alloc: Global, names: &[PublicName]) -> Result<String, AllocError> {
     Ok(text)
 }
 
-/// The names of a module are these.
-fn names_are(root: &mut RootSymbol<'_>, specifier: &str, wanted: &str) -> Checked {
+/// Checks the public names of a module.
+fn names_are(root: &mut RootSymbol<'_>, specifier: &str, expected: &str) -> Checked {
     let module_id = there!(module_id_of(root, specifier), "the module");
     let Ok(names) = public_names(root, module_id) else {
         return Err("no answer");
@@ -149,7 +157,7 @@ fn names_are(root: &mut RootSymbol<'_>, specifier: &str, wanted: &str) -> Checke
     let Ok(text) = text_of(root.alloc(), &names) else {
         return Err("no memory");
     };
-    holds!(text.as_str() == wanted, "the names");
+    holds!(text.as_str() == expected, "the names");
     Ok(())
 }
 
@@ -189,7 +197,7 @@ fn lists_nothing_of_the_empty_module(rt: HostRuntime) -> Checked {
     of_root(rt.alloc(), EMPTY, nothing)
 }
 
-/// Nothing is stored yet.
+/// Checks that a module that isn't stored is refused.
 fn unknown(root: &mut RootSymbol<'_>) -> Checked {
     match public_names(root, ModuleId::from_number(0)) {
         Err(SymbolsFault::UnknownModule) => Ok(()),
@@ -199,5 +207,5 @@ fn unknown(root: &mut RootSymbol<'_>) -> Checked {
 
 #[test]
 fn names_of_an_unknown_module(rt: HostRuntime) -> Checked {
-    of_row(rt.alloc(), 1, (PASSES_ON, OWNS), unknown)
+    of_row(rt.alloc(), 1, (PASSES_ON, EXPORTS_A_NAME), unknown)
 }

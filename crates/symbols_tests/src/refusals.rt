@@ -1,33 +1,41 @@
-//! A root while memory is refused: it gives the same answers then, or says so, and goes on with all that was stored. The
-//! test passes whichever allocation fails, as one does under `--fail-alloc N`.
+//! Tests a root while allocations fail. It returns the same answers or reports the failure, and
+//! goes on with all that was stored. The test passes whichever allocation fails, as one does under
+//! `--fail-alloc N`.
 
-use crate::lending::Checked;
 use deno_symbols::check::{GraphFault, ModuleGraph};
 use deno_symbols::ids::ModuleId;
 use deno_symbols::info::SymbolsFault;
 use deno_symbols::root::RootSymbol;
 use std::alloc::Global;
+use symbols_test_support::holds;
+use symbols_test_support::lifetimes::Checked;
 use symq_reader::{FormatFault, read_graph};
 
-/// A ring of types dependencies, chains that end before a module without a tree and behind one, one that
-/// names itself, and redirects.
+/// A ring of types dependencies, chains that end before and after a module without a tree, a module
+/// that names itself, and redirects.
 const GRAPH: &str = r#"{
 "modules": [
-    {"specifier": "a", "kind": "esm", "text": "", "types": "b", "tree": {"nodes": [{"kind": "Program", "range": [0, 0]}]}},
-    {"specifier": "b", "kind": "esm", "text": "", "types": "c", "tree": {"nodes": [{"kind": "Program", "range": [0, 0]}]}},
-    {"specifier": "c", "kind": "esm", "text": "", "types": "a", "tree": {"nodes": [{"kind": "Program", "range": [0, 0]}]}},
-    {"specifier": "w", "kind": "esm", "text": "", "types": "v", "tree": {"nodes": [{"kind": "Program", "range": [0, 0]}]}},
+    {"specifier": "a", "kind": "esm", "text": "", "types": "b", "tree": {"nodes": [{"kind": "Program", "range": [0,
+        0]}]}},
+    {"specifier": "b", "kind": "esm", "text": "", "types": "c", "tree": {"nodes": [{"kind": "Program", "range": [0,
+        0]}]}},
+    {"specifier": "c", "kind": "esm", "text": "", "types": "a", "tree": {"nodes": [{"kind": "Program", "range": [0,
+        0]}]}},
+    {"specifier": "w", "kind": "esm", "text": "", "types": "v", "tree": {"nodes": [{"kind": "Program", "range": [0,
+        0]}]}},
     {"specifier": "v", "kind": "esm", "text": "", "tree": null},
-    {"specifier": "x", "kind": "esm", "text": "", "types": "y", "tree": {"nodes": [{"kind": "Program", "range": [0, 0]}]}},
+    {"specifier": "x", "kind": "esm", "text": "", "types": "y", "tree": {"nodes": [{"kind": "Program", "range": [0,
+        0]}]}},
     {"specifier": "y", "kind": "esm", "text": "", "types": "z", "tree": null},
     {"specifier": "z", "kind": "json", "text": "{}"},
-    {"specifier": "t", "kind": "esm", "text": "", "types": "t", "tree": {"nodes": [{"kind": "Program", "range": [0, 0]}]}},
+    {"specifier": "t", "kind": "esm", "text": "", "types": "t", "tree": {"nodes": [{"kind": "Program", "range": [0,
+        0]}]}},
     {"specifier": "r", "kind": "external"}
 ],
 "redirects": [["r", "a"], ["q", "absent"]]
 }"#;
 
-/// What is asked, the module that it stands for, and the number of that module.
+/// A specifier, the module that it resolves to, and the number of that module.
 const ROWS: [(&str, Option<(&str, u32)>); 8] = [
     ("a", Some(("c", 0))),
     ("b", Some(("a", 1))),
@@ -39,7 +47,8 @@ const ROWS: [(&str, Option<(&str, u32)>); 8] = [
     ("r", Some(("c", 0))),
 ];
 
-/// The number of the module that a specifier stands for; asked once more where memory was refused.
+/// Returns the number of the module that a specifier resolves to. It tries once more if an
+/// allocation failed.
 fn number(root: &mut RootSymbol<'_>, specifier: &str) -> Result<Option<u32>, &'static str> {
     let answer = match root.module_from_specifier(specifier) {
         Err(SymbolsFault::OutOfMemory) => root.module_from_specifier(specifier),
@@ -52,10 +61,10 @@ fn number(root: &mut RootSymbol<'_>, specifier: &str) -> Result<Option<u32>, &'s
     }
 }
 
-/// Whether these are the modules that are stored, each whole, and no other.
+/// Returns whether exactly these modules are stored, each completely.
 fn stores(root: &RootSymbol<'_>, specifiers: &[&str]) -> bool {
-    for (place, specifier) in specifiers.iter().enumerate() {
-        let Ok(number) = u32::try_from(place) else {
+    for (index, specifier) in specifiers.iter().enumerate() {
+        let Ok(number) = u32::try_from(index) else {
             return false;
         };
         let Some(info) = root.module_from_id(ModuleId::from_number(number)) else {
@@ -65,18 +74,18 @@ fn stores(root: &RootSymbol<'_>, specifiers: &[&str]) -> bool {
             return false;
         }
     }
-    let Ok(behind) = u32::try_from(specifiers.len()) else {
+    let Ok(later) = u32::try_from(specifiers.len()) else {
         return false;
     };
-    root.module_from_id(ModuleId::from_number(behind)).is_none()
+    root.module_from_id(ModuleId::from_number(later)).is_none()
 }
 
-/// Each row's number, named by what is asked.
+/// Checks the number of each row; the result names the row that is wrong.
 fn answers_rows(root: &mut RootSymbol<'_>) -> Checked {
-    for (asked, wanted) in ROWS {
-        let wanted = wanted.map(|(_, number)| number);
-        if number(root, asked) != Ok(wanted) {
-            return Err(asked);
+    for (queried, expected) in ROWS {
+        let expected = expected.map(|(_, number)| number);
+        if number(root, queried) != Ok(expected) {
+            return Err(queried);
         }
     }
     Ok(())
@@ -93,7 +102,7 @@ fn answers_and_stores(alloc: Global, graph: &ModuleGraph) -> Checked {
     Ok(())
 }
 
-/// The graph, or whether it is memory that is refused.
+/// Returns the graph; otherwise whether an allocation failed.
 fn graph(alloc: Global) -> Result<ModuleGraph, bool> {
     let raw = match read_graph(alloc, GRAPH.as_bytes()) {
         Ok(raw) => raw,

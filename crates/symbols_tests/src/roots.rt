@@ -1,11 +1,15 @@
-//! A root by calls, which no run shows: its limits, what is stored, and under which numbers.
+//! Tests a root by calls, which no run shows: its limits, which modules are stored, and their
+//! numbers.
 
-use crate::lending::{Checked, of_limited, of_root};
+use crate::lifetimes::{of_limited, of_root};
 use deno_symbols::ids::ModuleId;
 use deno_symbols::info::SymbolsFault;
 use deno_symbols::root::{Limits, RootSymbol};
+use symbols_test_support::holds;
+use symbols_test_support::lifetimes::Checked;
 
-/// The modules `a` and `b`, with a symbol each, and the JSON module `j`, which has two. `r` leads to `b`.
+/// The modules `a` and `b`, with a symbol each, and the JSON module `j`, which has two. `r` is
+/// redirected to `b`.
 const GRAPH: &str = r#"{"modules": [
 {"specifier": "a", "kind": "esm", "text": "", "tree": {"nodes": [{"kind": "Program", "range": [0, 0]}]}},
 {"specifier": "b", "kind": "esm", "text": "", "tree": {"nodes": [{"kind": "Program", "range": [0, 0]}]}},
@@ -13,7 +17,7 @@ const GRAPH: &str = r#"{"modules": [
 ],
 "redirects": [["r", "b"]]}"#;
 
-/// The number of the module that a specifier stands for, or why there is none.
+/// Returns the number of the module that a specifier resolves to, or the reason why there is none.
 fn number(root: &mut RootSymbol<'_>, specifier: &str) -> Result<Option<u32>, &'static str> {
     match root.module_from_specifier(specifier) {
         Ok(Some(id)) => Ok(Some(id.number())),
@@ -24,16 +28,16 @@ fn number(root: &mut RootSymbol<'_>, specifier: &str) -> Result<Option<u32>, &'s
     }
 }
 
-/// Whether this is the number of the module that a specifier stands for.
+/// Returns whether this is the number of the module that a specifier resolves to.
 fn has_number(
     root: &mut RootSymbol<'_>,
     specifier: &str,
-    wanted: Result<Option<u32>, &'static str>,
+    expected: Result<Option<u32>, &'static str>,
 ) -> bool {
-    number(root, specifier) == wanted
+    number(root, specifier) == expected
 }
 
-/// Modules are stored in the order in which they are asked for, each once.
+/// Checks that modules are stored once each, in the order in which they are queried.
 fn stores_in_order(root: &mut RootSymbol<'_>) -> Checked {
     holds!(!root.has_analyzed("b"), "b isn't stored yet");
     holds!(has_number(root, "b", Ok(Some(0))), "the number of b");
@@ -65,11 +69,11 @@ fn stores_in_order(root: &mut RootSymbol<'_>) -> Checked {
 }
 
 #[test]
-fn stores_what_is_asked_for(rt: HostRuntime) -> Checked {
+fn stores_what_is_queried(rt: HostRuntime) -> Checked {
     of_root(rt.alloc(), GRAPH, stores_in_order)
 }
 
-/// What is stored stays where a limit is met.
+/// Checks that stored modules stay if a limit is reached.
 fn refuses_a_second(root: &mut RootSymbol<'_>) -> Checked {
     holds!(has_number(root, "b", Ok(Some(0))), "the number of b");
     holds!(
@@ -93,7 +97,7 @@ fn keeps_to_a_limit_of_modules(rt: HostRuntime) -> Checked {
     of_limited(rt.alloc(), GRAPH, limits, refuses_a_second)
 }
 
-/// A module with too many symbols takes no number.
+/// Checks that a module with too many symbols takes no number.
 fn refuses_two_symbols(root: &mut RootSymbol<'_>) -> Checked {
     holds!(
         has_number(root, "j", Err("too many symbols")),

@@ -1,14 +1,17 @@
-//! The rules of a root: what strict ones tell and leave, and that Deno's tell and leave nothing of it.
+//! Tests the rules of a root. Strict rules report shared names and filter `default`; Deno's rules
+//! do neither.
 
-use crate::lending::{Checked, module_id_of, of_root, of_root_by};
+use crate::lifetimes::{module_id_of, of_root, of_root_by};
 use crate::one_name::DIAMOND;
 use crate::webs::statement_count;
 use deno_symbols::exports::{SharedName, exports};
 use deno_symbols::ids::{ModuleId, SymbolId};
 use deno_symbols::paths::FindDefinitions;
 use deno_symbols::root::{RootSymbol, Rules};
+use symbols_test_support::lifetimes::Checked;
+use symbols_test_support::{holds, there};
 
-/// `q` imports `default` of `b`, which passes on `c`, which owns it.
+/// `q` imports `default` of `b`, which has `export *` from `c`, which exports it locally.
 const DEFAULT: &str = r#"{"modules": [
 {"specifier": "q", "kind": "esm", "text": "", "tree": {"nodes": [
     {"kind": "Program", "range": [0, 0], "body": [1]},
@@ -28,23 +31,24 @@ const DEFAULT: &str = r#"{"modules": [
 ],
 "resolutions": [["q", "b", "b"], ["b", "c", "c"]]}"#;
 
-/// Whether a name is `y` with these owners, each by its module's number, its symbol's, and how many statements lead to it.
-fn is_y_of_two(shared: &SharedName<'_>, owners: [(u32, u32, usize); 2]) -> Checked {
+/// Checks that a shared name is `y` with these exporters. Each is the number of its module, the
+/// number of its symbol, and the length of the chain.
+fn is_y_of_two(shared: &SharedName<'_>, exporters: [(u32, u32, usize); 2]) -> Checked {
     holds!(shared.name.as_str() == "y", "the name is y");
-    holds!(shared.owners.len() == 2, "two modules own it");
-    for (path, owner) in shared.owners.iter().zip(owners) {
+    holds!(shared.exporters.len() == 2, "two modules own it");
+    for (path, exporter) in shared.exporters.iter().zip(exporters) {
         let export = path.as_resolved_export();
         let found = (
             export.module.number(),
             export.symbol_id.number(),
             statement_count(path),
         );
-        holds!(found == owner, "each owner in its place");
+        holds!(found == exporter, "each owner in its place");
     }
     Ok(())
 }
 
-/// By strict rules `a` shares y alone, whose owners are b and c.
+/// Checks that by strict rules `y` is the only shared name of `a`, with the exporters b and c.
 fn shares_y(root: &mut RootSymbol<'_>) -> Checked {
     holds!(root.rules() == Rules::Strict, "strict rules");
     let a = there!(module_id_of(root, "a"), "the module a");
@@ -60,11 +64,11 @@ fn shares_y(root: &mut RootSymbol<'_>) -> Checked {
 }
 
 #[test]
-fn tells_shared_names_by_strict_rules(rt: HostRuntime) -> Checked {
+fn returns_shared_names_by_strict_rules(rt: HostRuntime) -> Checked {
     of_root_by(rt.alloc(), DIAMOND, Rules::Strict, shares_y)
 }
 
-/// By Deno's rules nothing is told of shared names.
+/// Checks that by Deno's rules no shared names are reported.
 fn shares_nothing(root: &mut RootSymbol<'_>) -> Checked {
     holds!(root.rules() == Rules::Deno, "Deno's rules");
     let a = there!(module_id_of(root, "a"), "the module a");
@@ -76,12 +80,12 @@ fn shares_nothing(root: &mut RootSymbol<'_>) -> Checked {
 }
 
 #[test]
-fn tells_no_shared_names_by_the_rules_of_deno(rt: HostRuntime) -> Checked {
+fn returns_no_shared_names_by_the_rules_of_deno(rt: HostRuntime) -> Checked {
     of_root(rt.alloc(), DIAMOND, shares_nothing)
 }
 
-/// Asks where the import of `q` is defined, and how many definitions there are.
-fn default_is_asked_for(root: &mut RootSymbol<'_>) -> Result<usize, &'static str> {
+/// Returns how many definitions the import of `q` has.
+fn default_is_looked_up(root: &mut RootSymbol<'_>) -> Result<usize, &'static str> {
     let q: ModuleId = there!(module_id_of(root, "q"), "the module q");
     match root.go_to_definitions(q, SymbolId::from_number(1)) {
         Ok(definitions) => Ok(definitions.count()),
@@ -89,27 +93,28 @@ fn default_is_asked_for(root: &mut RootSymbol<'_>) -> Result<usize, &'static str
     }
 }
 
-/// By strict rules `default` isn't looked for along `export *`: the module behind isn't stored.
+/// Checks that by strict rules `default` isn't found through `export *`; the module after it isn't
+/// stored.
 fn leaves_default(root: &mut RootSymbol<'_>) -> Checked {
-    holds!(default_is_asked_for(root)? == 0, "no definition");
+    holds!(default_is_looked_up(root)? == 0, "no definition");
     holds!(root.has_analyzed("b"), "b is stored");
     holds!(!root.has_analyzed("c"), "c isn't stored");
     Ok(())
 }
 
 #[test]
-fn leaves_default_behind_export_all_by_strict_rules(rt: HostRuntime) -> Checked {
+fn filters_default_at_export_all_by_strict_rules(rt: HostRuntime) -> Checked {
     of_root_by(rt.alloc(), DEFAULT, Rules::Strict, leaves_default)
 }
 
-/// By Deno's rules it is.
+/// Checks that by Deno's rules `default` is found through `export *`.
 fn finds_default(root: &mut RootSymbol<'_>) -> Checked {
-    holds!(default_is_asked_for(root)? == 1, "one definition");
+    holds!(default_is_looked_up(root)? == 1, "one definition");
     holds!(root.has_analyzed("c"), "c is stored");
     Ok(())
 }
 
 #[test]
-fn finds_default_behind_export_all_by_the_rules_of_deno(rt: HostRuntime) -> Checked {
+fn finds_default_through_export_all_by_the_rules_of_deno(rt: HostRuntime) -> Checked {
     of_root(rt.alloc(), DEFAULT, finds_default)
 }

@@ -1,20 +1,23 @@
-//! Exports of many modules: each statement is asked for once, and a way is as long as it has to be.
+//! Tests exports of many modules: each statement is looked up once, and chains are as long as
+//! needed.
 
-use crate::graphs::resolution;
-use crate::lending::{Checked, module_id_of, of_root_of};
-use crate::many::{OWNS, OWNS_AND_PASSES_ON, PASSES_ON, of_row};
-use crate::trees::{module_of, push};
+use crate::lifetimes::{module_id_of, of_root_of};
+use crate::many::{EXPORTS_A_NAME, EXPORTS_AND_RE_EXPORTS, PASSES_ON, of_row};
 use deno_symbols::check::{GraphFault, ModuleGraph, RawGraph, RawResolution};
-use deno_symbols::exports::{ResolvedExportOrReExportAllPath, Steps, exports_counted};
+use deno_symbols::exports::{LookupCounter, ResolvedExportOrReExportAllPath, exports_counted};
 use deno_symbols::root::RootSymbol;
 use deno_symbols::tree::{Item, Kind, Node, NodeId, Tree};
 use std::alloc::{AllocError, Global};
+use symbols_test_support::graphs::resolution;
+use symbols_test_support::lifetimes::Checked;
+use symbols_test_support::trees::{module_with_tree, push};
+use symbols_test_support::{holds, there};
 
-/// What was asked of the table of resolutions with what is asked of it for the exports of module 0, and by how many
-/// statements the name `n` comes there, if it does.
-pub(crate) type Asked = (u128, Option<usize>);
+/// The count of looked up resolutions after the exports of module 0, and the length of the chain of
+/// the name `n`, if it is exported.
+pub(crate) type LookedUp = (u128, Option<usize>);
 
-fn asked(root: &mut RootSymbol<'_>, steps: &mut Steps) -> Result<Asked, &'static str> {
+fn queried(root: &mut RootSymbol<'_>, steps: &mut LookupCounter) -> Result<LookedUp, &'static str> {
     let module_id = there!(module_id_of(root, "0"), "module 0");
     if !steps.has_room() {
         return Err("too many steps");
@@ -29,7 +32,7 @@ fn asked(root: &mut RootSymbol<'_>, steps: &mut Steps) -> Result<Asked, &'static
     Ok((steps.count(), statements))
 }
 
-/// How many statements a way has.
+/// Returns how many statements a chain has.
 pub(crate) fn statement_count(path: &ResolvedExportOrReExportAllPath<'_>) -> usize {
     let mut count: usize = 0;
     for rest in path.iter() {
@@ -40,19 +43,24 @@ pub(crate) fn statement_count(path: &ResolvedExportOrReExportAllPath<'_>) -> usi
     count
 }
 
-/// Asked once, and once more with the same counter.
-pub(crate) fn asked_twice(root: &mut RootSymbol<'_>) -> Result<(Asked, Asked), &'static str> {
-    let mut steps = Steps::new();
-    let once = asked(root, &mut steps)?;
-    let twice = asked(root, &mut steps)?;
+/// Returns the results of the same query twice, with one counter.
+pub(crate) fn looked_up_twice(
+    root: &mut RootSymbol<'_>,
+) -> Result<(LookedUp, LookedUp), &'static str> {
+    let mut steps = LookupCounter::new();
+    let once = queried(root, &mut steps)?;
+    let twice = queried(root, &mut steps)?;
     Ok((once, twice))
 }
 
-/// So much is asked, and the same again with what is asked once more.
-pub(crate) fn takes(found: Result<(Asked, Asked), &'static str>, wanted: Asked) -> Checked {
+/// Checks the first result, and that the second query takes as many steps again.
+pub(crate) fn takes(
+    found: Result<(LookedUp, LookedUp), &'static str>,
+    expected: LookedUp,
+) -> Checked {
     let (once, twice) = found?;
-    holds!(once == wanted, "the steps and statements of one answer");
-    let (count, statements) = wanted;
+    holds!(once == expected, "the steps and statements of one answer");
+    let (count, statements) = expected;
     let again = (count.saturating_add(count), statements);
     holds!(twice == again, "the steps and statements of two answers");
     Ok(())
@@ -60,17 +68,22 @@ pub(crate) fn takes(found: Result<(Asked, Asked), &'static str>, wanted: Asked) 
 
 #[test]
 fn goes_round_a_ring_once(rt: HostRuntime) -> Checked {
-    let nodes = (PASSES_ON, OWNS_AND_PASSES_ON);
+    let nodes = (PASSES_ON, EXPORTS_AND_RE_EXPORTS);
     takes(
-        of_row(rt.alloc(), 10_000, nodes, asked_twice),
+        of_row(rt.alloc(), 10_000, nodes, looked_up_twice),
         (10_000, Some(9_999)),
     )
 }
 
 #[test]
-fn comes_by_a_long_way(rt: HostRuntime) -> Checked {
+fn comes_by_a_long_chain(rt: HostRuntime) -> Checked {
     takes(
-        of_row(rt.alloc(), 4_000, (PASSES_ON, OWNS), asked_twice),
+        of_row(
+            rt.alloc(),
+            4_000,
+            (PASSES_ON, EXPORTS_A_NAME),
+            looked_up_twice,
+        ),
         (3_999, Some(3_999)),
     )
 }
@@ -81,16 +94,16 @@ fn push_star(alloc: Global, nodes: &mut Vec<Node>, number: u32) -> Result<(), Al
     push(nodes, Kind::Item(Item::ExportAll { src }))
 }
 
-/// The tree of a module that passes on what each of so many modules exports, but itself.
-fn tree_of_web(alloc: Global, count: u32, own: u32) -> Result<Tree, AllocError> {
+/// Returns the tree of a module with `export *` from each of `count` modules but itself.
+fn tree_of_web(alloc: Global, count: u32, local_names: u32) -> Result<Tree, AllocError> {
     let mut body = Vec::new(alloc);
-    for place in 1..count {
-        body.push(NodeId(place))?;
+    for index in 1..count {
+        body.push(NodeId(index))?;
     }
     let mut nodes = Vec::new(alloc);
     push(&mut nodes, Kind::Item(Item::Program { body }))?;
     for number in 0..count {
-        if number != own {
+        if number != local_names {
             push_star(alloc, &mut nodes, number)?;
         }
     }
@@ -100,7 +113,7 @@ fn tree_of_web(alloc: Global, count: u32, own: u32) -> Result<Tree, AllocError> 
     })
 }
 
-/// What the text of each number stands for in a module: the module of that number.
+/// Resolves the specifier of each number in a module to the module of that number.
 fn push_each(
     alloc: Global,
     resolutions: &mut Vec<RawResolution>,
@@ -114,15 +127,15 @@ fn push_each(
     Ok(())
 }
 
-/// So many modules, each of which passes on what all the others export. They are made by calls: reading their text would
-/// take most of the test's time.
+/// Returns a graph of `count` modules, each with `export *` from all others. It is built by calls:
+/// reading its text would take most of the test's time.
 fn web(alloc: Global, count: u32) -> Result<ModuleGraph, GraphFault> {
     let mut modules = Vec::new(alloc);
     let mut resolutions = Vec::new(alloc);
     for number in 0..count {
         let specifier = format!(in alloc; "{number}")?;
         push_each(alloc, &mut resolutions, specifier.as_str(), count)?;
-        modules.push(module_of(alloc, specifier, tree_of_web(alloc, count, number)?))?;
+        modules.push(module_with_tree(alloc, specifier, tree_of_web(alloc, count, number)?))?;
     }
     let raw = RawGraph {
         modules,
@@ -133,10 +146,10 @@ fn web(alloc: Global, count: u32) -> Result<ModuleGraph, GraphFault> {
 }
 
 #[test]
-fn asks_once_for_each_statement_of_a_web(rt: HostRuntime) -> Checked {
+fn looks_up_each_statement_of_a_web_once(rt: HostRuntime) -> Checked {
     let alloc = rt.alloc();
     takes(
-        of_root_of(alloc, web(alloc, 300).ok(), asked_twice),
+        of_root_of(alloc, web(alloc, 300).ok(), looked_up_twice),
         (89_700, None),
     )
 }

@@ -1,36 +1,37 @@
-//! `symq [--strict] GRAPH`: reads a graph of modules, then answers query lines from standard input.
+//! `symq [--strict] GRAPH`: reads a module graph, then answers query lines from standard input.
 #![tactic(auto)]
 
 use std::io;
 use std::mem::ManuallyDrop;
 use std::process::ExitCode;
 use std::rt::{Env, Files};
-use symbols_tree::check::ModuleGraph;
-use symq_core::program::{ReaderInput, Stop, WriterOutput, read_words, serve_with};
+use symbols_graph::ModuleGraph;
+use symq_core::{ExitError, ReaderInput, WriterOutput, read_args, serve_with};
 
-/// The length of a list that is let go before anything is read. The system's allocator then keeps lists up
-/// to this length, which is the longest that glibc does, and gives out their memory again.
-const KEPT: usize = 33_000_000;
+/// The size in bytes of a block that is allocated and freed at start. This raises glibc's threshold
+/// for mmap to nearly its maximum, so freed blocks up to this size are reused.
+const FREED_AT_START: usize = 33_000_000;
 
-fn run<R: Files + Env + AllocGlobal + Input + Print>(rt: &R) -> Result<(), Stop> {
-    // (so tables are made in the memory that reading needed, and not in pages that the system has to clear)
-    drop(Vec::<u8>::with_capacity(rt.alloc(), KEPT));
-    let (rules, raw) = read_words(rt)?;
-    // never let go: the process ends behind it, and all its memory with it
-    let graph = ManuallyDrop::new(ModuleGraph::new(rt.alloc(), raw).map_err(Stop::Graph)?);
+fn run<R: Files + Env + AllocGlobal + Input + Print>(rt: &R) -> Result<(), ExitError> {
+    // so the graph's tables reuse the memory of the reader, and not fresh pages that the system has
+    // to clear
+    drop(Vec::<u8>::with_capacity(rt.alloc(), FREED_AT_START));
+    let (rules, raw) = read_args(rt)?;
+    // never dropped: the process ends after it and frees all its memory
+    let graph = ManuallyDrop::new(ModuleGraph::new(rt.alloc(), raw).map_err(ExitError::Graph)?);
     let mut input = ReaderInput::new(rt.reader());
     let mut output = WriterOutput::new(io::writer(rt));
-    serve_with(rt.alloc(), &graph, rules, &mut input, &mut output).map_err(Stop::Engine)
+    serve_with(rt.alloc(), &graph, rules, &mut input, &mut output).map_err(ExitError::Engine)
 }
 
 fn main(rt: HostRuntime) -> ExitCode {
-    let Err(stop) = run(&rt) else {
+    let Err(exit_error) = run(&rt) else {
         return ExitCode::SUCCESS;
     };
-    match stop.line(rt.alloc()) {
+    match exit_error.line(rt.alloc()) {
         Ok(line) => {
             let _ = eprintln!(rt; "{line}");
-            ExitCode::from(stop.status())
+            ExitCode::from(exit_error.status())
         }
         Err(_) => ExitCode::from(7),
     }

@@ -1,5 +1,5 @@
 pub mod GraphTexts
-pub mod Handing
-pub mod Holding
+pub mod OutBuffers
+pub mod Handles
 pub mod Sessions
 pub mod inner

@@ -1,12 +1,12 @@
--- What a session keeps, and what is told of a closed one.
+-- The state of a session, and the line for a closed one.
 use Rattle.std.specs.Prelude.{◌≡◌, ℕ, List, codes}
-use Rattle.symbols_root.specs.declared.root.rules.Rules.{Rules}
-use Rattle.symq_c.specs.declared.kept.Kept.{Kept}
-use Rattle.symq_c.specs.GraphTexts.{IsGraphOf}
+use Rattle.symbols_root.specs.declared.rules.Rules.{Rules}
+use Rattle.symq_c.specs.declared.session_state.SessionState.{SessionState}
+use Rattle.symq_c.specs.GraphTexts.{IsCheckedGraphOf}
 
--- the graph that the text is, in which no fault stands, and these rules
-abbrev pub IsKeptOf : List ℕ → Rules → Kept → Type 0
-IsKeptOf text rules kept = IsGraphOf text kept.graph × (kept.rules ≡ rules)
+-- the state has the graph that the text describes, without faults, and these rules
+abbrev pub IsSessionStateOf : List ℕ → Rules → SessionState → Type 0
+IsSessionStateOf text rules state = IsCheckedGraphOf text state.graph × (state.rules ≡ rules)
 
-abbrev pub closed_line : List ℕ
-closed_line = codes "symq: the session is closed"
+abbrev pub closed_session_line : List ℕ
+closed_session_line = codes "symq: the session is closed"

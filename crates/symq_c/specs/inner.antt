@@ -1,2 +1,2 @@
--- For inner functions and proofs alone: nothing in this folder has to be trusted.
+-- For inner functions and proofs alone: nothing in this directory has to be trusted.
 pub mod GraphTexts

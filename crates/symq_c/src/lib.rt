@@ -1,14 +1,15 @@
-//! Calls for other languages: the answers to lines over the text of a graph. Bytes and numbers cross, and a session, which
-//! keeps a graph between calls. Else nothing stays behind a call: what it takes of memory it gives back.
+//! A C interface: answers query lines over the text of a graph. Only bytes, numbers and sessions
+//! cross it. A session retains a graph between calls. All other memory that a call allocates is
+//! freed before it returns.
 //!
-//! `symq.h` declares them for C.
+//! `symq.h` declares the functions for C.
 #![tactic(auto)]
 
-mod calls;
-mod handing;
-mod held;
-mod kept;
+mod answer_calls;
+mod graph_of_text;
+mod out_buffer;
 mod parts;
-mod serving;
 mod session;
 mod session_calls;
+mod session_handle;
+mod session_state;

@@ -1,25 +1,27 @@
-//! The calls of a session, which keeps a graph between them.
+//! The C functions of a session, which retains a graph between calls.
 
 ghost use Rattle.std.specs.Prelude.{◌≡◌, ◌≢◌, ◌⊎◌, [], None, IsSomeAnd};
-ghost use Rattle.symbols_syntax.specs.declared.graph.faults.GraphFault.{GraphFault};
-ghost use Rattle.symbols_root.specs.declared.root.rules.Rules.TheVariants as rules;
+ghost use Rattle.symbols_ast.specs.declared.graph.faults.GraphFault.{GraphFault};
+ghost use Rattle.symbols_root.specs.declared.rules.Rules.TheVariants as rules;
 ghost use Rattle.symq_reader.specs.declared.faults.FormatFault.{FormatFault};
 ghost use Rattle.symq_core.specs.AnswerTexts.{answer_text};
-ghost use Rattle.symq_core.specs.Lines.{output_of};
-ghost use Rattle.symq_core.specs.StopLines.{format_line, graph_line, memory_line};
+ghost use Rattle.symq_core.specs.Lines.{output_text_of};
+ghost use Rattle.symq_core.specs.ExitLines.{format_fault_line, graph_fault_line};
+ghost use Rattle.symq_core.specs.ExitLines.{out_of_memory_line};
 ghost use Rattle.symq_c.specs.GraphTexts.{IsFormatFaultOf, IsGraphFaultOf};
-ghost use Rattle.symq_c.specs.Handing.{Hands};
-ghost use Rattle.symq_c.specs.Sessions.{IsKeptOf, closed_line};
+ghost use Rattle.symq_c.specs.OutBuffers.{IsTruncatedCopyToBuffer};
+ghost use Rattle.symq_c.specs.Sessions.{IsSessionStateOf, closed_session_line};
 
-use crate::calls::answer_over;
-use crate::handing::{hand_out, hand_out_line};
-use crate::kept::kept_of;
+use crate::answer_calls::answer_over;
+use crate::out_buffer::{hand_out, hand_out_line};
 use crate::session::Session;
+use crate::session_state::state_of;
 use std::alloc::Global;
-use symbols_root::root::Rules;
+use symbols_root::Rules;
 
-/// Opens a session by these rules over the graph of a text. What the session kept before is let go.
-fn open_by(
+/// Opens a session by these rules over the graph of a text. The former state of the session is
+/// freed.
+fn open_by_rules(
     alloc: Global,
     rules: Rules,
     text: &[u8],
@@ -27,28 +29,29 @@ fn open_by(
     out: &mut [u8],
     needed: &mut usize,
 ) -> u8
-    ensures opened { result ≡ 0 → IsSomeAnd session.new.held.kept (IsKeptOf text.now rules) × Hands [] out.old out.new needed.new }
+    ensures opened { result ≡ 0 → IsSomeAnd session.new.session_handle.state (IsSessionStateOf text.now
+        rules) × IsTruncatedCopyToBuffer [] out.old out.new needed.new }
     ensures no_graph { result ≡ 4 → (fault : FormatFault) × IsFormatFaultOf text.now fault
-        × Hands (format_line fault) out.old out.new needed.new }
+        × IsTruncatedCopyToBuffer (format_fault_line fault) out.old out.new needed.new }
     ensures refused { result ≡ 5 → (fault : GraphFault) × IsGraphFaultOf text.now fault
-        × Hands (graph_line fault) out.old out.new needed.new }
-    ensures memory { result ≡ 7 → Hands memory_line out.old out.new needed.new }
+        × IsTruncatedCopyToBuffer (graph_fault_line fault) out.old out.new needed.new }
+    ensures memory { result ≡ 7 → IsTruncatedCopyToBuffer out_of_memory_line out.old out.new needed.new }
     ensures no_other { (result ≡ 0) ⊎ (result ≡ 4) ⊎ (result ≡ 5) ⊎ (result ≡ 7) }
-    ensures closed { result ≢ 0 → session.new.held.kept ≡ None }
+    ensures closed { result ≢ 0 → session.new.session_handle.state ≡ None }
 {
     *session = Session::closed(alloc);
-    let kept = match kept_of(alloc, rules, text) {
-        Ok(kept) => kept,
-        Err(stop) => return hand_out_line(alloc, &stop, out, needed),
+    let state = match state_of(alloc, rules, text) {
+        Ok(state) => state,
+        Err(exit_error) => return hand_out_line(alloc, &exit_error, out, needed),
     };
-    *session = Session::of(kept);
+    *session = Session::of(state);
     hand_out(b"", out, needed);
     0
 }
 
-/// Opens a session by Deno's rules over the graph of a text (own rule), which is read and checked once. The status is 0,
-/// and nothing is handed out; or it is one of `symq_answer` with its line, and the session is closed. What the session
-/// kept before is let go.
+/// Opens a session by Deno's rules over the graph of a text, which is read and checked once
+/// (extension). It returns 0 and writes nothing. Otherwise it returns a status of `symq_answer` and
+/// writes its line, and the session is closed. What the session held before is freed.
 #[unsafe(no_mangle)]
 pub extern "C" fn symq_open(
     alloc: Global,
@@ -57,19 +60,20 @@ pub extern "C" fn symq_open(
     out: &mut [u8],
     needed: &mut usize,
 ) -> u8
-    ensures opened { result ≡ 0 → IsSomeAnd session.new.held.kept (IsKeptOf text.now rules.Deno) × Hands [] out.old out.new needed.new }
+    ensures opened { result ≡ 0 → IsSomeAnd session.new.session_handle.state (IsSessionStateOf text.now
+        rules.Deno) × IsTruncatedCopyToBuffer [] out.old out.new needed.new }
     ensures no_graph { result ≡ 4 → (fault : FormatFault) × IsFormatFaultOf text.now fault
-        × Hands (format_line fault) out.old out.new needed.new }
+        × IsTruncatedCopyToBuffer (format_fault_line fault) out.old out.new needed.new }
     ensures refused { result ≡ 5 → (fault : GraphFault) × IsGraphFaultOf text.now fault
-        × Hands (graph_line fault) out.old out.new needed.new }
-    ensures memory { result ≡ 7 → Hands memory_line out.old out.new needed.new }
+        × IsTruncatedCopyToBuffer (graph_fault_line fault) out.old out.new needed.new }
+    ensures memory { result ≡ 7 → IsTruncatedCopyToBuffer out_of_memory_line out.old out.new needed.new }
     ensures no_other { (result ≡ 0) ⊎ (result ≡ 4) ⊎ (result ≡ 5) ⊎ (result ≡ 7) }
-    ensures closed { result ≢ 0 → session.new.held.kept ≡ None }
+    ensures closed { result ≢ 0 → session.new.session_handle.state ≡ None }
 {
-    open_by(alloc, Rules::Deno, text, session, out, needed)
+    open_by_rules(alloc, Rules::Deno, text, session, out, needed)
 }
 
-/// As `symq_open`, by strict rules (own rule).
+/// Opens a session as `symq_open` does, by strict rules (extension).
 #[unsafe(no_mangle)]
 pub extern "C" fn symq_strict_open(
     alloc: Global,
@@ -78,20 +82,22 @@ pub extern "C" fn symq_strict_open(
     out: &mut [u8],
     needed: &mut usize,
 ) -> u8
-    ensures opened { result ≡ 0 → IsSomeAnd session.new.held.kept (IsKeptOf text.now rules.Strict) × Hands [] out.old out.new needed.new }
+    ensures opened { result ≡ 0 → IsSomeAnd session.new.session_handle.state (IsSessionStateOf text.now
+        rules.Strict) × IsTruncatedCopyToBuffer [] out.old out.new needed.new }
     ensures no_graph { result ≡ 4 → (fault : FormatFault) × IsFormatFaultOf text.now fault
-        × Hands (format_line fault) out.old out.new needed.new }
+        × IsTruncatedCopyToBuffer (format_fault_line fault) out.old out.new needed.new }
     ensures refused { result ≡ 5 → (fault : GraphFault) × IsGraphFaultOf text.now fault
-        × Hands (graph_line fault) out.old out.new needed.new }
-    ensures memory { result ≡ 7 → Hands memory_line out.old out.new needed.new }
+        × IsTruncatedCopyToBuffer (graph_fault_line fault) out.old out.new needed.new }
+    ensures memory { result ≡ 7 → IsTruncatedCopyToBuffer out_of_memory_line out.old out.new needed.new }
     ensures no_other { (result ≡ 0) ⊎ (result ≡ 4) ⊎ (result ≡ 5) ⊎ (result ≡ 7) }
-    ensures closed { result ≢ 0 → session.new.held.kept ≡ None }
+    ensures closed { result ≢ 0 → session.new.session_handle.state ≡ None }
 {
-    open_by(alloc, Rules::Strict, text, session, out, needed)
+    open_by_rules(alloc, Rules::Strict, text, session, out, needed)
 }
 
-/// Answers query lines over what a session keeps, which stays as it is (own rule). The status is 0, and the answers stand
-/// at the front of `out`; 7 where memory is refused; or 1 where the session is closed. `needed` is told as of `symq_answer`.
+/// Answers query lines over the graph of a session, which doesn't change (extension). It returns 0
+/// and writes the answers to the front of `out`; 7 if an allocation failed; or 1 if the session is
+/// closed. With 1 or 7 it writes a line that says so. `needed` is as for `symq_answer`.
 #[unsafe(no_mangle)]
 pub extern "C" fn symq_ask(
     alloc: Global,
@@ -100,17 +106,22 @@ pub extern "C" fn symq_ask(
     out: &mut [u8],
     needed: &mut usize,
 ) -> u8
-    ensures answered { result ≡ 0 → IsSomeAnd session.old.held.kept
-        (λ kept. Hands (output_of (answer_text kept.rules kept.graph) lines.now) out.old out.new needed.new) }
-    ensures closed { result ≡ 1 → (session.old.held.kept ≡ None) × Hands closed_line out.old out.new needed.new }
-    ensures memory { result ≡ 7 → IsSomeAnd session.old.held.kept (λ _. Hands memory_line out.old out.new needed.new) }
+    ensures answered { result ≡ 0 → IsSomeAnd session.old.session_handle.state
+        (λ state. IsTruncatedCopyToBuffer
+        (output_text_of (answer_text state.rules state.graph) lines.now) out.old out.new
+        needed.new) }
+    ensures closed { result ≡ 1
+        → (session.old.session_handle.state ≡ None)
+        × IsTruncatedCopyToBuffer closed_session_line out.old out.new needed.new }
+    ensures memory { result ≡ 7 → IsSomeAnd session.old.session_handle.state (λ _.
+        IsTruncatedCopyToBuffer out_of_memory_line out.old out.new needed.new) }
     ensures no_other { (result ≡ 0) ⊎ (result ≡ 1) ⊎ (result ≡ 7) }
-    ensures stays { session.new.held.kept ≡ session.old.held.kept }
+    ensures stays { session.new.session_handle.state ≡ session.old.session_handle.state }
 {
     match session.take(alloc) {
-        Some(kept) => {
-            let status = answer_over(alloc, kept.rules, &kept.graph, lines, out, needed);
-            *session = Session::of(kept);
+        Some(state) => {
+            let status = answer_over(alloc, state.rules, &state.graph, lines, out, needed);
+            *session = Session::of(state);
             status
         }
         None => {
@@ -120,10 +131,10 @@ pub extern "C" fn symq_ask(
     }
 }
 
-/// Lets go what a session keeps. It may be opened again.
+/// Frees what a session holds, and leaves it closed. It may be opened again.
 #[unsafe(no_mangle)]
 pub extern "C" fn symq_close(alloc: Global, session: &mut Session)
-    ensures { session.new.held.kept ≡ None }
+    ensures { session.new.session_handle.state ≡ None }
 {
     drop(session.take(alloc));
 }

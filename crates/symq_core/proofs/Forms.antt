@@ -1,102 +1,103 @@
--- A list with too few or too many items for a form of query.
+-- A list with too few or too many items for the form of a query is no query.
 use Rattle.std.proofs.Common.{◌≡◌, ◌<◌, List, [], ◌∷◌, length, None, refl, arith}
 use Rattle.json.specs.declared.value.Value.{Value}
 use Rattle.symq_reader.specs.JsonData.{items_data}
-use Rattle.symq_core.specs.ReferenceForms.{id_form, qualified_form, import_form, word_and_rest}
-use Rattle.symq_core.specs.Queries.{two_and_rest, module_question, exports_question, names_question, symbol_question, one_symbol, deps_question, resolve_question}
+use Rattle.symq_core.specs.ReferenceForms.{read_id_reference, read_qualified_reference, read_import_reference, keyword_and_items}
+use Rattle.symq_core.specs.Queries.{two_texts_and_items, read_module_question, read_exports_question, read_names_question}
+use Rattle.symq_core.specs.Queries.{read_symbol_question, read_one_symbol, read_deps_question, read_resolve_question}
 
-pub two_short : {A : Type 0} (values : List (Value A)) → length values < 2 → two_and_rest (items_data values) ≡ None
+pub two_short : {A : Type 0} (values : List (Value A)) → length values < 2 → two_texts_and_items (items_data values) ≡ None
 two_short [] h = refl
 two_short (a ∷ []) h = refl
 two_short (a ∷ b ∷ values) h = absurd (omega arith)
 
-pub module_long : {A : Type 0} (values : List (Value A)) → 0 < length values → module_question (items_data values) ≡ None
+pub module_long : {A : Type 0} (values : List (Value A)) → 0 < length values → read_module_question (items_data values) ≡ None
 module_long [] h = absurd (omega arith)
 module_long (a ∷ values) h = refl
 
-pub exports_long : {A : Type 0} (values : List (Value A)) → 0 < length values → exports_question (items_data values) ≡ None
+pub exports_long : {A : Type 0} (values : List (Value A)) → 0 < length values → read_exports_question (items_data values) ≡ None
 exports_long [] h = absurd (omega arith)
 exports_long (a ∷ values) h = refl
 
-pub names_long : {A : Type 0} (values : List (Value A)) → 0 < length values → names_question (items_data values) ≡ None
+pub names_long : {A : Type 0} (values : List (Value A)) → 0 < length values → read_names_question (items_data values) ≡ None
 names_long [] h = absurd (omega arith)
 names_long (a ∷ values) h = refl
 
-pub symbol_short : {A : Type 0} (values : List (Value A)) → length values < 2 → symbol_question (items_data values) ≡ None
+pub symbol_short : {A : Type 0} (values : List (Value A)) → length values < 2 → read_symbol_question (items_data values) ≡ None
 symbol_short [] h = refl
 symbol_short (a ∷ []) h = refl
 symbol_short (a ∷ b ∷ values) h = absurd (omega arith)
 
-pub symbol_long : {A : Type 0} (values : List (Value A)) → 2 < length values → symbol_question (items_data values) ≡ None
+pub symbol_long : {A : Type 0} (values : List (Value A)) → 2 < length values → read_symbol_question (items_data values) ≡ None
 symbol_long [] h = refl
 symbol_long (a ∷ []) h = refl
 symbol_long (a ∷ b ∷ []) h = absurd (omega arith)
 symbol_long (a ∷ b ∷ c ∷ values) h = refl
 
-pub symbols_short : {A : Type 0} (values : List (Value A)) → length values < 1 → one_symbol (items_data values) ≡ None
+pub symbols_short : {A : Type 0} (values : List (Value A)) → length values < 1 → read_one_symbol (items_data values) ≡ None
 symbols_short [] h = refl
 symbols_short (a ∷ values) h = absurd (omega arith)
 
-pub symbols_long : {A : Type 0} (values : List (Value A)) → 1 < length values → one_symbol (items_data values) ≡ None
+pub symbols_long : {A : Type 0} (values : List (Value A)) → 1 < length values → read_one_symbol (items_data values) ≡ None
 symbols_long [] h = refl
 symbols_long (a ∷ []) h = absurd (omega arith)
 symbols_long (a ∷ b ∷ values) h = refl
 
-pub deps_short : {A : Type 0} (values : List (Value A)) → length values < 2 → deps_question (items_data values) ≡ None
+pub deps_short : {A : Type 0} (values : List (Value A)) → length values < 2 → read_deps_question (items_data values) ≡ None
 deps_short [] h = refl
 deps_short (a ∷ []) h = refl
 deps_short (a ∷ b ∷ values) h = absurd (omega arith)
 
-pub deps_long : {A : Type 0} (values : List (Value A)) → 2 < length values → deps_question (items_data values) ≡ None
+pub deps_long : {A : Type 0} (values : List (Value A)) → 2 < length values → read_deps_question (items_data values) ≡ None
 deps_long [] h = refl
 deps_long (a ∷ []) h = absurd (omega arith)
 deps_long (a ∷ b ∷ []) h = absurd (omega arith)
 deps_long (a ∷ b ∷ c ∷ values) h = refl
 
-pub id_short : {A : Type 0} (values : List (Value A)) → length values < 2 → id_form (items_data values) ≡ None
+pub id_short : {A : Type 0} (values : List (Value A)) → length values < 2 → read_id_reference (items_data values) ≡ None
 id_short [] h = refl
 id_short (a ∷ []) h = refl
 id_short (a ∷ b ∷ values) h = absurd (omega arith)
 
-pub id_long : {A : Type 0} (values : List (Value A)) → 2 < length values → id_form (items_data values) ≡ None
+pub id_long : {A : Type 0} (values : List (Value A)) → 2 < length values → read_id_reference (items_data values) ≡ None
 id_long [] h = refl
 id_long (a ∷ []) h = refl
 id_long (a ∷ b ∷ []) h = absurd (omega arith)
 id_long (a ∷ b ∷ c ∷ values) h = refl
 
-pub qualified_short : {A : Type 0} (values : List (Value A)) → length values < 3 → qualified_form (items_data values) ≡ None
+pub qualified_short : {A : Type 0} (values : List (Value A)) → length values < 3 → read_qualified_reference (items_data values) ≡ None
 qualified_short [] h = refl
 qualified_short (a ∷ []) h = refl
 qualified_short (a ∷ b ∷ []) h = refl
 qualified_short (a ∷ b ∷ c ∷ values) h = absurd (omega arith)
 
-pub qualified_long : {A : Type 0} (values : List (Value A)) → 3 < length values → qualified_form (items_data values) ≡ None
+pub qualified_long : {A : Type 0} (values : List (Value A)) → 3 < length values → read_qualified_reference (items_data values) ≡ None
 qualified_long [] h = refl
 qualified_long (a ∷ []) h = refl
 qualified_long (a ∷ b ∷ []) h = refl
 qualified_long (a ∷ b ∷ c ∷ []) h = absurd (omega arith)
 qualified_long (a ∷ b ∷ c ∷ d ∷ values) h = refl
 
-pub import_short : {A : Type 0} (values : List (Value A)) → length values < 2 → import_form (items_data values) ≡ None
+pub import_short : {A : Type 0} (values : List (Value A)) → length values < 2 → read_import_reference (items_data values) ≡ None
 import_short [] h = refl
 import_short (a ∷ []) h = refl
 import_short (a ∷ b ∷ values) h = absurd (omega arith)
 
-pub import_long : {A : Type 0} (values : List (Value A)) → 2 < length values → import_form (items_data values) ≡ None
+pub import_long : {A : Type 0} (values : List (Value A)) → 2 < length values → read_import_reference (items_data values) ≡ None
 import_long [] h = refl
 import_long (a ∷ []) h = refl
 import_long (a ∷ b ∷ []) h = absurd (omega arith)
 import_long (a ∷ b ∷ c ∷ values) h = refl
 
-pub resolve_short : {A : Type 0} (values : List (Value A)) → length values < 1 → resolve_question (items_data values) ≡ None
+pub resolve_short : {A : Type 0} (values : List (Value A)) → length values < 1 → read_resolve_question (items_data values) ≡ None
 resolve_short [] h = refl
 resolve_short (a ∷ values) h = absurd (omega arith)
 
-pub resolve_long : {A : Type 0} (values : List (Value A)) → 1 < length values → resolve_question (items_data values) ≡ None
+pub resolve_long : {A : Type 0} (values : List (Value A)) → 1 < length values → read_resolve_question (items_data values) ≡ None
 resolve_long [] h = refl
 resolve_long (a ∷ []) h = absurd (omega arith)
 resolve_long (a ∷ b ∷ values) h = refl
 
-pub word_short : {A : Type 0} (values : List (Value A)) → length values < 1 → word_and_rest (items_data values) ≡ None
-word_short [] h = refl
-word_short (a ∷ values) h = absurd (omega arith)
+pub keyword_short : {A : Type 0} (values : List (Value A)) → length values < 1 → keyword_and_items (items_data values) ≡ None
+keyword_short [] h = refl
+keyword_short (a ∷ values) h = absurd (omega arith)

@@ -7,6 +7,7 @@ pub mod AnswerTexts
 pub mod Devices
 pub mod Lines
 pub mod Serving
-pub mod Stopping
-pub mod StopLines
+pub mod ExitStatus
+pub mod ExitLines
+pub mod Arguments
 pub mod inner

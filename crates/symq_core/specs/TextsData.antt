@@ -1,4 +1,4 @@
--- The JSON value of a list of texts.
+-- The JSON value of a list of strings.
 use Rattle.std.specs.Prelude.{ℕ, List, map}
 use Rattle.serde_json.specs.Data.{Data, string, array}
 use Rattle.serde_json.specs.View.{items_of}

@@ -1,4 +1,3 @@
--- For inner functions and proofs alone: nothing in this folder has to be trusted.
-pub mod Telling
+-- For inner functions and proofs alone: nothing in this directory has to be trusted.
+pub mod JsonWriting
 pub mod Sessions
-pub mod Words

@@ -1,14 +1,16 @@
--- A text that is cut behind an object, at a comma, has the tokens of its parts.
-use Rattle.std.proofs.Common.{◌≡◌, ℕ, zero, suc, ◌≤◌, Bool, true, false, List, [], ◌∷◌, ◌++◌, length, Option, Some, None, refl, sym, ap, ap₂, ◌∙◌, subst, arith, append_assoc, length-append}
+-- A text that is cut at a comma after an object has the tokens of its parts.
+use Rattle.std.proofs.Common.{◌≡◌, ℕ, zero, suc, ◌≤◌, Bool, true, false, List, [], ◌∷◌, ◌++◌, length, Option}
+use Rattle.std.proofs.Common.{Some, None, refl, sym, ap, ap₂, ◌∙◌, subst, arith, append_assoc, length-append}
 use Rattle.std.proofs.lemmas.Bool.{false≢true}
 use Rattle.std.specs.Prelude.{⊤}
 use Rattle.json.specs.Align.{is_good}
 use Rattle.json.specs.Token.{Token, begin_object, end_object, begin_array, end_array, key, string, number, boolean, null, bad}
 use Rattle.json.specs.Text.{content, plain}
 use Rattle.json.specs.Word.{word}
-use Rattle.json.specs.Lex.{Lexeme, token, comma, colon, Class, quote, backslash, operator, space, other, class, operator_lexeme, string_token, Mode, between, in_word, in_string, in_escape, lex_byte, lex}
+use Rattle.json.specs.Lex.{Lexeme, token, comma, colon, Class, quote, backslash, operator, space, other, class}
+use Rattle.json.specs.Lex.{operator_lexeme, string_token, Mode, between, in_word, in_string, in_escape, lex_byte, lex}
 use Rattle.json.specs.Lex.{Place, fresh, after_value, after_comma, after_key, begins_colon, may_begin, may_close, if_allowed, place_token, punctuate, tokens}
-use Rattle.symq_reader.proofs.BracedWords.{word_braced}
+use Rattle.symq_reader.proofs.BracedBytes.{keyword_braced}
 use Rattle.symq_reader.proofs.ClosedStrings.{Closed, closed}
 
 -- ---- lexemes
@@ -31,12 +33,12 @@ Outside in_word = ⊤
 Outside in_string = ⊥
 Outside in_escape = ⊥
 
--- what stands before a brace, whatever follows that
+-- the lexemes before a brace don't depend on what follows the brace
 record Cut (m : Mode) (xs : List ℕ) : Type 0 where
   front : List Lexeme
   cut : (v : List ℕ) → lex m (xs ++ 125 ∷ v) ≡ front ++ token end_object ∷ lex between v
 
--- the same of a text that begins with a byte of a class
+-- the same for a text that begins with a byte of a class
 record CutAt (m : Mode) (c : Class) (x : ℕ) (xs : List ℕ) : Type 0 where
   front : List Lexeme
   cut : (v : List ℕ) → lex_byte m c x (xs ++ 125 ∷ v) (λ n. lex n (xs ++ 125 ∷ v)) ≡ front ++ token end_object ∷ lex between v
@@ -54,7 +56,7 @@ tail_of : List ℕ → List ℕ
 tail_of [] = []
 tail_of (x ∷ xs) = xs
 
--- the closing quote of a text that ends in a brace stands before the brace
+-- if a text with a brace after it has a closing quote, the quote precedes the brace
 quote_before : (xs front back : List ℕ) → xs ++ 125 ∷ [] ≡ front ++ 34 ∷ back → Before xs front back
 unfolding head_or tail_of
 quote_before [] [] back e = let never : 125 ≡ 34 = ap head_or e in absurd (omega (arith, never))
@@ -68,7 +70,7 @@ good_string : (o : Option (List ℕ)) → is_good (string_token o) ≡ true → 
 good_string None h = absurd (false≢true h)
 good_string (Some s) h = (s, refl)
 
--- a string, and what stands behind it up to the brace
+-- a string and the text after it up to the brace
 string_cut : (x : ℕ) (xs s : List ℕ) (c : Closed plain (xs ++ 125 ∷ []) s) (b : Before xs c.front c.back) → Cut between b.rest → CutAt between quote x xs
 string_cut x xs s c b h = record {
   front = token (string s) ∷ h.front;
@@ -91,17 +93,21 @@ module _ (n : ℕ) (again : (m : Mode) (ys : List ℕ) → Outside m → length 
       let same = ap (lex in_string) c.split ∙ c.lexed c.back ∙ ap (lex between) b.ends in
       string_cut x xs s c b (again between b.rest tt less (subst Good same good))
 
-  cut_at : (m : Mode) (c : Class) (x : ℕ) (xs : List ℕ) → Outside m → length xs ≤ n → Good (lex_byte m c x (xs ++ 125 ∷ []) (λ k. lex k (xs ++ 125 ∷ []))) → CutAt m c x xs
-  cut_at between quote x xs o le good = let s = good_string (content plain (xs ++ 125 ∷ [])) good.0 in shorter x xs s.0 le (closed (xs ++ 125 ∷ []) s.0 s.1) good.1
+  cut_at : (m : Mode) (c : Class) (x : ℕ) (xs : List ℕ) → Outside m → length xs ≤ n → Good (lex_byte m c x (xs ++ 125 ∷ []) (λ k. lex k (xs ++ 125 ∷ [])))
+      → CutAt m c x xs
+  cut_at between quote x xs o le good = let s = good_string (content plain (xs ++ 125 ∷ [])) good.0 in
+      shorter x xs s.0 le (closed (xs ++ 125 ∷ []) s.0 s.1) good.1
   cut_at between backslash x xs o le good = absurd (false≢true good.0)
-  cut_at between operator x xs o le good = let h = again between xs tt le (good_rest (operator_lexeme x) _ good) in record { front = operator_lexeme x ∷ h.front; cut = λ v. ap (λ ls. operator_lexeme x ∷ ls) (h.cut v) }
+  cut_at between operator x xs o le good = let h = again between xs tt le (good_rest (operator_lexeme x) _ good) in
+      record { front = operator_lexeme x ∷ h.front; cut = λ v. ap (λ ls. operator_lexeme x ∷ ls) (h.cut v) }
   cut_at between space x xs o le good = let h = again between xs tt le good in record { front = h.front; cut = h.cut }
   cut_at between other x xs o le good =
       let h = again in_word xs tt le good.1 in
-      record { front = token (word (x ∷ xs)) ∷ h.front; cut = λ v. ap₂ (λ w ls. token w ∷ ls) (word_braced v (x ∷ xs)) (h.cut v) }
+      record { front = token (word (x ∷ xs)) ∷ h.front; cut = λ v. ap₂ (λ w ls. token w ∷ ls) (keyword_braced v (x ∷ xs)) (h.cut v) }
   cut_at in_word quote x xs o le good = let h = again in_word xs tt le good in record { front = h.front; cut = h.cut }
   cut_at in_word backslash x xs o le good = let h = again in_word xs tt le good in record { front = h.front; cut = h.cut }
-  cut_at in_word operator x xs o le good = let h = again between xs tt le (good_rest (operator_lexeme x) _ good) in record { front = operator_lexeme x ∷ h.front; cut = λ v. ap (λ ls. operator_lexeme x ∷ ls) (h.cut v) }
+  cut_at in_word operator x xs o le good = let h = again between xs tt le (good_rest (operator_lexeme x) _ good) in
+      record { front = operator_lexeme x ∷ h.front; cut = λ v. ap (λ ls. operator_lexeme x ∷ ls) (h.cut v) }
   cut_at in_word space x xs o le good = let h = again between xs tt le good in record { front = h.front; cut = h.cut }
   cut_at in_word other x xs o le good = let h = again in_word xs tt le good in record { front = h.front; cut = h.cut }
   cut_at in_string c x xs o le good = absurd o
@@ -130,7 +136,8 @@ allowed : (b : Bool) (t : Token) (k : Place → List Token) (next : Place) → N
 allowed true t k next h = h
 allowed false t k next h = absurd (false≢true h.0)
 
-placed : (p : Place) (t : Token) (b : Bool) (k : Place → List Token) (P : Type 0) → NoBad (place_token p t b k) → ((n : Place) → NoBad (k n) → P) → (is_good t ≡ true) × P
+placed : (p : Place) (t : Token) (b : Bool) (k : Place → List Token) (P : Type 0) → NoBad (place_token p t b k) → ((n : Place) → NoBad (k n) → P)
+    → (is_good t ≡ true) × P
 placed p begin_object b k P h f = (refl, f fresh (allowed (may_begin p) begin_object k fresh h).1)
 placed p end_object b k P h f = (refl, f after_value (allowed (may_close p) end_object k after_value h).1)
 placed p begin_array b k P h f = (refl, f fresh (allowed (may_begin p) begin_array k fresh h).1)
@@ -157,11 +164,13 @@ good_lexemes (colon ∷ ls) after_comma h = absurd (false≢true h.0)
 good_lexemes (colon ∷ ls) after_key h = good_lexemes ls fresh h
 
 module _ (more : List Token) where
-  allowed_on : (b : Bool) (t : Token) (k l : Place → List Token) (next : Place) → NoBad (if_allowed b t k next) → ((n : Place) → NoBad (k n) → l n ≡ k n ++ more) → if_allowed b t l next ≡ if_allowed b t k next ++ more
+  allowed_on : (b : Bool) (t : Token) (k l : Place → List Token) (next : Place) → NoBad (if_allowed b t k next)
+      → ((n : Place) → NoBad (k n) → l n ≡ k n ++ more) → if_allowed b t l next ≡ if_allowed b t k next ++ more
   allowed_on true t k l next h f = ap (λ ts. t ∷ ts) (f next h.1)
   allowed_on false t k l next h f = absurd (false≢true h.0)
 
-  placed_on : (p : Place) (t : Token) (b : Bool) (k l : Place → List Token) → NoBad (place_token p t b k) → ((n : Place) → NoBad (k n) → l n ≡ k n ++ more) → place_token p t b l ≡ place_token p t b k ++ more
+  placed_on : (p : Place) (t : Token) (b : Bool) (k l : Place → List Token) → NoBad (place_token p t b k) → ((n : Place) → NoBad (k n) → l n ≡ k n ++ more)
+      → place_token p t b l ≡ place_token p t b k ++ more
   placed_on p begin_object b k l = allowed_on (may_begin p) begin_object k l fresh
   placed_on p end_object b k l = allowed_on (may_close p) end_object k l after_value
   placed_on p begin_array b k l = allowed_on (may_begin p) begin_array k l fresh
@@ -174,7 +183,7 @@ module _ (more : List Token) where
   placed_on p null b k l = allowed_on (may_begin p) null k l after_value
   placed_on p bad b k l = λ h f. absurd (false≢true h.0)
 
--- where a comma follows an object
+-- an object and then a comma
 abbrev with_comma : List Lexeme → List Lexeme → List Lexeme
 with_comma front ls = front ++ token end_object ∷ comma ∷ ls
 
@@ -188,17 +197,20 @@ same_colon (comma ∷ front) ls = refl
 same_colon (colon ∷ front) ls = refl
 
 ended_on : (b : Bool) (ls : List Lexeme) → NoBad (if_allowed b end_object (λ n. punctuate n []) after_value)
-    → if_allowed b end_object (λ n. punctuate n (comma ∷ ls)) after_value ≡ if_allowed b end_object (λ n. punctuate n []) after_value ++ punctuate after_comma ls
+    → if_allowed b end_object (λ n. punctuate n (comma ∷ ls)) after_value
+    ≡ if_allowed b end_object (λ n. punctuate n []) after_value ++ punctuate after_comma ls
 unfolding punctuate
 ended_on true ls h = refl
 ended_on false ls h = absurd (false≢true h.0)
 
-punctuate_cut : (front ls : List Lexeme) (p : Place) → NoBad (punctuate p (alone front)) → punctuate p (with_comma front ls) ≡ punctuate p (alone front) ++ punctuate after_comma ls
+punctuate_cut : (front ls : List Lexeme) (p : Place) → NoBad (punctuate p (alone front))
+    → punctuate p (with_comma front ls) ≡ punctuate p (alone front) ++ punctuate after_comma ls
 unfolding punctuate
 punctuate_cut [] ls p h = ended_on (may_close p) ls h
 punctuate_cut (token t ∷ front) ls p h =
     ap (λ b. place_token p t b (λ n. punctuate n (with_comma front ls))) (same_colon front ls)
-    ∙ placed_on (punctuate after_comma ls) p t (begins_colon (alone front)) (λ n. punctuate n (alone front)) (λ n. punctuate n (with_comma front ls)) h (λ n. punctuate_cut front ls n)
+    ∙ placed_on (punctuate after_comma ls) p t (begins_colon (alone front)) (λ n. punctuate n (alone front)) (λ n. punctuate n (with_comma front ls)) h (λ n.
+    punctuate_cut front ls n)
 punctuate_cut (comma ∷ front) ls fresh h = absurd (false≢true h.0)
 punctuate_cut (comma ∷ front) ls after_value h = punctuate_cut front ls after_comma h
 punctuate_cut (comma ∷ front) ls after_comma h = absurd (false≢true h.0)
@@ -208,7 +220,7 @@ punctuate_cut (colon ∷ front) ls after_value h = absurd (false≢true h.0)
 punctuate_cut (colon ∷ front) ls after_comma h = absurd (false≢true h.0)
 punctuate_cut (colon ∷ front) ls after_key h = punctuate_cut front ls fresh h
 
--- the tokens of what follows a comma
+-- the tokens of a text after a comma
 abbrev pub tokens_later : List ℕ → List Token
 tokens_later text = punctuate after_comma (lex between text)
 
@@ -223,7 +235,8 @@ nothing_lexed = refl
 pub tokens_cut : (xs text : List ℕ) → NoBad (tokens (xs ++ 125 ∷ [])) → tokens (xs ++ 125 ∷ 44 ∷ text) ≡ tokens (xs ++ 125 ∷ []) ++ tokens_later text
 tokens_cut xs text h =
     let c = lex_cut (length xs) between xs tt (omega arith) (good_lexemes _ fresh h) in
-    let one : tokens (xs ++ 125 ∷ []) ≡ punctuate fresh (alone c.front) = ap (punctuate fresh) (c.cut [] ∙ ap (λ ls. c.front ++ token end_object ∷ ls) nothing_lexed) in
+    let one : tokens (xs ++ 125 ∷ []) ≡ punctuate fresh (alone c.front) =
+    ap (punctuate fresh) (c.cut [] ∙ ap (λ ls. c.front ++ token end_object ∷ ls) nothing_lexed) in
     let two = ap (punctuate fresh) (c.cut (44 ∷ text) ∙ ap (λ ls. c.front ++ token end_object ∷ ls) (comma_lexed text)) in
     two ∙ punctuate_cut c.front (lex between text) fresh (subst NoBad one h) ∙ ap (λ ts. ts ++ tokens_later text) (sym one)
 
@@ -236,23 +249,23 @@ same_text : (t : List ℕ) (b : Bool) (k : Place → List Token) → place_token
 same_text t true k = refl
 same_text t false k = refl
 
-same_place : (ls : List Lexeme) → begins_object (punctuate fresh ls) ≡ true → punctuate after_comma ls ≡ punctuate fresh ls
+same_position : (ls : List Lexeme) → begins_object (punctuate fresh ls) ≡ true → punctuate after_comma ls ≡ punctuate fresh ls
 unfolding punctuate begins_object
-same_place [] h = absurd (false≢true h)
-same_place (token begin_object ∷ ls) h = refl
-same_place (token end_object ∷ ls) h = absurd (false≢true h)
-same_place (token begin_array ∷ ls) h = refl
-same_place (token end_array ∷ ls) h = absurd (false≢true h)
-same_place (token (key s) ∷ ls) h = refl
-same_place (token (string s) ∷ ls) h = same_text s (begins_colon ls) (λ n. punctuate n ls)
-same_place (token (number s) ∷ ls) h = refl
-same_place (token (boolean b) ∷ ls) h = refl
-same_place (token null ∷ ls) h = refl
-same_place (token bad ∷ ls) h = refl
-same_place (comma ∷ ls) h = refl
-same_place (colon ∷ ls) h = refl
+same_position [] h = absurd (false≢true h)
+same_position (token begin_object ∷ ls) h = refl
+same_position (token end_object ∷ ls) h = absurd (false≢true h)
+same_position (token begin_array ∷ ls) h = refl
+same_position (token end_array ∷ ls) h = absurd (false≢true h)
+same_position (token (key s) ∷ ls) h = refl
+same_position (token (string s) ∷ ls) h = same_text s (begins_colon ls) (λ n. punctuate n ls)
+same_position (token (number s) ∷ ls) h = refl
+same_position (token (boolean b) ∷ ls) h = refl
+same_position (token null ∷ ls) h = refl
+same_position (token bad ∷ ls) h = refl
+same_position (comma ∷ ls) h = refl
+same_position (colon ∷ ls) h = refl
 
--- a text that begins with an object reads the same behind a comma
+-- a text that begins with an object has the same tokens after a comma
 pub later_same : (text : List ℕ) (ts : List Token) → tokens text ≡ begin_object ∷ ts → tokens_later text ≡ tokens text
 unfolding begins_object
-later_same text ts e = same_place (lex between text) (ap begins_object e)
+later_same text ts e = same_position (lex between text) (ap begins_object e)

@@ -1,9 +1,9 @@
 pub mod Tuples
 pub mod Numerals
-pub mod Plains
+pub mod NeedsNoEscape
 pub mod Gets
-pub mod Turns
-pub mod Taking
+pub mod ListRounds
+pub mod ConsumedTokens
 pub mod Parts
 pub mod Outcomes
 pub mod Streamed
@@ -12,7 +12,7 @@ pub mod Entered
 pub mod Digits
 pub mod KindTexts
 pub mod ListTokens
-pub mod BracedWords
+pub mod BracedBytes
 pub mod ClosedStrings
 pub mod CutTexts
 pub mod Pieces

@@ -2,9 +2,12 @@ pub mod UnderKeys
 pub mod Numbers
 pub mod Lists
 pub mod JsonData
-pub mod Words
+pub mod MemberKeywords
 pub mod Kinds
+pub mod KindTable
 pub mod KindShapes
+pub mod KindShapesTable
+pub mod ReadKinds
 pub mod GraphText
-pub mod PlainLists
+pub mod QueryLists
 pub mod inner

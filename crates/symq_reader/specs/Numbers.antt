@@ -1,21 +1,21 @@
--- Whether each number of a value is a whole number that fits 64 bits, at any depth.
+-- Whether each number of a value, at any depth, is whole and fits 64 bits.
 use Rattle.std.specs.Prelude.{Bool, true, ◌&&◌, is_some}
 use Rattle.serde_json.specs.Data.{Data, null, boolean, number, string, array, object, Items, no_items, item, Members, no_members, member}
 use Rattle.serde_json.specs.Find.{as_u64}
 
 abbrev mutual
-  pub is_whole : Data → Bool
-  is_whole null = true
-  is_whole (boolean b) = true
-  is_whole (number n) = is_some (as_u64 n)
-  is_whole (string s) = true
-  is_whole (array ds) = items_are_whole ds
-  is_whole (object ms) = members_are_whole ms
+  pub has_whole_numbers : Data → Bool
+  has_whole_numbers null = true
+  has_whole_numbers (boolean b) = true
+  has_whole_numbers (number n) = is_some (as_u64 n)
+  has_whole_numbers (string s) = true
+  has_whole_numbers (array ds) = items_have_whole_numbers ds
+  has_whole_numbers (object ms) = members_have_whole_numbers ms
 
-  pub items_are_whole : Items → Bool
-  items_are_whole no_items = true
-  items_are_whole (item d ds) = is_whole d && items_are_whole ds
+  pub items_have_whole_numbers : Items → Bool
+  items_have_whole_numbers no_items = true
+  items_have_whole_numbers (item d ds) = has_whole_numbers d && items_have_whole_numbers ds
 
-  pub members_are_whole : Members → Bool
-  members_are_whole no_members = true
-  members_are_whole (member key d ms) = is_whole d && members_are_whole ms
+  pub members_have_whole_numbers : Members → Bool
+  members_have_whole_numbers no_members = true
+  members_have_whole_numbers (member key d ms) = has_whole_numbers d && members_have_whole_numbers ms

@@ -1,51 +1,51 @@
--- What stands under a key of an object, read as what it has to be: None where it is not that.
+-- The value under a key of an object, read in a given form; None if it doesn't have the form.
 use Rattle.std.specs.Prelude.{ℕ, ◌^◌, List, [], ◌∷◌, Bool, false, nat_lt, if◌then◌else◌, Option, Some, None, option_map, option_and_then}
 use Rattle.serde_json.specs.Data.{Data, null, Items, no_items, item}
 use Rattle.serde_json.specs.Find.{get, as_bool, as_str, as_number, as_u64, as_array}
 
-abbrev pub unless_null : Data → Option Data
-unless_null null = None
-unless_null d = Some d
+abbrev pub none_if_null : Data → Option Data
+none_if_null null = None
+none_if_null d = Some d
 
--- the value under a key: none where the key is absent or its value null, or where there is no object
+-- the value under a key; None if the key is absent, its value is null, or there is no object
 abbrev pub value_at_key : List ℕ → Data → Option Data
-value_at_key key d = option_and_then unless_null (get key d)
+value_at_key key d = option_and_then none_if_null (get key d)
 
--- what has to be there
-abbrev pub required_under : {A : Type 0} → (Data → Option A) → List ℕ → Data → Option A
-required_under form key d = option_and_then form (value_at_key key d)
+-- a required value
+abbrev pub required_value_under : {A : Type 0} → (Data → Option A) → List ℕ → Data → Option A
+required_value_under form key d = option_and_then form (value_at_key key d)
 
-abbrev pub if_there : {A : Type 0} → (Data → Option A) → Option Data → Option (Option A)
-if_there form None = Some None
-if_there form (Some d) = option_map Some (form d)
+abbrev pub map_if_present : {A : Type 0} → (Data → Option A) → Option Data → Option (Option A)
+map_if_present form None = Some None
+map_if_present form (Some d) = option_map Some (form d)
 
--- what may be absent
-abbrev pub optional_under : {A : Type 0} → (Data → Option A) → List ℕ → Data → Option (Option A)
-optional_under form key d = if_there form (value_at_key key d)
+-- an optional value
+abbrev pub optional_value_under : {A : Type 0} → (Data → Option A) → List ℕ → Data → Option (Option A)
+optional_value_under form key d = map_if_present form (value_at_key key d)
 
 -- every item, in order
-abbrev pub each_item : {A : Type 0} → (Data → Option A) → Items → Option (List A)
-each_item form no_items = Some []
-each_item form (item d ds) = option_and_then (λ x. option_map (λ xs. x ∷ xs) (each_item form ds)) (form d)
+abbrev pub read_each_item : {A : Type 0} → (Data → Option A) → Items → Option (List A)
+read_each_item form no_items = Some []
+read_each_item form (item d ds) = option_and_then (λ x. option_map (λ xs. x ∷ xs) (read_each_item form ds)) (form d)
 
-abbrev pub or_no_items : Option Data → Option Items
-or_no_items None = Some no_items
-or_no_items (Some d) = as_array d
+abbrev pub items_or_empty : Option Data → Option Items
+items_or_empty None = Some no_items
+items_or_empty (Some d) = as_array d
 
--- the items of a list, which is empty where it is absent
-abbrev pub array_under : List ℕ → Data → Option Items
-array_under key d = or_no_items (value_at_key key d)
+-- the items of the list under a key; none if the key is absent
+abbrev pub array_items_under : List ℕ → Data → Option Items
+array_items_under key d = items_or_empty (value_at_key key d)
 
-abbrev pub list_under : {A : Type 0} → (Data → Option A) → List ℕ → Data → Option (List A)
-list_under form key d = option_and_then (each_item form) (array_under key d)
+abbrev pub list_value_under : {A : Type 0} → (Data → Option A) → List ℕ → Data → Option (List A)
+list_value_under form key d = option_and_then (read_each_item form) (array_items_under key d)
 
-abbrev pub or_false : Option Data → Option Bool
-or_false None = Some false
-or_false (Some d) = as_bool d
+abbrev pub bool_or_false : Option Data → Option Bool
+bool_or_false None = Some false
+bool_or_false (Some d) = as_bool d
 
--- a bool, which is false where it is absent
-abbrev pub flag_under : List ℕ → Data → Option Bool
-flag_under key d = or_false (value_at_key key d)
+-- a boolean; false if it is absent
+abbrev pub bool_value_under : List ℕ → Data → Option Bool
+bool_value_under key d = bool_or_false (value_at_key key d)
 
 -- ---- single values
 
@@ -53,18 +53,18 @@ flag_under key d = or_false (value_at_key key d)
 abbrev pub as_offset : Data → Option ℕ
 as_offset d = option_and_then as_u64 (as_number d)
 
-abbrev pub unless_wide : ℕ → Option ℕ
-unless_wide n = if nat_lt n (2 ^ 32) then Some n else None
+abbrev pub some_if_u32 : ℕ → Option ℕ
+some_if_u32 n = if nat_lt n (2 ^ 32) then Some n else None
 
 -- a number that fits 32 bits
 abbrev pub as_u32 : Data → Option ℕ
-as_u32 d = option_and_then unless_wide (as_offset d)
+as_u32 d = option_and_then some_if_u32 (as_offset d)
 
 abbrev pub two_items : Items → Option (Data × Data)
 two_items (item a (item b no_items)) = Some (a, b)
 two_items _ = None
 
--- a list of exactly two
+-- the items of a list of exactly two
 abbrev pub as_pair : Data → Option (Data × Data)
 as_pair d = option_and_then two_items (as_array d)
 
@@ -72,10 +72,10 @@ abbrev pub three_items : Items → Option (Data × Data × Data)
 three_items (item a (item b (item c no_items))) = Some (a, b, c)
 three_items _ = None
 
--- a list of exactly three
+-- the items of a list of exactly three
 abbrev pub as_triple : Data → Option (Data × Data × Data)
 as_triple d = option_and_then three_items (as_array d)
 
--- the name and the scope of an identifier
+-- a name with its scope
 abbrev pub as_identifier : Data → Option (List ℕ × ℕ)
 as_identifier d = option_and_then (λ p. option_and_then (λ name. option_map (λ scope. (name, scope)) (as_u32 p.1)) (as_str p.0)) (as_pair d)

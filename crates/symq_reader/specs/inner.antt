@@ -1,4 +1,4 @@
--- For inner functions and proofs alone: nothing in this folder has to be trusted.
+-- For inner functions and proofs alone: nothing in this directory has to be trusted.
 pub mod Reading
 pub mod JsonData
 pub mod Objects

@@ -1,8 +1,8 @@
-//! The first and the last of some bytes.
+//! Removes the first or the last byte of a slice.
 
 ghost use Rattle.std.specs.Prelude.{◌≡◌, ◌++◌, ◌∷◌, [], IfSome};
 
-/// What follows this byte, where the bytes begin with it.
+/// Returns the bytes after this byte; `None` if the slice doesn't begin with it.
 pub(crate) fn after(bytes: &[u8], byte: u8) -> Option<&[u8]>
     ensures { IfSome result (λ rest. bytes.now ≡ byte ∷ rest.now) }
 {
@@ -13,7 +13,7 @@ pub(crate) fn after(bytes: &[u8], byte: u8) -> Option<&[u8]>
     Some(rest)
 }
 
-/// What precedes this byte, where the bytes end with it.
+/// Returns the bytes before this byte; `None` if the slice doesn't end with it.
 pub(crate) fn before(bytes: &[u8], byte: u8) -> Option<&[u8]>
     ensures { IfSome result (λ front. bytes.now ≡ front.now ++ byte ∷ []) }
 {

@@ -1,4 +1,4 @@
-//! Why a text is refused.
+//! The reasons why a text is no graph.
 
 ghost use Rattle.std.specs.Prelude.{◌≡◌};
 ghost use Rattle.symq_reader.specs.declared.faults.FormatFault.TheVariants.{OutOfMemory};
@@ -6,11 +6,11 @@ ghost use Rattle.symq_reader.specs.declared.faults.FormatFault.TheVariants.{OutO
 use std::alloc::{AllocError, AllocFailed};
 use thiserror::Error;
 
-/// Why a text gives no graph (own rule). A text that is no JSON is told as such, whatever else is
-/// wrong with it.
+/// The reason why a text is no graph (extension). A text that is no JSON is reported as such,
+/// whatever else is wrong with it.
 #[derive(Clone, Copy, Debug, PartialEq, Eq, Error)]
 pub enum FormatFault {
-    /// Memory was refused.
+    /// An allocation failed.
     #[error("out of memory")]
     OutOfMemory,
     /// The bytes are no UTF-8 or no JSON text, or nest deeper than 127.

@@ -1,13 +1,17 @@
-//! The fields of an object by their keys. Absent and null are one: such a field is none, an empty
-//! list or false, or a fault where it has to be there.
+//! Reads the fields of an object by key. A null field counts as absent. An absent field reads as
+//! `None`, an empty list or false; a required one is a fault.
 
 ghost use Rattle.std.specs.Prelude.{◌≡◌, option_map, string_bytes};
 ghost use Rattle.json.specs.Value.{items_view};
 ghost use Rattle.serde_json.specs.Find.{as_str};
-ghost use Rattle.symq_reader.specs.inner.Objects.{whole_number, whole_numbers, object_data, found_data};
-ghost use Rattle.symq_reader.specs.JsonData.{data_of, json_items_data};
-ghost use Rattle.symq_reader.specs.inner.Reading.{Gives};
-ghost use Rattle.symq_reader.specs.UnderKeys.{value_at_key, required_under, optional_under, list_under, each_item, flag_under, unless_wide, as_u32, as_identifier};
+ghost use Rattle.symq_reader.specs.inner.Objects.{whole_number, whole_numbers, object_data};
+ghost use Rattle.symq_reader.specs.inner.Objects.{object_field_data};
+ghost use Rattle.symq_reader.specs.JsonData.{value_data, json_items_data};
+ghost use Rattle.symq_reader.specs.inner.Reading.{IsReadResult};
+ghost use Rattle.symq_reader.specs.UnderKeys.{value_at_key, required_value_under};
+ghost use Rattle.symq_reader.specs.UnderKeys.{optional_value_under, list_value_under};
+ghost use Rattle.symq_reader.specs.UnderKeys.{read_each_item, bool_value_under, some_if_u32};
+ghost use Rattle.symq_reader.specs.UnderKeys.{as_u32, as_identifier};
 ghost use Rattle.symq_reader.specs.KindShapes.{identifier_view};
 
 use crate::entries::{self, Entry};
@@ -15,54 +19,56 @@ use crate::faults::FormatFault;
 use crate::{lookup, numbers};
 use json::Value;
 use std::alloc::Global;
-use symbols_syntax::tree::{Id, NodeId};
+use symbols_ast::tree::{Id, NodeId};
 
-/// An object that is read.
+/// An object whose fields are read.
 #[derive(Clone, Copy)]
 pub(crate) enum Object<'v, 'a> {
-    /// A value, of any form.
+    /// A JSON value, which may be no object.
     Value(&'v Value<'a>),
-    /// An object's members, whose tokens were taken.
+    /// The members of an object, as the fast path reads them.
     Entries(&'v [(&'a str, Entry<'a>)]),
 }
 
-/// What stands under a key of such an object.
+/// The value of a field.
 #[derive(Clone, Copy)]
-pub(crate) enum Found<'v, 'a> {
+pub(crate) enum ObjectField<'v, 'a> {
     Value(&'v Value<'a>),
     Entry(&'v Entry<'a>),
 }
 
-/// What stands under a key, unless it is null; of a repeated key the last.
-pub(crate) fn field<'v, 'a>(object: &Object<'v, 'a>, key: &str) -> Option<Found<'v, 'a>>
-    ensures { option_map found_data result ≡ value_at_key key.now (object_data object.now) }
+/// Returns the value under a key; `None` if it is absent or null. Of a repeated key the last value
+/// counts.
+pub(crate) fn field<'v, 'a>(object: &Object<'v, 'a>, key: &str) -> Option<ObjectField<'v, 'a>>
+    ensures { option_map object_field_data result ≡ value_at_key key.now (object_data object.now) }
 {
     match *object {
         Object::Value(value) => match lookup::field(value, key) {
-            Some(found) => Some(Found::Value(found)),
+            Some(found) => Some(ObjectField::Value(found)),
             None => None,
         },
         Object::Entries(entries) => match entries::field(entries, key) {
-            Some(found) => Some(Found::Entry(found)),
+            Some(found) => Some(ObjectField::Entry(found)),
             None => None,
         },
     }
 }
 
-/// The text that is there, if it is one.
-pub(crate) fn as_text<'a>(found: Found<'_, 'a>) -> Option<&'a str>
-    ensures { option_map (λ s. s.now) result ≡ as_str (found_data found.entry) }
+/// Returns the string that a value is, if it is one.
+pub(crate) fn as_text<'a>(found: ObjectField<'_, 'a>) -> Option<&'a str>
+    ensures { option_map (λ s. s.now) result ≡ as_str (object_field_data found.entry) }
 {
     match found {
-        Found::Value(value) => lookup::as_text(value),
-        Found::Entry(Entry::Text(text)) => Some(text),
-        Found::Entry(_) => None,
+        ObjectField::Value(value) => lookup::as_text(value),
+        ObjectField::Entry(Entry::Text(text)) => Some(text),
+        ObjectField::Entry(_) => None,
     }
 }
 
-/// A text, which has to be there.
+/// Returns a required string. It fails if the field is absent or no string, or if an allocation
+/// failed.
 pub(crate) fn text(alloc: Global, object: &Object<'_, '_>, key: &str) -> Result<String, FormatFault>
-    ensures { Gives string_bytes result (required_under as_str key.now (object_data object.now)) }
+    ensures { IsReadResult string_bytes result (required_value_under as_str key.now (object_data object.now)) }
 {
     let Some(found) = field(object, key).and_then(as_text) else {
         return Err(FormatFault::BadForm);
@@ -70,14 +76,15 @@ pub(crate) fn text(alloc: Global, object: &Object<'_, '_>, key: &str) -> Result<
     Ok(String::from_str(alloc, found)?)
 }
 
-/// A text, which may be absent.
+/// Returns an optional string. It fails if the field is there but no string, or if an allocation
+/// failed.
 pub(crate) fn optional_text(
     alloc: Global,
     object: &Object<'_, '_>,
     key: &str,
 ) -> Result<Option<String>, FormatFault>
-    ensures { Gives (option_map string_bytes) result
-        (optional_under as_str key.now (object_data object.now)) }
+    ensures { IsReadResult (option_map string_bytes) result
+        (optional_value_under as_str key.now (object_data object.now)) }
 {
     match field(object, key) {
         None => Ok(None),
@@ -85,21 +92,21 @@ pub(crate) fn optional_text(
     }
 }
 
-/// A flag: false where it is absent.
+/// Returns a flag; false if the field is absent. It fails if the field is no boolean.
 pub(crate) fn flag(object: &Object<'_, '_>, key: &str) -> Result<bool, FormatFault>
-    ensures { Gives (λ b. b) result (flag_under key.now (object_data object.now)) }
+    ensures { IsReadResult (λ b. b) result (bool_value_under key.now (object_data object.now)) }
 {
     match field(object, key) {
         None => Ok(false),
-        Some(Found::Value(Value::Bool(b))) => Ok(*b),
-        Some(Found::Entry(Entry::Flag(b))) => Ok(*b),
+        Some(ObjectField::Value(Value::Bool(b))) => Ok(*b),
+        Some(ObjectField::Entry(Entry::Flag(b))) => Ok(*b),
         Some(_) => Err(FormatFault::BadForm),
     }
 }
 
-/// The node of this number, if it fits 32 bits.
+/// Returns the node with this number. It fails if the number doesn't fit 32 bits.
 fn numbered(number: u64) -> Result<NodeId, FormatFault>
-    ensures { Gives (λ n. n) result (unless_wide number) }
+    ensures { IsReadResult (λ n. n) result (some_if_u32 number) }
 {
     match u32::try_from(number) {
         Ok(number) => Ok(NodeId(number)),
@@ -107,9 +114,9 @@ fn numbered(number: u64) -> Result<NodeId, FormatFault>
     }
 }
 
-/// The node that a value names by its number.
+/// Returns the node whose number is this JSON value. It fails if the value is no number of 32 bits.
 fn of_value(value: &Value<'_>) -> Result<NodeId, FormatFault>
-    ensures { Gives (λ n. n) result (as_u32 (data_of value.now)) }
+    ensures { IsReadResult (λ n. n) result (as_u32 (value_data value.now)) }
 {
     match numbers::as_u32(value) {
         Some(number) => Ok(NodeId(number)),
@@ -117,20 +124,20 @@ fn of_value(value: &Value<'_>) -> Result<NodeId, FormatFault>
     }
 }
 
-/// The node that is named by its number.
-fn node_id(found: Found<'_, '_>) -> Result<NodeId, FormatFault>
-    ensures { Gives (λ n. n) result (as_u32 (found_data found.entry)) }
+/// Returns the node whose number is this field. It fails if the field is no number of 32 bits.
+fn node_id(found: ObjectField<'_, '_>) -> Result<NodeId, FormatFault>
+    ensures { IsReadResult (λ n. n) result (as_u32 (object_field_data found.entry)) }
 {
     match found {
-        Found::Value(value) => of_value(value),
-        Found::Entry(Entry::Whole(number)) => numbered(*number),
-        Found::Entry(_) => Err(FormatFault::BadForm),
+        ObjectField::Value(value) => of_value(value),
+        ObjectField::Entry(Entry::Whole(number)) => numbered(*number),
+        ObjectField::Entry(_) => Err(FormatFault::BadForm),
     }
 }
 
-/// A child, which has to be there.
+/// Returns a required child. It fails if the field is absent or no number of 32 bits.
 pub(crate) fn child(object: &Object<'_, '_>, key: &str) -> Result<NodeId, FormatFault>
-    ensures { Gives (λ n. n) result (required_under as_u32 key.now (object_data object.now)) }
+    ensures { IsReadResult (λ n. n) result (required_value_under as_u32 key.now (object_data object.now)) }
 {
     match field(object, key) {
         Some(found) => node_id(found),
@@ -138,12 +145,12 @@ pub(crate) fn child(object: &Object<'_, '_>, key: &str) -> Result<NodeId, Format
     }
 }
 
-/// A child, which may be absent.
+/// Returns an optional child. It fails if the field is there but no number of 32 bits.
 pub(crate) fn optional_child(
     object: &Object<'_, '_>,
     key: &str,
 ) -> Result<Option<NodeId>, FormatFault>
-    ensures { Gives (λ n. n) result (optional_under as_u32 key.now (object_data object.now)) }
+    ensures { IsReadResult (λ n. n) result (optional_value_under as_u32 key.now (object_data object.now)) }
 {
     match field(object, key) {
         Some(found) => Ok(Some(node_id(found)?)),
@@ -151,9 +158,11 @@ pub(crate) fn optional_child(
     }
 }
 
-/// The children that a list of values names.
+/// Returns the nodes whose numbers these JSON values are. It fails if a value is no number of 32
+/// bits, or if an allocation failed.
 fn children_of_values(alloc: Global, items: &[Value<'_>]) -> Result<Vec<NodeId>, FormatFault>
-    ensures { Gives (λ v. v.items) result (each_item as_u32 (json_items_data (items_view items.now))) }
+    ensures { IsReadResult (λ v. v.items) result
+        (read_each_item as_u32 (json_items_data (items_view items.now))) }
 {
     let mut children = Vec::with_capacity(alloc, items.len())?;
     for item in items {
@@ -162,9 +171,10 @@ fn children_of_values(alloc: Global, items: &[Value<'_>]) -> Result<Vec<NodeId>,
     Ok(children)
 }
 
-/// The children of these numbers.
+/// Returns the nodes with these numbers. It fails if a number doesn't fit 32 bits, or if an
+/// allocation failed.
 fn children_numbered(alloc: Global, numbers: &[u64]) -> Result<Vec<NodeId>, FormatFault>
-    ensures { Gives (λ v. v.items) result (each_item as_u32 (whole_numbers numbers.now)) }
+    ensures { IsReadResult (λ v. v.items) result (read_each_item as_u32 (whole_numbers numbers.now)) }
 {
     let mut children = Vec::with_capacity(alloc, numbers.len())?;
     for number in numbers {
@@ -173,57 +183,65 @@ fn children_numbered(alloc: Global, numbers: &[u64]) -> Result<Vec<NodeId>, Form
     Ok(children)
 }
 
-/// The children of a list: none where it is absent.
+/// Returns the children that a field lists; none if the field is absent. It fails if the field is
+/// no list of numbers of 32 bits, or if an allocation failed.
 pub(crate) fn children(
     alloc: Global,
     object: &Object<'_, '_>,
     key: &str,
 ) -> Result<Vec<NodeId>, FormatFault>
-    ensures { Gives (λ v. v.items) result (list_under as_u32 key.now (object_data object.now)) }
+    ensures { IsReadResult (λ v. v.items) result (list_value_under as_u32 key.now (object_data object.now)) }
 {
     match field(object, key) {
         None => Ok(Vec::new(alloc)),
-        Some(Found::Value(Value::Array(items))) => children_of_values(alloc, items.as_slice()),
-        Some(Found::Entry(Entry::List(numbers))) => children_numbered(alloc, numbers.as_slice()),
-        Some(Found::Entry(Entry::One(number))) => children_numbered(alloc, &[*number]),
-        Some(Found::Entry(Entry::Pair(first, second))) => {
+        Some(ObjectField::Value(Value::Array(items))) => children_of_values(
+            alloc,
+            items.as_slice(),
+        ),
+        Some(ObjectField::Entry(Entry::List(numbers))) => children_numbered(
+            alloc,
+            numbers.as_slice(),
+        ),
+        Some(ObjectField::Entry(Entry::One(number))) => children_numbered(alloc, &[*number]),
+        Some(ObjectField::Entry(Entry::Pair(first, second))) => {
             children_numbered(alloc, &[*first, *second])
         }
         Some(_) => Err(FormatFault::BadForm),
     }
 }
 
-/// The name and the scope that a value is, if it is a list of them.
-fn named_by_value<'a>(value: &Value<'a>) -> Option<(&'a str, u32)>
-    ensures { option_map (λ p. (p.0.now, p.1)) result ≡ as_identifier (data_of value.now) }
+/// Returns the name and the scope if a JSON value is a list of the two.
+fn identifier_of_value<'a>(value: &Value<'a>) -> Option<(&'a str, u32)>
+    ensures { option_map (λ p. (p.0.now, p.1)) result ≡ as_identifier (value_data value.now) }
 {
     let (name, scope) = lookup::pair(value)?;
     Some((lookup::as_text(name)?, numbers::as_u32(scope)?))
 }
 
-/// The name and the scope that are there, if they are.
+/// Returns the name and the scope if a field is a list of the two.
 #[tactic(auto, using(crate::proofs::Entered::no_identifier))]
-fn named<'a>(found: Found<'_, 'a>) -> Option<(&'a str, u32)>
-    ensures { option_map (λ p. (p.0.now, p.1)) result ≡ as_identifier (found_data found.entry) }
+fn named<'a>(found: ObjectField<'_, 'a>) -> Option<(&'a str, u32)>
+    ensures { option_map (λ p. (p.0.now, p.1)) result ≡ as_identifier (object_field_data found.entry) }
 {
     match found {
-        Found::Value(value) => named_by_value(value),
-        Found::Entry(Entry::Named(name, scope)) => match u32::try_from(*scope) {
+        ObjectField::Value(value) => identifier_of_value(value),
+        ObjectField::Entry(Entry::NameAndScope(name, scope)) => match u32::try_from(*scope) {
             Ok(scope) => Some((name, scope)),
             Err(_) => None,
         },
-        Found::Entry(_) => None,
+        ObjectField::Entry(_) => None,
     }
 }
 
-/// A name with its scope, which has to be there.
+/// Returns a required name with its scope. It fails if the field is absent or no such pair, or if
+/// an allocation failed.
 pub(crate) fn identifier(
     alloc: Global,
     object: &Object<'_, '_>,
     key: &str,
 ) -> Result<Id, FormatFault>
-    ensures { Gives identifier_view result
-        (required_under as_identifier key.now (object_data object.now)) }
+    ensures { IsReadResult identifier_view result
+        (required_value_under as_identifier key.now (object_data object.now)) }
 {
     let Some((name, scope)) = field(object, key).and_then(named) else {
         return Err(FormatFault::BadForm);

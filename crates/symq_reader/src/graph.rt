@@ -1,22 +1,27 @@
-//! Modules and graphs.
+//! Reads modules and graphs from JSON values.
 
 ghost use Rattle.std.specs.Prelude.{codes, map, option_and_then};
 ghost use Rattle.serde_json.specs.Find.{as_str};
-ghost use Rattle.symq_reader.specs.JsonData.{data_of};
-ghost use Rattle.symq_reader.specs.inner.Reading.{Gives};
-ghost use Rattle.symq_reader.specs.UnderKeys.{list_under};
-ghost use Rattle.symq_reader.specs.GraphText.{esm_of, module_kind_of, module_kind_shape, as_module, module_shape, as_redirect, redirect_shape, as_resolution, resolution_shape, if_object, graph_fields, graph_shape};
+ghost use Rattle.symq_reader.specs.JsonData.{value_data};
+ghost use Rattle.symq_reader.specs.inner.Reading.{IsReadResult};
+ghost use Rattle.symq_reader.specs.UnderKeys.{list_value_under};
+ghost use Rattle.symq_reader.specs.GraphText.{as_esm, module_kind_by_tag, module_kind_shape};
+ghost use Rattle.symq_reader.specs.GraphText.{as_module};
+ghost use Rattle.symq_reader.specs.GraphText.{module_shape, as_redirect, redirect_shape};
+ghost use Rattle.symq_reader.specs.GraphText.{as_resolution};
+ghost use Rattle.symq_reader.specs.GraphText.{resolution_shape, require_object, graph_fields};
+ghost use Rattle.symq_reader.specs.GraphText.{graph_shape};
 
 use crate::faults::FormatFault;
 use crate::fields::{self, Object};
 use crate::{lookup, nodes};
 use json::Value;
 use std::alloc::Global;
-use symbols_syntax::graph::{RawGraph, RawModule, RawModuleKind, RawResolution};
+use symbols_ast::graph::{RawGraph, RawModule, RawModuleKind, RawResolution};
 
-/// An ECMAScript module.
+/// Returns the fields of an ECMAScript module.
 fn esm(alloc: Global, value: &Value<'_>) -> Result<RawModuleKind, FormatFault>
-    ensures { Gives module_kind_shape result (esm_of (data_of value.now)) }
+    ensures { IsReadResult module_kind_shape result (as_esm (value_data value.now)) }
 {
     let text = fields::text(alloc, &Object::Value(value), "text")?;
     let tree = nodes::optional_tree(alloc, value)?;
@@ -24,9 +29,10 @@ fn esm(alloc: Global, value: &Value<'_>) -> Result<RawModuleKind, FormatFault>
     Ok(RawModuleKind::Esm { text, tree, types })
 }
 
-/// A module read as the kind of this text.
-fn kind_named(alloc: Global, kind: &str, value: &Value<'_>) -> Result<RawModuleKind, FormatFault>
-    ensures { Gives module_kind_shape result (module_kind_of kind.now (data_of value.now)) }
+/// Returns the fields of a module whose `kind` is this keyword. It fails if the keyword or a field
+/// is wrong, or if an allocation failed.
+fn kind_by_tag(alloc: Global, kind: &str, value: &Value<'_>) -> Result<RawModuleKind, FormatFault>
+    ensures { IsReadResult module_kind_shape result (module_kind_by_tag kind.now (value_data value.now)) }
 {
     match kind {
         "esm" => esm(alloc, value),
@@ -38,21 +44,22 @@ fn kind_named(alloc: Global, kind: &str, value: &Value<'_>) -> Result<RawModuleK
     }
 }
 
-/// A module: its specifier, and the fields of its kind.
+/// Returns a module: its specifier, and the fields of its kind. Missing or malformed fields are a
+/// fault.
 pub(crate) fn module(alloc: Global, value: &Value<'_>) -> Result<RawModule, FormatFault>
-    ensures { Gives module_shape result (as_module (data_of value.now)) }
+    ensures { IsReadResult module_shape result (as_module (value_data value.now)) }
 {
     let specifier = fields::text(alloc, &Object::Value(value), "specifier")?;
     let Some(kind) = lookup::field(value, "kind").and_then(lookup::as_text) else {
         return Err(FormatFault::BadForm);
     };
-    let kind = kind_named(alloc, kind, value)?;
+    let kind = kind_by_tag(alloc, kind, value)?;
     Ok(RawModule { specifier, kind })
 }
 
 fn modules(alloc: Global, value: &Value<'_>) -> Result<Vec<RawModule>, FormatFault>
-    ensures { Gives (λ v. map module_shape v.items) result
-        (list_under as_module (codes "modules") (data_of value.now)) }
+    ensures { IsReadResult (λ v. map module_shape v.items) result
+        (list_value_under as_module (codes "modules") (value_data value.now)) }
 {
     let Some(items) = lookup::list(value, "modules")? else {
         return Ok(Vec::new(alloc));
@@ -64,9 +71,9 @@ fn modules(alloc: Global, value: &Value<'_>) -> Result<Vec<RawModule>, FormatFau
     Ok(modules)
 }
 
-/// A redirect, by its source and its target.
+/// Returns a redirect: its source and its target.
 fn redirect(alloc: Global, value: &Value<'_>) -> Result<(String, String), FormatFault>
-    ensures { Gives redirect_shape result (as_redirect (data_of value.now)) }
+    ensures { IsReadResult redirect_shape result (as_redirect (value_data value.now)) }
 {
     let Some((from, to)) = lookup::pair(value) else {
         return Err(FormatFault::BadForm);
@@ -80,8 +87,8 @@ fn redirect(alloc: Global, value: &Value<'_>) -> Result<(String, String), Format
 }
 
 fn redirects(alloc: Global, value: &Value<'_>) -> Result<Vec<(String, String)>, FormatFault>
-    ensures { Gives (λ v. map redirect_shape v.items) result
-        (list_under as_redirect (codes "redirects") (data_of value.now)) }
+    ensures { IsReadResult (λ v. map redirect_shape v.items) result
+        (list_value_under as_redirect (codes "redirects") (value_data value.now)) }
 {
     let Some(items) = lookup::list(value, "redirects")? else {
         return Ok(Vec::new(alloc));
@@ -93,30 +100,30 @@ fn redirects(alloc: Global, value: &Value<'_>) -> Result<Vec<(String, String)>, 
     Ok(redirects)
 }
 
-/// What a text stands for in the module that it is written in.
+/// Returns a resolution: what a specifier in a module resolves to.
 fn resolution(alloc: Global, value: &Value<'_>) -> Result<RawResolution, FormatFault>
-    ensures { Gives resolution_shape result (as_resolution (data_of value.now)) }
+    ensures { IsReadResult resolution_shape result (as_resolution (value_data value.now)) }
 {
-    let Some((referrer, text, to)) = lookup::triple(value) else {
+    let Some((referrer, specifier_text, to)) = lookup::triple(value) else {
         return Err(FormatFault::BadForm);
     };
-    let (Some(referrer), Some(text), Some(to)) = (
+    let (Some(referrer), Some(specifier_text), Some(to)) = (
         lookup::as_text(referrer),
-        lookup::as_text(text),
+        lookup::as_text(specifier_text),
         lookup::as_text(to),
     ) else {
         return Err(FormatFault::BadForm);
     };
     Ok(RawResolution {
         referrer: String::from_str(alloc, referrer)?,
-        text: String::from_str(alloc, text)?,
+        specifier_text: String::from_str(alloc, specifier_text)?,
         specifier: String::from_str(alloc, to)?,
     })
 }
 
 fn resolutions(alloc: Global, value: &Value<'_>) -> Result<Vec<RawResolution>, FormatFault>
-    ensures { Gives (λ v. map resolution_shape v.items) result
-        (list_under as_resolution (codes "resolutions") (data_of value.now)) }
+    ensures { IsReadResult (λ v. map resolution_shape v.items) result
+        (list_value_under as_resolution (codes "resolutions") (value_data value.now)) }
 {
     let Some(items) = lookup::list(value, "resolutions")? else {
         return Ok(Vec::new(alloc));
@@ -128,9 +135,9 @@ fn resolutions(alloc: Global, value: &Value<'_>) -> Result<Vec<RawResolution>, F
     Ok(resolutions)
 }
 
-/// The graph of a value in which every number is whole.
+/// Returns the graph that a JSON value describes. Each number in the value has to be whole.
 pub(crate) fn graph(alloc: Global, value: &Value<'_>) -> Result<RawGraph, FormatFault>
-    ensures { Gives graph_shape result (if_object graph_fields (data_of value.now)) }
+    ensures { IsReadResult graph_shape result (require_object graph_fields (value_data value.now)) }
 {
     if !matches!(value, Value::Object(_)) {
         return Err(FormatFault::BadForm);

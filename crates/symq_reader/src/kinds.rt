@@ -1,9 +1,11 @@
-//! The kinds of nodes: an object read as the kind that it says that it is.
+//! Reads the kind of a node: its field `kind` names the kind, whose fields are then read.
 
-ghost use Rattle.std.specs.Prelude.{◌≡◌};
+ghost use Rattle.std.specs.Prelude.{◌≡◌, Option, Some, option_map};
 ghost use Rattle.symq_reader.specs.inner.Objects.{object_data};
-ghost use Rattle.symq_reader.specs.inner.Reading.{Gives};
-ghost use Rattle.symq_reader.specs.KindShapes.{read_kind, kind_shape, read_named};
+ghost use Rattle.symq_reader.specs.inner.Reading.{IsReadResult};
+ghost use Rattle.symq_reader.specs.KindShapes.{KindShape};
+ghost use Rattle.symq_reader.specs.KindShapesTable.{kind_shape};
+ghost use Rattle.symq_reader.specs.ReadKinds.{read_kind, node_kind_by_tag};
 
 mod decls;
 mod exprs;
@@ -15,12 +17,24 @@ mod tys;
 use crate::faults::FormatFault;
 use crate::fields::{self, Object};
 use std::alloc::Global;
-use symbols_syntax::tree::Kind;
+use symbols_ast::tree::Kind;
 
-/// An object read as the kind of this text; those that most nodes have are tried first, and a type
-/// annotation, which many nodes are, before all others.
-fn kind_named(alloc: Global, kind: &str, object: &Object<'_, '_>) -> Result<Kind, FormatFault>
-    ensures { Gives kind_shape result (read_named kind.now (object_data object.now)) }
+/// Returns a kind that was read, as one that its enum has.
+fn some_kind<T: Drop>(read: Result<T, FormatFault>) -> Result<Option<T>, FormatFault>
+    ensures { (view : T → KindShape) (there : Option KindShape) → IsReadResult view read there
+        → IsReadResult (option_map view) result (option_map Some there) }
+{
+    match read {
+        Ok(kind) => Ok(Some(kind)),
+        Err(fault) => Err(fault),
+    }
+}
+
+/// Returns the kind of this name with its fields. `TsTypeAnn` is tried first and frequent groups of
+/// kinds next, for speed alone. It fails if the name or a field is wrong, or if an allocation
+/// failed.
+fn kind_by_tag(alloc: Global, kind: &str, object: &Object<'_, '_>) -> Result<Kind, FormatFault>
+    ensures { IsReadResult kind_shape result (node_kind_by_tag kind.now (object_data object.now)) }
 {
     if kind == "TsTypeAnn" {
         return Ok(Kind::Ty(tys::ts_type_ann(object)?));
@@ -46,13 +60,14 @@ fn kind_named(alloc: Global, kind: &str, object: &Object<'_, '_>) -> Result<Kind
     Err(FormatFault::BadForm)
 }
 
-/// An object read as the kind that it says that it is.
-#[tactic(auto, unfolding(crate::specs::KindShapes::read_kind))]
+/// Returns the kind of a node with its fields. It fails if the field `kind` is missing or unknown,
+/// if another field is wrong, or if an allocation failed.
+#[tactic(auto, unfolding(crate::specs::ReadKinds::read_kind))]
 pub(crate) fn kind(alloc: Global, object: &Object<'_, '_>) -> Result<Kind, FormatFault>
-    ensures { Gives kind_shape result (read_kind (object_data object.now)) }
+    ensures { IsReadResult kind_shape result (read_kind (object_data object.now)) }
 {
     match fields::field(object, "kind").and_then(fields::as_text) {
-        Some(kind) => kind_named(alloc, kind, object),
+        Some(kind) => kind_by_tag(alloc, kind, object),
         None => Err(FormatFault::BadForm),
     }
 }

@@ -1,18 +1,19 @@
-//! What stands in a value: under a key, and in a list. Absent and null are one.
+//! Look-up in JSON values: by key, and in lists. A null member counts as absent.
 
 ghost use Rattle.std.specs.Prelude.{◌≡◌, option_map};
 ghost use Rattle.json.specs.Value.{items_view};
 ghost use Rattle.serde_json.specs.Find.{as_array, as_str};
-ghost use Rattle.symq_reader.specs.JsonData.{data_of, items_data, json_items_data};
-ghost use Rattle.symq_reader.specs.inner.JsonData.{data_listed};
-ghost use Rattle.symq_reader.specs.inner.Reading.{Gives};
-ghost use Rattle.symq_reader.specs.UnderKeys.{unless_null, value_at_key, array_under, two_items, three_items, as_pair, as_triple};
+ghost use Rattle.symq_reader.specs.JsonData.{value_data, items_data, json_items_data};
+ghost use Rattle.symq_reader.specs.inner.JsonData.{optional_items_data};
+ghost use Rattle.symq_reader.specs.inner.Reading.{IsReadResult};
+ghost use Rattle.symq_reader.specs.UnderKeys.{none_if_null, value_at_key, array_items_under};
+ghost use Rattle.symq_reader.specs.UnderKeys.{two_items, three_items, as_pair, as_triple};
 
 use crate::faults::FormatFault;
 use json::Value;
 
 fn if_some<'v, 'a>(value: &'v Value<'a>) -> Option<&'v Value<'a>>
-    ensures { option_map (λ found. data_of found.now) result ≡ unless_null (data_of value.now) }
+    ensures { option_map (λ found. value_data found.now) result ≡ none_if_null (value_data value.now) }
 {
     match value {
         Value::Null => None,
@@ -21,10 +22,12 @@ fn if_some<'v, 'a>(value: &'v Value<'a>) -> Option<&'v Value<'a>>
     }
 }
 
-/// The value under a key, unless it is null; of a repeated key the last.
-#[tactic(auto, using(crate::proofs::Gets::get_of_plain))]
+/// Returns the value under a key; `None` if it is absent or null. Of a repeated key the last value
+/// counts.
+#[tactic(auto, using(crate::proofs::Gets::get_of_unescaped))]
 pub(crate) fn field<'v, 'a>(value: &'v Value<'a>, key: &str) -> Option<&'v Value<'a>>
-    ensures { option_map (λ found. data_of found.now) result ≡ value_at_key key.now (data_of value.now) }
+    ensures { option_map (λ found. value_data found.now) result
+        ≡ value_at_key key.now (value_data value.now) }
 {
     match value.get(key) {
         Some(found) => if_some(found),
@@ -32,9 +35,9 @@ pub(crate) fn field<'v, 'a>(value: &'v Value<'a>, key: &str) -> Option<&'v Value
     }
 }
 
-/// The items that a value lists, if it is a list.
+/// Returns the items of a list; `None` if the value is no list.
 pub fn as_list<'v, 'a>(value: &'v Value<'a>) -> Option<&'v [Value<'a>]>
-    ensures { option_map (λ items. items_data items.now) result ≡ as_array (data_of value.now) }
+    ensures { option_map (λ items. items_data items.now) result ≡ as_array (value_data value.now) }
 {
     match value {
         Value::Array(items) => Some(items.as_slice()),
@@ -42,9 +45,9 @@ pub fn as_list<'v, 'a>(value: &'v Value<'a>) -> Option<&'v [Value<'a>]>
     }
 }
 
-/// The text that a value is, if it is one.
+/// Returns the string that a value is; `None` if it is no string.
 pub fn as_text<'a>(value: &Value<'a>) -> Option<&'a str>
-    ensures { option_map (λ s. s.now) result ≡ as_str (data_of value.now) }
+    ensures { option_map (λ s. s.now) result ≡ as_str (value_data value.now) }
 {
     match value {
         Value::String(text) => Some(text),
@@ -52,12 +55,13 @@ pub fn as_text<'a>(value: &Value<'a>) -> Option<&'a str>
     }
 }
 
-/// The items of a list, or none where it is absent.
+/// Returns the items of the list under a key; `None` if it is absent. It fails if the value is no
+/// list.
 pub(crate) fn list<'v, 'a>(
     value: &'v Value<'a>,
     key: &str,
 ) -> Result<Option<&'v [Value<'a>]>, FormatFault>
-    ensures { Gives data_listed result (array_under key.now (data_of value.now)) }
+    ensures { IsReadResult optional_items_data result (array_items_under key.now (value_data value.now)) }
 {
     match field(value, key) {
         None => Ok(None),
@@ -68,7 +72,7 @@ pub(crate) fn list<'v, 'a>(
 
 #[tactic(auto, using(crate::proofs::Tuples::fewer_than_two, crate::proofs::Tuples::more_than_two))]
 fn two<'v, 'a>(items: &'v [Value<'a>]) -> Option<(&'v Value<'a>, &'v Value<'a>)>
-    ensures { option_map (λ p. (data_of p.0.now, data_of p.1.now)) result
+    ensures { option_map (λ p. (value_data p.0.now, value_data p.1.now)) result
         ≡ two_items (json_items_data (items_view items.now)) }
 {
     match items {
@@ -77,10 +81,10 @@ fn two<'v, 'a>(items: &'v [Value<'a>]) -> Option<(&'v Value<'a>, &'v Value<'a>)>
     }
 }
 
-/// Both items of a list of two.
+/// Returns the items of a list of two; `None` for any other value.
 pub(crate) fn pair<'v, 'a>(value: &'v Value<'a>) -> Option<(&'v Value<'a>, &'v Value<'a>)>
-    ensures { option_map (λ p. (data_of p.0.now, data_of p.1.now)) result
-        ≡ as_pair (data_of value.now) }
+    ensures { option_map (λ p. (value_data p.0.now, value_data p.1.now)) result
+        ≡ as_pair (value_data value.now) }
 {
     match value {
         Value::Array(items) => two(items.as_slice()),
@@ -90,7 +94,7 @@ pub(crate) fn pair<'v, 'a>(value: &'v Value<'a>) -> Option<(&'v Value<'a>, &'v V
 
 #[tactic(auto, using(crate::proofs::Tuples::fewer_than_three, crate::proofs::Tuples::more_than_three))]
 fn three<'v, 'a>(items: &'v [Value<'a>]) -> Option<(&'v Value<'a>, &'v Value<'a>, &'v Value<'a>)>
-    ensures { option_map (λ p. (data_of p.0.now, data_of p.1.now, data_of p.2.now)) result
+    ensures { option_map (λ p. (value_data p.0.now, value_data p.1.now, value_data p.2.now)) result
         ≡ three_items (json_items_data (items_view items.now)) }
 {
     match items {
@@ -99,12 +103,12 @@ fn three<'v, 'a>(items: &'v [Value<'a>]) -> Option<(&'v Value<'a>, &'v Value<'a>
     }
 }
 
-/// All items of a list of three.
+/// Returns the items of a list of three; `None` for any other value.
 pub(crate) fn triple<'v, 'a>(
     value: &'v Value<'a>,
 ) -> Option<(&'v Value<'a>, &'v Value<'a>, &'v Value<'a>)>
-    ensures { option_map (λ p. (data_of p.0.now, data_of p.1.now, data_of p.2.now)) result
-        ≡ as_triple (data_of value.now) }
+    ensures { option_map (λ p. (value_data p.0.now, value_data p.1.now, value_data p.2.now)) result
+        ≡ as_triple (value_data value.now) }
 {
     match value {
         Value::Array(items) => three(items.as_slice()),

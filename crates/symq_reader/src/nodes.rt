@@ -1,23 +1,24 @@
-//! Nodes and trees.
+//! Reads nodes and trees from JSON values.
 
 ghost use Rattle.std.specs.Prelude.{◌≡◌, ◌++◌, ◌∷◌, [], IfErr, IfOk, Some, codes, map, option_map};
 ghost use Rattle.serde_json.specs.Data.{array};
-ghost use Rattle.symq_reader.specs.inner.Objects.{whole_numbers, object_data, found_data};
-ghost use Rattle.symq_reader.specs.JsonData.{data_of};
-ghost use Rattle.symq_reader.specs.inner.Reading.{Gives, IsFaultOf};
-ghost use Rattle.symq_reader.specs.UnderKeys.{required_under, optional_under, list_under};
+ghost use Rattle.symq_reader.specs.inner.Objects.{whole_numbers, object_data, object_field_data};
+ghost use Rattle.symq_reader.specs.JsonData.{value_data};
+ghost use Rattle.symq_reader.specs.inner.Reading.{IsReadResult, IsReadFault};
+ghost use Rattle.symq_reader.specs.UnderKeys.{required_value_under, optional_value_under};
+ghost use Rattle.symq_reader.specs.UnderKeys.{list_value_under};
 ghost use Rattle.symq_reader.specs.GraphText.{as_range, as_node, as_tree, node_shape, tree_shape};
-ghost use Rattle.symbols_syntax.specs.declared.tree.arena.Node.{Node as SpecNode};
+ghost use Rattle.symbols_ast.specs.declared.tree.arena.Node.{Node as SpecNode};
 
 use crate::entries::Entry;
 use crate::faults::FormatFault;
-use crate::fields::{self, Found, Object};
+use crate::fields::{self, Object, ObjectField};
 use crate::{kinds, lookup, numbers};
 use json::Value;
 use std::alloc::Global;
-use symbols_syntax::tree::{Node, SourceRange, Tree};
+use symbols_ast::tree::{Node, SourceRange, Tree};
 
-/// Two offsets as the range between them.
+/// Returns the range between two offsets.
 fn between(start: u64, end: u64) -> SourceRange
     ensures start { result.start ≡ start }
     ensures end { result.end ≡ end }
@@ -28,15 +29,15 @@ fn between(start: u64, end: u64) -> SourceRange
     }
 }
 
-/// The range that a value is, if it is a list of two offsets.
+/// Returns the range if a JSON value is a list of two offsets.
 fn range_by_value(value: &Value<'_>) -> Option<SourceRange>
-    ensures { result ≡ as_range (data_of value.now) }
+    ensures { result ≡ as_range (value_data value.now) }
 {
     let (start, end) = lookup::pair(value)?;
     Some(between(numbers::offset(start)?, numbers::offset(end)?))
 }
 
-/// The range between two offsets, if these are two.
+/// Returns the range if these are two offsets.
 #[tactic(auto, using(crate::proofs::Entered::fewer_than_two, crate::proofs::Entered::more_than_two))]
 fn range_of(numbers: &[u64]) -> Option<SourceRange>
     ensures { result ≡ as_range (array (whole_numbers numbers.now)) }
@@ -47,22 +48,22 @@ fn range_of(numbers: &[u64]) -> Option<SourceRange>
     }
 }
 
-/// The range that is there, if it is one.
-fn as_range(found: Found<'_, '_>) -> Option<SourceRange>
-    ensures { result ≡ as_range (found_data found.entry) }
+/// Returns the range if a field is a list of two offsets.
+fn as_range(found: ObjectField<'_, '_>) -> Option<SourceRange>
+    ensures { result ≡ as_range (object_field_data found.entry) }
 {
     match found {
-        Found::Value(value) => range_by_value(value),
-        Found::Entry(Entry::Pair(start, end)) => Some(between(*start, *end)),
-        Found::Entry(Entry::List(numbers)) => range_of(numbers.as_slice()),
-        Found::Entry(_) => None,
+        ObjectField::Value(value) => range_by_value(value),
+        ObjectField::Entry(Entry::Pair(start, end)) => Some(between(*start, *end)),
+        ObjectField::Entry(Entry::List(numbers)) => range_of(numbers.as_slice()),
+        ObjectField::Entry(_) => None,
     }
 }
 
-/// Where a node stands in its text.
+/// Returns the source range of a node. It fails if the field is absent or no range.
 fn range(object: &Object<'_, '_>) -> Result<SourceRange, FormatFault>
-    ensures { Gives (λ r. r) result
-        (required_under as_range (codes "range") (object_data object.now)) }
+    ensures { IsReadResult (λ r. r) result
+        (required_value_under as_range (codes "range") (object_data object.now)) }
 {
     match fields::field(object, "range").and_then(as_range) {
         Some(range) => Ok(range),
@@ -70,7 +71,7 @@ fn range(object: &Object<'_, '_>) -> Result<SourceRange, FormatFault>
     }
 }
 
-/// Puts a node, its kind and its range, behind those that were found.
+/// Reads a node with its kind and range, and appends it to the nodes.
 #[tactic(auto, unfolding(crate::specs::GraphText::as_node))]
 pub(crate) fn add_node(
     alloc: Global,
@@ -80,7 +81,7 @@ pub(crate) fn add_node(
     ensures added { IfOk result (λ _. (node : SpecNode)
         × (as_node (object_data object.now) ≡ Some (node_shape node))
         × (found.new.items ≡ found.old.items ++ node ∷ [])) }
-    ensures refused { IfErr result (λ fault. IsFaultOf (as_node (object_data object.now)) fault) }
+    ensures refused { IfErr result (λ fault. IsReadFault (as_node (object_data object.now)) fault) }
 {
     let kind = kinds::kind(alloc, object)?;
     let range = range(object)?;
@@ -88,10 +89,10 @@ pub(crate) fn add_node(
     Ok(())
 }
 
-/// The nodes of a tree, in order.
+/// Returns the nodes of a tree, in order.
 fn nodes(alloc: Global, value: &Value<'_>) -> Result<Vec<Node>, FormatFault>
-    ensures { Gives (λ v. map node_shape v.items) result
-        (list_under as_node (codes "nodes") (data_of value.now)) }
+    ensures { IsReadResult (λ v. map node_shape v.items) result
+        (list_value_under as_node (codes "nodes") (value_data value.now)) }
 {
     let Some(items) = lookup::list(value, "nodes")? else {
         return Ok(Vec::new(alloc));
@@ -103,9 +104,9 @@ fn nodes(alloc: Global, value: &Value<'_>) -> Result<Vec<Node>, FormatFault>
     Ok(nodes)
 }
 
-/// A tree, of whose nodes nothing is checked.
+/// Returns the tree that a JSON value describes. References between its nodes aren't checked.
 pub(crate) fn tree(alloc: Global, value: &Value<'_>) -> Result<Tree, FormatFault>
-    ensures { Gives tree_shape result (as_tree (data_of value.now)) }
+    ensures { IsReadResult tree_shape result (as_tree (value_data value.now)) }
 {
     if !matches!(value, Value::Object(_)) {
         return Err(FormatFault::BadForm);
@@ -115,10 +116,10 @@ pub(crate) fn tree(alloc: Global, value: &Value<'_>) -> Result<Tree, FormatFault
     Ok(Tree { declaration, nodes })
 }
 
-/// The tree of a module, which may be absent.
+/// Returns the optional tree of a module.
 pub(crate) fn optional_tree(alloc: Global, value: &Value<'_>) -> Result<Option<Tree>, FormatFault>
-    ensures { Gives (option_map tree_shape) result
-        (optional_under as_tree (codes "tree") (data_of value.now)) }
+    ensures { IsReadResult (option_map tree_shape) result
+        (optional_value_under as_tree (codes "tree") (value_data value.now)) }
 {
     match lookup::field(value, "tree") {
         None => Ok(None),

@@ -1,12 +1,14 @@
-//! Whole numbers: those of a JSON value, and whether it has no others, under any key.
+//! Whole numbers in JSON values, and checks that a value has no other numbers.
 
 ghost use Rattle.std.specs.Prelude.{◌≡◌, ◌<◌, ◌==◌, IsTrue, length, slice_index, false};
 ghost use Rattle.json.specs.Value.{value_view, items_view, members_view};
 ghost use Rattle.serde_json.specs.Find.{as_u64};
 ghost use Rattle.serde_json.specs.Read.{number_of, number_from};
-ghost use Rattle.serde_json.specs.View.{view, items_view as data_items, members_view as data_members};
-ghost use Rattle.symq_reader.specs.Numbers.{is_whole, items_are_whole, members_are_whole};
-ghost use Rattle.symq_reader.specs.JsonData.{num_or, data_of};
+ghost use Rattle.serde_json.specs.View.{view, items_view as data_items};
+ghost use Rattle.serde_json.specs.View.{members_view as data_members};
+ghost use Rattle.symq_reader.specs.Numbers.{has_whole_numbers, items_have_whole_numbers};
+ghost use Rattle.symq_reader.specs.Numbers.{members_have_whole_numbers};
+ghost use Rattle.symq_reader.specs.JsonData.{number_or_minus_one, value_data};
 ghost use Rattle.symq_reader.specs.inner.JsonData.{fits, items_fit, members_fit};
 ghost use Rattle.symq_reader.specs.UnderKeys.{as_offset, as_u32};
 
@@ -15,25 +17,25 @@ use fast_float::Numeral;
 use json::Value;
 use serde_json::Map;
 
-/// Whether each number of a value, at any depth, is whole and fits 64 bits.
+/// Checks whether each number of a value, at any depth, is whole and fits 64 bits.
 #[cycle(whole)]
-pub(crate) fn is_whole(value: &serde_json::Value) -> bool
-    ensures { result ≡ is_whole (view value.now) }
+pub(crate) fn has_whole_numbers(value: &serde_json::Value) -> bool
+    ensures { result ≡ has_whole_numbers (view value.now) }
 {
     match value {
         serde_json::Value::Number(number) => number.is_u64(),
-        serde_json::Value::Array(items) => items_are_whole(items),
-        serde_json::Value::Object(members) => members_are_whole(members),
+        serde_json::Value::Array(items) => items_have_whole_numbers(items),
+        serde_json::Value::Object(members) => members_have_whole_numbers(members),
         _ => true,
     }
 }
 
 #[cycle(whole)]
-fn items_are_whole(items: &Vec<serde_json::Value>) -> bool
-    ensures { result ≡ items_are_whole (data_items items.now.items) }
+fn items_have_whole_numbers(items: &Vec<serde_json::Value>) -> bool
+    ensures { result ≡ items_have_whole_numbers (data_items items.now.items) }
 {
     for item in items {
-        if !is_whole(item) {
+        if !has_whole_numbers(item) {
             return false;
         }
     }
@@ -41,11 +43,11 @@ fn items_are_whole(items: &Vec<serde_json::Value>) -> bool
 }
 
 #[cycle(whole)]
-fn members_are_whole(members: &Map<String, serde_json::Value>) -> bool
-    ensures { result ≡ members_are_whole (data_members members.now.entries) }
+fn members_have_whole_numbers(members: &Map<String, serde_json::Value>) -> bool
+    ensures { result ≡ members_have_whole_numbers (data_members members.now.entries) }
 {
     for (_, value) in members.iter() {
-        if !is_whole(value) {
+        if !has_whole_numbers(value) {
             return false;
         }
     }
@@ -63,7 +65,7 @@ fn has_minus(bytes: &[u8]) -> bool
 #[tactic(auto, using(crate::proofs::Numerals::no_float))]
 #[inline(always)]
 fn unsigned(numeral: &Numeral<'_>) -> Option<u64>
-    ensures { result ≡ as_u64 (num_or (number_from false numeral.now)) }
+    ensures { result ≡ as_u64 (number_or_minus_one (number_from false numeral.now)) }
 {
     match numeral.to_u64() {
         Some(n) => Some(n),
@@ -71,10 +73,11 @@ fn unsigned(numeral: &Numeral<'_>) -> Option<u64>
     }
 }
 
-/// The whole number of a numeral's text, of any length.
+/// Returns the whole number of a numeral of any length; `None` if it isn't whole or doesn't fit 64
+/// bits.
 #[tactic(auto, using(crate::proofs::Numerals::of_minus, crate::proofs::Numerals::of_digits))]
 fn long_whole(bytes: &[u8]) -> Option<u64>
-    ensures { result ≡ as_u64 (num_or (number_of bytes.now)) }
+    ensures { result ≡ as_u64 (number_or_minus_one (number_of bytes.now)) }
 {
     if has_minus(bytes) {
         None
@@ -83,10 +86,11 @@ fn long_whole(bytes: &[u8]) -> Option<u64>
     }
 }
 
-/// The whole number of a numeral's text; most are short.
+/// Returns the whole number of a numeral; `None` if it isn't whole or doesn't fit 64 bits. Short
+/// numerals take a faster path.
 #[inline(always)]
 pub(crate) fn whole(digits: &str) -> Option<u64>
-    ensures { result ≡ as_u64 (num_or (number_of digits.now)) }
+    ensures { result ≡ as_u64 (number_or_minus_one (number_of digits.now)) }
 {
     let bytes = digits.as_bytes();
     match short_number(bytes) {
@@ -95,9 +99,9 @@ pub(crate) fn whole(digits: &str) -> Option<u64>
     }
 }
 
-/// The number that a value is, if it is whole and fits 64 bits.
+/// Returns the number that a value is, if it is whole and fits 64 bits.
 pub(crate) fn offset(value: &Value<'_>) -> Option<u64>
-    ensures { result ≡ as_offset (data_of value.now) }
+    ensures { result ≡ as_offset (value_data value.now) }
 {
     match value {
         Value::Number(digits) => whole(digits),
@@ -105,15 +109,16 @@ pub(crate) fn offset(value: &Value<'_>) -> Option<u64>
     }
 }
 
-/// The number that a value is, if it is whole and fits 32 bits, as those of nodes and scopes do.
+/// Returns the number that a value is; `None` if it isn't whole or doesn't fit 32 bits. The numbers
+/// of nodes and scopes have this form.
 pub fn as_u32(value: &Value<'_>) -> Option<u32>
-    ensures { result ≡ as_u32 (data_of value.now) }
+    ensures { result ≡ as_u32 (value_data value.now) }
 {
     u32::try_from(offset(value)?).ok()
 }
 
-/// Whether each number of a value is whole and fits 64 bits, at any depth, and also where a later
-/// member has the same key.
+/// Checks whether each number of a value, at any depth, is whole and fits 64 bits. Numbers that a
+/// later key replaces count too.
 #[cycle(fits)]
 pub(crate) fn fits(value: &Value<'_>) -> bool
     ensures { result ≡ fits (value_view value.now) }

@@ -1,22 +1,24 @@
-//! Numbers of at most nine digits, at the beginning of bytes.
+//! Reads numbers of at most nine digits from the front of bytes.
 
-ghost use Rattle.std.specs.Prelude.{◌≡◌, ◌+◌, ◌^◌, ◌<◌, ◌≤◌, ◌++◌, decimal, length, take, get_or, IfSome};
+ghost use Rattle.std.specs.Prelude.{◌≡◌, ◌+◌, ◌^◌, ◌<◌, ◌≤◌, ◌++◌, decimal, length, take, get_or};
+ghost use Rattle.std.specs.Prelude.{IfSome};
 
-/// The digit at a place.
+/// Returns the digit at an index; `None` if there is none.
 #[inline(always)]
-fn digit(bytes: &[u8], place: usize) -> Option<u32>
-    ensures found { IfSome result (λ d. get_or bytes.now place 0 ≡ 48 + d) }
+fn digit(bytes: &[u8], index: usize) -> Option<u32>
+    ensures found { IfSome result (λ d. get_or bytes.now index 0 ≡ 48 + d) }
     ensures small { IfSome result (λ d. d < 10) }
-    ensures within { IfSome result (λ _. place < length bytes.now) }
+    ensures within { IfSome result (λ _. index < length bytes.now) }
 {
-    if place < bytes.len() && b'0' <= bytes[place] && bytes[place] <= b'9' {
-        Some(u32::from(bytes[place] - b'0'))
+    if index < bytes.len() && b'0' <= bytes[index] && bytes[index] <= b'9' {
+        Some(u32::from(bytes[index] - b'0'))
     } else {
         None
     }
 }
 
-/// The number of the five digits that bytes begin with, if there are five, of which this is the first.
+/// Returns the number of the five digits at the front of the bytes; `None` if there are fewer. The
+/// first digit is passed in.
 #[inline(always)]
 fn five_digits(bytes: &[u8], first: u32) -> Option<u32>
     requires first { (0 < first) × (first < 10) × (take 1 bytes.now ≡ decimal first) }
@@ -33,7 +35,7 @@ fn five_digits(bytes: &[u8], first: u32) -> Option<u32>
     Some(first * 10_000 + second * 1_000 + third * 100 + fourth * 10 + fifth)
 }
 
-/// The number of some digits that bytes begin with, and how many these are: five, or the first alone.
+/// Returns the number of the first digits and their count: five digits, or else the first alone.
 #[inline(always)]
 fn first_digits(bytes: &[u8], first: u32) -> (u32, usize)
     requires first { (0 < first) × (first < 10) × (take 1 bytes.now ≡ decimal first) }
@@ -47,7 +49,8 @@ fn first_digits(bytes: &[u8], first: u32) -> (u32, usize)
     }
 }
 
-/// The number that bytes begin with, and what follows it: with no zero before it, and of at most nine digits.
+/// Returns the number at the front of the bytes, and the bytes after it. It is `None` if there is
+/// no digit, or if the number has more than nine digits. A leading zero is read as the number 0.
 #[inline(always)]
 pub(crate) fn short_number(bytes: &[u8]) -> Option<(u32, &[u8])>
     ensures text { IfSome result (λ parts. bytes.now ≡ decimal parts.0 ++ parts.1.now) }
@@ -58,14 +61,14 @@ pub(crate) fn short_number(bytes: &[u8]) -> Option<(u32, &[u8])>
         let (_, rest) = bytes.split_at(1);
         return Some((0, rest));
     }
-    let (mut found, mut place) = first_digits(bytes, first);
-    'digits: while let Some(next) = digit(bytes, place) {
+    let (mut found, mut index) = first_digits(bytes, first);
+    'digits: while let Some(next) = digit(bytes, index) {
         if 100_000_000 <= found {
             return None;
         }
         found = found * 10 + next;
-        place += 1;
+        index += 1;
     }
-    let (_, rest) = bytes.split_at(place);
+    let (_, rest) = bytes.split_at(index);
     Some((found, rest))
 }

@@ -1,15 +1,18 @@
-//! Graphs of the plain form, read node by node, with no value of the whole text.
+//! The fast path for graphs: reads node by node, without a JSON value of the whole text.
 //!
-//! A graph is given only where `serde_json`'s value of the bytes is that graph. At anything odd the
-//! reader gives up: where a text is no JSON or its form is wrong, where a number isn't whole, under
-//! any key, where a list in a node is neither one of whole numbers nor a text with one, and where a
-//! list of modules, a tree or a list of nodes stands twice in one object.
+//! If it returns a graph, `serde_json`'s value of the bytes describes that graph. It gives up on
+//! everything unsupported: a text that is no JSON or has the wrong form, and a number that isn't
+//! whole, under any key. A list in a node has to be one of whole numbers, or a string with one
+//! number. It also gives up if one object has the modules, a tree or the nodes twice.
 
 ghost use Rattle.std.specs.Prelude.{◌≡◌, IfOk, Ok};
-ghost use Rattle.symq_reader.specs.GraphText.{graph_shape, outcome_of, if_object, graph_fields};
+ghost use Rattle.symq_reader.specs.GraphText.{graph_shape, read_outcome_of_bytes, require_object};
+ghost use Rattle.symq_reader.specs.GraphText.{graph_fields};
 ghost use Rattle.symq_reader.specs.inner.Streams.{ReadsMembers, ReadsValue};
-ghost use Rattle.symq_reader.specs.inner.Outcomes.{by_format, by_json};
-ghost use Rattle.symq_reader.specs.declared.stream.GiveUp.TheVariants.{OutOfMemory, Odd};
+ghost use Rattle.symq_reader.specs.inner.Outcomes.{fast_path_fault_of_format_fault};
+ghost use Rattle.symq_reader.specs.inner.Outcomes.{fast_path_fault_of_json_error};
+ghost use Rattle.symq_reader.specs.declared.stream.FastPathFault.TheVariants.{OutOfMemory};
+ghost use Rattle.symq_reader.specs.declared.stream.FastPathFault.TheVariants.{Unsupported};
 
 mod entries;
 mod members;
@@ -21,105 +24,106 @@ use crate::faults::FormatFault;
 use crate::graph;
 use json::{Error, Invalid, Reader, Scratch, Token, Value};
 use std::alloc::{AllocError, AllocFailed, Global};
-use symbols_syntax::graph::RawGraph;
+use symbols_ast::graph::RawGraph;
 
-/// Why no graph is given.
+/// The reason why the fast path returns no graph.
 #[derive(Clone, Copy, Drop)]
-pub(crate) enum GiveUp {
-    /// Memory was refused.
+pub(crate) enum FastPathFault {
+    /// An allocation failed.
     OutOfMemory,
-    /// The text isn't of the plain form.
-    Odd,
+    /// The text is unsupported on the fast path.
+    Unsupported,
 }
 
-impl From<AllocError> for GiveUp {
+impl From<AllocError> for FastPathFault {
     ghost from_gives = { λ _ why. why ≡ OutOfMemory };
 
-    fn from(_error: AllocError) -> GiveUp {
-        GiveUp::OutOfMemory
+    fn from(_error: AllocError) -> FastPathFault {
+        FastPathFault::OutOfMemory
     }
 }
 
-impl<T: Drop> From<AllocFailed<T>> for GiveUp {
+impl<T: Drop> From<AllocFailed<T>> for FastPathFault {
     ghost from_gives = { λ _ why. why ≡ OutOfMemory };
 
-    fn from(_error: AllocFailed<T>) -> GiveUp {
-        GiveUp::OutOfMemory
+    fn from(_error: AllocFailed<T>) -> FastPathFault {
+        FastPathFault::OutOfMemory
     }
 }
 
-impl From<Invalid> for GiveUp {
-    ghost from_gives = { λ _ why. why ≡ Odd };
+impl From<Invalid> for FastPathFault {
+    ghost from_gives = { λ _ why. why ≡ Unsupported };
 
-    fn from(_error: Invalid) -> GiveUp {
-        GiveUp::Odd
+    fn from(_error: Invalid) -> FastPathFault {
+        FastPathFault::Unsupported
     }
 }
 
-impl From<Error> for GiveUp {
-    ghost from_gives = { λ error why. why ≡ by_json error };
+impl From<Error> for FastPathFault {
+    ghost from_gives = { λ error why. why ≡ fast_path_fault_of_json_error error };
 
-    fn from(error: Error) -> GiveUp {
+    fn from(error: Error) -> FastPathFault {
         match error {
-            Error::OutOfMemory => GiveUp::OutOfMemory,
-            _ => GiveUp::Odd,
+            Error::OutOfMemory => FastPathFault::OutOfMemory,
+            _ => FastPathFault::Unsupported,
         }
     }
 }
 
-impl From<FormatFault> for GiveUp {
-    ghost from_gives = { λ fault why. why ≡ by_format fault };
+impl From<FormatFault> for FastPathFault {
+    ghost from_gives = { λ fault why. why ≡ fast_path_fault_of_format_fault fault };
 
-    fn from(fault: FormatFault) -> GiveUp {
+    fn from(fault: FormatFault) -> FastPathFault {
         match fault {
-            FormatFault::OutOfMemory => GiveUp::OutOfMemory,
-            _ => GiveUp::Odd,
+            FormatFault::OutOfMemory => FastPathFault::OutOfMemory,
+            _ => FastPathFault::Unsupported,
         }
     }
 }
 
-/// The graph of an object whose brace was taken.
-fn graph_members(alloc: Global, reader: &mut Reader<'_>) -> Result<RawGraph, GiveUp>
+/// Reads a graph from the members of an object, after its brace.
+fn graph_members(alloc: Global, reader: &mut Reader<'_>) -> Result<RawGraph, FastPathFault>
     ensures { IfOk result (λ graph. ReadsMembers 126 reader.old reader.new
-        (if_object graph_fields) (graph_shape graph)) }
+        (require_object graph_fields) (graph_shape graph)) }
 {
-    let mut kept = Vec::new(alloc);
-    let found = modules::modules_among(alloc, reader, &mut kept)?;
-    let mut graph = graph::graph(alloc, &Value::Object(kept))?;
+    let mut retained = Vec::new(alloc);
+    let found = modules::modules_among(alloc, reader, &mut retained)?;
+    let mut graph = graph::graph(alloc, &Value::Object(retained))?;
     graph.modules = found;
     Ok(graph)
 }
 
-/// The graph of a text's value.
-fn graph_value(alloc: Global, reader: &mut Reader<'_>) -> Result<RawGraph, GiveUp>
+/// Reads a graph from the next JSON value.
+fn graph_value(alloc: Global, reader: &mut Reader<'_>) -> Result<RawGraph, FastPathFault>
     ensures { IfOk result (λ graph. ReadsValue 127 reader.old reader.new
-        (if_object graph_fields) (graph_shape graph)) }
+        (require_object graph_fields) (graph_shape graph)) }
 {
     let Some(Token::BeginObject) = reader.next() else {
-        return Err(GiveUp::Odd);
+        return Err(FastPathFault::Unsupported);
     };
     graph_members(alloc, reader)
 }
 
-/// The graph of bytes whose tokens are read by one reader.
-fn graph_at_once(alloc: Global, bytes: &[u8]) -> Result<RawGraph, GiveUp>
-    ensures { IfOk result (λ graph. outcome_of bytes.now ≡ Ok (graph_shape graph)) }
+/// Reads a graph from the bytes with one reader for the whole text.
+fn graph_at_once(alloc: Global, bytes: &[u8]) -> Result<RawGraph, FastPathFault>
+    ensures { IfOk result (λ graph. read_outcome_of_bytes bytes.now ≡ Ok (graph_shape graph)) }
 {
     let Ok(text) = simdutf8::compat::from_utf8(bytes) else {
-        return Err(GiveUp::Odd);
+        return Err(FastPathFault::Unsupported);
     };
     let mut scratch = Scratch::new(alloc);
     let mut reader = Reader::new(text, &mut scratch)?;
     let graph = graph_value(alloc, &mut reader)?;
     match reader.next() {
-        Some(_) => Err(GiveUp::Odd),
+        Some(_) => Err(FastPathFault::Unsupported),
         None => Ok(graph),
     }
 }
 
-/// The graph that bytes are, if they are of the plain form.
-pub(crate) fn graph(alloc: Global, bytes: &[u8]) -> Result<RawGraph, GiveUp>
-    ensures { IfOk result (λ graph. outcome_of bytes.now ≡ Ok (graph_shape graph)) }
+/// Returns the graph of a text on the fast path. It gives up if the text is unsupported or an
+/// allocation failed.
+pub(crate) fn graph(alloc: Global, bytes: &[u8]) -> Result<RawGraph, FastPathFault>
+    ensures { IfOk result (λ graph. read_outcome_of_bytes bytes.now ≡ Ok (graph_shape graph)) }
 {
     match pieces::after_opening(bytes) {
         Some(list) => pieces::graph(alloc, list),

@@ -1,29 +1,30 @@
-//! Values of lists, texts and whole numbers, as queries are.
+//! Reads JSON values of lists, strings and whole numbers, which queries consist of.
 
 ghost use Rattle.std.specs.Prelude.{◌≡◌, false, Some, IfOk, IfSome, MatchOption};
-ghost use Rattle.symq_reader.specs.GraphText.{json_of};
-ghost use Rattle.symq_reader.specs.Lists.{has_lists_only};
-ghost use Rattle.symq_reader.specs.JsonData.{data_of};
+ghost use Rattle.symq_reader.specs.GraphText.{json_of_bytes};
+ghost use Rattle.symq_reader.specs.Lists.{has_no_object};
+ghost use Rattle.symq_reader.specs.JsonData.{value_data};
 
 use crate::numbers;
 use crate::whole::whole_value;
 use json::{Scratch, Value};
 use std::alloc::{AllocError, Global};
 
-/// The value of bytes that are made of lists, texts and whole numbers (own rule): none where they are
-/// no JSON, and where a number isn't whole or doesn't fit 64 bits. Whether there is an object in it
-/// isn't looked at. What the reading needs of memory stays in `scratch`, for the next one.
+/// Returns the JSON value of bytes that consist of lists, strings and whole numbers (extension). It
+/// is `None` if they are no JSON, or if a number isn't whole or doesn't fit 64 bits. Objects in it
+/// aren't checked. The buffers stay in `scratch`, for the next call.
 ///
 /// # Errors
 ///
-/// Memory was refused.
+/// An allocation failed.
 pub fn read_value<'a>(
     alloc: Global,
     bytes: &'a [u8],
     scratch: &'a mut Scratch,
 ) -> Result<Option<Value<'a>>, AllocError>
-    ensures { IfOk result (λ found. MatchOption found (IfSome (json_of bytes.now) (λ d. has_lists_only d ≡ false))
-        (λ value. json_of bytes.now ≡ Some (data_of value))) }
+    ensures { IfOk result
+        (λ found. MatchOption found (IfSome (json_of_bytes bytes.now) (λ d. has_no_object d ≡ false))
+        (λ value. json_of_bytes bytes.now ≡ Some (value_data value))) }
 {
     let Ok(text) = simdutf8::compat::from_utf8(bytes) else {
         return Ok(None);

@@ -1,4 +1,4 @@
-//! Graphs of any form, by a JSON value of the whole text.
+//! Reads graphs of any form by a JSON value of the whole text.
 
 ghost use Rattle.std.specs.Prelude.{◌≡◌, [], IfOk, MatchOption, Some, None};
 ghost use Rattle.json.specs.Json.{value};
@@ -6,16 +6,17 @@ ghost use Rattle.json.specs.Lex.{tokens};
 ghost use Rattle.json.specs.Value.{value_view};
 ghost use Rattle.serde_json.specs.Read.{max_depth, read};
 ghost use Rattle.std.specs.Str.{IsUtf8};
-ghost use Rattle.symq_reader.specs.GraphText.{IsOutcome, outcome_of};
+ghost use Rattle.symq_reader.specs.GraphText.{IsReadOutcome, read_outcome_of_bytes};
 
 use crate::faults::FormatFault;
-use crate::stream::GiveUp;
+use crate::stream::FastPathFault;
 use crate::{graph, numbers, stream};
 use json::{Error, Reader, Scratch, Value};
 use std::alloc::{AllocError, Global};
-use symbols_syntax::graph::RawGraph;
+use symbols_ast::graph::RawGraph;
 
-/// The value of a text; none where `serde_json` reads none.
+/// Returns the JSON value of a text; `None` if it is no JSON. It fails only if an allocation
+/// failed.
 pub(crate) fn whole_value<'a>(
     alloc: Global,
     text: &'a str,
@@ -36,15 +37,15 @@ pub(crate) fn whole_value<'a>(
     }
 }
 
-/// The graph of bytes of which this is the value, as `serde_json` reads its numbers.
+/// Returns the graph of bytes whose value is given, by the rules of `serde_json` for numbers.
 fn graph_by_numbers(alloc: Global, bytes: &[u8], found: &Value<'_>) -> Result<RawGraph, FormatFault>
     requires utf8 { IsUtf8 bytes.now }
     requires read { value max_depth (tokens bytes.now) ≡ Some (value_view found.now, []) }
-    ensures { IsOutcome result (outcome_of bytes.now) }
+    ensures { IsReadOutcome result (read_outcome_of_bytes bytes.now) }
 {
     match serde_json::Value::from_slice(alloc, bytes) {
         Ok(read) => {
-            if !numbers::is_whole(&read) {
+            if !numbers::has_whole_numbers(&read) {
                 return Err(FormatFault::BadForm);
             }
             drop(read);
@@ -55,10 +56,10 @@ fn graph_by_numbers(alloc: Global, bytes: &[u8], found: &Value<'_>) -> Result<Ra
     }
 }
 
-/// The graph that bytes are. Where a number of the value isn't whole, `serde_json` decides: one that
-/// is out of range is no JSON, and one that a later key replaces doesn't count.
+/// Returns the graph that the bytes describe. If a number in them isn't whole, `serde_json`
+/// decides: a number out of range is no JSON, and a number that a later key replaces doesn't count.
 fn graph_of_any_form(alloc: Global, bytes: &[u8]) -> Result<RawGraph, FormatFault>
-    ensures { IsOutcome result (outcome_of bytes.now) }
+    ensures { IsReadOutcome result (read_outcome_of_bytes bytes.now) }
 {
     let Ok(text) = simdutf8::compat::from_utf8(bytes) else {
         return Err(FormatFault::NotJson);
@@ -74,17 +75,17 @@ fn graph_of_any_form(alloc: Global, bytes: &[u8]) -> Result<RawGraph, FormatFaul
     }
 }
 
-/// The graph that bytes are, by the form of `specs/GraphText.antt` and `specs/Kinds.antt` (own rules).
-/// Keys that an object's kind doesn't have are ignored, and of a repeated key the last value counts;
-/// but a number that is no whole number of 64 bits is a `BadForm` under any key that counts. Nothing
-/// is checked of the graph itself. It is read node by node; where it isn't of the plain form, or is
-/// none, it is read anew by the value of the whole text.
+/// Returns the graph that bytes describe, by the form of `specs/GraphText.antt` and
+/// `specs/KindTable.antt` (extensions). Keys that an object's kind doesn't have are ignored, and of
+/// a repeated key the last value counts. A number under a key that counts has to be whole and fit
+/// 64 bits; otherwise it is a `BadForm`. The graph itself isn't checked. It is read node by node.
+/// If that is unsupported, it is read by a JSON value of the whole text.
 pub fn read_graph(alloc: Global, bytes: &[u8]) -> Result<RawGraph, FormatFault>
-    ensures { IsOutcome result (outcome_of bytes.now) }
+    ensures { IsReadOutcome result (read_outcome_of_bytes bytes.now) }
 {
     match stream::graph(alloc, bytes) {
         Ok(graph) => Ok(graph),
-        Err(GiveUp::OutOfMemory) => Err(FormatFault::OutOfMemory),
-        Err(GiveUp::Odd) => graph_of_any_form(alloc, bytes),
+        Err(FastPathFault::OutOfMemory) => Err(FormatFault::OutOfMemory),
+        Err(FastPathFault::Unsupported) => graph_of_any_form(alloc, bytes),
     }
 }

@@ -1,11 +1,11 @@
-//! A declaration of a symbol, on a line of its own.
+//! Prints a declaration of a symbol on a line of its own.
 
 use crate::nodes::{form_name, push_nodes};
 use std::alloc::{AllocError, Global};
 use std::borrow::CowStr;
+use symbols_graph::tree::{Id, SourceRange};
 use symbols_nodes::nodes::SymbolNodeRef;
 use symbols_table::decl::{FileDep, FileDepName, SymbolDecl, SymbolDeclKind};
-use symbols_tree::tree::{Id, SourceRange};
 
 fn push_target(text: &mut String, id: &Id) -> Result<(), AllocError> {
     let name = id.name.as_str();
@@ -23,7 +23,7 @@ fn push_qualified_target(text: &mut String, id: &Id, parts: &[&str]) -> Result<(
     Ok(())
 }
 
-/// What is taken of another module, and the text that stands for the module.
+/// Prints the name that is imported from another module, and the module's specifier.
 pub(crate) fn push_file_ref(text: &mut String, dep: FileDep<'_>) -> Result<(), AllocError> {
     let specifier = dep.specifier;
     match dep.name {
@@ -32,7 +32,7 @@ pub(crate) fn push_file_ref(text: &mut String, dep: FileDep<'_>) -> Result<(), A
     }
 }
 
-/// A name, where there is one.
+/// Prints a name, if there is one.
 pub(crate) fn push_name(text: &mut String, name: Option<CowStr<'_>>) -> Result<(), AllocError> {
     match name {
         Some(name) => write!(text, " {name:?}"),
@@ -40,7 +40,7 @@ pub(crate) fn push_name(text: &mut String, name: Option<CowStr<'_>>) -> Result<(
     }
 }
 
-/// A definition: its form and its name, if it has one.
+/// Prints a definition: its form, and its name if it has one.
 fn push_definition(
     alloc: Global,
     text: &mut String,
@@ -69,16 +69,16 @@ fn push_range(text: &mut String, range: SourceRange) -> Result<(), AllocError> {
     write!(text, " at {start}..{end}")
 }
 
-/// A word, where the test of this name holds.
-pub(crate) fn push_test(text: &mut String, word: &str, holds: bool) -> Result<(), AllocError> {
+/// Prints this keyword if the test holds.
+pub(crate) fn push_test(text: &mut String, keyword: &str, holds: bool) -> Result<(), AllocError> {
     if holds {
-        write!(text, ", {word}")
+        write!(text, ", {keyword}")
     } else {
         Ok(())
     }
 }
 
-/// The words of the tests that tell what a declaration is.
+/// Prints the keywords for the kinds of declaration whose tests hold.
 fn push_sorts(text: &mut String, decl: &SymbolDecl<'_>) -> Result<(), AllocError> {
     let node = decl.maybe_node();
     push_test(text, "class", decl.is_class())?;
@@ -95,19 +95,19 @@ fn push_sorts(text: &mut String, decl: &SymbolDecl<'_>) -> Result<(), AllocError
     push_test(text, "method", node.is_some_and(|node| node.is_method()))
 }
 
-/// The words of the tests that tell how a node is declared.
-fn push_places(text: &mut String, node: SymbolNodeRef<'_>) -> Result<(), AllocError> {
+/// Prints the keywords for the tests of a node that hold.
+fn push_indices(text: &mut String, node: SymbolNodeRef<'_>) -> Result<(), AllocError> {
     push_test(text, "export keyword", node.has_export_keyword())?;
     push_test(text, "declaration", node.is_decl())?;
     push_test(text, "member", node.is_member())?;
     push_test(text, "private member", node.is_private_member())
 }
 
-/// The words of the tests that hold of a declaration, and of the namespaces in which it stands.
+/// Prints the keywords for the tests of a declaration that hold, and its namespaces.
 fn push_tests(text: &mut String, decl: &SymbolDecl<'_>) -> Result<(), AllocError> {
     push_sorts(text, decl)?;
     if let Some(node) = decl.maybe_node() {
-        push_places(text, node)?;
+        push_indices(text, node)?;
     }
     push_test(text, "body", decl.has_body())?;
     push_test(text, "overloads", decl.has_overloads())?;
@@ -123,7 +123,7 @@ fn push_nodes_of(text: &mut String, node: Option<SymbolNodeRef<'_>>) -> Result<(
     }
 }
 
-/// What a declaration is, where it stands, the tests that hold of it, and its nodes.
+/// Prints the kind of a declaration, its range, the tests that hold, and its nodes.
 pub(crate) fn push_declaration(
     alloc: Global,
     text: &mut String,

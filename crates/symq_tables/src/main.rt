@@ -1,6 +1,6 @@
-//! `symq_tables GRAPH`: prints the symbols of each module of a graph, with all that is known of
-//! them; `symq_tables --json GRAPH` a line of JSON for each module. The faults of a graph are told in
-//! the words of `symq`, and end with its statuses.
+//! `symq_tables GRAPH` prints the symbol tables of each module of a graph. `symq_tables --json
+//! GRAPH` prints a line of JSON for each module. Faults of a graph are reported with the lines and
+//! exit statuses of `symq`.
 #![tactic(auto)]
 
 mod declarations;
@@ -12,14 +12,14 @@ mod start;
 mod tables;
 
 use crate::printing::print_tables;
-use crate::start::read_words;
+use crate::start::read_args;
 use std::alloc::{AllocError, Global};
 use std::process::ExitCode;
 use std::rt::{Env, Files};
-use symbols_tree::check::{ModuleGraph, RawGraph};
-use symq_core::program::{EngineFault, Stop};
+use symbols_graph::{ModuleGraph, RawGraph};
+use symq_core::{EngineFault, ExitError};
 
-/// The specifiers of the modules, in the graph's order.
+/// Returns the specifiers of the modules, in the graph's order.
 fn specifiers(alloc: Global, raw: &RawGraph) -> Result<Vec<String>, AllocError> {
     let mut specifiers = Vec::with_capacity(alloc, raw.modules.len())?;
     for module in &raw.modules {
@@ -28,31 +28,31 @@ fn specifiers(alloc: Global, raw: &RawGraph) -> Result<Vec<String>, AllocError> 
     Ok(specifiers)
 }
 
-fn run<R: Files + Env + AllocGlobal + Print>(rt: &R) -> Result<(), Stop> {
-    let (form, raw) = read_words(rt)?;
-    let specifiers = specifiers(rt.alloc(), &raw).map_err(|_| Stop::Engine(
+fn run<R: Files + Env + AllocGlobal + Print>(rt: &R) -> Result<(), ExitError> {
+    let (form, raw) = read_args(rt)?;
+    let specifiers = specifiers(rt.alloc(), &raw).map_err(|_| ExitError::Engine(
         EngineFault::OutOfMemory,
     ))?;
-    let graph = ModuleGraph::new(rt.alloc(), raw).map_err(Stop::Graph)?;
-    print_tables(rt, &graph, specifiers.as_slice(), form).map_err(Stop::Engine)
+    let graph = ModuleGraph::new(rt.alloc(), raw).map_err(ExitError::Graph)?;
+    print_tables(rt, &graph, specifiers.as_slice(), form).map_err(ExitError::Engine)
 }
 
-/// The line for standard error: that of `symq`, but with this program's own usage.
-fn line(alloc: Global, stop: &Stop) -> Result<String, AllocError> {
-    match stop {
-        Stop::Usage => String::from_str(alloc, "usage: symq_tables [--json] GRAPH"),
-        _ => stop.line(alloc),
+/// Returns the line for standard error: that of `symq`, but with the usage of this program.
+fn line(alloc: Global, exit_error: &ExitError) -> Result<String, AllocError> {
+    match exit_error {
+        ExitError::Usage => String::from_str(alloc, "usage: symq_tables [--json] GRAPH"),
+        _ => exit_error.line(alloc),
     }
 }
 
 fn main(rt: HostRuntime) -> ExitCode {
-    let Err(stop) = run(&rt) else {
+    let Err(exit_error) = run(&rt) else {
         return ExitCode::SUCCESS;
     };
-    match line(rt.alloc(), &stop) {
+    match line(rt.alloc(), &exit_error) {
         Ok(line) => {
             let _ = eprintln!(rt; "{line}");
-            ExitCode::from(stop.status())
+            ExitCode::from(exit_error.status())
         }
         Err(_) => ExitCode::from(7),
     }

@@ -1,13 +1,13 @@
-//! The names that stand for symbols.
+//! Prints the names that resolve to symbols.
 
 use indexmap::IndexMap;
 use std::alloc::{AllocError, Global};
+use symbols_graph::ids::SymbolId;
+use symbols_graph::tree::{Id, NodeId, NodeRef};
 use symbols_table::info::EsModuleInfo;
-use symbols_tree::ids::SymbolId;
-use symbols_tree::tree::{Id, NodeId, NodeRef};
 
-/// The names of the module's tree that stand for symbols, each in the place of the first node that
-/// is this name.
+/// Returns the names in the module's tree that resolve to symbols, in the order of their first
+/// nodes.
 fn mapped_names<'a>(
     alloc: Global,
     module: &EsModuleInfo<'a>,
@@ -26,7 +26,7 @@ fn mapped_names<'a>(
     Ok(names)
 }
 
-/// A line for each name that stands for a symbol.
+/// Prints a line for each name that resolves to a symbol.
 pub(crate) fn push_names(
     alloc: Global,
     text: &mut String,

@@ -1,8 +1,8 @@
-//! The form of a definition, and the nodes that it is made of.
+//! Prints the form of a definition, and its nodes.
 
 use std::alloc::AllocError;
+use symbols_graph::tree::NodeRef;
 use symbols_nodes::nodes::{ExpandoPropertyRef, ExportDeclRef, SymbolNodeRef};
-use symbols_tree::tree::NodeRef;
 
 fn exported_form_name(decl: ExportDeclRef<'_>) -> &'static str {
     match decl {
@@ -16,7 +16,7 @@ fn exported_form_name(decl: ExportDeclRef<'_>) -> &'static str {
     }
 }
 
-/// The name of the form of a definition's node.
+/// Returns the name of the form of a definition's node.
 pub(crate) fn form_name(node: SymbolNodeRef<'_>) -> &'static str {
     match node {
         SymbolNodeRef::Module(_) => "Module",
@@ -47,7 +47,7 @@ pub(crate) fn form_name(node: SymbolNodeRef<'_>) -> &'static str {
     }
 }
 
-/// A node: the name of its kind, and its number.
+/// Prints a node: the name of its kind, and its number.
 fn push_node(text: &mut String, node: NodeRef<'_>) -> Result<(), AllocError> {
     let kind = node.kind().name();
     let number = node.node_id();
@@ -77,7 +77,7 @@ fn push_variable(
     push_node(text, ident)
 }
 
-/// The assignment, its left side, the function, where the property's name stands, and the value.
+/// Prints the nodes of an expando property, and the range of its name.
 fn push_expando(text: &mut String, expando: ExpandoPropertyRef<'_>) -> Result<(), AllocError> {
     push_node(text, expando.inner())?;
     push_node(text, expando.member_expr())?;
@@ -89,7 +89,7 @@ fn push_expando(text: &mut String, expando: ExpandoPropertyRef<'_>) -> Result<()
     write!(text, " with its name at {start}..{end}")
 }
 
-/// The nodes that a definition is made of, from the outermost.
+/// Prints the nodes of a definition, from the outermost.
 pub(crate) fn push_nodes(text: &mut String, node: SymbolNodeRef<'_>) -> Result<(), AllocError> {
     text.push_str(":")?;
     match node {

@@ -1,13 +1,14 @@
-//! The symbols of a module as a JSON object, for tools.
+//! Writes the symbols of a module as a JSON object, for tools.
 
 use crate::nodes::form_name;
 use json::Writer;
 use std::alloc::{AllocError, Global};
+use symbols_graph::ids::SymbolId;
 use symbols_table::decl::{Exports, Symbol, SymbolDecl, SymbolDeclKind};
 use symbols_table::info::ModuleInfoRef;
-use symbols_tree::ids::SymbolId;
 
-/// What a declaration is: of a definition the form of its node, else what it leads to.
+/// Returns the kind of a declaration. For a definition it is the form of its node; otherwise it
+/// says what the declaration refers to.
 fn kind_name(decl: &SymbolDecl<'_>) -> &'static str {
     match &decl.kind {
         SymbolDeclKind::Target(_) => "target",
@@ -63,8 +64,8 @@ fn add_numbers(out: &mut Writer, key: &str, symbols: &[SymbolId]) -> Result<(), 
     out.end_array()
 }
 
-/// The name and the parent, `null` where there is none.
-fn add_place(out: &mut Writer, symbol: &Symbol<'_>) -> Result<(), AllocError> {
+/// Writes the name and the parent; null for what is absent.
+fn add_index(out: &mut Writer, symbol: &Symbol<'_>) -> Result<(), AllocError> {
     out.key("name")?;
     match symbol.maybe_name()? {
         Some(name) => out.string(&name)?,
@@ -82,7 +83,7 @@ fn add_place(out: &mut Writer, symbol: &Symbol<'_>) -> Result<(), AllocError> {
 fn add_symbol(out: &mut Writer, symbol: &Symbol<'_>) -> Result<(), AllocError> {
     out.begin_object()?;
     add_number(out, "symbol", symbol.symbol_id().number())?;
-    add_place(out, symbol)?;
+    add_index(out, symbol)?;
     add_declarations(out, symbol.decls())?;
     add_exports(out, symbol.exports())?;
     add_numbers(out, "children", symbol.child_ids().as_slice())?;
@@ -90,7 +91,7 @@ fn add_symbol(out: &mut Writer, symbol: &Symbol<'_>) -> Result<(), AllocError> {
     out.end_object()
 }
 
-/// The module's specifier and its symbols, by their numbers, as a line.
+/// Returns a line of JSON with the module's specifier and its symbols, by their numbers.
 pub(crate) fn module_line(
     alloc: Global,
     module: ModuleInfoRef<'_, '_>,
@@ -111,7 +112,8 @@ pub(crate) fn module_line(
     Ok(line)
 }
 
-/// Of a module whose symbols were not found, its specifier and why, as a line.
+/// Returns a line of JSON for a module whose symbols could not be determined: its specifier and the
+/// fault.
 pub(crate) fn fault_line(
     alloc: Global,
     specifier: &str,

@@ -1,4 +1,4 @@
-//! The tables of the modules, one after the other, on standard output.
+//! Prints the tables of the modules to standard output, one after the other.
 
 use crate::names::push_names;
 use crate::objects::{fault_line, module_line};
@@ -7,13 +7,13 @@ use crate::tables::push_symbols;
 use std::alloc::{AllocError, Global};
 use std::io;
 use std::io::Write;
+use symbols_graph::ids::ModuleId;
+use symbols_graph::{GraphModule, ModuleGraph};
 use symbols_table::analyze;
 use symbols_table::info::{ModuleInfoRef, SymbolsFault};
-use symbols_tree::check::{GraphModule, ModuleGraph};
-use symbols_tree::ids::ModuleId;
-use symq_core::program::EngineFault;
+use symq_core::EngineFault;
 
-/// The specifier, the symbols and the names of a module. A JSON module has no names.
+/// Prints the specifier, the symbols and the names of a module. A JSON module has no names.
 fn push_module(
     alloc: Global,
     text: &mut String,
@@ -28,7 +28,7 @@ fn push_module(
     }
 }
 
-/// That a module's symbols were not found, for a reason that is no want of memory.
+/// Prints the fault of a module whose symbols could not be determined.
 fn push_fault(
     text: &mut String,
     module: &GraphModule,
@@ -38,7 +38,8 @@ fn push_fault(
     write!(text, "module {specifier:?}\n  {fault}\n")
 }
 
-/// What is told of a module: nothing where it has no symbols.
+/// Returns the text for a module; empty if it has no symbols. It fails only if an allocation
+/// failed.
 fn module_text(alloc: Global, module: &GraphModule) -> Result<String, AllocError> {
     let mut text = String::new(alloc);
     match analyze(alloc, ModuleId::from_number(0), module, u32::MAX) {
@@ -50,7 +51,8 @@ fn module_text(alloc: Global, module: &GraphModule) -> Result<String, AllocError
     Ok(text)
 }
 
-/// What is told of a module as a JSON object: nothing where it has no symbols.
+/// Returns the line of JSON for a module; empty if it has no symbols. It fails only if an
+/// allocation failed.
 fn module_object(alloc: Global, module: &GraphModule) -> Result<Vec<u8>, AllocError> {
     match analyze(alloc, ModuleId::from_number(0), module, u32::MAX) {
         Ok(Some(info)) => module_line(alloc, info.as_ref()),
@@ -63,7 +65,7 @@ fn module_object(alloc: Global, module: &GraphModule) -> Result<Vec<u8>, AllocEr
     }
 }
 
-/// The bytes that tell of a module.
+/// Returns the output for a module in this form.
 fn module_bytes(alloc: Global, module: &GraphModule, form: Form) -> Result<Vec<u8>, AllocError> {
     match form {
         Form::Lines => Ok(module_text(alloc, module)?.into_bytes()),
@@ -71,8 +73,9 @@ fn module_bytes(alloc: Global, module: &GraphModule, form: Form) -> Result<Vec<u
     }
 }
 
-/// The module of a specifier. A module that a redirect hides is none: no look-up reaches it.
-fn own_module<'a>(graph: &'a ModuleGraph, specifier: &str) -> Option<&'a GraphModule> {
+/// Returns the module with a specifier. It is `None` for a specifier that is redirected to another
+/// module.
+fn graph_module_of<'a>(graph: &'a ModuleGraph, specifier: &str) -> Option<&'a GraphModule> {
     let module = graph.get(specifier)?;
     if module.specifier() == specifier {
         Some(module)
@@ -81,7 +84,7 @@ fn own_module<'a>(graph: &'a ModuleGraph, specifier: &str) -> Option<&'a GraphMo
     }
 }
 
-/// Prints the tables of the modules of these specifiers, in this order and in the form.
+/// Prints the tables of the modules with these specifiers, in this order and form.
 pub(crate) fn print_tables<R: AllocGlobal + Print>(
     rt: &R,
     graph: &ModuleGraph,
@@ -90,7 +93,7 @@ pub(crate) fn print_tables<R: AllocGlobal + Print>(
 ) -> Result<(), EngineFault> {
     let mut output = io::writer(rt);
     for specifier in specifiers {
-        if let Some(module) = own_module(graph, specifier.as_str()) {
+        if let Some(module) = graph_module_of(graph, specifier.as_str()) {
             let text = module_bytes(rt.alloc(), module, form)?;
             let written = output.write_all(text.as_slice());
             written.map_err(|_| EngineFault::OutputFailed)?;

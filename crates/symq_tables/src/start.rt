@@ -1,51 +1,52 @@
-//! The words after the program's name: which form is asked for, and the graph.
+//! Reads the command-line arguments: the form of the output, and the graph's file.
 
 use std::io::ErrorKind;
 use std::rt::{Env, Files};
 use std::{env, fs};
-use symbols_tree::check::RawGraph;
-use symq_core::program::{FormatFault, Stop, read_graph};
+use symbols_graph::RawGraph;
+use symq_core::{ExitError, FormatFault, read_graph};
 
-/// How the tables are told.
+/// The form of the output.
 #[derive(Clone, Copy, Drop, PartialEq, Eq)]
 pub(crate) enum Form {
-    /// In lines for people, with all that is known.
+    /// Lines for people, with all details.
     Lines,
     /// A JSON object for each module, on a line of its own.
     Json,
 }
 
-/// What stops for want of memory, or else for another reason.
-fn stop(kind: ErrorKind, other: Stop) -> Stop {
+/// Returns the error of a failed allocation for this kind, or else the other error.
+fn exit_error(kind: ErrorKind, other: ExitError) -> ExitError {
     match kind {
-        ErrorKind::OutOfMemory => Stop::Format(FormatFault::OutOfMemory),
+        ErrorKind::OutOfMemory => ExitError::Format(FormatFault::OutOfMemory),
         _ => other,
     }
 }
 
-/// The form and the file of `GRAPH` or `--json GRAPH`. One word alone is a file, whatever it is.
-fn words<R: Env + AllocGlobal>(rt: &R) -> Result<(Form, String), Stop> {
-    let mut words = env::args(rt).map_err(|error| stop(error.kind(), Stop::Usage))?;
-    let (Some(_), Some(first), second, None) = (
-        words.next(),
-        words.next(),
-        words.next(),
-        words.next(),
-    ) else {
-        return Err(Stop::Usage);
+/// Returns the form and the path: `GRAPH` or `--json GRAPH`. One argument alone is always a path.
+fn args<R: Env + AllocGlobal>(rt: &R) -> Result<(Form, String), ExitError> {
+    let mut args = env::args(rt).map_err(|error| exit_error(error.kind(), ExitError::Usage))?;
+    let (Some(_), Some(first), second, None) = (args.next(), args.next(), args.next(), args.next())
+    else {
+        return Err(ExitError::Usage);
     };
     match second {
         None => Ok((Form::Lines, first)),
         Some(path) if first.as_str() == "--json" => Ok((Form::Json, path)),
-        Some(_) => Err(Stop::Usage),
+        Some(_) => Err(ExitError::Usage),
     }
 }
 
-/// The form that is asked for, and the raw graph of the file, which isn't checked yet; else why
-/// there is none.
-pub(crate) fn read_words<R: Files + Env + AllocGlobal>(rt: &R) -> Result<(Form, RawGraph), Stop> {
-    let (form, path) = words(rt)?;
-    let bytes = fs::read(rt, path.as_str()).map_err(|error| stop(error.kind(), Stop::NotRead))?;
-    let raw = read_graph(rt.alloc(), bytes.as_slice()).map_err(Stop::Format)?;
+/// Returns the form and the raw graph of the file, which isn't checked yet. It fails on a usage
+/// error, if the file can't be read, if its text is no graph, or if an allocation failed.
+pub(crate) fn read_args<R: Files + Env + AllocGlobal>(
+    rt: &R,
+) -> Result<(Form, RawGraph), ExitError> {
+    let (form, path) = args(rt)?;
+    let bytes = fs::read(rt, path.as_str()).map_err(|error| exit_error(
+        error.kind(),
+        ExitError::NotRead,
+    ))?;
+    let raw = read_graph(rt.alloc(), bytes.as_slice()).map_err(ExitError::Format)?;
     Ok((form, raw))
 }

@@ -1,12 +1,12 @@
-//! The symbols of a module, a line for each, with its declarations and tables below it.
+//! Prints the symbols of a module, a line for each, with its declarations and tables below.
 
 use crate::declarations::{push_declaration, push_file_ref, push_name, push_test};
 use std::alloc::{AllocError, Global};
+use symbols_graph::ids::SymbolId;
 use symbols_table::decl::{Exports, Symbol};
 use symbols_table::info::ModuleInfoRef;
-use symbols_tree::ids::SymbolId;
 
-/// A word for each test that holds of the symbol, and what it takes of another module.
+/// Prints a keyword for each test of a symbol that holds, and what it imports from another module.
 fn push_tests(text: &mut String, symbol: &Symbol<'_>) -> Result<(), AllocError> {
     push_test(text, "module", symbol.is_module())?;
     push_test(text, "declaration", symbol.is_decl())?;
@@ -21,7 +21,7 @@ fn push_tests(text: &mut String, symbol: &Symbol<'_>) -> Result<(), AllocError> 
     }
 }
 
-/// The symbol's number, its name and its parent's number, as far as it has them.
+/// Prints the number of a symbol, and its name and its parent's number if it has them.
 fn push_number(text: &mut String, symbol: &Symbol<'_>) -> Result<(), AllocError> {
     let number = symbol.symbol_id();
     write!(text, "  symbol {number:?}")?;
@@ -50,18 +50,18 @@ fn push_exports(text: &mut String, exports: Exports<'_>) -> Result<(), AllocErro
     Ok(())
 }
 
-fn push_numbers(text: &mut String, word: &str, symbols: &[SymbolId]) -> Result<(), AllocError> {
+fn push_numbers(text: &mut String, keyword: &str, symbols: &[SymbolId]) -> Result<(), AllocError> {
     if symbols.is_empty() {
         return Ok(());
     }
-    write!(text, "    {word}")?;
+    write!(text, "    {keyword}")?;
     for symbol in symbols {
         write!(text, " {symbol:?}")?;
     }
     text.push('\n')
 }
 
-/// A symbol on a line, and below it its declarations, exports, children and members.
+/// Prints a symbol on a line, and below it its declarations, exports, children and members.
 fn push_symbol(alloc: Global, text: &mut String, symbol: &Symbol<'_>) -> Result<(), AllocError> {
     push_number(text, symbol)?;
     push_tests(text, symbol)?;
@@ -72,7 +72,7 @@ fn push_symbol(alloc: Global, text: &mut String, symbol: &Symbol<'_>) -> Result<
     push_numbers(text, "members", symbol.members())
 }
 
-/// The symbols, by their numbers.
+/// Prints the symbols of a module, by their numbers.
 pub(crate) fn push_symbols(
     alloc: Global,
     text: &mut String,

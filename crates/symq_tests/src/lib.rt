@@ -1,5 +1,6 @@
-//! Tests of the calls that the program is made of, where no run of it shows what they give. A check that doesn't hold ends
-//! with its name, which the failing test shows: an assertion that shows its values costs more to prove.
+//! Tests of the calls that the program consists of, where no run of it shows the results. A check
+//! that doesn't hold ends with its name, which the failing test shows. An assertion that shows its
+//! values would cost more to prove.
 #![tactic(auto)]
 
 /// Ends a check that doesn't hold with its name.
@@ -12,13 +13,13 @@ macro_rules! holds {
     };
 }
 
-/// Nothing, or the name of the first check that doesn't hold.
+/// Ok, or the name of the first check that doesn't hold.
 #[cfg(test)]
 type Checked = Result<(), &'static str>;
 
 #[cfg(test)]
+mod exit_errors;
+#[cfg(test)]
 mod reading;
 #[cfg(test)]
 mod serving;
-#[cfg(test)]
-mod stops;

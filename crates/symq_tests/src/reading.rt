@@ -1,20 +1,20 @@
-//! Fields, and values of lines, that no program tells of.
+//! Tests fields, and values of lines, that no run of a program shows.
 
 use crate::Checked;
 use deno_symbols::check::{RawModule, RawModuleKind};
 use deno_symbols::tree::{Accessibility, Kind, Member, MethodKind};
 use json::Scratch;
 use std::alloc::{AllocError, Global};
-use symq_reader::{FormatFault, read_graph, read_plain_list, read_value};
+use symq_reader::{FormatFault, read_graph, read_query_list, read_value};
 
-/// The text of a graph with one module whose tree has this node alone.
+/// Returns the text of a graph with one module, whose tree has this node alone.
 fn graph_text(alloc: Global, kind: &str, fields: &str) -> Result<String, AllocError> {
     format!(in alloc;
         r#"{{"modules":[{{"specifier":"","kind":"esm","text":"","tree":{{"nodes":[{{"kind":"{kind}","range":[0,0],{fields}}}]}}}}]}}"#
     )
 }
 
-/// The one node of the one module of a graph.
+/// Returns the kind of the only node of the only module of a graph.
 fn only_kind(modules: &[RawModule]) -> Option<&Kind> {
     let [module] = modules else {
         return None;
@@ -32,21 +32,21 @@ fn only_kind(modules: &[RawModule]) -> Option<&Kind> {
     }
 }
 
-/// What the one node of this kind, with these fields, tells.
+/// Runs a check on the kind of the only node, with these fields.
 fn of_kind<R, F: FnOnce(&Kind) -> Option<R> + Drop>(
     alloc: Global,
     kind: &str,
     fields: &str,
-    told: F,
+    returned: F,
 ) -> Option<R>
-    requires { F.IsAlwaysCallable told }
+    requires { F.IsAlwaysCallable returned }
 {
     let text = graph_text(alloc, kind, fields).ok()?;
     let graph = read_graph(alloc, text.as_bytes()).ok()?;
-    told(only_kind(graph.modules.as_slice())?)
+    returned(only_kind(graph.modules.as_slice())?)
 }
 
-/// Fields of a property, and who may reach it.
+/// Fields of a property, and its accessibility.
 const PROPERTIES: [(&str, Option<Accessibility>); 5] = [
     (r#""param":1"#, None),
     (r#""param":1,"accessibility":null"#, None),
@@ -73,15 +73,15 @@ fn accessibility(kind: &Kind) -> Option<Option<Accessibility>> {
 
 #[test]
 fn reads_accessibilities(rt: HostRuntime) -> Checked {
-    for (fields, wanted) in PROPERTIES {
-        if of_kind(rt.alloc(), "TsParamProp", fields, accessibility) != Some(wanted) {
+    for (fields, expected) in PROPERTIES {
+        if of_kind(rt.alloc(), "TsParamProp", fields, accessibility) != Some(expected) {
             return Err(fields);
         }
     }
     Ok(())
 }
 
-/// Fields of a method, its sort, and whether it is static.
+/// Fields of a method, its kind, and whether it is static.
 const METHODS: [(&str, MethodKind, bool); 4] = [
     (
         r#""key":1,"function":2,"method_kind":"method""#,
@@ -128,26 +128,26 @@ fn reads_methods(rt: HostRuntime) -> Checked {
     Ok(())
 }
 
-/// Why a text is no graph, if it is none.
+/// Returns the reason why a text is no graph, if it is none.
 fn fault_of(alloc: Global, text: &str) -> Option<FormatFault> {
     read_graph(alloc, text.as_bytes()).err()
 }
 
 #[test]
 fn names_what_is_no_graph(rt: HostRuntime) -> Checked {
-    for (text, wanted) in [
+    for (text, expected) in [
         ("{}", None),
         ("{", Some(FormatFault::NotJson)),
         ("[]", Some(FormatFault::BadForm)),
     ] {
-        if fault_of(rt.alloc(), text) != wanted {
+        if fault_of(rt.alloc(), text) != expected {
             return Err(text);
         }
     }
     Ok(())
 }
 
-/// Whether a text is a value; nothing where memory is refused.
+/// Returns whether a text has a value; `None` if an allocation failed.
 fn is_value(alloc: Global, text: &str) -> Option<bool> {
     let mut scratch = Scratch::new(alloc);
     match read_value(alloc, text.as_bytes(), &mut scratch) {
@@ -158,21 +158,21 @@ fn is_value(alloc: Global, text: &str) -> Option<bool> {
 
 #[test]
 fn takes_whole_numbers_alone(rt: HostRuntime) -> Checked {
-    for (text, wanted) in [
+    for (text, expected) in [
         ("[18446744073709551615]", true),
         ("[18446744073709551616]", false),
         ("[1.5]", false),
         ("[1e0]", false),
         ("[-1]", false),
     ] {
-        if is_value(rt.alloc(), text) != Some(wanted) {
+        if is_value(rt.alloc(), text) != Some(expected) {
             return Err(text);
         }
     }
     Ok(())
 }
 
-/// A number past all bounds has no value.
+/// Checks that a number out of range has no value.
 #[test]
 fn takes_no_number_without_a_value(rt: HostRuntime) -> Checked {
     holds!(
@@ -183,8 +183,8 @@ fn takes_no_number_without_a_value(rt: HostRuntime) -> Checked {
 }
 
 #[test]
-fn reads_lists_of_the_plain_form() -> Checked {
-    for (text, wanted) in [
+fn reads_lists_of_the_query_form() -> Checked {
+    for (text, expected) in [
         (r#"["module","a"]"#, true),
         (r#"["exports", "file:///a/module/of/a/folder.ts"]"#, true),
         (r#"["name","a",0]"#, true),
@@ -204,7 +204,7 @@ fn reads_lists_of_the_plain_form() -> Checked {
         (r#"["name","a",1] "#, false),
         (r#"["name","a","b"]"#, false),
     ] {
-        if read_plain_list(text.as_bytes()).is_some() != wanted {
+        if read_query_list(text.as_bytes()).is_some() != expected {
             return Err(text);
         }
     }

@@ -1,5 +1,5 @@
-//! Whole runs of the engine over memory, over streams and over devices that fail. The graph is empty, and no line is a
-//! query: what a query gives is told by runs of the program.
+//! Tests whole runs of the engine over memory, over streams and over devices that fail. The graph
+//! is empty, and no line is a query. Runs of the program test the answers to queries.
 
 ghost use Rattle.std.specs.Prelude.{◌<◌, Some};
 ghost use Rattle.symq_core.specs.Devices.{COUNT_LIMIT};
@@ -7,7 +7,7 @@ ghost use Rattle.symq_core.specs.Devices.{COUNT_LIMIT};
 use crate::Checked;
 use deno_symbols::check::ModuleGraph;
 use std::alloc::{AllocError, Global};
-use symq_core::program::{
+use symq_core::{
     DeviceFault, EngineFault, Input, MemoryInput, MemoryOutput, Output, ReaderInput, WriterOutput,
     read_graph, serve,
 };
@@ -15,13 +15,13 @@ use symq_core::program::{
 /// The answer to each line that is no query.
 const BAD: &[u8] = b"{\"fault\":\"bad query\"}\n";
 
-/// The empty graph.
+/// Returns the empty graph.
 fn empty_graph(alloc: Global) -> Option<ModuleGraph> {
     let raw = read_graph(alloc, b"{}").ok()?;
     ModuleGraph::new(alloc, raw).ok()
 }
 
-/// Whether these are so many answers to lines that are no queries, and nothing else.
+/// Returns whether the bytes are exactly `count` answers to lines that are no queries.
 fn are_bad_answers(bytes: &[u8], count: usize) -> bool {
     let mut left = bytes;
     for _ in 0..count {
@@ -33,8 +33,8 @@ fn are_bad_answers(bytes: &[u8], count: usize) -> bool {
     left.is_empty()
 }
 
-/// Serves over the empty graph, which lives here alone: what a function lets go is proved anew for
-/// each way out of it. Nothing where memory is refused for the graph.
+/// Serves over the empty graph. Only this function owns the graph, since a drop is proved anew for
+/// each exit of its owner. It returns `None` if an allocation failed for the graph.
 fn serve_over<R: Input, W: Output>(
     alloc: Global,
     reader: &mut R,
@@ -47,7 +47,7 @@ fn serve_over<R: Input, W: Output>(
     Some(serve(alloc, &graph, reader, writer))
 }
 
-/// The lines of the input are no queries, and so many.
+/// Checks the answers to an input of `count` lines that are no queries.
 fn answers_bad(alloc: Global, input: &[u8], count: usize) -> Checked {
     let mut reader = MemoryInput { rest: input };
     let mut writer = MemoryOutput::new(alloc);
@@ -57,7 +57,7 @@ fn answers_bad(alloc: Global, input: &[u8], count: usize) -> Checked {
     Ok(())
 }
 
-/// Gives its bytes, at most some at a time, and then ends or fails.
+/// An input that returns its bytes, at most some at a time, and then ends or fails.
 #[derive(Drop)]
 struct Piecewise<'a> {
     rest: &'a [u8],
@@ -81,15 +81,15 @@ impl Input for Piecewise<'_> {
             self.failed += 1;
             return Err(DeviceFault);
         }
-        let taken = self.rest.len().min(buffer.len()).min(self.most);
-        let (front, rest) = self.rest.split_at(taken);
-        buffer[..taken].copy_from_slice(front);
+        let consumed = self.rest.len().min(buffer.len()).min(self.most);
+        let (front, rest) = self.rest.split_at(consumed);
+        buffer[..consumed].copy_from_slice(front);
         self.rest = rest;
-        Ok(taken)
+        Ok(consumed)
     }
 }
 
-/// A read fails behind two lines and the front of a third: the two are answered.
+/// Checks that two lines are answered if a read fails after them and the front of a third.
 fn answers_two(alloc: Global, most: usize) -> Checked
     requires { 0 < most }
 {
@@ -117,10 +117,11 @@ fn answers_before_a_failed_read(rt: HostRuntime) -> Checked {
     answers_two(rt.alloc(), 100)
 }
 
-/// Takes one byte at a time, so many in all, and then fails, or takes nothing.
+/// An output that accepts one byte at a time, up to a number of bytes, and then fails or accepts
+/// nothing.
 #[derive(Drop)]
 struct Full {
-    taken: Vec<u8>,
+    consumed: Vec<u8>,
     most: usize,
     fails: bool,
     failed: u64,
@@ -134,7 +135,7 @@ impl Output for Full {
     }
 
     fn write(&mut self, bytes: &[u8]) -> Result<usize, DeviceFault> {
-        if self.taken.len() < self.most && self.taken.push(bytes[0]).is_ok() {
+        if self.consumed.len() < self.most && self.consumed.push(bytes[0]).is_ok() {
             return Ok(1);
         }
         self.failed += 1;
@@ -142,11 +143,11 @@ impl Output for Full {
     }
 }
 
-/// A write fails behind one answer and three bytes of the next: these are written.
+/// Checks that one answer and three bytes of the next are written if a write fails then.
 fn writes_a_beginning(alloc: Global, fails: bool) -> Checked {
     let mut reader = MemoryInput { rest: b"no\nno\n" };
     let mut writer = Full {
-        taken: Vec::new(alloc),
+        consumed: Vec::new(alloc),
         most: BAD.len() + 3,
         fails,
         failed: 0,
@@ -160,18 +161,18 @@ fn writes_a_beginning(alloc: Global, fails: bool) -> Checked {
         writer.failed == 1,
         "nothing is written after a failed write"
     );
-    let wanted = b"{\"fault\":\"bad query\"}\n{\"f".as_slice();
-    holds!(writer.taken.as_slice() == wanted, "what is written");
+    let expected = b"{\"fault\":\"bad query\"}\n{\"f".as_slice();
+    holds!(writer.consumed.as_slice() == expected, "what is written");
     Ok(())
 }
 
 #[test]
-fn stops_where_a_write_fails(rt: HostRuntime) -> Checked {
+fn fails_where_a_write_fails(rt: HostRuntime) -> Checked {
     writes_a_beginning(rt.alloc(), true)?;
     writes_a_beginning(rt.alloc(), false)
 }
 
-/// Lines of 70,000 bytes, of 140,000, of none, and of two without an end.
+/// Returns lines of 70,000 bytes, of 140,000, of none, and of two without a line end.
 fn long_lines(alloc: Global) -> Result<Vec<u8>, AllocError> {
     let mut text = vec![in alloc; b'n'; 70000]?;
     text.push(b'\n')?;
@@ -197,7 +198,8 @@ fn answers_four(alloc: Global, text: &[u8], most: usize) -> Checked
     Ok(())
 }
 
-/// Blocks of each of four lengths give the same answers, two thousand blocks of the shortest.
+/// Checks that blocks of each of four lengths give the same answers; there are two thousand blocks
+/// of the shortest.
 fn answers_in_blocks(alloc: Global, text: &[u8]) -> Checked {
     answers_four(alloc, text, 100)?;
     answers_four(alloc, text, 1000)?;

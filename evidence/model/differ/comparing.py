@@ -7,8 +7,7 @@ from differ.shrinking import shrink
 
 
 class Counts:
-    """What was compared: graphs, how many of them by strict rules, queries, and how many graphs differ; and how long it took,
-    in seconds."""
+    """What was compared: graphs, how many of them by strict rules, queries, how many graphs differ, and the time in seconds."""
 
     def __init__(self):
         self.graphs = self.strict = self.queries = self.differ = 0
@@ -23,8 +22,8 @@ class Counts:
 
 
 def compare(program: Program, cases, seconds=None, go_on=False, shrink_seconds=30, folder=None, tell=print) -> Counts:
-    """Takes the cases, each with its seed, until the time is over or one differs. That one is made small and told; to go on
-    tells each in one line."""
+    """Takes the cases, each with its seed, until the time is over or one differs. That one is made small and reported; with the option to go on, each
+    is reported in one line."""
     counts = Counts()
     for seed, case in cases:
         if seconds is not None and counts.seconds() > seconds:

@@ -1,4 +1,4 @@
-"""Copies of the model, asked in one process each."""
+"""Copies of the model, queried in one process each."""
 import os
 import pickle
 import subprocess
@@ -8,7 +8,7 @@ from differ.running import Program, Result
 
 
 class Copy(Program):
-    """A copy of the model, which stands in a folder and is asked through its `serving.py`."""
+    """A copy of the model in a directory, queried through its `serving.py`."""
 
     def __init__(self, top: str):
         self.process = subprocess.Popen([sys.executable, os.path.join(top, 'differ', 'serving.py')], stdin=subprocess.PIPE,

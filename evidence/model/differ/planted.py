@@ -8,14 +8,13 @@ HERE = os.path.dirname(os.path.abspath(__file__))
 MODEL = os.path.dirname(HERE)
 
 
-# by which rules a fault may show, as cases tell them
+# the rules by which a fault may show, as in cases
 DENO, STRICT, BOTH = (False,), (True,), (False, True)
 
 
 class Fault(NamedTuple):
-    """A file of the model, a piece of its text, and what stands there then. `families` are those of random graphs in which it
-    may show, and `rules` those by which. `readings` says whether the readings of the definitions see it, too: they say nothing
-    of the others."""
+    """A fault: a file of the model, a piece of its text, and its replacement. It may show with the random graphs of `families`, and by `rules`.
+    `readings` says whether the readings of the definitions detect it, too: they don't cover the others."""
     name: str
     families: str
     readings: bool
@@ -35,7 +34,7 @@ FAULTS = [
           'holder.exports[name] = self.new(', 'holder.exports.pop(name, None)\n            holder.exports[name] = self.new('),
     Fault('first_declaration_only', 'mixed', True, 'rules/paths.py',
           'enumerate(symbol.declarations)', 'enumerate(symbol.declarations[:1])'),
-    Fault('met_set_lives_on', 'mixed', True, 'rules/paths.py', 'outer, self.met = self.met, set()', 'outer = self.met'),
+    Fault('visited_set_lives_on', 'mixed', True, 'rules/paths.py', 'outer, self.met = self.met, set()', 'outer = self.met'),
     Fault('first_candidate_only', 'mixed stars webs', True, 'rules/paths.py',
           'for text in target.stars if', 'for text in target.stars[:1] if'),
     Fault('as_expression_visited', 'mixed dependent', False, 'rules/kinds.py',
@@ -57,7 +56,7 @@ FAULTS = [
             stack.pop(0)"""),
     Fault('shared_names_dropped', 'stars webs', True, 'rules/exports.py',
           'Exports(resolved,', 'Exports({name: it for name, it in resolved.items() if name not in shared},', STRICT),
-    Fault('one_owner_is_enough', 'stars webs', True, 'rules/exports.py', 'and len(found) > 1}', '}', STRICT),
+    Fault('one_exporter_is_enough', 'stars webs', True, 'rules/exports.py', 'and len(found) > 1}', '}', STRICT),
     Fault('two_owners_only', 'stars webs', True, 'rules/exports.py',
           'shared = {name: found for', 'shared = {name: found[:2] for', STRICT),
     Fault('four_owners_only', 'stars webs', True, 'rules/exports.py',
@@ -87,14 +86,14 @@ FAULTS = [
           STRICT),
 ]
 
-# faults around a program: the families of random graphs in which each may show, and the rules by which
+# faults around a program: the families of random graphs in which each may show, and the rules for it
 WRAPPED = {'unresolved_reversed': ('mixed stars', DENO), 'shared_names_dropped': ('stars webs', STRICT),
            'two_owners_only': ('stars webs', STRICT), 'one_chain_for_all_owners': ('stars webs', STRICT),
            'default_found_by_strict_rules': ('mixed stars webs', STRICT)}
 
 
 def plant(fault: Fault, folder: str) -> str:
-    """Copies the model into a folder and plants the fault; returns where the copy is."""
+    """Copies the model into a directory and plants the fault. Returns the path of the copy."""
     top = os.path.join(folder, fault.name)
     shutil.copytree(MODEL, top, ignore=shutil.ignore_patterns('__pycache__'))
     path = os.path.join(top, fault.file)
@@ -108,5 +107,5 @@ def plant(fault: Fault, folder: str) -> str:
 
 
 def wrapped(name: str, program: 'list[str]') -> 'list[str]':
-    """The command of a program with a fault around it."""
+    """Returns the command of a program with a fault around it."""
     return [sys.executable, os.path.join(HERE, 'wrapper.py'), name, *program]

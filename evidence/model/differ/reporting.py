@@ -1,4 +1,4 @@
-"""Prints a difference, and keeps its files."""
+"""Prints a difference, and stores its files."""
 import os
 
 from differ.running import STRICT, Difference, first_difference
@@ -18,7 +18,7 @@ def named(seed, case) -> str:
 
 
 def in_short(seed, case, found: Difference) -> str:
-    """A difference as one line."""
+    """Returns a difference as one line."""
     if found.what != 'output':
         sides = [(it.status, it.error.decode('utf-8', 'backslashreplace').strip()) for it in found[1:]]
         return '%s: %s: program %s %s, model %s %s' % (named(seed, case), found.what, *sides[0], *sides[1])

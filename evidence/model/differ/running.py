@@ -1,4 +1,4 @@
-"""What a program gives for a graph and lines, beside what the model gives."""
+"""Compares the result of a program for a graph and lines with that of the model."""
 import os
 import subprocess
 import tempfile
@@ -15,7 +15,7 @@ class Result(NamedTuple):
 
 
 class Difference(NamedTuple):
-    """`what` differs: 'status', 'output' or 'error'."""
+    """A difference in `what`: 'status', 'output' or 'error'."""
     what: str
     program: Result
     model: Result
@@ -27,7 +27,7 @@ NO_STRICT_RULES = 'the program has no strict rules: with --strict it ends with s
 
 @lru_cache(maxsize=1024)
 def of_model(graph: bytes, lines: 'tuple[bytes, ...]', strict: bool) -> Result:
-    """What the model gives; kept for a while, since many programs are asked the same."""
+    """Returns the result of the model, which is cached, since many programs are compared with it."""
     return Result(*run(graph, lines, strict))
 
 
@@ -54,7 +54,7 @@ class Program:
         return Result(done.returncode, done.stdout, done.stderr)
 
     def difference(self, graph: bytes, lines: 'list[bytes]', strict=False) -> 'Difference | None':
-        """What differs from the model, byte for byte, by strict rules or by Deno's."""
+        """Returns the difference from the model, byte for byte, by strict rules or by Deno's."""
         theirs, ours = self.run(graph, lines, strict), of_model(graph, tuple(lines), strict)
         if theirs == ours:
             return None
@@ -63,7 +63,7 @@ class Program:
 
 
 def has_strict_rules(command: 'list[str]') -> bool:
-    """Whether a program takes the word for strict rules; one that has none ends with the status of a wrong use."""
+    """Returns whether a program accepts the argument for strict rules. One that doesn't ends with the status of a usage error."""
     program = Program(command)
     found = program.run(b'{}', [], True)
     program.close()
@@ -71,7 +71,7 @@ def has_strict_rules(command: 'list[str]') -> bool:
 
 
 def first_difference(lines, theirs: bytes, ours: bytes):
-    """The first line that is answered differently, and both answers; None where a side has no line."""
+    """Returns the first line with different answers, and both answers; None for a side without the line."""
     answers = [text.split(b'\n') for text in (theirs, ours)]
     for at in range(max(map(len, answers))):
         first, second = (side[at] if at < len(side) else None for side in answers)

@@ -1,6 +1,6 @@
 #!/usr/bin/env python3
-"""Answers each case on standard input, a pickled (graph, lines, strict), with what this copy of the model gives for it, until
-the input ends: so a copy is asked in one process (`copies.py`), where `running.py` starts a program anew for each case."""
+"""Answers each case on standard input, a pickled (graph, lines, strict), with the result of this copy of the model, until the input ends. So a copy
+is queried in one process (`copies.py`), while `running.py` starts a program anew for each case."""
 import os
 import pickle
 import sys
@@ -12,7 +12,7 @@ from rules.stack import with_big_stack
 
 
 def result(graph, lines, strict) -> 'tuple[int | str, bytes, bytes]':
-    """What a run gives; an exception has a status of its own, which no run of the model has."""
+    """Returns the result of a run. An exception has a status of its own, which no run of the model has."""
     try:
         return run(graph, lines, strict)
     except Exception as fault:

@@ -1,4 +1,4 @@
-"""Makes a case small that still differs: fewer lines, modules, nodes and fields, or a shorter text."""
+"""Makes a differing case small: fewer lines, modules, nodes and fields, or a shorter text."""
 import copy
 import time
 
@@ -7,13 +7,13 @@ from graphs.broken import child_fields
 from graphs.texts import compact
 
 ROUNDS = 6
-# of modules and nodes, what may go
+# the optional fields of modules and nodes
 MODULE_KEYS = ('types', 'tree', 'declaration')
 KEPT_KEYS = ('kind', 'range')
 
 
 def smaller_list(items, differs, ends_at) -> list:
-    """Drops as much of a list as the difference lets go: halves, quarters, down to single items."""
+    """Drops as much of a list as possible while the case differs: halves, quarters, down to single items."""
     size = max(1, len(items) // 2)
     while items and time.monotonic() < ends_at:
         at, changed = 0, False
@@ -30,8 +30,8 @@ def smaller_list(items, differs, ends_at) -> list:
 
 
 def without_orphans(tree: dict) -> 'dict | None':
-    """The tree without the nodes that node 0 doesn't lead to, numbered anew; None where children don't come behind their
-    parents, or nothing would go."""
+    """Returns the tree without the nodes that can't be reached from node 0, renumbered. It is None if children don't come after their parents, or if
+    nothing would be dropped."""
     nodes, children = tree['nodes'], []
     for at, node in enumerate(nodes):
         mine = [child for name, form in child_fields(node)
@@ -60,7 +60,7 @@ class Shrinking:
         self.value, self.differs, self.ends_at = value, differs, ends_at
 
     def attempt(self, change) -> bool:
-        """Makes a change to a copy, and keeps it where the copy still differs."""
+        """Makes a change to a copy, and keeps it if the copy still differs."""
         if time.monotonic() >= self.ends_at:
             return False
         changed = copy.deepcopy(self.value)
@@ -121,7 +121,7 @@ class Shrinking:
         self.attempt(no_text)
 
     def size(self, at) -> int:
-        """How many nodes a module has, as far as it has a tree."""
+        """Returns how many nodes a module has, if it has a tree."""
         try:
             nodes = self.value['modules'][at]['tree']['nodes']
         except (KeyError, IndexError, TypeError):
@@ -140,7 +140,7 @@ class Shrinking:
 
 
 def shrink(program: Program, case, seconds: float):
-    """The text of a graph and lines, smaller, with the same kind of difference by the same rules."""
+    """Returns the text of a smaller graph, and lines, with the same kind of difference by the same rules."""
     ends_at, first = time.monotonic() + seconds, program.difference(case.graph, case.lines, case.strict)
 
     def differs(graph, lines):

@@ -1,5 +1,5 @@
 #!/usr/bin/env python3
-"""A program around another, with a fault: the words are the fault's name, and the other program with its own words."""
+"""Wraps another program with a fault. The arguments are the fault's name, and the other program with its own arguments."""
 import json
 import re
 import subprocess
@@ -9,12 +9,12 @@ PAIR = re.compile(rb'"unresolved":\[(\[[^][]*\]),(\[[^][]*\])\]')
 
 
 def unresolved_reversed(line: bytes, _) -> bytes:
-    """Two statements that lead nowhere, in the other order."""
+    """Two unresolved statements, in the other order."""
     return PAIR.sub(rb'"unresolved":[\2,\1]', line)
 
 
 def with_shared(change):
-    """A fault in the answers that tell shared names, where there are some."""
+    """A fault in the answers with shared names, if there are any."""
     def changed(line: bytes, _) -> bytes:
         if not line.startswith(b'{"exports":') or b'"shared":[{' not in line:
             return line
@@ -41,7 +41,7 @@ def one_chain(value) -> None:
 
 
 def default_found(line: bytes, by_denos_rules: bytes) -> bytes:
-    """What Deno's rules answer, but of exports."""
+    """The answers of Deno's rules, except for exports."""
     return line if line.startswith(b'{"exports":') else by_denos_rules
 
 

@@ -2,7 +2,7 @@
 from graphs.vocabulary import SOURCES
 from rules.kinds import ALL_KINDS, FIELDS
 
-# by type of field, what it can't be
+# by type of field, wrong values
 WRONG = {
     'text': [None, 1, [], {}, True], 'text?': [1, [], {}, False], 'bool': [0, 1, 'true', []],
     'Id': [None, 'a', ['a'], ['a', 1, 2], [1, 'a'], ['a', 4294967296], ['a', -1], ['a', None], ['a', 1.0]],
@@ -21,7 +21,7 @@ ANY_VALUES = [None, True, False, 0, 1, -1, 1.0, 1e30, 4294967295, 4294967296, 18
               'x', 'esm', 'json', 'external', 'Other', 'private', 'method', [], [0, 0], ['a', 1], ['a'], {}, {'kind': 'Other'},
               [None], [[]]]
 
-# statements that break a rule, or just don't; children are numbered from the first node of the statement on
+# statements that break a rule, or barely don't; children are numbered from the first node of the statement on
 STATEMENTS = [
     [{'kind': 'ExportDecl', 'decl': 1}, {'kind': 'UsingDecl'}],
     [{'kind': 'ExportNamed', 'specifiers': [1]}, {'kind': 'ExportSpecifier', 'orig': 2}, {'kind': 'Str', 'value': 'a'}],
@@ -43,13 +43,13 @@ STATEMENTS = [
 
 
 def child_fields(node) -> 'list[tuple[str, str]]':
-    """The fields of a node in which children stand."""
+    """Returns the fields of a node that have children."""
     return [(name, form) for name, form, _ in FIELDS.get(node.get('kind'), ())
             if form.startswith('child') and node.get(name) not in (None, [])]
 
 
 def _other_child(rng, nodes) -> None:
-    """A child that isn't there, comes before its parent, or has another parent, too."""
+    """Replaces or adds a child by one that doesn't exist, comes before its parent, or has another parent, too."""
     places = [(at, name, form) for at, node in enumerate(nodes) for name, form in child_fields(node)]
     if not places:
         return
@@ -73,7 +73,7 @@ def _other_range(rng, node, text) -> None:
 
 
 def _other_kind(rng, node) -> None:
-    """Another kind with the same fields, or any."""
+    """Replaces the kind by another kind with the same fields, or by `Other`."""
     fields = [it[:2] for it in FIELDS[node['kind']]]
     node['kind'] = rng.choice([kind for kind in ALL_KINDS if [it[:2] for it in FIELDS[kind]] == fields])
     if rng.random() < 0.3:
@@ -114,7 +114,7 @@ def _add_orphan(rng, nodes) -> None:
 
 
 def break_tree(rng, value) -> None:
-    """A fault, or by luck none, of some tree."""
+    """Makes a fault, or by chance none, in some tree."""
     trees = [module for module in value['modules'] if module.get('tree') and module['tree']['nodes']]
     if not trees:
         return
@@ -142,7 +142,7 @@ def break_tree(rng, value) -> None:
 
 
 def break_graph(rng, value) -> None:
-    """A specifier, a redirect or a resolution twice, or a redirect to one."""
+    """Repeats a specifier, a redirect or a resolution, or adds a redirect to one."""
     how, modules = rng.choice(['specifier', 'redirect', 'redirects', 'resolution', 'all']), value['modules']
     if how in ('specifier', 'all') and modules:
         twice = dict(rng.choice(modules))
@@ -193,7 +193,7 @@ def _break_node(rng, node) -> None:
 
 
 def break_field(rng, value) -> None:
-    """One field of the graph, of a module or of a node gets what it can't be, or by luck what it just can."""
+    """Gives one field of the graph, of a module or of a node a wrong value, or by chance a valid one."""
     how, modules = rng.random(), value['modules']
     nodes = [node for module in modules if module.get('tree') for node in module['tree']['nodes']]
     if how < 0.12:
@@ -216,7 +216,7 @@ def _places(value) -> list:
 
 
 def break_form(rng, value) -> None:
-    """One value in the JSON is another, is gone, or stands twice."""
+    """Replaces, removes or repeats one value in the JSON."""
     places = _places(value)
     if not places:
         return

@@ -9,8 +9,7 @@ from graphs.texts import FIXED_TEXTS, broken_text, graph_text
 
 
 class Case(NamedTuple):
-    """`value` is the JSON value that the graph's text is, or None where it may be none. `strict` says that the lines are asked
-    by strict rules."""
+    """A case. `value` is the JSON value of the graph's text, or None if it may have none. `strict` says that the lines are answered by strict rules."""
     what: str
     graph: bytes
     lines: 'list[bytes]'
@@ -18,7 +17,7 @@ class Case(NamedTuple):
     strict: bool = False
 
     def by(self, strict: bool) -> 'Case':
-        """The same, asked by the one rules or the others."""
+        """Returns the same case, by these rules."""
         return self._replace(strict=strict)
 
 
@@ -33,7 +32,7 @@ ACCEPTED_FAMILIES = {False: ['mixed'] * 7 + ['dependent'] + ['stars'] * 2,
 
 
 def broken(rng, family, value) -> None:
-    """Breaks a graph that is accepted."""
+    """Breaks an accepted graph."""
     if family == 'tree':
         for _ in range(rng.choice([1, 1, 1, 2, 3])):
             break_tree(rng, value)
@@ -52,7 +51,7 @@ def broken(rng, family, value) -> None:
 
 
 def family_of_seed(seed: int, accepted_only=False, strict=None) -> 'tuple[str, bool]':
-    """The family of a seed, and whether it is asked by strict rules: three in ten of each place are, unless it is said."""
+    """Returns the family of a seed, and whether it is queried by strict rules: three in ten of each family are, unless it is given."""
     by_rules = ACCEPTED_FAMILIES if accepted_only else FAMILIES
     turn, place = divmod(seed, len(by_rules[False]))
     strict = (place + turn) % 10 < 3 if strict is None else strict
@@ -60,19 +59,19 @@ def family_of_seed(seed: int, accepted_only=False, strict=None) -> 'tuple[str, b
 
 
 def value_of_seed(seed: int) -> 'tuple[dict, bool]':
-    """Of the cases that are accepted the graph alone, and whether it is asked by strict rules."""
+    """Returns for accepted cases the graph alone, and whether it is queried by strict rules."""
     family, strict = family_of_seed(seed, accepted_only=True)
     return ACCEPTED[family](random.Random(seed)), strict
 
 
 def case_of_seed(seed: int, accepted_only=False, strict=None) -> Case:
-    """The case of a seed, by the rules that are its turn or those that are said."""
+    """Returns the case of a seed, by the rules of its turn or the given ones."""
     family, strict = family_of_seed(seed, accepted_only, strict)
     return _case(random.Random(seed), family, seed // len(FAMILIES[strict])).by(strict)
 
 
 def mutated_case(seed: int) -> Case:
-    """A graph that is accepted, its text changed at one to three places."""
+    """Returns an accepted graph, with its text changed at one to three positions."""
     rng = random.Random('mutated %d' % seed)
     text = graph_text(rng, ACCEPTED[rng.choice(sorted(ACCEPTED))](rng))
     for _ in range(rng.choice([1, 1, 2, 3])):

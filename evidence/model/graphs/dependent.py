@@ -1,5 +1,4 @@
-"""One module of declarations with much in them, for what a declaration depends on: nearly all fields are there, and each
-name is of its own."""
+"""One module of declarations with much in them, for the dependencies of a declaration: nearly all fields are there, and each name is different."""
 from graphs.numbering import module_of
 from graphs.trees import DEPTH, Maker
 from graphs.vocabulary import TEXTS, ident

@@ -1,6 +1,5 @@
-"""Every small case: each field of each kind with each wrong value, absent and null; each kind in each place of a child;
-the rules that look at more than one node; all ranges over a text of characters of one to four bytes; depths around the
-limit."""
+"""Every small case: each field of each kind with each wrong value, absent and null; each kind in each child field; the rules on more than one node;
+all ranges over a text of characters of one to four bytes; depths around the limit."""
 from itertools import product
 
 from graphs.broken import WRONG, WRONG_RANGES
@@ -10,14 +9,14 @@ from graphs.queries import BAD_LINES
 from graphs.texts import FIXED_TEXTS, compact
 from rules.kinds import ACCESSIBILITIES, ALL_KINDS, CATEGORIES, FIELDS, METHOD_KINDS
 
-# kinds that are plain as children, the first of them that may stand there is taken
+# kinds that are simple as children; the first allowed one is used
 PLAIN = ['Ident', 'BindingIdent', 'IdentName', 'Type', 'Class', 'Function', 'TsModuleBlock', 'VarDecl', 'FnExpr', 'TsTypeAnn',
          'TsTypeParamDecl', 'TsTypeParamInstantiation']
 EXPORTS = [b'["module","m"]', b'["exports","m"]']
 
 
 def least(kind, full=False) -> dict:
-    """A node of a kind with no more than it must have, or with one child for each field, as nested nodes."""
+    """Returns a node of a kind with no more than it must have, or with one child for each field, as nested nodes."""
     node = {'kind': kind}
     for name, form, allowed in FIELDS[kind]:
         if form == 'child' or (full and form in ('child?', 'child*')):
@@ -45,7 +44,7 @@ def case_of(nodes, what, text='', lines=()) -> Case:
 
 
 def _values_of(kind, form) -> list:
-    """What a field is given: what it can't be, and what it just can."""
+    """Returns the values for a field: wrong ones, and unusual valid ones."""
     if form == 'range':
         return WRONG_RANGES + [[0, 1], None]
     if form == 'kind':
@@ -114,7 +113,7 @@ def ranges():
 
 
 def depths():
-    """Trees in one line, of the program or of an orphan."""
+    """Yields trees in one line, of the program or of an orphan."""
     for count, first in product((4094, 4095, 4096, 4097), (0, 1)):
         last = count + first - 1
         nodes = [{'kind': 'Other', 'range': [0, 0], 'children': [at + 1] if at < last else []} for at in range(1, last + 1)]
@@ -123,6 +122,6 @@ def depths():
 
 
 def every_case() -> 'list[Case]':
-    """All of them, three in ten by strict rules."""
+    """Returns all cases, three in ten by strict rules."""
     makers = (fields_of_nodes, fields_of_modules, texts, kinds_of_children, rules, ranges, depths)
     return [case.by(at % 10 < 3) for at, case in enumerate(case for maker in makers for case in maker())]

@@ -1,4 +1,4 @@
-"""A function and assignments to its properties, of names that are identifiers or just aren't."""
+"""A function and assignments to its properties, whose names are identifiers or barely none."""
 from graphs.numbering import module_of
 from graphs.vocabulary import IDENTIFIERS, ident, property_of
 from rules.identifiers import may_continue
@@ -7,7 +7,7 @@ RANGES = [(0x80, 0x3000), (0xA000, 0xD7FF), (0xE000, 0x20000), (0x20000, 0x11000
 
 
 def _character(rng) -> str:
-    """A character, often one beside which it changes whether an identifier may have it."""
+    """Returns a character, often next to one that an identifier may have and the other may not."""
     code = rng.choice([rng.randrange(*ends) for ends in RANGES])
     if rng.random() < 0.4:
         for code in range(code, min(code + 5000, 0x10FFFF)):

@@ -4,14 +4,14 @@ from graphs.vocabulary import export_all, export_from, ident, import_named, name
 
 
 def _row(count, statement):
-    """Modules in a row, of which the last owns `n`, and each other has the statement on the next."""
+    """Returns modules in a row: the last exports `n` locally, and each other has the statement on the next."""
     modules = [module_of('m%d' % at, statement('./next')) for at in range(count - 1)]
     modules.append(module_of('m%d' % (count - 1), variable('n')))
     return modules, [['m%d' % at, './next', 'm%d' % (at + 1)] for at in range(count - 1)]
 
 
 def ring(count):
-    """Each with one `export *` of the next, the last of the first, which owns `n`."""
+    """Returns modules each with one `export *` from the next, the last from the first, which exports `n` locally."""
     modules = [module_of('m0', variable('n'), export_all('./next'))]
     modules += [module_of('m%d' % at, export_all('./next')) for at in range(1, count)]
     resolutions = [['m%d' % at, './next', 'm%d' % ((at + 1) % count)] for at in range(count)]
@@ -19,18 +19,18 @@ def ring(count):
 
 
 def stars(count):
-    """Each with one `export *` of the next; the last alone owns `n`."""
+    """Returns modules each with one `export *` from the next; the last alone exports `n` locally."""
     return *_row(count, export_all), [['exports', 'm0']]
 
 
 def imports(count):
-    """Each but the last re-exports `n` by its name."""
+    """Returns modules of which each but the last re-exports `n` by its name."""
     queries = [[form, 'm0', 1] for form in ('definitions', 'leaves', 'paths')]
     return *_row(count, lambda text: export_from('n', text)), queries
 
 
 def fan(count):
-    """One module with a statement `export *` for each of the others, which own a name each and one that all have."""
+    """Returns one module with a statement `export *` for each of the others, which export a name each and one that all have."""
     modules = [module_of('m', *[export_all('./k%d' % at) for at in range(count)])]
     modules += [module_of('k%d' % at, variable('v%d' % at), variable('shared')) for at in range(count)]
     modules.append(module_of('q', import_named('./m', ['v0', 'v%d' % (count - 1), 'shared', 'absent'])))
@@ -39,14 +39,14 @@ def fan(count):
 
 
 def wide(count):
-    """One module of declarations, all exported."""
+    """Returns one module of declarations, all exported."""
     queries = [['exports', 'm'], ['paths', 'm', count], ['symbol', 'm', 'v%d' % (count - 1), 1], ['name', 'm', count],
                ['deps', 'm', count, 'all']]
     return [module_of('m', *[variable('v%d' % at) for at in range(count)])], [], queries
 
 
 def members(count):
-    """A class of so many static members and as many others."""
+    """Returns a class of this many static members and as many others."""
     body = [{'kind': 'ClassProp', 'is_static': is_static, 'key': {'kind': 'IdentName', 'name': 'v%d' % at}}
             for at in range(count) for is_static in (True, False)]
     declaration = {'kind': 'ClassDecl', 'ident': ident('K'), 'class': {'kind': 'Class', 'body': body}}
@@ -55,7 +55,7 @@ def members(count):
 
 
 def deep(count):
-    """A tree of this depth, at most 4096: a name within others."""
+    """Returns a tree of this depth, at most 4096: a name within others."""
     inner = ident('x')
     for _ in range(count - 3):
         inner = {'kind': 'Other', 'children': [inner]}
@@ -64,7 +64,7 @@ def deep(count):
 
 
 def parts(count):
-    """Namespaces in a nest, asked for by all parts at once."""
+    """Returns nested namespaces, with a query on all parts at once."""
     inner = variable('x')
     for at in reversed(range(count)):
         inner = namespace('N%d' % at, [inner])
@@ -77,6 +77,6 @@ FORMS = {form.__name__: form for form in (ring, stars, imports, fan, wide, membe
 
 
 def large(form: str, count: int) -> 'tuple[dict, list]':
-    """The value of a graph of a form and a size, and queries on it."""
+    """Returns the value of a graph of a form and a size, and queries on it."""
     modules, resolutions, queries = FORMS[form](count)
     return {'modules': modules, 'resolutions': resolutions}, queries

@@ -61,7 +61,7 @@ def resolutions_value(rng, specifiers) -> 'list[list[str]]':
 
 
 def graph_value(rng) -> dict:
-    """A graph that is accepted."""
+    """Returns an accepted graph."""
     style, shaped = style_of(rng), rng.random() < 0.55
     specifiers = rng.sample(SPECIFIERS, rng.choice([1, 2, 3, 3, 4, 5, 6]))
     names = rng.choice(NAMES)

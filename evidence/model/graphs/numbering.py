@@ -1,11 +1,11 @@
-"""From nested nodes to a tree: a flat list in which each child stands behind its parent."""
+"""Converts nested nodes to a tree: a flat list in which each child comes after its parent."""
 import random
 
 from rules.kinds import FIELDS
 
 
 def children_of(node: dict) -> 'list[dict]':
-    """The nested children of a node, in the order of its fields."""
+    """Returns the nested children of a node, in the order of its fields."""
     found = []
     for name, form, _ in FIELDS[node['kind']]:
         value = node.get(name)
@@ -15,7 +15,7 @@ def children_of(node: dict) -> 'list[dict]':
 
 
 def _flat(rng, roots, order) -> 'list[dict]':
-    """The nodes from the roots on, depth first, breadth first or in any order; the first root comes first."""
+    """Returns the nodes from the roots on, depth first, breadth first or in any order; the first root comes first."""
     found, waiting, first = [], list(roots), True
     while waiting:
         if order == 'any' and found:
@@ -31,7 +31,7 @@ def _flat(rng, roots, order) -> 'list[dict]':
 
 
 def _is_left_out(rng, value) -> bool:
-    """Whether an absent or empty field isn't written, as either way means the same."""
+    """Returns whether an absent or empty field is left out, since both have the same meaning."""
     if value is None:
         return rng.random() < 0.9
     return (value == [] and rng.random() < 0.25) or (value is False and rng.random() < 0.7)
@@ -52,7 +52,7 @@ def _numbered(rng, node, numbers, places) -> dict:
 
 
 def nodes_of(rng: random.Random, root: dict, text: str, orphans=()) -> 'list[dict]':
-    """The list of nodes of a nested root, and of orphans, with ranges that fit the text."""
+    """Returns the list of nodes of a nested root, and of orphans, with ranges that fit the text."""
     data = text.encode()
     places = [at for at in range(len(data) + 1) if at == len(data) or data[at] & 0xC0 != 0x80]
     order = rng.choice(['depth', 'breadth', 'any'])
@@ -62,7 +62,7 @@ def nodes_of(rng: random.Random, root: dict, text: str, orphans=()) -> 'list[dic
 
 
 def plain_nodes(*roots: dict) -> 'list[dict]':
-    """A program, and these roots as orphans behind it, depth first, all in the empty range."""
+    """Returns a program, and these roots as orphans after it, depth first, all in the empty range."""
     flat = [{'kind': 'Program'}]
     for root in roots:
         flat += _flat(None, [root], 'depth')
@@ -80,7 +80,7 @@ def plain_nodes(*roots: dict) -> 'list[dict]':
 
 
 def module_of(specifier: str, *items: dict, rng=None, text='') -> dict:
-    """A module of nested statements."""
+    """Returns a module of nested statements."""
     root = {'kind': 'Program', 'body': list(items)}
     nodes = nodes_of(rng or random.Random(specifier), root, text)
     return {'specifier': specifier, 'kind': 'esm', 'text': text, 'tree': {'nodes': nodes}}

@@ -1,4 +1,4 @@
-"""Queries on a graph: every form, on every symbol and every name, in any order; and lines that are none."""
+"""Queries on a graph: every form, on every symbol and every name, in any order; and lines that are no queries."""
 import json
 
 from graphs.vocabulary import NAMES, ODD_NAMES, TEXTS
@@ -36,7 +36,7 @@ class Asking:
         self.parts = (exported or ['a']) + ['prototype', 'a', 'default']
 
     def some_parts(self, first, *counts) -> 'list[str]':
-        """Names behind a name, the first of them often one of those that stand behind it."""
+        """Returns parts after a name; the first is often one that occurs after it in the graph."""
         rng, found = self.rng, [self.rng.choice(self.parts) for _ in range(self.rng.choice(counts))]
         if found and first and rng.random() < 0.6:
             found[0] = rng.choice(first)
@@ -89,7 +89,7 @@ def line_of(rng, query) -> bytes:
 
 
 def query_lines(rng, value, limit=160) -> 'list[bytes]':
-    """At most so many queries on a graph that is accepted, among them some lines that are none."""
+    """Returns at most this many queries on an accepted graph, among them some lines that are no queries."""
     asked = Asking(rng, value).queries()
     rng.shuffle(asked)
     lines = [line_of(rng, query) for query in asked[:limit]]

@@ -1,4 +1,4 @@
-"""Many modules of `export *`, names and little else, for what is exported along chains of them."""
+"""Many modules with `export *`, names and little else, for exports along chains of them."""
 from graphs.numbering import module_of
 from graphs.vocabulary import export_all, export_from, ident, import_named, namespace, number, variable
 
@@ -26,7 +26,7 @@ def _statements(rng, names, texts, stars) -> 'list[dict]':
 
 
 def graph_value(rng) -> dict:
-    """A graph that is accepted. In half of them each module leads to many others, so that names have many owners."""
+    """Returns an accepted graph. In half of the graphs each module has `export *` from many others, so that names have many exporters."""
     dense = rng.random() < 0.5
     count = rng.randint(4 if dense else 2, 9)
     specifiers = ['m%d' % at for at in range(count)]

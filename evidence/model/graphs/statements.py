@@ -1,4 +1,4 @@
-"""Statements of the kinds that paths go through, of few names, so that they lead to each other."""
+"""Statements of the kinds that paths follow, with few names, so that they refer to each other."""
 from graphs.vocabulary import (IDENTIFIERS, export_all, ident, namespace, number, property_of, variable)
 
 
@@ -15,7 +15,7 @@ class Statements:
         if self.odd:
             self.weights[8] = self.weights[9] = 4
         elif rng.random() < 0.2:
-            # aliases of aliases, met on several ways
+            # aliases of aliases, visited on several paths
             self.weights = [1, 2, 1, 3, 0, 0, 6, 3, 0, 0]
 
     def some(self, *counts) -> 'list[dict]':

@@ -1,4 +1,4 @@
-"""A graph as text, in one of several dresses, and texts that are broken."""
+"""A graph as text, in one of several styles, and broken texts."""
 import json
 
 FIXED_TEXTS = [b'', b' ', b'null', b'[]', b'{}', b'{"modules":null}', b'1', b'"x"',
@@ -17,7 +17,7 @@ FIXED_TEXTS = [b'', b' ', b'null', b'[]', b'{}', b'{"modules":null}', b'1', b'"x
 EXTRA_KEYS = ['extra', 'loc', 'ctxt', 'span', 'raw']
 EXTRA_VALUES = [None, True, 'x', 7, [], {'kind': 1}, {'range': [1, [2]]}]
 
-# what is put at a place of the text, behind a `{` and before a `}`
+# what is inserted into the text, after a `{` and before a `}`
 PIECES = [b'"', b'\\', b'{', b']', b',', b':', b'0', b'-', b'.', b'e', b'\n', b' ', b'\x0c', b'null', b'\\u0000']
 MEMBERS = [b'"x":1.0,', b'"kind":"Other",', b'"x":null,', b'"x":-5,', b'"x":99999999999999999999,', b'"range":[0,0],',
            b'"text":1,', b'"x":1e400,']
@@ -32,7 +32,7 @@ def compact(value) -> bytes:
 
 
 def _shuffled(rng, value):
-    """The value with the keys of its objects in any order, and keys that no object has a field for."""
+    """Returns the value with the keys of its objects in any order, and with additional unknown keys."""
     if type(value) is list:
         return [_shuffled(rng, item) for item in value]
     if type(value) is not dict:
@@ -62,7 +62,7 @@ def _behind(data: bytes, mark: bytes, found: int, piece: bytes) -> bytes:
 
 
 def broken_text(rng, data: bytes) -> bytes:
-    """The text, changed at one place."""
+    """Returns the text, changed at one position."""
     at = rng.randint(0, len(data))
     changed = [
         lambda: data[:at],

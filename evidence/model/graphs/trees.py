@@ -24,7 +24,7 @@ DEPTH = 14
 
 
 def style_of(rng) -> dict:
-    """How large a tree is, how odd its names are, in which scopes they stand, and which texts it imports from."""
+    """Returns how large a tree is, how unusual its names are, their scopes, and the specifiers that it imports from."""
     return {'budget': rng.choice([15, 40, 80, 160]), 'items': rng.choice([2, 5, 9]), 'odd_names': rng.choice([0.0, 0.05, 0.3]),
             'scope_1': rng.choice([1.0, 1.0, 0.85]), 'texts': rng.sample(TEXTS, rng.choice([2, 4, 8]))}
 
@@ -58,7 +58,7 @@ class Maker:
         return self.rng.choices(list(weights), list(weights.values()))[0]
 
     def choose(self, allowed) -> str:
-        """A kind that may stand there."""
+        """Returns a kind that is allowed there."""
         small = self.budget <= 0
         for category, weights in WEIGHTS:
             if allowed == CATEGORIES[category] and not (small and category in SMALL):
@@ -72,7 +72,7 @@ class Maker:
         return self.rng.choice(sorted(allowed - {'ExportDefaultSpecifier'}))
 
     def count(self, field, kind, depth) -> int:
-        """How many children a list has."""
+        """Returns the length of a list of children."""
         rng = self.rng
         if kind == 'Program':
             return rng.randint(0, self.style['items'])
@@ -136,7 +136,7 @@ class Maker:
         return property_of({'kind': 'Ident', 'sym': self.name_and_scope()}, key, rng.random() < 0.9, value)
 
     def keep_exports(self, node, depth) -> None:
-        """Without a text to export from, there are specifiers of names alone."""
+        """Keeps only specifiers of names if there is no specifier to export from."""
         if node['src'] is not None:
             return
         node['specifiers'] = [it if it['kind'] == 'ExportSpecifier' else self.make('ExportSpecifier', depth + 1)
@@ -146,7 +146,7 @@ class Maker:
                 specifier['orig'] = {'kind': 'Ident', 'sym': self.name_and_scope()}
 
     def keep_one_source(self, node, depth) -> None:
-        """An `import A =` has either an entity or a text."""
+        """Gives an `import A =` either an entity or a specifier."""
         if self.rng.random() < 0.35:
             node['entity'], node['external'] = None, self.text('TsImportEqualsDecl', 'external')
         else:
@@ -154,11 +154,11 @@ class Maker:
             node['external'] = None
 
     def keep_binding(self, node, depth) -> None:
-        """A parameter with an initial value that is a property binds a name."""
+        """Makes a parameter property with an initial value bind a name."""
         parameter = node['param']
         if parameter['kind'] == 'AssignPat' and parameter['left']['kind'] != 'BindingIdent':
             parameter['left'] = self.make('BindingIdent', depth + 1)
 
 
-# by kind, what keeps the rules that categories don't say
+# by kind, the functions for the rules that categories don't express
 RULES = {'ExportNamed': Maker.keep_exports, 'TsImportEqualsDecl': Maker.keep_one_source, 'TsParamProp': Maker.keep_binding}

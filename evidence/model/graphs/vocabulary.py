@@ -1,4 +1,4 @@
-"""The few names, texts and specifiers that random graphs are made of, so that they meet each other."""
+"""The few names, texts and specifiers of random graphs, so that they refer to each other."""
 
 NAMES = ['a', 'b', 'c', 'A', 'N', 'f']
 ODD_NAMES = ['default', 'prototype', 'g', 'M', 'é', '', 'a"b', 'x y', '%%dg_ctor%%', '%%dg_index%%', 'K', 'p', '\u200c',
@@ -8,7 +8,7 @@ TEXTS = ['./a', './b', './c', './d', './e', './j', './x', './é']
 SOURCES = ['', 'export const a = 1;', 'é', 'xéy𝒳z "\\ ', ' \u00a0é\u2003\n' * 2, '  {}\n', '0123456789' * 4]
 JSON_SOURCES = ['{}', '  {}\n', '  \n', '', '\u00a0\u2028{"é":1}\u3000\ufeff', '\ufeff ', '\u200b']
 
-# names that are identifiers, or just aren't
+# names that are identifiers, or barely none
 IDENTIFIERS = ['', '$', '_', '1a', 'a1', 'a-b', 'a b', 'if', 'é', '𝒳1', '\u200ca', 'a\u200c', 'a\u200d', '\u0301a', 'a\u0301',
                '·', 'a·', 'ª', '℘', 'a℘', '$1', '_\u200d', '９', 'a９', '\u2118', '\U0001F600', 'a\U0001F600', 'prototype',
                'default', '\U00031350', 'a\U0001E08F', '\U0001E08F', 'a\u200c\u200d$', '\u309b', 'a\u309b', 'a\u30fb',
@@ -24,7 +24,7 @@ def number(text='1'):
 
 
 def variable(name, exported=True):
-    """`export const NAME`, as nested nodes."""
+    """Returns `export const NAME`, as nested nodes."""
     binding = {'kind': 'BindingIdent', 'sym': [name, 1]}
     declaration = {'kind': 'VarDecl', 'decls': [{'kind': 'VarDeclarator', 'name': binding}]}
     return {'kind': 'ExportDecl', 'decl': declaration} if exported else declaration
@@ -48,6 +48,6 @@ def namespace(name, body, **more):
 
 
 def property_of(target, key, plain=True, value=None):
-    """The statement `TARGET.KEY = VALUE`, of a key as a node."""
+    """Returns the statement `TARGET.KEY = VALUE`, with a key as a node."""
     left = {'kind': 'Member', 'obj': target, 'prop': key}
     return {'kind': 'ExprStmt', 'expr': {'kind': 'Assign', 'plain': plain, 'left': left, 'right': value or number()}}

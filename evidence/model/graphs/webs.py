@@ -1,15 +1,15 @@
-"""Webs of `export *`, for names that are shared: each module leads to several others and on a ring to all of them, and most of
-a few names are owned by several modules. A way round is often less than the short one."""
+"""Webs of `export *`, for shared names: each module has `export *` from several others and on a ring from all of them. Several modules export most of
+a few names. A longer chain is often less than the short one."""
 from graphs.numbering import module_of
 from graphs.vocabulary import export_all, export_from, ident, import_named, number, variable
 
 NAMES = ['a', 'b', 'c', 'd', 'e', 'f']
-# the first leads to the next module of the ring, the others anywhere
+# the first resolves to the next module of the ring, the others to any
 RING, TEXTS = './ring', ['./0', './1', './2']
 
 
 def _statements(rng, names, likely) -> 'list[dict]':
-    """At least two statements `export *`, and some of the names, a few of them re-exported."""
+    """Returns at least two statements `export *`, and some of the names, a few of them re-exported."""
     texts = [RING] + rng.sample(TEXTS, rng.choice([1, 2, 2, 3]))
     found = [export_all(text) for text in texts]
     for name in names:
@@ -28,7 +28,7 @@ def _statements(rng, names, likely) -> 'list[dict]':
 
 
 def graph_value(rng) -> dict:
-    """A graph that is accepted."""
+    """Returns an accepted graph."""
     specifiers = ['m%d' % at for at in range(rng.randint(5, 6))]
     rng.shuffle(specifiers)
     names, likely = NAMES[:rng.randint(4, 6)], rng.choice([0.4, 0.5, 0.6])

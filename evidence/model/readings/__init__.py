@@ -1,1 +1,1 @@
-"""The definitions read word for word, with no cleverness and at any cost: what the model itself is held to."""
+"""The definitions read literally, without optimization and at any cost, with which the model itself is compared."""

@@ -5,7 +5,7 @@ from rules.root import Module, Root
 
 
 class Chain(NamedTuple):
-    """The places of the statements `export *`, the module at the end, and the statements as (module, text)."""
+    """The positions of the statements `export *`, the module at the end, and the statements as (module, specifier)."""
     places: 'tuple[int, ...]'
     end: Module
     statements: tuple
@@ -15,7 +15,7 @@ class Chain(NamedTuple):
 
 
 def simple_chains(root: Root, start: Module) -> 'list[Chain]':
-    """All chains from a module in which no module stands twice, in chain order."""
+    """Returns all chains from a module that visit no module twice, in chain order."""
     found, waiting = [Chain((), start, ())], [(Chain((), start, ()), (start,))]
     while waiting:
         chain, met = waiting.pop()
@@ -29,7 +29,7 @@ def simple_chains(root: Root, start: Module) -> 'list[Chain]':
 
 
 def least_chains(chains: 'list[Chain]') -> 'dict[int, Chain]':
-    """By the number of a module that is reached, its least chain."""
+    """Returns the least chain of each reached module, by its number."""
     found = {}
     for chain in chains:
         if chain.end.number not in found or chain.places < found[chain.end.number].places:
@@ -38,8 +38,8 @@ def least_chains(chains: 'list[Chain]') -> 'dict[int, Chain]':
 
 
 def exports_by_chains(root: Root, start: Module):
-    """What a module exports as (name, chain, owner, symbol), in chain order and in the order of the owner's exports; and the
-    statements that lead to no module, in chain order."""
+    """Returns the exports of a module as (name, chain, exporter, symbol), in chain order and in the order of the exporter's exports; and the
+    unresolved statements, in chain order."""
     chains, owned = simple_chains(root, start), {}
     for chain in chains:
         for place, (name, number) in enumerate(chain.end.own_exports().items()):
@@ -53,8 +53,8 @@ def exports_by_chains(root: Root, start: Module):
 
 
 def shared_by_chains(start: Module, least: 'dict[int, Chain]', exported: 'list[str]') -> list:
-    """The names that the module doesn't own, in the order of the exports, and that two or more modules that are reached do:
-    each with (chain, owner, symbol) of every owner, by its least chain, in chain order."""
+    """Returns the names that the module doesn't export locally and two or more reached modules do, in the order of the exports. Each has (chain,
+    exporter, symbol) of every exporter, by its least chain, in chain order."""
     ordered, found = sorted(least.values(), key=lambda it: it.places), []
     for name in exported:
         owners = [(it.told(), it.end.specifier, it.end.own_exports()[name]) for it in ordered if name in it.end.own_exports()]

@@ -1,5 +1,4 @@
-"""The checks of the model on one graph, by strict rules or Deno's; each raises AssertionError with what is wrong, and counts
-what it saw."""
+"""The checks of the model on one graph, by strict rules or Deno's. Each raises AssertionError with what is wrong, and counts its checks."""
 from collections import Counter
 
 from readings.chains import exports_by_chains, least_chains, shared_by_chains, simple_chains
@@ -14,7 +13,7 @@ from rules.root import Root, Steps
 
 
 def check_tables(graph: ModuleGraph, counts: Counter) -> None:
-    """Each table is the one that the filters over the events give."""
+    """Checks that each table is the result of the filters over the events."""
     for module in graph.modules:
         if module.kind == 'esm' and module.tree is not None:
             TableByEvents(module.tree).check(graph.table(module))
@@ -26,7 +25,7 @@ def export_told(found) -> tuple:
 
 
 def exports_told(root, start, steps=None) -> tuple:
-    """What the model says of a module: its exports, the shared names, and the statements that lead to no module."""
+    """Returns the model's results for a module: its exports, the shared names, and the unresolved statements."""
     resolved, shared, unresolved = exports(root, start, steps)
     return ([(name, *export_told(it)) for name, it in resolved.items()],
             [(name, [export_told(it) for it in owners]) for name, owners in shared.items()],
@@ -34,8 +33,8 @@ def exports_told(root, start, steps=None) -> tuple:
 
 
 def count_shared(shared, chains, counts: Counter) -> None:
-    """Counts shared names, those of three owners or more, and those where the least chain to an owner isn't the shortest, so
-    that it isn't the one that is met first where short chains are tried before long ones."""
+    """Counts shared names, those of three exporters or more, and those where the least chain to an exporter isn't the shortest, so that a search by
+    length would find another one first."""
     shortest = {}
     for chain in chains:
         shortest[chain.end.specifier] = min(len(chain.places), shortest.get(chain.end.specifier, len(chain.places)))
@@ -46,8 +45,8 @@ def count_shared(shared, chains, counts: Counter) -> None:
 
 
 def check_exports(graph: ModuleGraph, strict: bool, counts: Counter) -> None:
-    """Exports, shared names, unresolved statements, stored modules and steps are what all simple chains give; and the first
-    three are the same where all modules are stored, in another order."""
+    """Checks that exports, shared names, unresolved statements, stored modules and steps are those of all simple chains; and that the first three are
+    the same if all modules are stored, in another order."""
     full = Root(graph, strict=strict)
     for module in reversed(graph.modules):
         full.module_from_specifier(module.specifier)
@@ -74,7 +73,7 @@ def check_exports(graph: ModuleGraph, strict: bool, counts: Counter) -> None:
 
 
 def check_one_name(root, specifier, name, told, least) -> None:
-    """One name is the entry of the exports, and no more statements are gone through than come before it."""
+    """Checks that one name is the entry of the exports, and that no more statements are visited than come before it."""
     start, steps = root.module_from_specifier(specifier), Steps()
     found = export_of(root, start, name, steps)
     after = set(root.numbers)
@@ -95,7 +94,7 @@ def check_one_name(root, specifier, name, told, least) -> None:
 
 
 def open_parts(paths) -> list:
-    """The unresolved parts that don't stand behind an alias."""
+    """Returns the unresolved parts that don't come after an alias."""
     found = []
     for path in paths:
         if isinstance(path, Unresolved) and path.kind == 'part':
@@ -155,8 +154,7 @@ class PathChecks:
         self.check_list(paths, owner, number, tuple(parts[1:]), ('import', module.specifier, parts))
 
     def check_list(self, paths, module, number, parts, what) -> Reach:
-        """The list is derived, each leaf of it stands in the relation, and where the search doesn't meet itself none is
-        lost."""
+        """Checks that the list is derived, that each leaf of it is in the relation, and that none is lost if the search doesn't revisit itself."""
         given = {leaf_of(leaf) for leaf in ends(paths)}
         assert self.derivations.is_derived(paths, module, number, [parts] if parts else []), ('derivation',) + what
         assert given <= self.relations.leaves(module, number, parts), ('leaves',) + what

@@ -1,16 +1,16 @@
-"""Whether a list of paths is one that the rules derive for a symbol, with parts put behind it one after the other."""
+"""Checks whether the rules derive a list of paths for a symbol, with parts appended one after the other."""
 from readings.relations import Relations, leaf_of
 from rules.paths import End, Link, Unresolved
 
 
 class Derivations:
-    """Says what is derived; `changes` are the lists of parts, from the first that was put behind on."""
+    """The check; `changes` are the lists of appended parts, from the first on."""
 
     def __init__(self, relations: Relations):
         self.relations, self.root = relations, relations.root
 
     def is_derived(self, paths, module, symbol, changes) -> bool:
-        """At most one path for each declaration, in their order."""
+        """Returns whether there is at most one path for each declaration, in their order."""
         declarations, last = module.table.symbols[symbol].declarations, -1
         for path in paths:
             if isinstance(path, Unresolved) or path.module is not module or path.at[0] != symbol \
@@ -35,7 +35,7 @@ class Derivations:
         return path.symbol == symbol and self.leads_on(path.next, module, declaration, changes)
 
     def is_end(self, path, module, symbol, place, changes) -> bool:
-        """A path to a definition or a file: itself, and under parts what becomes of it."""
+        """Returns whether it is a path to a definition or a file: itself, and with parts its result."""
         leaf = ('end', module.number, symbol, place)
         if not changes:
             return isinstance(path, End) and leaf_of(path) == leaf
@@ -50,7 +50,7 @@ class Derivations:
         return self.is_derived(path.next, target, number, ([rest] if rest else []) + changes[1:])
 
     def leads_on(self, paths, module, declaration, changes) -> bool:
-        """Behind an alias or an import of a name."""
+        """Returns whether the path after an alias or an import of a name is derived."""
         leaves = [leaf_of(it) for it in paths]
         if declaration.kind == 'qualified':
             number, parts = module.table.names.get(declaration.name), tuple(declaration.parts)

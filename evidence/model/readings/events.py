@@ -1,4 +1,4 @@
-"""The events of a tree, made from the tree alone: each is a form, the event of its holder, and what is declared."""
+"""The events of a tree, derived from the tree alone: each is a form, the event of its holder, and what is declared."""
 from rules.declarations import DeclarationNode
 from rules.names import assigned_property, entity_name
 from rules.raw_graph import Tree
@@ -12,8 +12,8 @@ WITHIN = {'ArrayPat': 'elems', 'ObjectPat': 'props', 'RestPat': 'arg', 'KeyValue
 
 
 class Event:
-    """`form` is fresh, declare, alias, map, default, member, expando, export, child or star; `holder` the number of the
-    event that declared the holder; `name` a name of a scope, or a text of exports and members; `of` the event meant."""
+    """An event: `form` is fresh, declare, alias, map, default, member, expando, export, child or star; `holder` the number of the event that declared
+    the holder; `name` a name of a scope, or a text of exports and members; `of` the referenced event."""
     __slots__ = ('form', 'holder', 'name', 'declaration', 'of', 'is_static')
 
     def __init__(self, form, holder, name=None, declaration=None, of=None, is_static=False):
@@ -159,7 +159,7 @@ class Events:
             self.items(self.nodes[body].fields['body'], holder, ambient or self.nodes[at].fields['declare'])
 
     def bound(self, number) -> 'list[int]':
-        """The nodes of the names that a pattern binds."""
+        """Returns the nodes of the names that a pattern binds."""
         pattern = self.nodes[number]
         if pattern.kind == 'BindingIdent':
             return [number]

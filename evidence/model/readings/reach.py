@@ -1,11 +1,11 @@
-"""What a search may come to at most, and where that meets itself: there is more to be asked of a search in which no alias
-meets itself and no symbol is come to with two rests of parts."""
+"""The upper bound of what a search may visit, and where it revisits itself. More can be required of a search in which no alias takes part in
+resolving itself and no symbol is visited with two different remaining parts."""
 from readings.relations import Relations
 
 
 class Reach:
-    """The symbols that a search may come to, with the parts behind them. `has_alias`: an alias whose name is known is met;
-    `meets_itself`: one is met within its own search; `has_two_rests`: a symbol is met with two rests of parts."""
+    """The symbols that a search may visit, with the parts after them. `has_alias`: an alias whose name is known is visited; `meets_itself`: one is
+    visited within its own search; `has_two_rests`: a symbol is visited with two different remaining parts."""
 
     def __init__(self, relations: Relations, module, symbol, parts):
         self.relations = relations
@@ -36,7 +36,7 @@ class Reach:
         return [(target, number, parts) for target, number, _ in goals] + [goal for goal in outcomes if goal is not None]
 
     def alias(self, goal, key, resolving):
-        """The leaves of an alias, whose search stands within this one."""
+        """Returns the leaves of an alias, whose search is within this one."""
         self.has_alias = True
         if key in resolving:
             self.meets_itself = True

@@ -1,8 +1,8 @@
-"""Which leaves a symbol has, with parts behind it or without: the least relations that the rules close, found by going
-round until nothing is added.
+"""Computes the leaves of a symbol, with or without parts after it: the least relations closed under the rules, by iteration
+until nothing is added.
 
-A leaf is ('end', module, symbol, place of the declaration) or ('unresolved', module, kind, name, parts), with modules by
-their numbers. A goal is a module, a symbol and the parts behind it."""
+A leaf is ('end', module, symbol, index of the declaration) or ('unresolved', module, kind, name, parts), with modules by
+their numbers. A goal is a module, a symbol and the parts after it."""
 from readings.chains import exports_by_chains
 from rules.paths import End, Unresolved
 from rules.root import Module, Root
@@ -23,7 +23,7 @@ class Relations:
         self.root, self._entries = root, {}
 
     def entry(self, module: Module, name: str):
-        """The owner and the symbol of a name that the module exports."""
+        """Returns the exporter and the symbol of an exported name."""
         if module.number not in self._entries:
             resolved, _ = exports_by_chains(self.root, module)
             self._entries[module.number] = {exported: (self.root.modules[self.root.numbers[owner]], number)
@@ -31,7 +31,7 @@ class Relations:
         return self._entries[module.number].get(name)
 
     def candidates(self, module: Module, name: str) -> list:
-        """The owners of a name behind each statement `export *`, in order; by strict rules none of `default`."""
+        """Returns the exporters of a name after each statement `export *`, in order; by strict rules none of `default`."""
         if self.root.strict and name == 'default':
             return []
         targets = [self.root.dependency(text, module) for text in module.stars]
@@ -42,8 +42,8 @@ class Relations:
         return module.table.symbols[symbol].declarations
 
     def leads(self, module, symbol, place, first_candidate=False):
-        """Where a declaration leads: leaves, and goals whose leaves are its own. Of the candidates of an import either all
-        are taken, and the open part beside them, or the first alone."""
+        """Returns the targets of a declaration: leaves, and goals whose leaves are its own. Of the candidates of an import either all are included,
+        with the open part beside them, or the first alone."""
         declaration = self.declarations(module, symbol)[place]
         if declaration.is_end():
             return [('end', module.number, symbol, place)], []
@@ -64,7 +64,7 @@ class Relations:
             (found[:1] if first_candidate else found)
 
     def outcome(self, leaf, parts):
-        """What a leaf is with parts behind it: a leaf, or a goal."""
+        """Returns the result of a leaf with parts after it: a leaf, or a goal."""
         if leaf[0] == 'unresolved':
             return leaf, None
         module, symbol, part = self.root.modules[leaf[1]], leaf[2], parts[0]
@@ -85,7 +85,7 @@ class Relations:
         return ('unresolved', module.number, 'part', part, parts), None
 
     def step(self, goal, leaves_of, first_candidate) -> frozenset:
-        """The leaves of a goal, by those of the goals that it asks for."""
+        """Returns the leaves of a goal, by those of the goals that it depends on."""
         module, symbol, parts = goal
         found = set()
         if parts:
@@ -101,7 +101,7 @@ class Relations:
         return frozenset(found)
 
     def leaves(self, module, symbol, parts=(), first_candidate=False) -> frozenset:
-        """All leaves of a goal: the least solution."""
+        """Returns all leaves of a goal: the least solution."""
         first = (module, symbol, parts)
         found, users, waiting = {first: frozenset()}, {}, [first]
         while waiting:
@@ -121,7 +121,7 @@ class Relations:
         return found[first]
 
     def first_reach(self, module, symbol) -> set:
-        """The leaves that are reached without going through an alias, by the first candidate of each import."""
+        """Returns the leaves that are reached without an alias, by the first candidate of each import."""
         met, waiting, found = {(module, symbol)}, [(module, symbol)], set()
         while waiting:
             at = waiting.pop()

@@ -13,7 +13,7 @@ def _fields(declaration) -> tuple:
 
 
 class TableByEvents:
-    """What the filters give of the events before the event number `end`; each of the lists by its definition."""
+    """The results of the filters over the events before the event number `end`; each of the lists by its definition."""
 
     def __init__(self, tree):
         self.events = Events(tree).list
@@ -29,14 +29,14 @@ class TableByEvents:
                 if event.form in DECLARING and self.symbol[at] == symbol and (event.form != 'alias' or self.is_new[at])]
 
     def named(self, name, end) -> 'int | None':
-        """The symbol that a name of a scope stands for."""
+        """Returns the symbol that a name of a scope resolves to."""
         for at in reversed(range(end)):
             if self.events[at].form in ('declare', 'alias', 'map') and self.events[at].name == name:
                 return self.symbol[at]
         return None
 
     def _adds_to(self, at, symbol) -> bool:
-        """Whether the event adds a static member or a property that is new to the symbol."""
+        """Returns whether the event adds a static member or a property that is new to the symbol."""
         event = self.events[at]
         if event.form == 'expando':
             return self.is_new[at] and self.parent[self.symbol[at]] == symbol
@@ -70,7 +70,7 @@ class TableByEvents:
                 and not event.is_static and self.is_new[at] and self.symbol[event.holder] == symbol]
 
     def _of_name(self, symbols, name, end):
-        """The first of the symbols that is called so."""
+        """Returns the first of the symbols with this name."""
         return next((it for it in symbols if self.declarations(it, end)[0].maybe_name() == name), None)
 
     def static(self, parent, name, end) -> 'int | None':
@@ -78,7 +78,7 @@ class TableByEvents:
         return self._of_name(self.children(parent, end), name, end) if found is None else found
 
     def symbol_of(self, at):
-        """The symbol of an event, whether it is new, and the parent of a new one."""
+        """Returns the symbol of an event, whether it is new, and the parent of a new one."""
         event = self.events[at]
         holder, found = None if event.holder is None else self.symbol[event.holder], None
         if event.form in ('export', 'child', 'star'):
@@ -106,7 +106,7 @@ class TableByEvents:
         return (node.is_function() and before[-1].is_function()) or node.is_constructor() or node.is_method()
 
     def check(self, table: Table) -> None:
-        """That the table is the one that the filters give, and keeps the laws of tables."""
+        """Checks that the table is the result of the filters, and satisfies the laws of tables."""
         end = len(self.events)
         assert len(table.symbols) == len(self.parent), 'symbols'
         for symbol in table.symbols:

@@ -1,22 +1,22 @@
-"""Rows of graphs that are too large to be written out: the graphs are made, and the answers said by their rule."""
+"""Rows of graphs that are too large to be written out: the graphs are generated, and the answers given by their rule."""
 from graphs.large import large
 
 
 def line_of(count) -> dict:
-    """A module whose tree is one line of so many nodes."""
+    """Returns a module whose tree is one line of this many nodes."""
     nodes = [{'kind': 'Program', 'range': [0, 0], 'body': [1]}]
     nodes += [{'kind': 'Other', 'range': [0, 0], 'children': [at + 1] if at + 1 < count else []} for at in range(1, count)]
     return {'modules': [{'specifier': 's', 'kind': 'esm', 'text': '', 'tree': {'nodes': nodes}}]}
 
 
 def one_statement(number, text, *nodes) -> dict:
-    """A module of this text, which is one statement."""
+    """Returns a module of this text, which is one statement."""
     program = {'kind': 'Program', 'range': [0, len(text)], 'body': [1]}
     return {'specifier': 'm%d' % number, 'kind': 'esm', 'text': text, 'tree': {'nodes': [program, *nodes]}}
 
 
 def passed_on(count) -> dict:
-    """Modules in a row: the last owns `n`, and each other exports that of the next."""
+    """Returns modules in a row: the last exports `n` locally, and each other re-exports it from the next."""
     modules = [one_statement(at, 'export { n } from "./next";',
                              {'kind': 'ExportNamed', 'range': [0, 27], 'specifiers': [2], 'src': './next'},
                              {'kind': 'ExportSpecifier', 'range': [9, 10], 'orig': 3},
@@ -28,6 +28,11 @@ def passed_on(count) -> dict:
                                  {'kind': 'BindingIdent', 'range': [13, 14], 'sym': ['n', 1]},
                                  {'kind': 'Num', 'range': [17, 18], 'text': '1'}))
     return {'modules': modules, 'resolutions': [['m%d' % at, './next', 'm%d' % (at + 1)] for at in range(count - 1)]}
+
+
+def nested(count) -> str:
+    """Returns the text of a graph without modules, in which lists and objects are nested this deep."""
+    return '{"modules":[],"extra":' + '[' * (count - 1) + ']' * (count - 1) + '}'
 
 
 def exported(module, chain) -> dict:
@@ -49,4 +54,6 @@ def large_rows() -> 'list[dict]':
          'asked': [[['exports', 's'], {'exports': [], 'unresolved': []}]]},
         {'name': 'a tree that is too deep', 'graph': line_of(4097), 'status': 5,
          'error': 'symq: graph refused: 7 s 7 4096'},
+        {'name': 'a text nested as deep as may be', 'text': nested(127), 'asked': [[['exports', 's'], None]]},
+        {'name': 'a text that is nested too deep', 'text': nested(128), 'status': 4, 'error': 'symq: not a graph: json'},
     ]

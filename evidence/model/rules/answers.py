@@ -1,4 +1,4 @@
-"""The line that answers a query, and what a whole run gives."""
+"""The line that answers a query, and the result of a whole run."""
 from rules.checker import check_graph
 from rules.exports import exports
 from rules.faults import BAD_QUERY_LINE, BadQuery, FormatFault, GraphFault, SymbolsFault
@@ -66,7 +66,7 @@ NAMELESS = ('%%dg_ctor%%', '%%dg_index%%')
 
 
 def names_value(root, module):
-    """Each exported name, and behind it each name that its symbol exports itself."""
+    """Returns each exported name, and after it each name that its symbol exports itself."""
     found = []
     for name, it in exports(root, module).resolved.items():
         members = [member for member in it.module.table.symbols[it.symbol].exports if member not in NAMELESS]
@@ -81,7 +81,7 @@ def dependencies_value(symbol, mode):
 
 
 def answer(root: Root, query: Query) -> str:
-    """The answer's text, or a SymbolsFault."""
+    """Returns the answer's text, or raises a SymbolsFault."""
     module = root.module_from_specifier(query.specifier)
     if module is None:
         return 'null'
@@ -110,7 +110,7 @@ def answer(root: Root, query: Query) -> str:
 
 
 def answer_line(root: Root, line: bytes) -> str:
-    """The line that answers a line, without its end."""
+    """Returns the line that answers a line, without its end."""
     try:
         return answer(root, read_query(line))
     except BadQuery:
@@ -125,7 +125,7 @@ def lines_of(data: bytes) -> 'list[bytes]':
 
 
 def run(graph: bytes, lines: 'list[bytes]', strict=False) -> 'tuple[int, bytes, bytes]':
-    """What the program does with the text of a graph and lines: its status, standard output and standard error."""
+    """Returns the result of the program for the text of a graph and lines: its status, standard output and standard error."""
     try:
         root = Root(check_graph(read_graph(graph)), strict=strict)
     except (FormatFault, GraphFault) as fault:

@@ -1,4 +1,4 @@
-"""The table of a module's symbols, by one walk over its tree."""
+"""Builds the table of a module's symbols, in one pass over its tree."""
 from rules.declarations import DeclarationNode
 from rules.names import assigned_property, bound_names, entity_name
 from rules.raw_graph import RawModule, Tree
@@ -11,14 +11,14 @@ FORMS = {'ClassDecl': 'Class', 'FnDecl': 'Fn', 'VarDecl': 'Var', 'UsingDecl': 'U
 
 
 def table_of(module: RawModule) -> Table:
-    """The table of a module that has symbols."""
+    """Returns the table of a module that has symbols."""
     if module.kind == 'json':
         return json_table(module.text)
     return Builder(module.tree).run()
 
 
 class Filling:
-    """The steps that fill a table. A holder is the symbol that something is declared in."""
+    """The steps that fill a table. A holder is the symbol in which something is declared."""
 
     def __init__(self):
         self.table = Table()
@@ -36,7 +36,7 @@ class Filling:
         return symbol
 
     def declare(self, name, declaration: Declaration, holder: Symbol) -> Symbol:
-        """Declares a name of a scope: one symbol of the module, wherever it is declared again."""
+        """Declares a name of a scope: one symbol of the module, even if it is declared again."""
         number = self.names.get(name)
         if number is not None:
             return self.add(self.symbols[number], declaration)
@@ -62,7 +62,7 @@ class Filling:
         return symbol
 
     def place_member(self, holder: Symbol, declaration: Declaration, is_static: bool) -> None:
-        """A static member is an export and a child of its class, any other a member; of one name they are one symbol."""
+        """Adds a member: a static one is an export and a child of its class, any other a member; members of one name are one symbol."""
         name = declaration.maybe_name()
         known = None
         if name is not None:
@@ -82,7 +82,7 @@ class Filling:
 
 
 class Builder(Filling):
-    """The walk over a tree."""
+    """The pass over a tree."""
 
     def __init__(self, tree: Tree):
         Filling.__init__(self)
@@ -139,7 +139,7 @@ class Builder(Filling):
             holder.exports[name] = self.new(holder.number, declaration).number
 
     def exported(self, specifier, source, number) -> 'tuple[str, Declaration]':
-        """What a specifier exports, and as what: of the module itself, or of what the text `source` leads to."""
+        """Exports a specifier: of the module itself, or of what the specifier `source` resolves to."""
         original = self.nodes[specifier.fields['orig']]
         text = original.fields['sym'][0] if original.kind == 'Ident' else original.fields['value']
         as_name = specifier.fields['exported']
@@ -166,7 +166,7 @@ class Builder(Filling):
         self.default_name(fields['expr'], holder)
 
     def default_name(self, number, holder) -> bool:
-        """Exports a name as `default`, where the expression is one."""
+        """Exports a name as `default`, if the expression is one."""
         if self.nodes[number].kind != 'Ident':
             return False
         self.default(holder, self.target(number, number))
@@ -176,7 +176,7 @@ class Builder(Filling):
         self.table.stars.append((fields['src'], number))
 
     def walk_import_equals(self, number, fields, holder) -> None:
-        """An alias of a name with parts or of a file; where the name is known, nothing is declared."""
+        """Declares an alias of a name with parts or of a file; if the name is known, nothing is declared."""
         name = self.name(fields['id'])
         known = self.names.get(name)
         if known is None:
@@ -190,7 +190,7 @@ class Builder(Filling):
             holder.exports[name[0]] = known
 
     def walk_expression(self, _, fields, __) -> None:
-        """An assignment to a property of a function declares the property."""
+        """Declares a property for an assignment to a property of a function."""
         found = assigned_property(self.nodes, fields['expr'])
         number = None if found is None else self.names.get(found[0])
         if number is None:
@@ -200,7 +200,7 @@ class Builder(Filling):
             self.place_member(symbol, self.definition('ExpandoProperty', fields['expr'], fields['expr']), True)
 
     def declaration(self, at, statement, how, holder, ambient, exported) -> None:
-        """The declaration at `at`, which the statement holds or is."""
+        """Declares the declaration at `at`, which the statement holds or is."""
         node = self.nodes[at]
         form, fields = FORMS[node.kind], node.fields
         if form in ('Var', 'UsingVar'):
@@ -229,7 +229,7 @@ class Builder(Filling):
             holder.exports[name[0]] = symbol.number
 
     def namespace(self, at, symbol, ambient) -> None:
-        """The body of a namespace; each further name of `namespace A.B` is exported by the one before."""
+        """Declares the body of a namespace; each further name of `namespace A.B` is exported by the one before."""
         body = self.nodes[at].fields['body']
         if body is None:
             return
@@ -241,7 +241,7 @@ class Builder(Filling):
         self.items(self.nodes[body].fields['body'], symbol, ambient)
 
     def fill(self, at, symbol) -> None:
-        """The members of a class or of an interface."""
+        """Declares the members of a class or of an interface."""
         node = self.nodes[at]
         if node.kind == 'TsInterfaceDecl':
             members = node.fields['body']
@@ -260,7 +260,7 @@ class Builder(Filling):
                     self.place_member(symbol, self.definition('ClassParamProp', parameter, parameter), False)
 
 
-# by kind of statement, its walk; the kinds of declarations and `ExportDecl` apart
+# by kind of statement, its function; the kinds of declarations and `ExportDecl` apart
 WALKS = {'Import': Builder.walk_import, 'ExportNamed': Builder.walk_export_named,
          'ExportDefaultDecl': Builder.walk_export_default, 'ExportDefaultExpr': Builder.walk_default_expression,
          'TsExportAssignment': Builder.walk_export_assignment, 'ExportAll': Builder.walk_export_all,

@@ -1,4 +1,4 @@
-"""Which graphs are refused, and with which fault: the first that stands, in the stated order."""
+"""The checker: which graphs are refused, and with which fault, the first in the stated order."""
 from rules.faults import GraphFault
 from rules.graph import ModuleGraph
 from rules.json_text import U32
@@ -9,7 +9,7 @@ MAX_DEPTH = 4096
 
 
 def children_of(node: Node) -> 'list[int]':
-    """The children in the order of the fields, lists in order."""
+    """Returns the children in the order of the fields, lists in order."""
     found = []
     for name, form, _ in CHILD_FIELDS[node.kind]:
         value = node.fields[name]
@@ -30,12 +30,12 @@ def _stands_outside_its_category(nodes: 'list[Node]', node: Node) -> bool:
 
 
 def _is(nodes: 'list[Node]', number: int, kind: str) -> bool:
-    """Whether the node has the kind; a grandchild that isn't there has none."""
+    """Returns whether the node has the kind; a missing grandchild has none."""
     return number < len(nodes) and nodes[number].kind == kind
 
 
 def _breaks_a_rule(nodes: 'list[Node]', node: Node) -> bool:
-    """The rules of form that categories don't say. The children of the node are known to be there."""
+    """Returns whether a node breaks a rule of form that categories don't express. The children of the node are known to exist."""
     fields = node.fields
     if node.kind == 'ExportDefaultSpecifier':
         return True
@@ -51,14 +51,14 @@ def _breaks_a_rule(nodes: 'list[Node]', node: Node) -> bool:
 
 
 def _is_in_text(node: Node, data: bytes) -> bool:
-    """Whether the range is one of the text, with both ends between two characters."""
+    """Returns whether the range is one of the text, with both ends between two characters."""
     def stands_between(place):
         return place == len(data) or data[place] & 0xC0 != 0x80
     return node.start <= node.end <= len(data) and stands_between(node.start) and stands_between(node.end)
 
 
 def check_tree(tree: Tree, text: str, max_depth=MAX_DEPTH) -> 'tuple | None':
-    """The first fault of a tree, in the order of its nodes: its number, and the node where it is of one."""
+    """Returns the first fault of a tree, in the order of its nodes: its number, and the node if it names one."""
     nodes, data = tree.nodes, text.encode('utf-8')
     if not nodes or nodes[0].kind != 'Program':
         return (1,)
@@ -92,7 +92,7 @@ def _check_twice(number: int, keys) -> None:
 
 
 def check_graph(raw: RawGraph) -> ModuleGraph:
-    """The graph, or a refusal by its first fault."""
+    """Returns the graph, or raises a refusal by its first fault."""
     if len(raw.modules) > U32:
         raise GraphFault(2)
     _check_twice(3, [(module.specifier,) for module in raw.modules])

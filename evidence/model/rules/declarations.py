@@ -1,4 +1,4 @@
-"""The node of a declaration: what it is called, what holds of it, and in which namespaces it stands."""
+"""The node of a declaration: its name, its tests, and its namespaces."""
 from rules.dependencies import dependencies
 from rules.names import assigned_property, name_of_expression_key, name_of_key
 
@@ -12,10 +12,10 @@ TYPES = ('TsInterface', 'TsTypeAlias')
 
 
 class DeclarationNode:
-    """The node of a declaration. `form` says what is declared: 'Module', 'Class', 'Fn', 'Var', 'UsingVar', 'TsEnum',
+    """The node of a declaration. `form` is the form of what is declared: 'Module', 'Class', 'Fn', 'Var', 'UsingVar', 'TsEnum',
     'TsInterface', 'TsModule', 'TsTypeAlias', 'ExportDefaultExpr', 'Json' or one of MEMBERS. `how` is 'plain', 'export' or
-    'default'. `at` is the number of the node whose fields speak: of a variable the declarator, of a class or function the
-    declaration or expression. `ident` is the node of the name that a variable's pattern binds."""
+    'default'. `at` is the number of the node with the relevant fields: the declarator of a variable, the declaration or
+    expression of a class or function. `ident` is the node of the name that a variable's pattern binds."""
     __slots__ = ('tree', 'form', 'how', 'at', 'ident')
 
     def __init__(self, tree, form, at, how='plain', ident=None):

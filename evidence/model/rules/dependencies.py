@@ -1,4 +1,4 @@
-"""What a declaration depends on: the references on the open edges from it, each in the namespace of the last mark."""
+"""The dependencies of a declaration: the references on the open edges from it, each in the namespace of the last mark."""
 from rules.kinds import BEGIN, CATEGORIES, EDGES, SIG_EDGES
 from rules.names import entity_name, member_chain
 
@@ -8,7 +8,7 @@ ASSERTIONS = ('TsAsExpr', 'TsTypeAssertion')
 
 
 def is_annotated(nodes, number: int) -> bool:
-    """Whether a pattern has an annotation, for an initial value behind it."""
+    """Returns whether a pattern has an annotation, for an initial value after it."""
     pattern = nodes[number]
     while pattern.kind == 'AssignPat':
         pattern = nodes[pattern.fields['left']]
@@ -16,8 +16,8 @@ def is_annotated(nodes, number: int) -> bool:
 
 
 class Walk:
-    """The edges that are open from one node: each step is a node, the mark so far, and how it is gone through, which is
-    'plain', 'signature', 'self' (it is the reference) or 'chain'."""
+    """The open edges from one node: each step is a node, the mark so far, and how it is visited, which is 'plain', 'signature', 'self' (it is the
+    reference) or 'chain'."""
 
     def __init__(self, nodes, expressions: bool):
         self.nodes, self.expressions = nodes, expressions
@@ -45,7 +45,7 @@ class Walk:
         return [self.step_to(node, edge, child, mark) for child in children]
 
     def parameter(self, number) -> 'list[int]':
-        """Of a parameter that is a property: its annotation, or an assertion as its initial value."""
+        """Returns for a parameter property its annotation, or an assertion as its initial value."""
         parameter = self.nodes[self.nodes[number].fields['param']]
         if parameter.kind != 'AssignPat':
             return [] if parameter.fields['type_ann'] is None else [parameter.fields['type_ann']]
@@ -84,7 +84,7 @@ class Walk:
 
 
 def reference(nodes, number: int):
-    """The reference that a node is: ('id', name), ('qualified', name, parts) or ('import', text, parts)."""
+    """Returns the reference of a node: ('id', name), ('qualified', name, parts) or ('import', text, parts)."""
     node = nodes[number]
     if node.kind == 'Ident':
         return ('id', node.fields['sym'])
@@ -98,13 +98,13 @@ def reference(nodes, number: int):
 
 
 def begin(declaration) -> int:
-    """The node whose edges a declaration begins with."""
+    """Returns the node whose edges a declaration begins with."""
     field = {'Class': 'class', 'Fn': 'function'}.get(declaration.form)
     return declaration.at if field is None else declaration.node().fields[field]
 
 
 def dependencies(declaration, expressions: bool) -> list:
-    """The references of a declaration in the order of their paths, each with its namespace."""
+    """Returns the references of a declaration in the order of their paths, each with its namespace."""
     nodes = declaration.tree.nodes
     walk, found = Walk(nodes, expressions), []
     edges = BEGIN[declaration.form]

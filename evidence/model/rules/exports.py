@@ -1,12 +1,12 @@
-"""What a module exports: its own names, and those along `export *`, each by its least simple chain."""
+"""The exports of a module: its local exports, and those along `export *`, each by its least simple chain."""
 from typing import NamedTuple
 
 from rules.root import Module, Root, Steps
 
 
 class Export:
-    """A name's owner and its symbol there, and the statements that lead to it: a chain is None, or the chain before, the
-    referring module and the text."""
+    """The exporting module of a name and its symbol there, and the chain of statements to it. A chain is None, or the chain before, the referring
+    module and the specifier."""
     __slots__ = ('chain', 'module', 'symbol')
 
     def __init__(self, chain, module: Module, symbol: int):
@@ -21,8 +21,8 @@ class Export:
 
 
 def reached(root: Root, start: Module, steps: Steps, unresolved: list, wanted=None):
-    """The modules that are reached along `export *`, each with its least chain, in the order of these chains, and the
-    statements that lead to none. At a module behind the first that has the wanted name the walk ends."""
+    """Returns the modules that are reached along `export *`, each with its least chain, in the order of these chains, and the unresolved statements.
+    The search ends at a module after the first that has the wanted name."""
     met, found = {start.number}, [(None, start)]
     stack = [[None, start, 0]]
     while stack:
@@ -44,15 +44,15 @@ def reached(root: Root, start: Module, steps: Steps, unresolved: list, wanted=No
 
 
 class Exports(NamedTuple):
-    """The exports by name, the shared names with all their owners, and the unresolved statements as (module, text)."""
+    """The exports by name, the shared names with all their exporters, and the unresolved statements as (module, specifier)."""
     resolved: 'dict[str, Export]'
     shared: 'dict[str, list[Export]]'
     unresolved: list
 
 
 def exports(root: Root, start: Module, steps: 'Steps | None' = None) -> Exports:
-    """What a module exports. `default` is exported by its owner alone. By strict rules a name is shared that the module
-    doesn't own, and two or more of those that are reached do; by Deno's none is."""
+    """Returns the exports of a module. `default` is exported by its module alone. By strict rules a name is shared that the module doesn't export
+    locally and two or more reached modules do; by Deno's rules none is."""
     owners, unresolved = {}, []
     for chain, module in reached(root, start, steps or Steps(), unresolved):
         for name, number in module.own_exports().items():
@@ -65,7 +65,7 @@ def exports(root: Root, start: Module, steps: 'Steps | None' = None) -> Exports:
 
 
 def export_of(root: Root, start: Module, name: str, steps: 'Steps | None' = None) -> 'Export | None':
-    """The entry of the exports for one name, for which no more modules are stored than it takes."""
+    """Returns the export with one name. No more modules are stored than it takes."""
     if name in start.own_exports():
         return Export(None, start, start.own_exports()[name])
     if name == 'default':

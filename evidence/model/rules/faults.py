@@ -1,4 +1,4 @@
-"""Why a graph is refused, and why a query has no answer."""
+"""The reasons why a graph is refused, and why a query has no answer."""
 
 
 class FormatFault(Exception):
@@ -16,7 +16,7 @@ NOT_JSON, BAD_FORM = 'json', 'form'
 
 
 class GraphFault(Exception):
-    """A graph is refused: its number and what it names. That of a tree is 7, a specifier, and the tree's own fault."""
+    """A refused graph: the number of the fault and what it names. That of a tree is 7, a specifier, and the tree's own fault."""
 
     def __init__(self, *payload):
         Exception.__init__(self, *payload)
@@ -31,7 +31,7 @@ TOO_MANY_MODULES, TOO_MANY_SYMBOLS, UNKNOWN_MODULE, UNKNOWN_SYMBOL = (
 
 
 class SymbolsFault(Exception):
-    """A call has no answer: one of the four reasons, and with too many symbols the module's specifier."""
+    """A call without an answer: one of the four reasons, and with too many symbols the module's specifier."""
 
     def __init__(self, reason: str, specifier: 'str | None' = None):
         Exception.__init__(self, reason, specifier)

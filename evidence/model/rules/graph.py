@@ -1,10 +1,10 @@
-"""What a specifier stands for in a graph that was accepted."""
+"""Resolves specifiers in an accepted graph."""
 from rules.builder import table_of
 from rules.raw_graph import RawGraph, RawModule
 
 
 class ModuleGraph:
-    """A graph without faults. Tables of symbols are made once and kept."""
+    """A graph without faults. Tables of symbols are computed once and cached."""
 
     def __init__(self, raw: RawGraph):
         self.modules = raw.modules
@@ -14,15 +14,14 @@ class ModuleGraph:
         self._stands_for, self._tables = {}, {}
 
     def get(self, specifier: str) -> 'RawModule | None':
-        """The module of a specifier, after one redirect."""
+        """Returns the module of a specifier, after one redirect."""
         return self.by_specifier.get(self.redirects.get(specifier, specifier))
 
     def resolve_dependency(self, text: str, referrer: str) -> 'str | None':
         return self.resolutions.get((referrer, text))
 
     def types_chain(self, specifier: str) -> 'list[RawModule]':
-        """The longest list of different modules that begins with that of the specifier, and in which each next one is
-        that of the types dependency of the one before."""
+        """Returns the longest list of different modules that begins with that of the specifier, each followed by the module of its types dependency."""
         found, met = [], set()
         module = self.get(specifier)
         while module is not None and module.specifier not in met:
@@ -32,7 +31,7 @@ class ModuleGraph:
         return found
 
     def stands_for(self, specifier: str) -> 'RawModule | None':
-        """The last module of the types chain that has symbols."""
+        """Returns the last module of the types chain that has symbols."""
         if specifier not in self._stands_for:
             last = None
             for module in self.types_chain(specifier):
@@ -41,7 +40,7 @@ class ModuleGraph:
         return self._stands_for[specifier]
 
     def table(self, module: RawModule):
-        """The symbols of a module that has some."""
+        """Returns the symbols of a module that has some."""
         if module.specifier not in self._tables:
             self._tables[module.specifier] = table_of(module)
         return self._tables[module.specifier]

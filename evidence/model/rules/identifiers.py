@@ -1,5 +1,4 @@
-"""Which characters an identifier may have, at Unicode 18.0: what Python knows (3.11 has Unicode 14.0), and what was
-added to Unicode since, as ranges of code points."""
+"""The characters of identifiers, at Unicode 18.0: what Python knows (3.11 has Unicode 14.0), and later additions as ranges of code points."""
 
 _START_ADDED = (
     '558 58B-58C 88F C5C CDC 1C89-1C8A 208F 209D-209F A7CB-A7CF A7D2 A7D4 A7DA-A7DD A7E2 '
@@ -41,17 +40,18 @@ _CONTINUE = _code_points(_CONTINUE_ADDED)
 
 
 def may_start(character: str) -> bool:
-    """Whether the character is one of Unicode's XID_Start."""
+    """Returns whether the character is one of Unicode's XID_Start."""
     return (character != '_' and character.isidentifier()) or ord(character) in _START
 
 
 def may_continue(character: str) -> bool:
-    """Whether the character is one of Unicode's XID_Continue."""
+    """Returns whether the character is one of Unicode's XID_Continue."""
     return ('a' + character).isidentifier() or ord(character) in _CONTINUE
 
 
 def is_identifier(text: str) -> bool:
-    """First `$`, `_` or an XID_Start, then those, the two joiners or an XID_Continue. Reserved words aren't asked."""
+    """Returns whether a text is an identifier: first `$`, `_` or an XID_Start, then those, the two joiners or an XID_Continue. Reserved words are
+    allowed."""
     if not text or not (text[0] in '$_' or may_start(text[0])):
         return False
     return all(it in '$_\u200c\u200d' or may_continue(it) for it in text[1:])

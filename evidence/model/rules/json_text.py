@@ -30,7 +30,7 @@ def _constant(_):
 
 
 def _not_whole(digits: str) -> NotWhole:
-    """A number that no finite float is makes the text no JSON."""
+    """Refuses a number that is no finite float: the text is no JSON."""
     try:
         number = float(digits)
     except OverflowError:
@@ -47,7 +47,7 @@ def _integer(digits: str):
 
 
 def _check_depth(text: str) -> None:
-    """Lists and objects nest at most 127 deep."""
+    """Checks that lists and objects nest at most 127 deep."""
     if text.count('[') + text.count('{') <= MAX_DEPTH:
         return
     depth = 0
@@ -58,7 +58,7 @@ def _check_depth(text: str) -> None:
 
 
 def _check_surrogates(text: str) -> None:
-    """A text in the JSON has no half of a pair of surrogates alone."""
+    """Checks that no string in the JSON has a lone surrogate."""
     if not _SURROGATE.search(text):
         return
     for found in _STRING.finditer(text):
@@ -70,7 +70,7 @@ def _check_surrogates(text: str) -> None:
 
 
 def read_json(data: bytes):
-    """The value that the bytes are, its numbers as int or NOT_WHOLE; of a key that comes twice the last value stays."""
+    """Returns the value of the bytes, with numbers as int or NOT_WHOLE; of a repeated key the last value counts."""
     try:
         text = data.decode('utf-8')
     except UnicodeDecodeError:
@@ -85,7 +85,7 @@ def read_json(data: bytes):
 
 
 def has_not_whole(value) -> bool:
-    """Whether a number that isn't whole stands anywhere in the value."""
+    """Returns whether the value has a number that isn't whole, at any depth."""
     stack = [value]
     while stack:
         found = stack.pop()
@@ -102,5 +102,5 @@ _ENCODER = json.JSONEncoder(ensure_ascii=False, separators=(',', ':'), check_cir
 
 
 def text_of(value) -> str:
-    """Compact JSON. An object is to be made with its keys in the order of their bytes."""
+    """Returns compact JSON. The keys of an object have to be in the order of their bytes."""
     return _ENCODER.encode(value)

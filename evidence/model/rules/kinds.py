@@ -1,5 +1,5 @@
 """The kinds of nodes as data: fields with their categories, edges of the
-dependency walk with guards and marks, and where the walk begins.
+dependency search with guards and marks, and where the search begins.
 
 Each row of KIND_ROWS is (kind, fields, edges).
 
@@ -117,7 +117,7 @@ SIGNATURE_ROWS = {
     'BindingIdent': 'type_ann',
 }
 
-# Where the walk begins, by the form of the declaration's node.
+# The start of the search, by the form of the declaration's node.
 BEGIN_ROWS = {
     'Module': '', 'TsModule': '', 'Json': '',
     'Class': '@Class', 'Fn': '@Function', 'TsInterface': '@TsInterfaceDecl',
@@ -180,7 +180,7 @@ VALUE_TYPES = ('text', 'text?', 'bool', 'Id', 'ACC', 'MKIND')
 
 
 def expand(cat):
-    """The set of kinds that a category text stands for."""
+    """Returns the set of kinds of a category."""
     out = set()
     for part in cat.split('/'):
         if part in CATEGORIES:
@@ -192,7 +192,7 @@ def expand(cat):
 
 
 def parse_fields(text):
-    """A list of (name, type, allowed): type 'child', 'child?', 'child*' with
+    """Returns a list of (name, type, allowed): type 'child', 'child?', 'child*' with
     the allowed kinds, or one of VALUE_TYPES with None."""
     out = []
     for part in filter(None, (p.strip() for p in text.split(','))):

@@ -1,4 +1,4 @@
-"""Names that nodes have: of keys, of parts behind a name, of properties that are assigned, and those a pattern binds."""
+"""Names of nodes: of keys, of parts after a name, of assigned properties, and those that a pattern binds."""
 from rules.identifiers import is_identifier
 
 Name = 'tuple[str, int]'  # a text and its scope
@@ -16,7 +16,7 @@ def name_of_expression_key(nodes, number: int) -> 'str | None':
 
 
 def name_of_key(nodes, number: int) -> 'str | None':
-    """The name of a member's key; a BigInt there has none."""
+    """Returns the name of a member's key; a BigInt has none."""
     key = nodes[number]
     if key.kind == 'IdentName':
         return key.fields['name']
@@ -32,7 +32,7 @@ def name_of_key(nodes, number: int) -> 'str | None':
 
 
 def assigned_property(nodes, number: int):
-    """The name of the object and the property of an assignment as `f.p = 1` or `f["p"] = 1`; None where it is none."""
+    """Returns the name of the object and the property of an assignment as `f.p = 1` or `f["p"] = 1`; None for any other node."""
     assignment = nodes[number]
     if assignment.kind != 'Assign' or not assignment.fields['plain']:
         return None
@@ -52,7 +52,7 @@ def assigned_property(nodes, number: int):
 
 
 def entity_name(nodes, number: int):
-    """The leftmost name and the parts behind it."""
+    """Returns the leftmost name and the parts after it."""
     parts, node = [], nodes[number]
     while node.kind == 'TsQualifiedName':
         parts.insert(0, node.fields['right'])
@@ -61,7 +61,7 @@ def entity_name(nodes, number: int):
 
 
 def member_chain(nodes, number: int):
-    """The leftmost name and the parts of a chain as `a.b["c"].#d`; None where the node is no such chain."""
+    """Returns the leftmost name and the parts of a chain as `a.b["c"].#d`; None for any other node."""
     parts, node = [], nodes[number]
     while node.kind == 'Member':
         key = nodes[node.fields['prop']]
@@ -77,13 +77,13 @@ def member_chain(nodes, number: int):
     return (node.fields['sym'], parts) if node.kind == 'Ident' else None
 
 
-# by kind of pattern, the field behind which the patterns within it stand
+# by kind of pattern, the field of the patterns within it
 WITHIN = {'ArrayPat': 'elems', 'ObjectPat': 'props', 'RestPat': 'arg', 'KeyValuePatProp': 'value',
           'AssignPatProp': 'key', 'AssignPat': 'left'}
 
 
 def bound_names(nodes, number: int) -> 'list[int]':
-    """The nodes of the names that a pattern binds, in order."""
+    """Returns the nodes of the names that a pattern binds, in order."""
     found, stack = [], [number]
     while stack:
         number = stack.pop()

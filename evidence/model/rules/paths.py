@@ -1,6 +1,6 @@
-"""Where a symbol is defined, and what a reference stands for: paths along other names, parts, imports and `export *`.
+"""Finds where a symbol is defined, and resolves references: paths along other names, parts, imports and `export *`.
 
-A path is a `Link`, which leads on, or a leaf: an `End`, an `Unresolved`, or of an import type without parts the `Module`.
+A path is a `Link` with further paths, or a leaf: an `End`, an `Unresolved`, or the `Module` of an import type without parts.
 """
 from typing import NamedTuple
 
@@ -10,7 +10,7 @@ from rules.symbols import Declaration, Symbol
 
 
 class Link(NamedTuple):
-    """A declaration that leads on: `at` is the symbol and the place of the declaration there, `symbol` what is told."""
+    """A declaration with paths after it: `at` is the symbol and the index of the declaration there, `symbol` the one that is reported."""
     module: Module
     symbol: int
     at: 'tuple[int, int]'
@@ -27,7 +27,7 @@ class End(NamedTuple):
 
 
 class Unresolved(NamedTuple):
-    """What leads nowhere: `kind` is 'id' (`name` a name of a scope), 'specifier' (a text) or 'part'."""
+    """What is unresolved: `kind` is 'id' (`name` a name of a scope), 'specifier' or 'part'."""
     module: Module
     kind: str
     name: object
@@ -35,7 +35,7 @@ class Unresolved(NamedTuple):
 
 
 class Search:
-    """One search, in which each symbol is expanded once, and no alias while it is itself being resolved."""
+    """One search, in which each symbol is expanded once, and no alias takes part in resolving itself."""
 
     def __init__(self, root: Root):
         self.root, self.met, self.resolving = root, set(), set()
@@ -80,8 +80,8 @@ class Search:
         return found
 
     def imported(self, module, declaration) -> list:
-        """The one name that an import asks for, of the module's own exports or of the first of its statements `export *`
-        under which the name leads anywhere; by strict rules `default` of its own exports alone."""
+        """Returns the export that an import resolves to: of the module's local exports, or of the first of its statements `export *` under which the
+        name resolves to anything. By strict rules `default` is one of its local exports alone."""
         name, target = declaration.name, self.root.dependency(declaration.source, module)
         if target is None:
             return [Unresolved(module, 'specifier', declaration.source, [])]
@@ -97,7 +97,7 @@ class Search:
         return [Unresolved(target, 'part', name, [])]
 
     def walk(self, module, symbol, parts) -> list:
-        """The paths to a symbol under parts."""
+        """Returns the paths to a symbol with remaining parts."""
         found = self.paths(module, symbol)
         return self.under(found, parts) if parts else found
 
@@ -105,7 +105,7 @@ class Search:
         return [path for path in (self.path_under(it, parts) for it in paths) if path is not None]
 
     def path_under(self, path, parts):
-        """The path when parts stand behind what it leads to."""
+        """Returns the path when parts follow its target."""
         if isinstance(path, Unresolved):
             return path
         if isinstance(path, Link):
@@ -125,14 +125,14 @@ class Search:
         return Link(path.module, path.symbol, path.at, parts, following) if following else None
 
     def exported(self, module, parts) -> list:
-        """The paths to the first part, as a name that the module exports, under the others."""
+        """Returns the paths to the first part, as an export of the module, with the remaining parts."""
         entry = export_of(self.root, module, parts[0])
         if entry is None:
             return [Unresolved(module, 'part', parts[0], parts)]
         return self.walk(entry.module, entry.module.table.symbols[entry.symbol], parts[1:])
 
     def resolve(self, module, reference) -> list:
-        """What a reference stands for: ('id', name), ('qualified', name, parts) or ('import', text, parts)."""
+        """Resolves a reference: ('id', name), ('qualified', name, parts) or ('import', text, parts)."""
         if reference[0] == 'import':
             _, text, parts = reference
             target = self.root.dependency(text, module)
@@ -151,7 +151,7 @@ def definition_paths(root: Root, module: Module, number: int) -> list:
 
 
 def ends(paths) -> list:
-    """The leaves from left to right."""
+    """Returns the leaves from left to right."""
     found, stack = [], paths[::-1]
     while stack:
         path = stack.pop()

@@ -1,4 +1,4 @@
-"""Which lines are queries."""
+"""Reads query lines."""
 from typing import NamedTuple
 
 from rules.faults import BadQuery, FormatFault
@@ -6,7 +6,7 @@ from rules.json_text import U32, read_json
 
 
 class Query(NamedTuple):
-    """The form of a query, the specifier that it is on, and what else it asks with."""
+    """A query: its form, its specifier, and its other items."""
     form: str
     specifier: str
     asked: tuple
@@ -54,7 +54,7 @@ def _reference(value) -> tuple:
     raise BadQuery()
 
 
-# by form, how its items behind the specifier are read
+# by form, the function that reads the items after the specifier
 FORMS = {'module': (), 'exports': (), 'names': (), 'symbol': (_text, _number), 'name': (_number,), 'deps': (_number, _mode),
          'paths': (_number,), 'definitions': (_number,), 'leaves': (_number,), 'resolve': (_reference,)}
 

@@ -1,4 +1,4 @@
-"""From a JSON value to a graph of which nothing is checked yet: modules, trees, redirects, resolutions."""
+"""Converts a JSON value to an unchecked graph: modules, trees, redirects, resolutions."""
 from rules import kinds
 from rules.faults import BAD_FORM, FormatFault
 from rules.json_text import U32, has_not_whole, read_json
@@ -21,7 +21,7 @@ class Tree:
 
 
 class RawModule:
-    """A module of kind 'esm', 'json' or 'external'; text, tree and types are None where there are none."""
+    """A module of kind 'esm', 'json' or 'external'; text, tree and types may be None."""
     __slots__ = ('specifier', 'kind', 'text', 'tree', 'types')
 
     def __init__(self, specifier, kind, text=None, tree=None, types=None):
@@ -138,7 +138,7 @@ def _texts(value, count: int) -> tuple:
 
 
 def graph_of_value(value) -> RawGraph:
-    """The graph that a JSON value is; a refusal where it is none."""
+    """Returns the graph that a JSON value describes; raises a refusal if it describes none."""
     _of_type(value, dict)
     return RawGraph([_module(item) for item in _list(value.get('modules'))],
                     [_texts(item, 2) for item in _list(value.get('redirects'))],
@@ -146,7 +146,7 @@ def graph_of_value(value) -> RawGraph:
 
 
 def read_graph(data: bytes) -> RawGraph:
-    """The graph that the bytes of a file are."""
+    """Returns the graph that the bytes of a file describe."""
     value = read_json(data)
     if has_not_whole(value):
         raise _bad_form()

@@ -1,4 +1,4 @@
-"""The modules of a graph that are stored: each once, when it is first asked for, within limits."""
+"""The stored modules of a graph: each once, when it is first queried, within limits."""
 from rules.faults import TOO_MANY_MODULES, TOO_MANY_SYMBOLS, UNKNOWN_MODULE, UNKNOWN_SYMBOL, SymbolsFault
 from rules.graph import ModuleGraph
 from rules.json_text import U32
@@ -7,7 +7,7 @@ from rules.symbols import Symbol, Table
 
 
 class Steps:
-    """How often the table of resolutions was asked for a statement `export *`."""
+    """How many resolutions of statements `export *` were looked up."""
 
     def __init__(self):
         self.count = 0
@@ -26,21 +26,21 @@ class Module:
 
 
 class Root:
-    """What is stored of a graph, and whether it is asked by strict rules or by Deno's."""
+    """The stored part of a graph, and whether it is queried by strict rules or by Deno's."""
 
     def __init__(self, graph: ModuleGraph, max_modules=U32, max_symbols=U32, strict=False):
         self.graph, self.max_modules, self.max_symbols, self.strict = graph, max_modules, max_symbols, strict
         self.modules, self.numbers = [], {}
 
     def passes_on(self, name: str) -> bool:
-        """Whether an import finds the name behind `export *` of the module that it names."""
+        """Returns whether an import finds the name through `export *` of the module that it names."""
         return name != 'default' or not self.strict
 
     def has_analyzed(self, specifier: str) -> bool:
         return specifier in self.numbers
 
     def module_from_specifier(self, specifier: str) -> 'Module | None':
-        """The module that the specifier stands for, which is stored if it wasn't."""
+        """Returns the module that the specifier resolves to, and stores it if it wasn't."""
         module = self.graph.stands_for(specifier)
         if module is None:
             return None
@@ -67,7 +67,7 @@ class Root:
         return module.table.symbols[number]
 
     def dependency(self, text: str, module: Module, steps: 'Steps | None' = None) -> 'Module | None':
-        """The module that a text in a module leads to."""
+        """Returns the module that a specifier in a module resolves to."""
         if steps is not None:
             steps.count += 1
         specifier = self.graph.resolve_dependency(text, module.specifier)

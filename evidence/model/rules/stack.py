@@ -1,4 +1,4 @@
-"""Room for recursion as deep as trees and paths are."""
+"""Runs recursion as deep as trees and paths are."""
 import sys
 import threading
 
@@ -6,13 +6,13 @@ MEGABYTES = 512
 
 
 def with_big_stack(function, *words):
-    """Calls the function in a thread with a large stack, and gives or raises what it does."""
+    """Calls the function in a thread with a large stack, and returns or raises its result."""
     found = []
 
     def body():
         try:
             found.append((True, function(*words)))
-        except BaseException as fault:  # handed on to the caller
+        except BaseException as fault:  # passed on to the caller
             found.append((False, fault))
 
     sys.setrecursionlimit(1000000)

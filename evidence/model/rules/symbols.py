@@ -1,10 +1,10 @@
-"""Symbols of one module: their declarations, what they hold, and what they are called in full."""
+"""The symbols of one module: their declarations, tables and fully qualified names."""
 from rules.declarations import DeclarationNode
 
 
 class Declaration:
-    """What a symbol is declared as, by `kind`: 'target' (another name of the module: `name`), 'qualified' (a name with
-    `parts`), 'file' (`name` of the module that the text `source` leads to; None for all of it) or 'definition' (`node`)."""
+    """The form of a declaration, by `kind`: 'target' (another name of the module: `name`), 'qualified' (a name with `parts`), 'file' (`name` of the
+    module that the specifier `source` resolves to; None for all of it) or 'definition' (`node`)."""
     __slots__ = ('kind', 'node', 'name', 'parts', 'source', 'range', 'overload')
 
     def __init__(self, kind, range_, node=None, name=None, parts=(), source=None):
@@ -16,7 +16,7 @@ class Declaration:
         return self.kind == 'definition'
 
     def is_end(self) -> bool:
-        """Whether paths end here: at a definition, or at all that a file exports."""
+        """Returns whether paths end here: at a definition, or at all exports of a file."""
         return self.is_definition() or (self.kind == 'file' and self.name is None)
 
     def maybe_name(self) -> 'str | None':
@@ -36,8 +36,8 @@ class Declaration:
 
 
 class Symbol:
-    """A symbol by its number. `exports` has the first place of a name with its last symbol; `children` and `members` are
-    ordered sets of numbers; the two maps of names have the first of each."""
+    """A symbol by its number. `exports` has the first position of a name with its last symbol; `children` and `members` are ordered sets of numbers;
+    the two maps of names have the first of each."""
     __slots__ = ('number', 'parent', 'declarations', 'exports', 'children', 'members', 'child_names', 'member_names')
 
     def __init__(self, number: int, parent: 'int | None'):
@@ -50,8 +50,7 @@ class Symbol:
 
 
 class Table:
-    """The symbols of a module, which symbol each name of a scope stands for, and the statements `export *`, each a text
-    and its node."""
+    """The symbols of a module, the symbol of each name of a scope, and the statements `export *`, each a specifier and its node."""
     __slots__ = ('symbols', 'names', 'stars')
 
     def __init__(self):
@@ -59,8 +58,8 @@ class Table:
 
 
 def is_overload(before: 'list[Declaration]', added: Declaration) -> bool:
-    """The flag of a declaration that comes behind those of its symbol: one with a body, of a function behind a function,
-    of a constructor or of a method."""
+    """Returns the flag of a declaration that comes after those of its symbol: one with a body, of a function after a function, of a constructor or of
+    a method."""
     if not before or not added.is_definition():
         return False
     node = added.node
@@ -70,8 +69,8 @@ def is_overload(before: 'list[Declaration]', added: Declaration) -> bool:
 
 
 def full_name(table: Table, number: int) -> 'str | None':
-    """The name along the path from the module to the symbol, as `A.prototype.m` or `I["m"]`; None where one on it has no
-    name, and of the module itself."""
+    """Returns the name along the path from the module to the symbol, as `A.prototype.m` or `I["m"]`; None if one on it has no name, and for the
+    module itself."""
     text, below, symbol = '', None, table.symbols[number]
     while symbol.parent is not None:
         name = symbol.maybe_name()
@@ -93,14 +92,14 @@ WHITE_SPACE = ''.join(map(chr, [9, 10, 11, 12, 13, 32, 0x85, 0xA0, 0x1680, *rang
 
 
 def json_range(text: str) -> 'tuple[int, int]':
-    """Where a JSON text stands, without white space around it, in bytes; one of white space alone stands at its end."""
+    """Returns the range of a JSON text in bytes, without white space around it; one of white space alone is at its end."""
     size = len(text.encode('utf-8'))
     left = len(text.lstrip(WHITE_SPACE).encode('utf-8'))
     return (size, size) if not left else (size - left, len(text.rstrip(WHITE_SPACE).encode('utf-8')))
 
 
 def json_table(text: str) -> Table:
-    """A JSON module has two symbols: itself, and what it exports as `default`."""
+    """Returns the table of a JSON module, which has two symbols: itself, and its export `default`."""
     table = Table()
     for number, parent in ((0, None), (1, 0)):
         symbol = Symbol(number, parent)

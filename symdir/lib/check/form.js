@@ -82,17 +82,17 @@ function faultIn(text) {
 /** @param {Buffer} bytes @returns {{ value?: any, words: string[] }} */
 export function readJson(bytes) {
   if (bytes[0] === 0xef && bytes[1] === 0xbb && bytes[2] === 0xbf) {
-    return { words: ['1:1: it begins with a byte order mark, which isn\'t taken: write the file without'] };
+    return { words: ['1:1: it begins with a byte order mark, which isn\'t allowed'] };
   }
   const text = bytes.toString('utf8');
-  if (!Buffer.from(text).equals(bytes)) return { words: ['it is no UTF-8'] };
+  if (!Buffer.from(text).equals(bytes)) return { words: ['it isn\'t valid UTF-8'] };
   try {
     const value = JSON.parse(text);
     return { value, words: oddParts(text, value) };
   } catch (error) {
     const message = /** @type {Error} */ (error).message;
     const why = message.replace(/ in JSON at position.*| \(line.*|, .* is not valid JSON/s, '');
-    return { words: [`${placeIn(text, faultIn(text))}: it is no JSON: ${why}`] };
+    return { words: [`${placeIn(text, faultIn(text))}: it isn't valid JSON: ${why}`] };
   }
 }
 

@@ -1,15 +1,19 @@
 // `symdir api`: what a folder exports.
-import { existsSync, readFileSync, writeFileSync } from 'node:fs';
+import { existsSync, readFileSync, statSync } from 'node:fs';
 
 import { Failure, fileFailure } from '../failure.js';
+import { equalsMembers } from '../folder/equals.js';
 import { isDefinition } from '../folder/folder.js';
 import { endOf, endText } from '../folder/ends.js';
+import { Open } from '../folder/open.js';
 import { shortOf } from '../folder/specifier.js';
 import { columns, counted, placeText } from '../output.js';
-import { differences, readSnapshot, snapshotText } from '../snapshot.js';
+import { apiFindings } from '../report/findings.js';
+import { replaceFile } from '../write.js';
 import { ownersText, sharedNames } from './shared.js';
 
 /** @typedef {import('../folder/folder.js').Folder} Folder */
+/** @typedef {import('../folder/folder.js').Definition} Definition */
 /** @typedef {import('../cli.js').Run} Run */
 /** @typedef {import('./shared.js').SharedName} SharedName */
 
@@ -19,7 +23,7 @@ import { ownersText, sharedNames } from './shared.js';
  * @property {string} entry the module that users import
  * @property {string} name
  * @property {string} kind what its definitions are, as `class+namespace`
- * @property {{ kind: string, file: string, line: number, column: number }[]} defined
+ * @property {import('../folder/folder.js').Place[]} defined
  * @property {{ file: string, text: string }[]} through each `export *` that it comes by: the module, and what it names
  * @property {import('../folder/ends.js').End[]} unresolved the ends of its paths that are no definitions
  */
@@ -29,34 +33,74 @@ function joined(kinds) {
   return [...new Set(kinds)].join('+');
 }
 
-/** @param {Folder} folder @returns {Promise<PublicName[]>} by entries, and in the order of the modules */
-export async function publicNames(folder) {
-  const all = await folder.exports(folder.entries);
-  const exports = all.flatMap((it, i) => it.exports.map((row) => ({ entry: folder.entries[i], row })));
+/**
+ * @param {Folder} folder
+ * @param {string} entry
+ * @param {{ name: string, chain: [string, string][] }} row
+ * @param {(Definition | import('../folder/folder.js').Unresolved)[]} leaves
+ * @returns {PublicName}
+ */
+function publicName(folder, entry, { name, chain }, leaves) {
+  const defined = folder.exported(leaves.filter(isDefinition)).map((it) => folder.defined(it));
+  const unresolved = leaves.map((it) => endOf(folder, it)).filter((it) => it !== null);
+  return {
+    entry: folder.short(entry), name, kind: joined(defined.map((it) => it.kind)), defined,
+    through: chain.map(([file, text]) => ({ file: folder.short(file), text })),
+    unresolved: /** @type {import('../folder/ends.js').End[]} */ (unresolved),
+  };
+}
+
+/** @param {Folder} folder @param {string[]} [entries] @returns {Promise<PublicName[]>} by entries, and in the order of the modules; those behind `export =` last */
+export async function publicNames(folder, entries = folder.entries) {
+  const all = await folder.exports(entries);
+  const exports = all.flatMap((it, i) => it.exports.map((row) => ({ entry: entries[i], row })));
   const leaves = await folder.leaves(exports.map(({ row }) => [row.module, row.symbol]));
-  return exports.map(({ entry, row }, i) => {
-    const defined = leaves[i].filter(isDefinition).map((it) => folder.defined(it));
-    const unresolved = leaves[i].map((it) => endOf(folder, it)).filter((it) => it !== null);
-    return {
-      entry: folder.short(entry), name: row.name, kind: joined(defined.map((it) => it.kind)), defined,
-      through: row.chain.map(([file, text]) => ({ file: folder.short(file), text })),
-      unresolved: /** @type {import('../folder/ends.js').End[]} */ (unresolved),
-    };
-  });
+  const members = await Promise.all(entries.map((it) => equalsMembers(folder, it)));
+  return entries.flatMap((entry, k) => [
+    ...exports.flatMap(({ entry: of, row }, i) => (of === entry ? [publicName(folder, entry, row, leaves[i])] : [])),
+    ...members[k].filter(({ name }) => all[k].exports.every((it) => it.name !== name)).map((it) => publicName(folder, entry, { ...it, chain: [] }, it.leaves)),
+  ]);
 }
 
 /**
- * An `export *` of which no names are known.
- * @typedef {{ entry: string, file: string, text: string, external: string | null }} OpenStar
+ * An `export *` whose names aren't known.
+ * @typedef {{ entry: string, file: string, line: number, column: number, text: string, external: string | null, isLost?: boolean }} OpenStar `isLost`: it can't be read or parsed
  */
 
-/** @param {Folder} folder @returns {Promise<OpenStar[]>} */
-async function openStars(folder) {
-  const all = await folder.exports(folder.entries);
-  return all.flatMap(({ unresolved }, i) => unresolved.map(([module, text]) => ({
-    entry: folder.short(folder.entries[i]), file: folder.short(module), text,
-    external: folder.sources.resolutions.get(module)?.get(text) ?? null,
-  })));
+/** @param {Folder} folder @param {string} module @param {string} text @returns {{ file: string, line: number, column: number }} where its `export * from "text"` stands */
+function starPlace(folder, module, text) {
+  const all = folder.sources.modules.get(module)?.parsed.references ?? [];
+  return folder.place(module, all.find((it) => it.how === 'export *' && it.text === text)?.start ?? 0);
+}
+
+/** @param {Folder} folder @param {string[]} entries @returns {Promise<OpenStar[]>} */
+async function openStars(folder, entries) {
+  const all = await folder.exports(entries);
+  const lost = new Set([...folder.sources.unparsed(), ...folder.sources.unreadable()].map(({ file }) => file));
+  return all.flatMap(({ unresolved }, i) => unresolved.map(([module, text]) => {
+    const external = folder.sources.resolutions.get(module)?.get(text) ?? null;
+    const isLost = external !== null && lost.has(folder.short(external));
+    return { entry: folder.short(entries[i]), ...starPlace(folder, module, text), text, external, ...(isLost && { isLost }) };
+  }));
+}
+
+/** @param {Folder} folder @param {string[]} entries @param {PublicName[]} names @returns {{ entry: string, module: string }[]} the modules that entries without names of their own declare by `declare module "name"` */
+function declaredModules(folder, entries, names) {
+  const full = new Set(names.map((it) => it.entry));
+  return entries.filter((it) => !full.has(folder.short(it))).flatMap((entry) => (
+    (folder.sources.modules.get(entry)?.parsed.modules ?? []).map((module) => ({ entry: folder.short(entry), module }))));
+}
+
+/** @param {Folder} folder @param {string[]} entries @param {PublicName[]} names @returns {{ entry: string, why: string }[]} the entries without names whose names `export` doesn't tell, as those of CommonJS */
+function unlistedEntries(folder, entries, names) {
+  const full = new Set(names.map((it) => it.entry));
+  const open = new Open(folder.sources);
+  return entries.filter((it) => !full.has(folder.short(it))).flatMap((entry) => {
+    const why = open.reason(entry);
+    // a script that imports is no CommonJS, and exports nothing
+    const isScript = folder.sources.modules.get(entry)?.parsed.references.some(({ how }) => how === 'import');
+    return why === null || isScript ? [] : [{ entry: folder.short(entry), why }];
+  });
 }
 
 /** @param {PublicName} it @returns {string} where its first definition is, and how many more there are */
@@ -66,40 +110,70 @@ function whereText(it) {
   return placeText(first) + (more.length > 0 ? ` and ${more.length} more` : '');
 }
 
-/** @param {PublicName} it @returns {string} */
-function throughText({ through }) {
-  return through.length === 0 ? '' : `export * from ${through.map((it) => `"${it.text}"`).join(' > ')}`;
+/** @param {PublicName} it @returns {string} the statements by which it comes */
+function throughText({ through, defined: [first] }) {
+  const whole = first?.by ? [`${first.by.text} in ${placeText(first.by)}`] : [];
+  const stars = through.length > 0 ? [`export * from ${through.map((it) => `"${it.text}"`).join(' > ')}`] : [];
+  return [...stars, ...whole].join(', ');
 }
 
-/** @param {Run} run @param {string} entry @param {PublicName[]} names @param {SharedName[]} shared @param {OpenStar[]} stars */
-function printEntry({ print, paint }, entry, names, shared, stars) {
+/** @param {Run} run @param {string} entry @param {Answer} answer whole, of which what belongs to the entry is printed */
+function printEntry({ print, paint }, entry, answer) {
+  const names = answer.names.filter((it) => it.entry === entry);
   const files = new Set(names.flatMap((it) => it.defined.map((place) => place.file)));
   print(`${paint.bold(entry)}: ${counted(names.length, 'public name')}${files.size > 0 ? `, defined in ${counted(files.size, 'file')}` : ''}`);
   const sorted = [...names].sort((a, b) => a.name.toLowerCase().localeCompare(b.name.toLowerCase(), 'en') || (a.name < b.name ? -1 : 1));
   const rows = sorted.map((it) => [`  ${it.name}`, it.kind, whereText(it), throughText(it)]);
-  columns(rows, ([name, kind, where, through]) => [name, kind, /^nowhere/.test(where) ? paint.red(where) : where, paint.dim(through ?? '')]).forEach(print);
-  for (const it of shared) print(`  ${it.name} ${paint.yellow(`comes along export * from ${it.owners.length} modules`)}: ${ownersText(it)}`);
-  for (const it of stars) {
-    const what = it.external ? `${shortOf(it.external)} isn't read: its names are public too` : 'leads nowhere';
-    print(`  export * from "${it.text}" in ${it.file}: ${it.external ? what : paint.red(what)}`);
+  const lines = columns(rows, ([name, kind, where, through]) => [name, kind, /^unresolved/.test(where) ? paint.red(where) : where, paint.dim(through ?? '')]);
+  lines.forEach((line, i) => [line, ...(answer.docLines?.(sorted[i]) ?? []).map((it) => paint.dim(it))].forEach(print));
+  for (const it of answer.shared.filter(({ module }) => module === entry)) print(`  ${it.name} ${paint.yellow(`is re-exported via export * from ${it.owners.length} modules`)}: ${ownersText(it)}`);
+  for (const it of answer.declared.filter((one) => one.entry === entry)) print(`  declare module "${it.module}" in ${entry}: its names aren't listed`);
+  for (const it of answer.unlisted.filter((one) => one.entry === entry)) print(`  not known: ${entry} ${it.why}`);
+  for (const it of answer.open.filter((one) => one.entry === entry)) {
+    const what = it.external ? `${shortOf(it.external)} is${it.isLost ? 'n\'t analyzed' : ' external'}, and its names are public too` : 'unresolved';
+    print(`  ${placeText(it)}: export * from "${it.text}": ${it.external ? what : paint.red(what)}`);
   }
 }
 
-/** @param {Run} run @param {PublicName[]} names @returns {number} */
-function save({ options, print }, names) {
+/**
+ * @typedef {object} Answer
+ * @property {PublicName[]} names
+ * @property {OpenStar[]} open
+ * @property {SharedName[]} shared
+ * @property {{ entry: string, module: string }[]} declared
+ * @property {{ entry: string, why: string }[]} unlisted
+ * @property {(it: any) => string[]} [docLines] of names with signatures and doc comments
+ */
+
+/** @param {Folder} folder @param {string[]} [entries] @returns {Promise<Answer>} what these modules export */
+export async function exportsOf(folder, entries = folder.entries) {
+  const names = await publicNames(folder, entries);
+  return {
+    names, open: await openStars(folder, entries), shared: await sharedNames(folder, entries),
+    declared: declaredModules(folder, entries, names), unlisted: unlistedEntries(folder, entries, names),
+  };
+}
+
+/** @param {Run} run @throws {Failure} where `--save` names a file that it didn't write, as package.json */
+export async function checkSave({ options }) {
+  if (!options.save || !statSync(options.save, { throwIfNoEntry: false })?.isFile()) return;
+  const { isSnapshot } = await import('../surface/text.js');
+  if (!isSnapshot(textOf(options.save))) throw new Failure(`${options.save} isn't a snapshot, and isn't overwritten`, 2);
+}
+
+/** @param {Run} run @param {Folder} folder @returns {Promise<number>} */
+async function save({ options, print }, folder) {
+  const [{ surfaceOf }, { surfaceText, withoutMembers }] = await Promise.all([import('../surface/surface.js'), import('../surface/text.js')]);
   const file = /** @type {string} */ (options.save);
-  try {
-    writeFileSync(file, snapshotText(names));
-  } catch (error) {
-    throw fileFailure(file, 'written', error);
-  }
-  print(`${file}: ${counted(names.length, 'public name')}`);
+  const items = await surfaceOf(folder);
+  replaceFile(file, [Buffer.from(surfaceText(items))]);
+  print(`${file}: ${counted(withoutMembers(items).length, 'public name')}`);
   return 0;
 }
 
 /** @param {string} file a snapshot @returns {string} */
 function textOf(file) {
-  if (!existsSync(file)) throw new Failure(`no file ${file}: \`symdir api FOLDER --save ${file}\` writes it`);
+  if (!existsSync(file)) throw new Failure(`no such file: ${file}; \`symdir api DIR --save ${file}\` writes it`);
   try {
     return readFileSync(file, 'utf8');
   } catch (error) {
@@ -107,36 +181,36 @@ function textOf(file) {
   }
 }
 
-/** @param {Run} run @param {PublicName[]} names @returns {number} */
-function check({ options, print, paint }, names) {
-  const file = /** @type {string} */ (options.check);
-  const found = differences(readSnapshot(textOf(file), file), readSnapshot(snapshotText(names), 'the folder'));
-  if (options.json) print(JSON.stringify(found, null, 1));
-  else {
-    for (const it of found.gone) print(paint.red(`- ${it}`));
-    for (const it of found.added) print(paint.green(`+ ${it}`));
-    for (const it of found.changed) print(paint.yellow(`~ ${it.from}  ->  ${it.to}`));
-    const [gone, added, changed] = [found.gone, found.added, found.changed].map((it) => it.length);
-    print(gone + added + changed === 0 ? `the ${counted(names.length, 'public name')} ${names.length === 1 ? 'is that' : 'are those'} of ${file}`
-      : `${gone} gone, ${added} new, ${changed} changed; \`symdir api FOLDER --save ${file}\` takes them over`);
-  }
-  return found.gone.length + found.added.length + found.changed.length > 0 ? 1 : 0;
+/** @param {Run} run @param {Folder} folder @returns {Promise<number>} */
+async function check(run, folder) {
+  const [{ surfaceOf }, { readSurface }, { changesBetween, reportChanges }, { placed }] = await Promise.all([
+    import('../surface/surface.js'), import('../surface/text.js'), import('./diff.js'), import('../report/findings.js')]);
+  const file = /** @type {string} */ (run.options.check);
+  const before = readSurface(textOf(file), file);
+  const read = await surfaceOf(folder);
+  const items = run.report.format ? placed(folder, read) : read;
+  const texts = { same: `the public names are those of ${file}`, hint: `; \`symdir api DIR --save ${file}\` updates the snapshot` };
+  return reportChanges(run, changesBetween(before, { items, isWhole: true }), items, texts);
 }
 
 /** @param {Run} run @param {Folder} folder @returns {Promise<number>} the status */
 export async function api(run, folder) {
-  const names = await publicNames(folder);
-  if (run.options.save) return save(run, names);
-  if (run.options.check) return check(run, names);
-  const stars = await openStars(folder);
-  const shared = await sharedNames(folder, folder.entries);
-  if (run.options.json) {
-    const entries = folder.entries.map((it) => folder.short(it));
-    run.print(JSON.stringify({ entries, names, ...(run.options.strict && { shared }), open: stars }, null, 1));
-    return 0;
-  }
-  for (const entry of folder.entries.map((it) => folder.short(it))) {
-    printEntry(run, entry, names.filter((it) => it.entry === entry), shared.filter((it) => it.module === entry), stars.filter((it) => it.entry === entry));
-  }
-  return 0;
+  if (run.options.save) return save(run, folder);
+  if (run.options.check) return check(run, folder);
+  const { report, options } = run;
+  const found = await exportsOf(folder);
+  const isDescribed = options.docs || report.format === 'markdown' || report.format === 'html';
+  const { described, docLines } = isDescribed ? await import('../report/described.js') : { described: null, docLines: undefined };
+  const names = described ? await described(folder, found.names) : found.names;
+  const answer = { ...found, docLines, names };
+  const { open, shared, declared, unlisted } = answer;
+  const entries = folder.entries.map((it) => folder.short(it));
+  report.found.rest(apiFindings(folder, answer), (it) => it);
+  if (report.format === 'markdown' || report.format === 'html') {
+    const { apiReport } = await import('../report/api.js');
+    report.body = await apiReport(run, folder, { ...answer, entries, names: /** @type {any} */ (names) });
+  } else if (options.json) {
+    report.json({ entries, names, ...(options.strict && { shared }), open, ...(declared.length > 0 && { declared }), ...(unlisted.length > 0 && { unlisted }) });
+  } else for (const it of entries) printEntry(run, it, answer);
+  return report.found.status;
 }

@@ -11,7 +11,7 @@ import { findSymq } from '../program.js';
 /** @typedef {import('../cli.js').Run} Run */
 
 /** How many faults are told. */
-const TOLD = 20;
+const SHOWN = 20;
 
 /** @param {string} file @returns {Buffer} */
 function bytesOf(file) {
@@ -40,22 +40,22 @@ function verdict({ options }) {
     return null;
   }
   const { status, stderr, error } = spawnSync(program, [options.check], { input: '', encoding: 'utf8' });
-  if (error) throw new Failure(`${program} doesn't start: ${error.message}`);
-  if (status !== 0 && status !== 4 && status !== 5) throw new Failure(stderr.trim() || `symq ended with the status ${status}`);
+  if (error) throw new Failure(`can't start ${program}: ${error.message}`);
+  if (status !== 0 && status !== 4 && status !== 5) throw new Failure(stderr.trim() || `symq exited with status ${status}`);
   return stderr.trim();
 }
 
 /** @param {Run} run @returns {Promise<number>} the status */
 export async function checkGraph(run) {
   const { options, print, words: [folder] } = run;
-  if (folder !== undefined) throw new Failure(`--check takes a graph, and no folder besides: not ${folder}`, 2);
+  if (folder !== undefined) throw new Failure(`--check takes a graph and no directory, not ${folder}`, 2);
   const bytes = bytesOf(options.check);
   const words = wordsOf(bytes);
   const said = verdict(run);
   if (said) print(said);
-  words.slice(0, TOLD).forEach((it) => print(`${options.check}${/^\d+:\d+: /.test(it) ? ':' : ': '}${it}`));
-  if (words.length > TOLD) print(`and ${counted(words.length - TOLD, 'more fault')}`);
-  if (said === null && words.length === 0) print(`${options.check}: no fault is seen; symq, which decides, isn't there`);
-  else if (!said && words.length === 0) print(`${options.check}: symq reads it`);
+  words.slice(0, SHOWN).forEach((it) => print(`${options.check}${/^\d+:\d+: /.test(it) ? ':' : ': '}${it}`));
+  if (words.length > SHOWN) print(`and ${counted(words.length - SHOWN, 'more error')}`);
+  if (said === null && words.length === 0) print(`${options.check}: no error found; symq, which decides, wasn't found: \`make symq\` builds it, --symq FILE names it`);
+  else if (!said && words.length === 0) print(`${options.check}: accepted by symq`);
   return said || words.length > 0 ? 1 : 0;
 }

@@ -1,7 +1,9 @@
-// `symdir missing`: imports and `export *` that lead nowhere, and imported names that aren't there.
+// `symdir missing`: unresolved imports and `export *`, and imported names that no module exports.
 import { isDefinition } from '../folder/folder.js';
 import { endOf } from '../folder/ends.js';
+import { endsOf } from '../folder/settle.js';
 import { columns, counted, placeText } from '../output.js';
+import { missingFinding } from '../report/findings.js';
 import { ownersText, partingText, sharedNames } from './shared.js';
 
 /** @typedef {import('../folder/folder.js').Folder} Folder */
@@ -27,15 +29,15 @@ function references(folder) {
 
 /** @param {Folder} folder @returns {Finding[]} */
 function unparsed(folder) {
-  const unread = folder.sources.unread.map(({ file, error }) => ({
+  const unread = folder.sources.unreadable().map(({ file, error }) => ({
     what: /** @type {const} */ ('unread'), file, line: 1, column: 1, text: error, how: '' }));
-  const faulty = [...folder.sources.modules.values()].flatMap(({ specifier, parsed: { fault } }) => (fault ? [{
-    what: /** @type {const} */ ('syntax'), file: folder.short(specifier), line: fault.line, column: fault.column, text: fault.text, how: '' }] : []));
+  const faulty = folder.sources.unparsed().map(({ file, line, column, text }) => ({
+    what: /** @type {const} */ ('syntax'), file, line, column, text, how: '' }));
   return [...unread, ...faulty];
 }
 
 /** @param {Folder} folder @returns {Finding[]} */
-function lostImports(folder) {
+function unresolvedImports(folder) {
   const { resolutions, resolver, modules } = folder.sources;
   const fileOf = (/** @type {string} */ specifier) => /** @type {import('../folder/sources.js').Module} */ (modules.get(specifier)).file;
   const lost = references(folder).filter(({ specifier, reference }) => !resolutions.get(specifier)?.has(reference.text));
@@ -45,59 +47,25 @@ function lostImports(folder) {
   }));
 }
 
-/** @param {Folder} folder @param {string} specifier @returns {boolean} whether its names are told by no `export`: of JSON, CommonJS and `export =` */
-function isOpen(folder, specifier) {
-  const module = folder.sources.modules.get(specifier);
-  if (!module || module.file.endsWith('.json') || module.parsed.fault) return true;
-  const { declarations, text, references: all } = module.parsed;
-  for (let i = 2; i < declarations.length; i += 5) if (declarations[i] === EXPORT_EQUALS) return true;
-  const hasExports = all.some((it) => it.how.startsWith('export')) || text.includes('"kind":"Export') || text.includes('"kind":"TsExport');
-  return !hasExports && /\.c?jsx?$/.test(module.file);
-}
-const EXPORT_EQUALS = 11;
-
 /**
- * The names that are imported, or exported from elsewhere, and that aren't there. Where the module that lacks one has an
- * `export *` that leads nowhere or to what isn't read, nothing is said of the name.
+ * The names that are imported, or exported from elsewhere, and that aren't there. Of a name that may be there all the same nothing is said.
  * @param {Folder} folder
  * @returns {Promise<Finding[]>}
  */
-async function lostNames(folder) {
+async function missingExports(folder) {
   const asked = references(folder).flatMap(({ specifier, reference }) => {
     const to = folder.sources.resolutions.get(specifier)?.get(reference.text);
-    if (to === undefined || isOpen(folder, to)) return [];
+    if (to === undefined || !folder.sources.modules.has(to)) return [];
     return reference.names.filter(([name]) => name !== '*').map(([name, , , start]) => ({ specifier, text: reference.text, name, start }));
   });
-  const answers = await folder.ask(asked.map((it) => ['resolve', it.specifier, ['import', it.text, [it.name]]]));
-  const found = answers.flatMap((answer, i) => lackOf(folder, answer?.entries ?? []).map((lack) => ({ ...asked[i], lack })));
-  const modules = [...new Set(found.map((it) => it.lack.module))];
-  const exports = new Map((await folder.exports(modules)).map((it, i) => [modules[i], it]));
-  const isSure = (/** @type {{ module: string, name: string }} */ { module, name }) => exports.get(module)?.unresolved.length === 0
-    && !isOpen(folder, module) && !isImplicit(folder, module, name);
-  return found.filter(({ lack }) => isSure(lack)).map(({ specifier, start, lack }) => ({
+  const paths = await folder.resolve(asked.map((it) => [it.specifier, ['import', it.text, [it.name]]]));
+  const found = paths.flatMap((entries, i) => missingIn(folder, endsOf(entries)).map((lack) => ({ ...asked[i], lack })));
+  return found.map(({ specifier, start, lack }) => ({
     what: 'name', ...folder.place(specifier, start), text: lack.name, how: folder.short(lack.module) }));
 }
 
-/** @param {Folder} folder @param {string} module @param {string} name @returns {boolean} whether TypeScript exports it without a word, there or along `export *` */
-function isImplicit(folder, module, name) {
-  const met = new Set([module]);
-  for (const at of met) {
-    const found = folder.sources.modules.get(at);
-    if (found?.parsed.implicit.includes(name)) return true;
-    for (const { how, text } of found?.parsed.references ?? []) {
-      const to = how === 'export *' ? folder.sources.resolutions.get(at)?.get(text) : undefined;
-      if (to !== undefined) met.add(to);
-    }
-  }
-  return false;
-}
-
-/** @param {Folder} folder @param {any[]} entries of paths @returns {{ module: string, name: string }[]} names that a module of the graph lacks, where nothing is found */
-function lackOf(folder, entries) {
-  /** @type {any[]} */
-  const ends = [];
-  const walk = (/** @type {any} */ it) => ('next' in it ? it.next.forEach(walk) : ends.push(it));
-  entries.forEach(walk);
+/** @param {Folder} folder @param {any[]} ends of paths @returns {{ module: string, name: string }[]} names that a module of the graph lacks, where nothing is found */
+function missingIn(folder, ends) {
   if (ends.some(isDefinition)) return [];
   return ends.filter((it) => endOf(folder, it)?.what === 'name');
 }
@@ -107,7 +75,7 @@ function lackOf(folder, entries) {
  * @param {Folder} folder
  * @returns {Promise<Finding[]>}
  */
-async function sharedOnes(folder) {
+async function ambiguousNames(folder) {
   const own = [...folder.sources.modules.values()].filter((it) => folder.sources.files.holds(it.file)).map((it) => it.specifier);
   const all = await sharedNames(folder, own);
   const stars = new Map(references(folder).filter(({ reference }) => reference.how === 'export *')
@@ -119,12 +87,12 @@ async function sharedOnes(folder) {
 }
 
 const HEADS = {
-  syntax: 'files with a syntax error, of which nothing is known',
-  unread: 'files that can\'t be read',
-  file: 'imports that lead to no file',
-  package: 'packages that are neither installed nor named in package.json',
-  name: 'names that aren\'t there',
-  shared: 'names that come along `export *` from several modules',
+  syntax: 'files with a syntax error, not analyzed',
+  unread: 'unreadable files',
+  file: 'unresolved imports',
+  package: 'packages neither installed nor listed in package.json',
+  name: 'missing exports',
+  shared: 'ambiguous names, re-exported via `export *` from several modules',
 };
 /** How many are shown of each sort without `--all`. */
 const SHOWN = 20;
@@ -155,21 +123,30 @@ function print({ print: line, paint, options }, found) {
   }
 }
 
+/** @param {Folder} folder @param {boolean} isStrict @returns {Promise<Finding[]>} those that are shared, by strict rules alone, last */
+export async function findMissing(folder, isStrict) {
+  const shared = await (isStrict ? ambiguousNames(folder) : []);
+  return [...unparsed(folder), ...unresolvedImports(folder), ...(await missingExports(folder)), ...shared];
+}
+
 /** @param {Run} run @param {Folder} folder @returns {Promise<number>} the status */
 export async function missing(run, folder) {
-  const shared = await (run.options.strict ? sharedOnes(folder) : []);
-  const found = [...unparsed(folder), ...lostImports(folder), ...(await lostNames(folder)), ...shared];
+  const { report } = run;
+  const found = report.found.rest(await findMissing(folder, run.options.strict ?? false), missingFinding);
   const all = references(folder);
   const { resolutions, external } = folder.sources;
   const targets = all.map(({ specifier, reference }) => resolutions.get(specifier)?.get(reference.text));
   const outside = new Set(targets.filter((it) => it !== undefined && external.has(it)));
-  if (run.options.json) run.print(JSON.stringify({ missing: found, external: [...outside].sort() }, null, 1));
+  if (run.options.json) report.json({ missing: found, external: [...outside].sort() });
   else {
     print(run, found);
-    const rest = outside.size > 0 ? `; ${counted(outside.size, 'module')} outside of the folder ${outside.size === 1 ? 'is' : 'are'}n't asked` : '';
-    const missed = found.length - shared.length;
-    const told = [missed === 0 ? 'nothing is missing' : `${missed} missing`, ...(shared.length > 0 ? [`${shared.length} shared`] : [])].join(', ');
-    run.print(`${counted(all.length, 'import')} in ${counted(folder.sources.modules.size, 'module')}: ${told}${rest}`);
+    const rest = outside.size > 0 ? `; ${counted(outside.size, 'external module')} not checked` : '';
+    const shared = found.filter((it) => it.what === 'shared').length;
+    const unread = found.filter(({ what }) => what === 'syntax' || what === 'unread').length;
+    const missed = found.length - shared - unread;
+    const told = [missed === 0 ? 'nothing is missing' : `${missed} missing`, ...(unread > 0 ? [`${counted(unread, 'file')} not analyzed`] : []),
+      ...(shared > 0 ? [`${shared} shared`] : [])].join(', ');
+    report.conclude(`${counted(all.length, 'import')} in ${counted(folder.sources.modules.size, 'module')}: ${told}${rest}`);
   }
-  return found.length > 0 ? 1 : 0;
+  return report.found.status;
 }

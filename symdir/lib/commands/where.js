@@ -5,6 +5,8 @@ import path from 'node:path';
 import { Failure } from '../failure.js';
 import { isDefinition } from '../folder/folder.js';
 import { endOf, endText } from '../folder/ends.js';
+import { openMembers } from '../folder/members.js';
+import { endsOf } from '../folder/settle.js';
 import { Places, decoded } from '../folder/text.js';
 import { languageOf } from '../language.js';
 import { columns, placeText } from '../output.js';
@@ -15,20 +17,20 @@ import { TreeNode } from '../tree/node.js';
 
 /** @typedef {{ file: string, line: number, column: number | null }} Spot */
 
-/** @param {string | undefined} word as `FILE:LINE` or `FILE:LINE:COLUMN` @returns {Spot} */
-export function spotOf(word) {
+/** @param {string | undefined} word as `FILE:LINE` or `FILE:LINE:COLUMN` @param {string} [command] @returns {Spot} */
+export function spotOf(word, command = 'where') {
   const found = /^(.+?):(\d+)(?::(\d+))?$/.exec(word ?? '');
-  if (!found) throw new Failure('where is asked of FILE:LINE or FILE:LINE:COLUMN, as `symdir where . src/a.ts:3:14`', 2);
+  if (!found) throw new Failure(`${command} takes FILE:LINE or FILE:LINE:COLUMN, as \`symdir ${command} . src/a.ts:3:14\``, 2);
   return { file: found[1], line: Number(found[2]), column: found[3] ? Number(found[3]) : null };
 }
 
 /** @param {Folder} folder @param {string} file @returns {import('../folder/sources.js').Module} */
-function moduleOf(folder, file) {
+export function moduleOf(folder, file) {
   for (const base of [folder.sources.folder, process.cwd()]) {
     const found = folder.sources.modules.get(folder.sources.specifierOf(path.resolve(base, file)));
     if (found) return found;
   }
-  throw new Failure(`no module ${file} in ${folder.sources.folder}`, 2);
+  throw new Failure(`no such module: ${file} in ${folder.sources.folder}`, 2);
 }
 
 /**
@@ -38,10 +40,11 @@ function moduleOf(folder, file) {
  * @property {number} end
  * @property {string} name with the parts behind it, as `a.b`
  * @property {unknown[]} reference as `symq` takes it
+ * @property {number} [from] where the statement stands that makes it stand for a whole module
  */
 
 /** @param {TreeNode[]} nodes @returns {Hit[]} each name that is a variable or a type, and each dotted name */
-function namesIn(nodes) {
+export function namesIn(nodes) {
   /** @type {Hit[]} */
   const hits = [];
   /** @type {Map<TreeNode, { base: TreeNode, parts: string[] } | null>} */
@@ -77,13 +80,40 @@ function dottedName(node, known) {
 }
 
 /** @param {import('../tree/converter.js').Reference[]} references @returns {Hit[]} the names that are imported or exported from elsewhere */
-function importedNames(references) {
+export function importedNames(references) {
   return references.flatMap(({ text, names }) => names.filter(([name]) => name !== '*').map(([name, , , start]) => ({
     start, end: start + Buffer.byteLength(name), name, reference: ['import', text, [name]] })));
 }
 
+/** @param {TreeNode[]} nodes @returns {Hit[]} the names behind `as` in exports, which stand for the ones before it */
+export function exportedNames(nodes) {
+  return nodes.filter(({ kind }) => kind === 'ExportNamed').flatMap(({ fields: { src, specifiers } }) => (
+    /** @type {TreeNode[]} */ (specifiers ?? []).flatMap(({ kind, start: from, end, fields: { orig, exported, name: all } }) => {
+      const name = /** @type {string | undefined} */ (kind === 'ExportNamespace' ? all : exported);
+      // of a name in quotes the place isn't known here
+      if (!name || !/^[\p{ID_Start}$_][\p{ID_Continue}$]*$/u.test(name)) return [];
+      const at = { start: end - Buffer.byteLength(name), end, name };
+      if (kind === 'ExportNamespace') return [{ ...at, reference: ['import', src, []], from }];
+      const { sym, value } = /** @type {TreeNode} */ (orig).fields;
+      const own = Array.isArray(sym) ? sym : [value];
+      return [{ ...at, reference: src ? ['import', src, [own[0]]] : ['id', ...own] }];
+    })));
+}
+
+/** @param {{ references: import('../tree/converter.js').Reference[], nodes: TreeNode[] }} made of a text @returns {Hit[]} */
+export function hitsOf({ references, nodes }) {
+  return [...importedNames(references), ...namesIn(nodes), ...exportedNames(nodes)];
+}
+
+/** @param {Folder} folder @param {string} module @param {Hit[]} hits @returns {Promise<any[][]>} the paths of each to where it is defined */
+export async function pathsOf(folder, module, hits) {
+  const answers = await folder.resolve(hits.filter(({ from }) => from === undefined).map((it) => [module, it.reference]));
+  return hits.map(({ from: start, reference: [, star] }) => (start === undefined ? answers.shift() ?? []
+    : [folder.settling.wholeModule({ module, start, star })]));
+}
+
 /** @param {Hit[]} hits @param {Spot} spot @param {Places} places @param {string | undefined} name @returns {Hit[]} each name once; those of other modules go first */
-function hitsAt(hits, spot, places, name) {
+export function hitsAt(hits, spot, places, name) {
   const line = places.line(spot.line);
   if (!line) throw new Failure(`${spot.file} has ${places.starts.length} lines`, 2);
   const at = spot.column === null ? null : /** @type {number} */ (places.offset(spot.line, spot.column));
@@ -105,12 +135,20 @@ function hitsAt(hits, spot, places, name) {
  * @property {import('../folder/ends.js').End | null} unresolved
  */
 
-/** @param {Folder} folder @param {any} entry of a path @param {string[]} through @returns {Way[]} */
-function waysOf(folder, entry, through) {
+/** @param {Folder} folder @param {string} specifier @param {any[]} entries of paths @returns {Set<any>} the definitions in other modules that they don't export, where they export others of the symbol */
+function hiddenFrom(folder, specifier, entries) {
+  const elsewhere = endsOf(entries).filter(isDefinition).filter((it) => it.module !== specifier);
+  const exported = new Set(folder.exported(elsewhere));
+  return new Set(elsewhere.filter((it) => !exported.has(it)));
+}
+
+/** @param {Folder} folder @param {any} entry of a path @param {string[]} through @param {Set<any>} hidden definitions that aren't told @returns {Way[]} */
+function waysOf(folder, entry, through, hidden) {
   const here = folder.short(entry.module);
+  if (hidden.has(entry)) return [];
   if (isDefinition(entry)) return [{ through, defined: folder.defined(entry), unresolved: null }];
   const path = through[through.length - 1] === here ? through : [...through, here];
-  if ('next' in entry) return /** @type {any} */ (entry).next.flatMap((/** @type {any} */ it) => waysOf(folder, it, path));
+  if ('next' in entry) return /** @type {any} */ (entry).next.flatMap((/** @type {any} */ it) => waysOf(folder, it, path, hidden));
   return [{ through, defined: null, unresolved: endOf(folder, entry) }];
 }
 
@@ -142,10 +180,10 @@ function printWays({ print, paint }, folder, found, module) {
     const rows = ways.map(({ through, defined, unresolved }) => [
       `  ${defined ? defined.kind : unresolved ? endText(unresolved) : ''}`,
       defined ? placeText(defined) : '',
-      through.length > 0 ? `through ${through.join(' > ')}` : '',
+      through.length > 0 ? `via ${through.join(' > ')}` : '',
     ]);
-    columns(rows, ([kind, where, through]) => [/^ *nowhere/.test(kind) ? paint.red(kind) : kind, where, paint.dim(through)]).forEach(print);
-    if (ways.length === 0) print('  no definition in the modules that are read: a local name, or a global');
+    columns(rows, ([kind, where, through]) => [/^ *unresolved/.test(kind) ? paint.red(kind) : kind, where, paint.dim(through)]).forEach(print);
+    if (ways.length === 0) print('  no definition in the analyzed modules: a local name or a global');
   }
 }
 
@@ -155,12 +193,13 @@ function orOwn(ways, local) {
 }
 
 /** @param {import('../folder/sources.js').Module} module @param {string} name of its file @returns its nodes, with those in the bodies of functions */
-async function treeOf({ file, parsed: { fault } }, name) {
-  if (fault) throw new Failure('nothing is known of a file with a syntax error');
-  const [{ nodesOf }, { keepCompiled }] = await Promise.all([import('../tree/convert.js'), import('../tree/typescript.js')]);
+export async function treeOf({ file, parsed: { fault } }, name) {
+  if (file.endsWith('.json')) throw new Failure(`${name} is JSON: names are looked up in modules that import it`, 2);
+  if (fault) throw new Failure('a file with a syntax error isn\'t analyzed', 3, 'source');
+  const [{ nodesOf }, { storeCompiled }] = await Promise.all([import('../tree/convert.js'), import('../tree/typescript.js')]);
   const made = parsedDeep(() => nodesOf(file, decoded(readFileSync(file)), { ...languageOf(file), bodies: true, ambient: false }));
-  keepCompiled();
-  if (!made?.nodes) throw new Failure(`${name} is nested too deep for \`where\``);
+  storeCompiled();
+  if (!made?.nodes) throw new Failure(`${name} is nested too deep for \`where\` and \`uses\``, 3, 'source');
   return { ...made, nodes: made.nodes };
 }
 
@@ -174,23 +213,41 @@ function parsedDeep(parse) {
   }
 }
 
-/** @param {Run} run @param {Folder} folder @returns {Promise<number>} the status: 0 where a definition is found */
-export async function where(run, folder) {
-  const spot = spotOf(run.words[1]);
-  const name = run.words[2];
+/**
+ * @param {Folder} folder @param {Spot} spot @param {string | undefined} name
+ * @returns {Promise<{ module: import('../folder/sources.js').Module, found: { hit: Hit, ways: Way[] }[] }>} each name there, and where it leads
+ */
+async function waysAt(folder, spot, name) {
   const module = moduleOf(folder, spot.file);
   const made = await treeOf(module, spot.file);
-  const hits = hitsAt([...importedNames(made.references), ...namesIn(made.nodes)], spot, new Places(made.text), name);
-  if (hits.length === 0) {
-    run.print(run.options.json ? '[]' : `no ${name ? `name ${name}` : 'name of a variable or a type'} at ${run.words[1]}`);
-    return 1;
-  }
-  const answers = await folder.ask(hits.map((it) => ['resolve', module.specifier, it.reference]));
+  const hits = hitsAt(hitsOf(made), spot, new Places(made.text), name);
+  const paths = await pathsOf(folder, module.specifier, hits);
+  await openMembers(folder, paths);
   /** @type {{ hit: Hit, ways: Way[] }[]} */
-  const found = hits.map((hit, i) => ({ hit, ways: (answers[i]?.entries ?? []).flatMap((/** @type {any} */ entry) => waysOf(folder, entry, [])) }));
+  const found = hits.map((hit, i) => ({ hit, ways: paths[i].flatMap((entry) => waysOf(folder, entry, [], hiddenFrom(folder, module.specifier, paths[i]))) }));
   for (const it of found) if (!it.ways.some((way) => way.defined)) it.ways = orOwn(it.ways, localWays(folder, module.specifier, made.nodes, it.hit));
-  if (run.options.json) {
-    run.print(JSON.stringify(found.map(({ hit, ways }) => ({ name: hit.name, at: folder.place(module.specifier, hit.start), ways })), null, 1));
-  } else printWays(run, folder, found, module);
+  return { module, found };
+}
+
+/** @typedef {{ name: string, at: { file: string, line: number, column: number }, ways: Way[] }} Found a name, as `--json` tells it */
+
+/** @param {Folder} folder @param {import('../folder/sources.js').Module} module @param {{ hit: Hit, ways: Way[] }[]} found @returns {Found[]} */
+function told(folder, module, found) {
+  return found.map(({ hit, ways }) => ({ name: hit.name, at: folder.place(module.specifier, hit.start), ways }));
+}
+
+/** @param {Folder} folder @param {Spot} spot @param {string | undefined} name @returns {Promise<Found[]>} */
+export async function findDefinitions(folder, spot, name) {
+  const { module, found } = await waysAt(folder, spot, name);
+  return told(folder, module, found);
+}
+
+/** @param {Run} run @param {Folder} folder @returns {Promise<number>} the status: 0 where a definition is found */
+export async function where(run, folder) {
+  const name = run.words[2];
+  const { module, found } = await waysAt(folder, spotOf(run.words[1]), name);
+  if (run.options.json) run.print(found.length > 0 ? JSON.stringify(told(folder, module, found), null, 1) : '[]');
+  else if (found.length === 0) run.print(`no ${name ? `name ${name}` : 'name of a variable or a type'} at ${run.words[1]}`);
+  else printWays(run, folder, found, module);
   return found.some(({ ways }) => ways.some((it) => it.defined)) ? 0 : 1;
 }

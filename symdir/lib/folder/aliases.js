@@ -42,6 +42,21 @@ function pathsOf(configs, file, depth = 0) {
   return found;
 }
 
+/** @param {Configs} configs @param {string} file @param {number} [depth] @returns {boolean | null} as the file says, or else what it extends last; null where none says it */
+function verbatim(configs, file, depth = 0) {
+  const { extends: above, compilerOptions } = configs.value(file);
+  const own = table(compilerOptions).verbatimModuleSyntax;
+  if (typeof own === 'boolean') return own;
+  const files = [above ?? []].flat().flatMap((it) => (typeof it === 'string' && depth < 20 ? extended(configs, it, path.posix.dirname(file)) ?? [] : []));
+  return files.map((it) => verbatim(configs, it, depth + 1)).reverse().find((it) => it !== null) ?? null;
+}
+
+/** @param {Configs} configs @param {string} folder @returns {boolean} whether `verbatimModuleSyntax` leaves only `import type` and `export type` out of what is emitted for modules of the folder */
+export function keepsImports(configs, folder) {
+  const found = configs.nearest(folder, ['tsconfig.json', 'jsconfig.json']);
+  return found !== null && verbatim(configs, found.file) === true;
+}
+
 /**
  * What stands for `*` where the text is of the pattern.
  * @param {string} pattern with one `*` at most

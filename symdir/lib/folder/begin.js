@@ -1,8 +1,8 @@
 // How a run begins: which files the folder has, what is kept of them, threads for those of which nothing is, and symq over the graph that
 // was asked last, where all files have kept trees. This loads little, so that these start before what is needed later is loaded.
 import { isJavaScript } from '../language.js';
+import { useTypeScript } from '../tree/which.js';
 import { findTypeScript } from '../typescript.js';
-import { findSymq } from '../program.js';
 import { Files } from './files.js';
 import { Kept, madeOf } from './kept.js';
 
@@ -19,14 +19,14 @@ import { Kept, madeOf } from './kept.js';
  * @property {boolean} javascript whether JavaScript is read where declarations stand beside it
  * @property {boolean} packages whether modules of installed packages are read
  * @property {boolean} cache whether trees are kept
- * @property {(done: number, all: number) => void} progress
+ * @property {Found} [typescript] that of the process, which is another program's: V8 is left as it is
+ * @property {(text: string) => void} progress is told what is under way, and nothing where that has ended
  */
 
 /**
  * Who is asked.
  * @typedef {object} Asked
- * @property {string} [symq]
- * @property {boolean} [unproved]
+ * @property {string} symq the program
  * @property {boolean} [strict]
  */
 
@@ -36,27 +36,35 @@ import { Kept, madeOf } from './kept.js';
  * @property {Files} files
  * @property {Kept | null} kept the trees that are kept
  * @property {() => Promise<Pool>} pool which isn't loaded where all trees are kept
+ * @property {Asked | null} asked null where nobody is
  * @property {Symq | null} last what answers on the graph that was asked last
  */
 
+/** @param {Reading} reading @param {Found} typescript @returns {import('../tree/which.js').Which} */
+function whichOf({ cache, typescript: ofProcess }, typescript) {
+  return { typescript: typescript.file, kept: cache ? madeOf(typescript) : undefined, isGuest: ofProcess !== undefined };
+}
+
 /** @param {Reading} reading @param {Found} typescript @returns {Promise<Pool>} */
-async function poolOf({ bodies, ambient, cache }, typescript) {
+async function poolOf(reading, typescript) {
   const { Pool } = await import('./pool.js');
-  return new Pool({ typescript: typescript.file, kept: cache ? madeOf(typescript) : undefined, bodies, ambient });
+  const { bodies, ambient } = reading;
+  return new Pool({ ...whichOf(reading, typescript), bodies, ambient });
 }
 
 /** @param {Kept | null} kept @param {Asked | null} asked @returns {Promise<Symq | null>} */
 async function lastOf(kept, asked) {
-  const graph = asked && !asked.unproved ? kept?.lastGraph() : null;
+  const graph = asked ? kept?.lastGraph() : null;
   if (!asked || !graph) return null;
   const { Symq } = await import('../symq.js');
-  return new Symq(findSymq(asked.symq), graph, asked.strict);
+  return new Symq(asked.symq, graph, asked.strict);
 }
 
 /** @param {Reading} reading @param {Asked | null} asked null where nobody is @returns {Promise<Begun>} */
 export async function begin(reading, asked) {
   const { folder, skip, bodies, ambient, cache, javascript } = reading;
-  const typescript = findTypeScript(folder);
+  const typescript = reading.typescript ?? findTypeScript(folder);
+  useTypeScript(whichOf(reading, typescript));
   const kept = cache ? new Kept(JSON.stringify([folder, typescript.version, bodies, ambient])) : null;
   const files = new Files(folder, skip);
   /** @type {Promise<Pool> | undefined} */
@@ -65,5 +73,5 @@ export async function begin(reading, asked) {
   const fresh = files.code().filter((it) => !kept?.modules.has(it) && (javascript || !isJavaScript(it)));
   if (fresh.length > 0) (await pool()).begin(fresh);
   const last = fresh.length > 0 ? null : await lastOf(kept, asked);
-  return { reading, files, kept, pool, last };
+  return { reading, files, kept, pool, asked, last };
 }

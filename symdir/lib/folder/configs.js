@@ -3,6 +3,7 @@ import { readFileSync } from 'node:fs';
 import path from 'node:path';
 import { createRequire } from 'node:module';
 
+import { reasonOf } from '../failure.js';
 import { findTypeScript } from '../typescript.js';
 import { withSlashes } from './files.js';
 
@@ -17,23 +18,33 @@ function plain(text) {
   return text.replace(COMMENTS, outside).replace(LAST_COMMAS, outside);
 }
 
-/**
- * @param {string} text
- * @param {string} file
- * @returns {any} null where it is no JSON, with comments or without
- */
-function parsed(text, file) {
+/** @typedef {import('../tree/convert.js').Fault} Fault */
+/** @typedef {{ value: any, fault: Fault | null }} Read */
+
+/** Files of which nothing counts where they have a fault; of others what TypeScript makes of them does. */
+const STRICT = /(^|\/)(package|deno|import_?map)\.jsonc?$/;
+
+/** @param {string} text @param {string} file @returns {Read} as TypeScript reads it, which has to be loaded for that */
+function asTypeScript(text, file) {
+  /** @type {typeof import('typescript')} */
+  const ts = require(findTypeScript(path.dirname(file)).file);
+  const { config, error } = ts.parseConfigFileTextToJson(file, text);
+  if (!error) return { value: config, fault: null };
+  const { line, character } = ts.getLineAndCharacterOfPosition(ts.createSourceFile(file, text, ts.ScriptTarget.JSON), error.start ?? 0);
+  const fault = { line: line + 1, column: character + 1, text: ts.flattenDiagnosticMessageText(error.messageText, ' ') };
+  return { value: STRICT.test(file) ? null : config, fault };
+}
+
+/** @param {string} text @param {string} file @returns {Read} */
+export function parsed(text, file) {
   for (const made of [() => text, () => plain(text)]) {
     try {
-      return JSON.parse(made());
+      return { value: JSON.parse(made()), fault: null };
     } catch {
       // the next
     }
   }
-  if (!/\/[/*]|,\s*[\]}]/.test(text)) return null;
-  // what lacks a comma, say, is read as TypeScript reads it, which has to be loaded for that
-  const ts = require(findTypeScript(path.dirname(file)).file);
-  return ts.parseConfigFileTextToJson(file, text).config ?? null;
+  return asTypeScript(text, file);
 }
 
 export class Configs {
@@ -42,6 +53,10 @@ export class Configs {
     this.files = files;
     /** @type {Map<string, any>} */
     this.read = new Map();
+    /** @type {(Fault & { file: string })[]} of the files that can't be parsed, but for those of packages */
+    this.faults = [];
+    /** @type {{ file: string, error: string }[]} the files that are there and can't be read */
+    this.unread = [];
     /** @type {Map<string, any>} what is nearest to a folder, by the folder and the names */
     this.near = new Map();
   }
@@ -49,15 +64,24 @@ export class Configs {
   /** @param {string} file absolute @returns {any} the value of the file; null where it isn't there or no object */
   value(file) {
     if (!this.read.has(file)) {
-      let value = null;
-      try {
-        if (this.files.has(file)) value = parsed(readFileSync(file, 'utf8').replace(/^\ufeff/, ''), file);
-      } catch {
-        value = null;
-      }
+      const value = this.files.has(file) ? this.parsed(file) : null;
       this.read.set(file, value !== null && typeof value === 'object' ? value : null);
     }
     return this.read.get(file);
+  }
+
+  /** @param {string} file that is there @returns {any} its value; null where there is none, which is noted */
+  parsed(file) {
+    let text;
+    try {
+      text = readFileSync(file, 'utf8').replace(/^\ufeff/, '');
+    } catch (error) {
+      this.unread.push({ file, error: reasonOf(error) });
+      return null;
+    }
+    const { value, fault } = parsed(text, file);
+    if (fault && !file.includes('/node_modules/')) this.faults.push({ file, ...fault });
+    return value;
   }
 
   /**

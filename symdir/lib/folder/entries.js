@@ -10,7 +10,7 @@ import { foundAt } from './endings.js';
 
 /** Where the one module that stands for a folder mostly is. */
 const USUAL = ['index', 'src/index', 'mod', 'src/mod', 'lib/index', 'main', 'src/main'];
-const TEST = /(^|\/)(tests?|__tests__|specs?|examples?|scripts?|benchmarks?)\/|[._](test|spec|stories|config|bench)\.[a-z.]+$/;
+export const TEST = /(^|\/)(tests?|__tests__|specs?|examples?|scripts?|benchmarks?)\/|[._](test|spec|stories|config|bench)\.[a-z.]+$/;
 
 /** @param {Sources} sources @param {string} file @returns {string | null} the specifier of the module; of JavaScript, of that with its types */
 function moduleAt(sources, file) {
@@ -25,7 +25,7 @@ function named(sources, word) {
     const found = file && moduleAt(sources, file);
     if (found) return found;
   }
-  throw new Failure(`no module ${word} below ${sources.folder}`, 2);
+  throw new Failure(`no such module: ${word} in ${sources.folder}`, 2);
 }
 
 /** @param {Sources} sources @param {string} folder of a package @returns {string[]} what its package.json or deno.json says */

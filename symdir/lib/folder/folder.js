@@ -2,24 +2,24 @@
 import path from 'node:path';
 
 import { Failure } from '../failure.js';
-import { Symq, SymqAtOnce } from '../symq.js';
-import { findSymq, unprovedSymq } from '../program.js';
-import { KINDS } from '../kinds.js';
+import { Symq } from '../symq.js';
+import { EXPORTED, KINDS, PRIVATE } from '../kinds.js';
 import { entriesOf } from './entries.js';
-import { nameOf, partsOf, piecesOf, writePieces } from './graph.js';
+import { nameOf, partsOf, piecesOf } from './graph.js';
+import { Settling, endsOf, isUnsettled } from './settle.js';
 import { Sources } from './sources.js';
 import { Temporary } from './temporary.js';
 import { Places } from './text.js';
+import { replaceFile } from '../write.js';
 
 /** @typedef {{ name: string, module: string, symbol: number, chain: [string, string][] }} Export */
 /** @typedef {{ name: string, owners: { module: string, symbol: number, chain: [string, string][] }[] }} Shared */
 /** @typedef {{ exports: Export[], shared?: Shared[], unresolved: [string, string][] }} Exports what is shared by strict rules alone */
-/** @typedef {{ module: string, symbol: number, start: number, end: number, decl: [number, number] }} Definition */
-/** @typedef {{ kind: string, module: string, name: string, parts: string[] }} Unresolved */
-/** @typedef {{ kind: string, name: number, isPrivate: boolean }} Declaration */
-
-/** A graph of at most so many nodes is asked for all that it may be asked for in the first round, where a round is long. */
-const NODES_AHEAD = 3000;
+/** @typedef {{ module: string, start: number, text: string }} Statement that stands for a whole module, and the text that names it */
+/** @typedef {{ module: string, symbol: number, start: number, end: number, decl: [number, number], by?: Statement }} Definition of a module that a statement leads to, with that */
+/** @typedef {{ kind: string, module: string, name: string, parts: string[], why?: string }} Unresolved with why the name may be there all the same */
+/** @typedef {{ kind: string, name: number, isPrivate: boolean, isExported: boolean }} Declaration */
+/** @typedef {{ kind: string, file: string, line: number, column: number, by?: { text: string, file: string, line: number, column: number } }} Place of a definition; of a module that a statement leads to, with that */
 
 /** @param {unknown} it an end of a path @returns {it is Definition} */
 export function isDefinition(it) {
@@ -32,7 +32,7 @@ export class Folder {
     this.sources = sources;
     this.entries = entries;
     this.last = last;
-    /** @type {Symq | SymqAtOnce | null} */
+    /** @type {Symq | null} */
     this.symq = null;
     /** @type {Temporary | undefined} where the graph is, where it isn't kept */
     this.temporary = undefined;
@@ -40,8 +40,11 @@ export class Folder {
     this.keeping = undefined;
     /** @type {Map<string, Places>} */
     this.places = new Map();
-    /** @type {Map<string, Map<string, Declaration>>} */
+    /** @type {Map<string, Map<string, Declaration[]>>} */
     this.tables = new Map();
+    /** @type {Map<string, string | null>} names of symbols in full, by number and module, where one range declares several */
+    this.localNames = new Map();
+    this.settling = new Settling(this);
   }
 
   /**
@@ -52,39 +55,37 @@ export class Folder {
   static async read(begun, { entry }) {
     const sources = new Sources(begun);
     await sources.read();
-    if (sources.modules.size === 0) throw new Failure(sources.files.emptyText());
-    return new Folder(sources, entriesOf(sources, entry), begun.last);
+    try {
+      if (sources.modules.size === 0) throw new Failure(sources.files.emptyText(), 3, 'source');
+      return new Folder(sources, entriesOf(sources, entry), begun.last);
+    } catch (error) {
+      await sources.pool?.close();
+      throw error;
+    }
   }
 
   /** @param {import('./begin.js').Asked} asked as it was said when all began: it is given the graph */
-  open({ symq, unproved, strict }) {
+  open({ symq, strict }) {
     const parts = partsOf(this.sources);
     const name = nameOf(parts);
     if (this.last && name === this.sources.kept?.graph) this.symq = this.last;
     else {
       void this.last?.close();
       const graph = this.write(name, piecesOf(parts));
-      this.symq = unproved ? new SymqAtOnce(unprovedSymq(), graph, this.ahead()) : new Symq(findSymq(symq), graph, strict);
+      this.symq = new Symq(symq, graph, strict);
     }
+    this.symq.progress = this.sources.reading.progress;
     this.keeping = this.sources.keep(name);
   }
 
   /** @param {string} name @param {Buffer[]} pieces of the graph @returns {string} the file that has it */
   write(name, pieces) {
-    const file = this.sources.kept?.keepGraph(name, (it) => writePieces(pieces, it));
+    const file = this.sources.kept?.storeGraph(name, pieces);
     if (file) return file;
     this.temporary = new Temporary();
     const graph = path.join(this.temporary.path, 'graph.json');
-    writePieces(pieces, graph);
+    replaceFile(graph, pieces);
     return graph;
-  }
-
-  /** @returns {unknown[][]} */
-  ahead() {
-    const modules = [...this.sources.modules.values()].filter((it) => it.parsed.nodes > 0);
-    if (modules.reduce((sum, it) => sum + it.parsed.nodes, 0) > NODES_AHEAD) return [];
-    return modules.flatMap(({ specifier, parsed }) => [
-      ['exports', specifier], ...Array.from({ length: parsed.nodes }, (_, k) => ['leaves', specifier, k])]);
   }
 
   async close() {
@@ -106,7 +107,38 @@ export class Folder {
   /** @param {[string, number][]} symbols @returns {Promise<(Definition | Unresolved)[][]>} the ends of the paths to where each is defined */
   async leaves(symbols) {
     const answers = await this.ask(symbols.map(([module, symbol]) => ['leaves', module, symbol]));
-    return answers.map((it) => it?.leaves ?? []);
+    const found = answers.map((it) => it?.leaves ?? []);
+    const open = found.flatMap((it, i) => (it.some(isUnsettled) ? [i] : []));
+    const paths = await this.paths(open.map((i) => symbols[i]));
+    open.forEach((i, k) => (found[i] = endsOf(paths[k])));
+    await this.nameDeclarations(found.flat());
+    return found;
+  }
+
+  /** @param {[string, number][]} symbols @returns {Promise<any[][]>} the paths to where each is defined */
+  async paths(symbols) {
+    const answers = await this.ask(symbols.map(([module, symbol]) => ['paths', module, symbol]));
+    return this.settled(answers.map((it) => it?.paths ?? []), symbols.map(([module]) => module));
+  }
+
+  /** @param {[string, unknown[]][]} asked modules, and references in them @returns {Promise<any[][]>} the paths to where what is referred to is defined */
+  async resolve(asked) {
+    const answers = await this.ask(asked.map(([module, reference]) => ['resolve', module, reference]));
+    return this.settled(answers.map((it) => it?.entries ?? []), asked.map(([module]) => module));
+  }
+
+  /** @param {any[][]} lists of paths @param {string[]} modules that they begin in @returns {Promise<any[][]>} */
+  async settled(lists, modules) {
+    const found = await this.settling.settled(lists, modules);
+    await this.nameDeclarations(found.flatMap(endsOf));
+    return found;
+  }
+
+  /** @param {(Definition | Unresolved)[]} ends asks for the names of those whose range declares several names, as a pattern does */
+  async nameDeclarations(ends) {
+    const open = ends.filter(isDefinition).filter((it) => it.symbol !== 0 && !this.localNames.has(keyOf(it)) && this.declarations(it).length > 1);
+    const answers = await this.ask(open.map((it) => ['name', it.module, it.symbol]));
+    open.forEach((it, i) => this.localNames.set(keyOf(it), answers[i]?.name ?? null));
   }
 
   /** @param {string} specifier @returns {string} as people read it */
@@ -114,32 +146,71 @@ export class Folder {
     return this.sources.short(specifier);
   }
 
-  /** @param {string} specifier @param {number} at in bytes @returns {{ file: string, line: number, column: number }} */
-  place(specifier, at) {
+  /** @param {string} specifier @returns {Places} */
+  placesOf(specifier) {
     let found = this.places.get(specifier);
     if (!found) this.places.set(specifier, (found = Places.of(this.sources.modules.get(specifier)?.file ?? '')));
-    return { file: this.short(specifier), ...found.place(at) };
+    return found;
   }
 
-  /** @param {string} specifier @param {number} start @param {number} end of a definition @returns {Declaration | null} */
-  declaration(specifier, start, end) {
-    let table = this.tables.get(specifier);
+  /** @param {string} specifier @param {number} at in bytes @returns {{ file: string, line: number, column: number }} */
+  place(specifier, at) {
+    return { file: this.short(specifier), ...this.placesOf(specifier).place(at) };
+  }
+
+  /** @param {Definition} it @returns {Declaration[]} those of its range, of which a pattern has several */
+  declarations({ module, start, end }) {
+    let table = this.tables.get(module);
     if (!table) {
       table = new Map();
-      const all = this.sources.modules.get(specifier)?.parsed.declarations ?? [];
+      const all = this.sources.modules.get(module)?.parsed.declarations ?? [];
       for (let i = 0; i < all.length; i += 5) {
+        const [kind, name, flags] = [KINDS[all[i + 2]], all[i + 3], all[i + 4]];
+        const made = { kind, name, isPrivate: (flags & PRIVATE) !== 0, isExported: (flags & EXPORTED) !== 0 };
         const key = `${all[i]} ${all[i + 1]}`;
-        if (!table.has(key)) table.set(key, { kind: KINDS[all[i + 2]], name: all[i + 3], isPrivate: all[i + 4] === 1 });
+        const list = table.get(key);
+        if (!list) table.set(key, [made]);
+        else if (list.every((other) => other.name !== name)) list.push(made);
       }
-      this.tables.set(specifier, table);
+      this.tables.set(module, table);
     }
-    return table.get(`${start} ${end}`) ?? null;
+    return table.get(`${start} ${end}`) ?? [];
   }
 
-  /** @param {Definition} it @returns {{ kind: string, file: string, line: number, column: number }} where its name stands */
-  defined(it) {
-    const declaration = this.declaration(it.module, it.start, it.end);
-    const { file, line, column } = this.place(it.module, declaration?.name ?? it.start);
-    return { kind: declaration?.kind ?? 'module', file, line, column };
+  /** @param {Definition} it @returns {Declaration | null} */
+  declaration(it) {
+    const all = this.declarations(it);
+    const name = all.length > 1 ? this.localNames.get(keyOf(it))?.split('.').pop() : undefined;
+    if (name === undefined) return all[0] ?? null;
+    const places = this.placesOf(it.module);
+    return all.find((one) => places.hasWord(one.name, name)) ?? all[0];
   }
+
+  /** @param {Definition[]} definitions that an export leads to @returns {Definition[]} without those of a symbol that aren't exported, where others of it are: a type of the same name, say */
+  exported(definitions) {
+    const found = new Set(definitions.filter((it) => this.declaration(it)?.isExported).map(keyOf));
+    return definitions.filter((it) => !found.has(keyOf(it)) || this.declaration(it)?.isExported);
+  }
+
+  /** @param {Statement} statement @returns {string} it, as it is mostly written */
+  statementText({ module, start, text }) {
+    const all = this.sources.modules.get(module)?.parsed.references ?? [];
+    const rows = all.flatMap(({ how, names }) => names.map(([name, local, , at]) => ({ how, name, local, at })));
+    const { how = 'import', local = '' } = rows.find(({ name, at }) => name === '*' && at === start) ?? {};
+    return how === 'require' ? `import ${local} = require("${text}")` : `${how} * as ${local} from "${text}"`;
+  }
+
+  /** @param {Definition} it @returns {Place} where its name stands */
+  defined(it) {
+    if (it.by) return { kind: 'namespace', ...this.place(it.module, it.start), by: { text: this.statementText(it.by), ...this.place(it.by.module, it.by.start) } };
+    const declaration = it.symbol === 0 ? null : this.declaration(it);
+    // what has a symbol and no declaration is a property that is assigned to a function, or the value of JSON
+    const kind = it.symbol === 0 || it.module.endsWith('.json') ? 'module' : 'property';
+    return { kind: declaration?.kind ?? kind, ...this.place(it.module, declaration?.name ?? it.start) };
+  }
+}
+
+/** @param {Definition} it @returns {string} its symbol */
+function keyOf({ symbol, module }) {
+  return `${symbol} ${module}`;
 }

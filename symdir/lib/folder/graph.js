@@ -1,25 +1,8 @@
 // The text of a graph, as `docs/GRAPH.md` has it.
-import { closeSync, openSync, writevSync } from 'node:fs';
-
 import { hashOf } from './kept.js';
 
 /** @typedef {import('./sources.js').Sources} Sources */
 /** @typedef {import('./sources.js').Module} Module */
-
-/** How many pieces one call writes. */
-const PIECES = 512;
-
-/** @param {number} fd @param {Buffer[]} pieces */
-function writeAll(fd, pieces) {
-  for (let i = 0; i < pieces.length; i += PIECES) {
-    let some = pieces.slice(i, i + PIECES);
-    while (some.length > 0) {
-      let wrote = writevSync(fd, some);
-      while (some.length > 0 && wrote >= some[0].length) wrote -= /** @type {Buffer} */ (some.shift()).length;
-      if (some.length > 0) some = [some[0].subarray(wrote), ...some.slice(1)];
-    }
-  }
-}
 
 /**
  * What a graph consists of.
@@ -41,7 +24,7 @@ export function partsOf(sources) {
 
 /** @param {Parts} parts @returns {string} equal for graphs of one text, where trees are made in one way */
 export function nameOf({ modules, external, rows }) {
-  return hashOf(JSON.stringify([modules.map(({ it, types }) => [it.specifier, it.parsed.hash, types]), external, rows]));
+  return hashOf(JSON.stringify([modules.map(({ it, types }) => [it.specifier, it.parsed.hash, types, ...it.parsed.namespaces]), external, rows]));
 }
 
 /** @param {Parts} parts @returns {Buffer[]} whose joined text is the graph's */
@@ -57,14 +40,4 @@ export function piecesOf({ modules, external, rows }) {
   if (pieces.length > 1) pieces.pop();
   pieces.push(Buffer.from(`\n],"redirects":[],"resolutions":[\n${rows.join(',\n')}\n]}\n`));
   return pieces;
-}
-
-/** @param {Buffer[]} pieces @param {string | number} file a path, or 1 for standard output */
-export function writePieces(pieces, file) {
-  const fd = typeof file === 'number' ? file : openSync(file, 'w');
-  try {
-    writeAll(fd, pieces);
-  } finally {
-    if (typeof file !== 'number') closeSync(fd);
-  }
 }

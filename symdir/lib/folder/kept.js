@@ -1,11 +1,13 @@
 // Trees that are kept from run to run, under the user's cache folder: one file for a folder of sources and how it is read. The graph that
 // was asked last is kept beside it, so that it can be asked again before it is known that it is still the one.
 import { createHash } from 'node:crypto';
-import { mkdirSync, readFileSync, readdirSync, renameSync, rmSync, statSync, utimesSync } from 'node:fs';
-import { mkdir, rename, writeFile } from 'node:fs/promises';
+import { mkdirSync, readFileSync, readdirSync, rmSync, statSync, utimesSync } from 'node:fs';
+import { mkdir, rename, rm, writeFile } from 'node:fs/promises';
 import os from 'node:os';
 import path from 'node:path';
 import { fileURLToPath } from 'node:url';
+
+import { isPart, partOf, replaceFile } from '../write.js';
 
 /** What is kept of a module, by what its file is. */
 /**
@@ -14,8 +16,14 @@ import { fileURLToPath } from 'node:url';
  * @property {Buffer} text the JSON text of the module, without its last brace
  * @property {import('../tree/convert.js').Fault | null} fault why it has no tree
  * @property {import('../tree/converter.js').Reference[]} references
- * @property {number[]} declarations
+ * @property {number[]} declarations as the converter notes them
  * @property {string[]} implicit names that TypeScript exports of a declaration file without a word
+ * @property {string[] | null} equals the parts of the name behind `export =`; none where something else stands there
+ * @property {string[]} modules that it declares by `declare module "name"`
+ * @property {boolean} isScript whether it is no module, so that what it declares is there for all
+ * @property {import('../tree/converter.js').Block[]} blocks of namespaces that have `export { .. }`
+ * @property {number} start of the first statement, in bytes
+ * @property {string[]} namespaces texts of `import a = require(..)` that it was parsed for as ones of modules without `export =`
  * @property {number} nodes how many the tree has
  */
 
@@ -23,6 +31,8 @@ import { fileURLToPath } from 'node:url';
 const DAYS = 30;
 /** A graph that another one takes the place of goes where no run has taken it for so many milliseconds. */
 const MILLISECONDS_OF_A_GRAPH = 60_000;
+/** What isn't whole after so many milliseconds never will be. */
+const MILLISECONDS_OF_A_PART = 3_600_000;
 
 /** @param {Buffer | string} bytes @returns {string} */
 export function hashOf(bytes) {
@@ -56,7 +66,8 @@ function prune(folder, isReplaced) {
   for (const name of readdirSync(folder)) {
     const file = path.join(folder, name);
     const age = Date.now() - (statSync(file, { throwIfNoEntry: false })?.mtimeMs ?? 0);
-    if (age > (isReplaced(file) ? MILLISECONDS_OF_A_GRAPH : DAYS * 24 * 3600 * 1000)) rmSync(file, { force: true });
+    const longest = isReplaced(file) ? MILLISECONDS_OF_A_GRAPH : isPart(name) ? MILLISECONDS_OF_A_PART : DAYS * 24 * 3600 * 1000;
+    if (age > longest) rmSync(file, { force: true });
   }
 }
 
@@ -105,13 +116,12 @@ export class Kept {
     }
   }
 
-  /** @param {string} graph its name @param {(file: string) => void} write @returns {string | null} its file; null where it can't be kept */
-  keepGraph(graph, write) {
+  /** @param {string} graph its name @param {Buffer[]} pieces its text @returns {string | null} its file; null where it can't be kept */
+  storeGraph(graph, pieces) {
     try {
       mkdirSync(path.dirname(this.file), { recursive: true });
-      const [file, part] = [this.graphFile(graph), `${this.base}.${process.pid}.graph`];
-      write(part);
-      renameSync(part, file);
+      const file = this.graphFile(graph);
+      replaceFile(file, pieces);
       return file;
     } catch {
       return null;
@@ -130,14 +140,15 @@ export class Kept {
     const header = Buffer.from(JSON.stringify({ graph, rows }));
     const length = Buffer.alloc(4);
     length.writeUInt32LE(header.length);
+    const part = partOf(this.file);
     try {
       await mkdir(path.dirname(this.file), { recursive: true });
-      const part = `${this.file}.${process.pid}`;
       await writeFile(part, Buffer.concat([length, header, ...[...modules.values()].map(({ text }) => text)]));
       await rename(part, this.file);
       prune(path.dirname(this.file), (it) => it.startsWith(`${this.base}.`) && it.endsWith('.graph') && it !== this.graphFile(graph));
     } catch {
       // a cache folder that can't be written costs time alone
+      await rm(part, { force: true }).catch(() => {});
     }
   }
 }

@@ -12,13 +12,13 @@ import { decoded } from './text.js';
 /** @typedef {{ bodies: boolean, ambient: boolean }} How */
 
 /** @param {Job} job @param {(text: string) => Converted} converted @returns {Parsed} */
-function read({ file, specifier }, converted) {
+function read({ file, specifier, namespaces = [] }, converted) {
   const bytes = readFileSync(file);
   const { text, tree: nodes, ...rest } = converted(decoded(bytes));
   const kind = file.endsWith('.json') ? 'json' : 'esm';
   const start = `{"specifier":${JSON.stringify(specifier)},"kind":"${kind}","text":${JSON.stringify(text)}`;
-  const tree = nodes === null ? '' : `,"tree":{${languageOf(file).declaration ? '"declaration":true,' : ''}"nodes":${nodes}}`;
-  return { hash: hashOf(bytes), text: Buffer.from(start + tree), ...rest };
+  const tree = nodes === null ? [] : [Buffer.from(`,"tree":{${languageOf(file).declaration ? '"declaration":true,' : ''}"nodes":`), ...nodes, Buffer.from('}')];
+  return { hash: hashOf(bytes), text: Buffer.concat([Buffer.from(start), ...tree]), namespaces, ...rest };
 }
 
 /**
@@ -28,8 +28,8 @@ function read({ file, specifier }, converted) {
  * @throws {RangeError} where the file is nested deeper than the stack of this thread allows; and what `readFileSync` throws
  */
 export function parseFile(job, how) {
-  const { file } = job;
-  return read(job, (text) => (file.endsWith('.json') ? withoutTree(text, null) : convert(file, text, { ...languageOf(file), ...how })));
+  const { file, namespaces } = job;
+  return read(job, (text) => (file.endsWith('.json') ? withoutTree(text, null) : convert(file, text, { ...languageOf(file), ...how, namespaces })));
 }
 
 /** @param {Job} job of a file for which no stack is deep enough @returns {Parsed} */

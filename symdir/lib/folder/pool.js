@@ -19,6 +19,8 @@ const BYTES_OF_A_FILE = 500;
 const BYTES_OF_A_THREAD = 100_000;
 /** More threads than these wait for one another's memory and compilers longer than they parse. */
 const MOST_THREADS = 3;
+/** A file of so many bytes is parsed in another thread, so that this one can show how long it takes. */
+const HUGE = 2_000_000;
 /** For so many milliseconds at least this thread parses, before it hears of what others made and of signals. */
 const UNHEARD = 10;
 
@@ -77,7 +79,13 @@ export class Pool {
   /** @param {string[]} files @returns {number} how many threads parse them, with this one */
   threadsFor(files) {
     const bytes = files.reduce((sum, it) => sum + this.sizeOf(it), 0);
-    return Math.min(freeProcessors(), files.length, wantedThreads(files.length, bytes));
+    const worth = Math.min(freeProcessors(), files.length, wantedThreads(files.length, bytes));
+    return files.some((it) => this.isHuge(it)) ? Math.max(worth, 2) : worth;
+  }
+
+  /** @param {string} file @returns {boolean} */
+  isHuge(file) {
+    return this.sizeOf(file) >= HUGE;
   }
 
   /** @param {number} count how many threads there are beside this one from then on, at least */
@@ -98,16 +106,19 @@ export class Pool {
     const count = this.threadsFor(jobs.map((it) => it.file));
     // one thread is done sooner where it warms up on small files; several end together where the largest go first
     const sorted = [...jobs].sort((a, b) => this.sizeOf(a.file) - this.sizeOf(b.file));
-    const queue = queueOf(count > 1 ? sorted.reverse() : sorted);
+    if (count > 1) sorted.reverse();
+    const huge = queueOf(sorted.filter((it) => this.isHuge(it.file)));
+    const queue = queueOf(sorted.filter((it) => !this.isHuge(it.file)));
     if (count > 1) this.keep ??= () => this.threads[0].ask(null, () => {});
-    const [, deep] = await Promise.all([this.inThreads(count - 1, queue, done), this.here(queue, done)]);
-    if (deep.length > 0) await this.inThreads(1, queueOf(deep), done);
+    const [, deep] = await Promise.all([this.inThreads(count - 1, [huge, queue], done), this.here(queue, done)]);
+    if (deep.length > 0) await this.inThreads(1, [queueOf(deep)], done);
   }
 
   /** @param {Queue} queue @param {Done} done @returns {Promise<Job[]>} those that need a deeper stack than this thread has */
   async here(queue, done) {
-    const [{ parseFile }, { keepCompiled }] = await Promise.all([import('./parse.js'), import('../tree/typescript.js')]);
-    this.keep ??= keepCompiled;
+    if (queue.jobs.length === 0) return [];
+    const [{ parseFile }, { storeCompiled }] = await Promise.all([import('./parse.js'), import('../tree/typescript.js')]);
+    this.keep ??= storeCompiled;
     /** @type {Job[]} */
     const deep = [];
     let heard = performance.now();
@@ -125,15 +136,17 @@ export class Pool {
     return deep;
   }
 
-  /** @param {number} count @param {Queue} queue @param {Done} done */
-  async inThreads(count, queue, done) {
+  /** @param {number} count @param {Queue[]} queues of which each thread takes one after the other @param {Done} done */
+  async inThreads(count, queues, done) {
     if (count === 0) return;
     this.start(count);
     try {
-      await Promise.all(this.threads.slice(0, count).map((it) => it.ask(queue, done)));
+      await Promise.all(this.threads.slice(0, count).map(async (it) => {
+        for (const queue of queues) await it.ask(queue, done);
+      }));
     } catch (error) {
       this.keep = null;
-      throw new Failure(`a thread that parses ended: ${/** @type {Error} */ (error).message}`);
+      throw new Failure(`a parser thread failed: ${/** @type {Error} */ (error).message}`, 3, 'engine');
     }
   }
 

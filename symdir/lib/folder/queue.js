@@ -1,7 +1,7 @@
 // Files that several threads parse: each takes the next one that nobody took.
 
-/** A file, and the specifier of its module. */
-/** @typedef {{ file: string, specifier: string }} Job */
+/** A file, the specifier of its module, and texts of `import a = require(..)` that stand for modules without `export =`. */
+/** @typedef {{ file: string, specifier: string, namespaces?: string[] }} Job */
 
 /**
  * @typedef {object} Queue

@@ -36,7 +36,7 @@ export class Resolver {
   /**
    * @param {string} from the module, absolute
    * @param {string} text
-   * @returns {Target | null} null where it leads nowhere
+   * @returns {Target | null} null where it is unresolved
    */
   resolve(from, text) {
     const folder = path.posix.dirname(from);

@@ -3,15 +3,19 @@ import { readFileSync } from 'node:fs';
 import path from 'node:path';
 
 import { isCode, isJavaScript } from '../language.js';
+import { counted } from '../output.js';
 import { Configs } from './configs.js';
 import { sourcesOf } from './endings.js';
 import { hashOf } from './kept.js';
 import { packageFile } from './packages.js';
+import { Open } from './open.js';
 import { Resolver } from './resolve.js';
-import { shortOf } from './specifier.js';
+import { bestPattern } from './aliases.js';
+import { ambientSpecifier, shortOf } from './specifier.js';
 
 /** @typedef {import('./kept.js').Parsed} Parsed */
 /** @typedef {import('../tree/converter.js').Reference} Reference */
+/** @typedef {import('../tree/convert.js').Fault} Fault */
 
 /**
  * @typedef {object} Module
@@ -19,6 +23,14 @@ import { shortOf } from './specifier.js';
  * @property {string} file absolute
  * @property {Parsed} parsed
  */
+
+/** The configuration files of the folder that are looked at in any case. */
+const CONFIGS = ['package.json', 'deno.json', 'deno.jsonc', 'tsconfig.json', 'jsconfig.json'];
+
+/** @param {string} text of an import @returns {boolean} whether it is a path, which no `declare module` can name but by a star */
+function isPath(text) {
+  return /^(\/|\.{1,2}(\/|$))/.test(text);
+}
 
 export class Sources {
   /** @param {import('./begin.js').Begun} begun */
@@ -42,6 +54,8 @@ export class Sources {
     this.unread = [];
     /** @type {import('./pool.js').Pool | undefined} */
     this.pool = undefined;
+    /** @type {Set<string>} what files that are no modules declare by `declare module "name"` */
+    this.ambient = new Set();
   }
 
   /** @param {string} file absolute @returns {string} */
@@ -76,6 +90,8 @@ export class Sources {
         isNew ||= parsed > 0;
         wanted = this.resolveAll(wanted);
       }
+      this.resolveDeclared();
+      isNew = (await this.parseRequires()) || isNew;
     } catch (error) {
       await this.pool?.close();
       throw error;
@@ -87,12 +103,22 @@ export class Sources {
     };
   }
 
+  /** @returns {{ file: string, error: string }[]} what can't be read: modules, folders and configuration files, each once */
+  unreadable() {
+    return [...this.unread, ...this.configs.unread.map(({ file, error }) => ({ file: this.files.below(file), error }))];
+  }
+
+  /** @returns {(Fault & { file: string })[]} what can't be parsed: modules, and configuration files, those of the folder itself even where nothing needs them */
+  unparsed() {
+    for (const it of CONFIGS) this.configs.value(path.posix.join(this.folder, it));
+    const modules = [...this.modules.values()].flatMap(({ specifier, parsed: { fault } }) => (fault ? [{ file: this.short(specifier), ...fault }] : []));
+    return [...this.configs.faults.map((it) => ({ ...it, file: this.files.below(it.file) })), ...modules];
+  }
+
   /** @returns {string[]} what couldn't be read or parsed, a line each */
   faults() {
-    const unread = this.unread.map(({ file, error }) => `${file}: can't be read (${error})`);
-    const faulty = [...this.modules.values()].flatMap(({ specifier, parsed: { fault } }) => (
-      fault ? [`${this.short(specifier)}:${fault.line}:${fault.column}: ${fault.text}`] : []));
-    return [...unread, ...faulty];
+    const unread = this.unreadable().map(({ file, error }) => `${file}: can't be read (${error})`);
+    return [...unread, ...this.unparsed().map(({ file, line, column, text }) => `${file}:${line}:${column}: ${text}`)];
   }
 
   /** @param {string[]} wanted files @returns {Promise<number>} how many were parsed */
@@ -106,9 +132,12 @@ export class Sources {
       else jobs.push({ file, specifier: this.specifierOf(file) });
     }
     let done = 0;
-    if (jobs.length > 0) this.pool = await this.parsers();
+    if (jobs.length > 0) {
+      this.reading.progress(`parsed 0 of ${counted(jobs.length, 'file')}`);
+      this.pool = await this.parsers();
+    }
     await this.pool?.parse(jobs, (file, made, error) => {
-      this.reading.progress(++done, jobs.length);
+      this.reading.progress(++done < jobs.length ? `parsed ${done} of ${counted(jobs.length, 'file')}` : '');
       if (made) found.set(file, made);
       else this.unread.push({ file: this.files.below(file), error: error ?? '' });
       // looked up while other files are parsed, so that it is known when all are
@@ -119,8 +148,32 @@ export class Sources {
       const specifier = this.specifierOf(file);
       if (parsed) this.modules.set(specifier, { specifier, file, parsed });
       else this.external.add(specifier);
+      if (parsed?.isScript) for (const it of parsed.modules) this.ambient.add(it);
     }
     return jobs.length;
+  }
+
+  /** @param {Module} module @param {Open} open @returns {string[]} the texts of its `import a = require(..)` that stand for modules whose names `export` tells */
+  namespacesOf({ specifier, parsed }, open) {
+    const texts = new Set(parsed.references.filter(({ how }) => how === 'require').map(({ text }) => text));
+    const to = (/** @type {string} */ text) => this.typed(this.resolutions.get(specifier)?.get(text) ?? '');
+    return [...texts].filter((it) => open.reason(to(it)) === null).sort();
+  }
+
+  /** Parses modules again whose `import a = require(..)` stand for something else than was known when they were parsed. @returns {Promise<boolean>} whether there are any */
+  async parseRequires() {
+    const open = new Open(this);
+    const jobs = [...this.modules.values()].flatMap((it) => {
+      const namespaces = this.namespacesOf(it, open);
+      return JSON.stringify(namespaces) === JSON.stringify(it.parsed.namespaces) ? [] : [{ file: it.file, specifier: it.specifier, namespaces }];
+    });
+    if (jobs.length === 0) return false;
+    this.pool = await this.parsers();
+    await this.pool.parse(jobs, (file, made) => {
+      const module = this.modules.get(this.specifierOf(file));
+      if (module && made) module.parsed = made;
+    });
+    return true;
   }
 
   /** @param {string} file @returns {string} */
@@ -151,16 +204,38 @@ export class Sources {
     return [...more].sort();
   }
 
+  /** Resolves what is left to modules that files declare which were read later. */
+  resolveDeclared() {
+    if (this.ambient.size === 0) return;
+    for (const { specifier, parsed } of this.modules.values()) {
+      const table = this.resolutions.get(specifier);
+      for (const { text } of table ? parsed.references : []) {
+        const to = table?.has(text) ? null : this.ambientTarget(text);
+        if (to !== null) table?.set(text, to);
+      }
+    }
+  }
+
   /** @param {string} from @param {string} text @param {Set<string>} more is given the file where it isn't read yet @returns {string | null} a specifier */
   target(from, text, more) {
     const found = this.resolver.resolve(from, text);
-    if (!found) return null;
+    if (!found) return this.ambientTarget(text);
+    // what is declared goes before files
+    if (found.file && this.isRead(found.file) && this.ambient.has(text) && !isPath(text)) return this.ambientTarget(text);
     const specifier = found.external ?? this.specifierOf(/** @type {string} */ (found.file));
-    if (this.modules.has(specifier) || more.has(found.file ?? '')) return specifier;
+    if (this.modules.has(specifier) || this.external.has(specifier) || more.has(found.file ?? '')) return specifier;
     if (found.file && this.isRead(found.file)) more.add(found.file);
     else if (found.file && !this.files.holds(found.file)) return this.outside(found.file, text);
     else this.external.add(specifier);
     return specifier;
+  }
+
+  /** @param {string} text @returns {string | null} the specifier of what `declare module` declares by this name, or by a pattern with a star */
+  ambientTarget(text) {
+    const name = bestPattern([...this.ambient].filter((it) => !isPath(text) || it.includes('*')), text);
+    if (name === null) return null;
+    this.external.add(ambientSpecifier(name));
+    return ambientSpecifier(name);
   }
 
   /** @param {string} file @param {string} text @returns {string} the specifier of a module that isn't in the folder and isn't read */
@@ -175,6 +250,12 @@ export class Sources {
     if (!isCode(file) && !file.endsWith('.json')) return false;
     if (this.files.holds(file)) return !this.files.isSkipped(file);
     return this.reading.packages && file.includes('/node_modules/');
+  }
+
+  /** @param {string} specifier @returns {string} that of the module with its types, or itself */
+  typed(specifier) {
+    const module = this.modules.get(specifier);
+    return (module && this.typesOf(module)) ?? specifier;
   }
 
   /** @param {Module} module of JavaScript @returns {string | null} the specifier of the module with its types */

@@ -7,6 +7,8 @@ import { fileFailure } from '../failure.js';
 
 /** @type {NodeJS.Signals[]} */
 const SIGNALS = ['SIGINT', 'SIGTERM', 'SIGHUP'];
+/** @type {Set<Temporary>} those that are there */
+const all = new Set();
 
 /** @returns {string} */
 function made() {
@@ -17,23 +19,36 @@ function made() {
   }
 }
 
+function removeAll() {
+  for (const it of all) it.close();
+}
+
+/** @param {NodeJS.Signals} signal which ends the process as it would without this; where others listen, they decide */
+function leave(signal) {
+  if (process.listenerCount(signal) > 1) return;
+  removeAll();
+  process.kill(process.pid, signal);
+}
+
 export class Temporary {
   constructor() {
-    this.remove = () => rmSync(this.path, { recursive: true, force: true });
-    /** @param {NodeJS.Signals} signal which ends the process as it would without this */
-    this.leave = (signal) => {
-      this.close();
-      process.kill(process.pid, signal);
-    };
     // a signal waits from here on until this is done
-    for (const it of SIGNALS) process.on(it, this.leave);
-    this.path = made();
-    process.on('exit', this.remove);
+    if (all.size === 0) for (const it of SIGNALS) process.on(it, leave);
+    if (all.size === 0) process.on('exit', removeAll);
+    all.add(this);
+    this.path = '';
+    try {
+      this.path = made();
+    } catch (error) {
+      this.close();
+      throw error;
+    }
   }
 
   close() {
-    process.off('exit', this.remove);
-    for (const it of SIGNALS) process.off(it, this.leave);
-    this.remove();
+    all.delete(this);
+    if (all.size === 0) for (const it of SIGNALS) process.off(it, leave);
+    if (all.size === 0) process.off('exit', removeAll);
+    if (this.path !== '') rmSync(this.path, { recursive: true, force: true });
   }
 }

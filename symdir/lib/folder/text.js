@@ -40,6 +40,12 @@ export class Places {
     return { line: low + 1, column: this.bytes.toString('utf8', this.starts[low], at).length + 1 };
   }
 
+  /** @param {number} at in bytes @param {string} word @returns {boolean} whether it stands there, and doesn't go on */
+  hasWord(at, word) {
+    const bytes = Buffer.byteLength(word);
+    return this.bytes.toString('utf8', at, at + bytes) === word && !/^[\p{ID_Continue}$]/u.test(this.bytes.toString('utf8', at + bytes, at + bytes + 4));
+  }
+
   /** @param {number} line from 1 @returns {[number, number] | null} where it starts and ends, in bytes */
   line(line) {
     if (line < 1 || line > this.starts.length) return null;

@@ -3,7 +3,7 @@
 import { parentPort, workerData } from 'node:worker_threads';
 
 import { reasonOf } from '../failure.js';
-import { keepCompiled } from '../tree/typescript.js';
+import { storeCompiled } from '../tree/typescript.js';
 import { parseFile, tooDeep } from './parse.js';
 import { take } from './queue.js';
 
@@ -36,6 +36,6 @@ function answer(job) {
 
 port.on('message', (/** @type {import('./queue.js').Queue | null} */ queue) => {
   if (queue) for (let job = take(queue); job; job = take(queue)) answer(job);
-  else keepCompiled();
+  else storeCompiled();
   port.postMessage(null);
 });

@@ -1,12 +1,15 @@
 // One text to one tree.
 import { Converter, K, hasModifier, ts } from './converter.js';
-import { Scope, hoist, hoistVars } from './scopes.js';
-import { nodesText, numbered } from './node.js';
+import { declaredNames, hoistBody } from './scopes.js';
+import { TreeText, numbered } from './node.js';
+import { expect } from './typescript.js';
 import { overNewer } from './newer.js';
 import { item } from './items.js';
+import { moduleName } from './names.js';
 import { wellFormed } from './offsets.js';
 
 /** @typedef {import('./converter.js').Options} Options */
+/** @typedef {import('./node.js').TreeNode} TreeNode */
 
 /**
  * @typedef {object} Fault
@@ -18,13 +21,21 @@ import { wellFormed } from './offsets.js';
 /**
  * @typedef {object} Converted
  * @property {string} text well formed
- * @property {string | null} tree the JSON text of the tree's nodes; null where there is none
+ * @property {Buffer[] | null} tree the JSON text of the tree's nodes, in pieces; null where there is none
  * @property {number} nodes how many there are
  * @property {Fault | null} fault why there is none
  * @property {import('./converter.js').Reference[]} references
  * @property {number[]} declarations
  * @property {string[]} implicit names that TypeScript exports of a declaration file without a word
+ * @property {string[] | null} equals the parts of the name behind `export =`; none where something else stands there
+ * @property {string[]} modules that it declares by `declare module "name"`
+ * @property {boolean} isScript whether it is no module, so that what it declares is there for all
+ * @property {import('./converter.js').Block[]} blocks of namespaces that have `export { .. }`
+ * @property {number} start of the first statement, in bytes
  */
+
+/** What is noted of a text without a tree. */
+const NOTHING = { references: [], declarations: [], implicit: [], equals: null, modules: [], isScript: false, blocks: [], start: 0 };
 
 /** @param {string} text @param {number} at @returns {boolean} whether nothing but spaces and tabs stands before it in its line */
 function beginsLine(text, at) {
@@ -51,6 +62,7 @@ function withoutTags(text) {
 
 /** @param {string} name @param {string} source @param {Options} options @returns {import('typescript').SourceFile} without what comments say, which takes long and isn't needed */
 function parsed(name, source, options) {
+  expect(source);
   const text = withoutTags(source);
   const kind = { ts: ts.ScriptKind.TS, tsx: ts.ScriptKind.TSX, js: ts.ScriptKind.JS, jsx: ts.ScriptKind.JSX }[options.language];
   const how = { languageVersion: ts.ScriptTarget.Latest, jsDocParsingMode: 1 };
@@ -84,31 +96,56 @@ function exportsAll(file) {
   return isModule && !file.statements.some((it) => ts.isExportDeclaration(it) || ts.isExportAssignment(it));
 }
 
-/** @param {import('typescript').Statement} it @returns {string[]} the names that it declares and doesn't export */
-function declaredNames(it) {
-  if (hasModifier(it, K.ExportKeyword) || (it.flags & ts.NodeFlags.GlobalAugmentation) !== 0) return [];
-  const scope = new Scope(0, null);
-  hoist([it], scope);
-  hoistVars(it, scope);
-  return ts.isImportDeclaration(it) ? [] : [...new Set([...scope.values, ...scope.types])];
+/** @param {Converter} c @param {import('typescript').ExportDeclaration} it of names of the module itself, which are noted */
+function specify(c, { exportClause: clause }) {
+  if (!clause || !ts.isNamedExports(clause)) return;
+  for (const it of clause.elements) c.specified.add(moduleName(c, it.propertyName ?? it.name));
 }
 
-/** @param {Converter} c @returns {import('./node.js').TreeNode} */
-function program(c) {
+/** @param {Converter} c @param {(item: TreeNode) => void} add is given each item of the module, in order, when it is made */
+function items(c, add) {
   const list = c.file.statements;
-  hoist(list, c.scope);
-  for (const it of list) hoistVars(it, c.scope);
+  hoistBody(list, c.scope);
   const isAmbient = c.options.ambient && c.options.declaration && exportsAll(c.file);
   if (!c.options.ambient && c.options.declaration && exportsAll(c.file)) c.implicit = list.flatMap(declaredNames);
-  const body = list.map((it) => item(c, it, isAmbient));
-  if (list.length === 0) return c.at('Program', 0, 0);
-  return c.at('Program', c.start(list[0]), list[list.length - 1].end, { body });
+  for (const it of list) if (ts.isExportDeclaration(it) && !it.moduleSpecifier) specify(c, it);
+  c.exporting(isAmbient, () => list.forEach((it) => [item(c, it, isAmbient)].flat().forEach(add)));
+}
+
+/** @param {Converter} c @param {Record<string, import('./node.js').Field>} [fields] @returns {TreeNode} */
+function program(c, fields) {
+  const list = c.file.statements;
+  return list.length === 0 ? c.at('Program', 0, 0) : c.at('Program', c.start(list[0]), list[list.length - 1].end, fields);
 }
 
 /** @param {import('typescript').SourceFile} file @param {number} at @param {string} text @returns {Fault} */
 function faultAt(file, at, text) {
   const { line, character } = ts.getLineAndCharacterOfPosition(file, at);
   return { line: line + 1, column: character + 1, text };
+}
+
+const TOO_DEEP = { line: 1, column: 1, text: 'it is nested more than 4,096 deep' };
+
+/** @param {string} name @param {string} source @param {Options} options @returns {{ text: string, fault: Fault | null, c: Converter | null }} what converts the text, where it has no fault */
+function begun(name, source, options) {
+  const text = wellFormed(source);
+  const { file, marks } = parsedAnyhow(name, text, options);
+  const [first] = faultsOf(file);
+  if (!first) return { text, fault: null, c: new Converter(file, marks, text, options) };
+  const { messageText: said } = first;
+  return { text, fault: faultAt(file, first.start, typeof said === 'string' ? said : said.messageText), c: null };
+}
+
+/** @param {Converter} c that has converted the text @param {boolean} isDeep whether the tree is too deep @returns {Fault | null} */
+function faultOf(c, isDeep) {
+  if (c.unnamed !== null) return faultAt(c.file, c.unnamed, 'String literal expected.');
+  return isDeep ? TOO_DEEP : null;
+}
+
+/** @param {Converter} c that has converted the text @returns what it noted on the way */
+function notedBy(c) {
+  const { references, declarations, implicit, equals, modules, blocks } = c;
+  return { references, declarations, implicit, equals, modules, isScript: !ts.isExternalModule(c.file), blocks, start: program(c).start };
 }
 
 /**
@@ -118,29 +155,23 @@ function faultAt(file, at, text) {
  * @param {Options} options
  */
 export function nodesOf(name, source, options) {
-  const text = wellFormed(source);
-  const { file, marks } = parsedAnyhow(name, text, options);
-  const nothing = { nodes: null, references: [], declarations: [], implicit: [] };
-  const [first] = faultsOf(file);
-  if (first) {
-    const { messageText: said } = first;
-    return { text, fault: faultAt(file, first.start, typeof said === 'string' ? said : said.messageText), ...nothing };
-  }
-  const c = new Converter(file, marks, text, options);
-  const made = program(c);
-  if (c.unnamed !== null) return { text, fault: faultAt(file, c.unnamed, 'String literal expected.'), ...nothing };
-  const nodes = numbered(made);
-  const fault = nodes ? null : { line: 1, column: 1, text: 'it is nested more than 4,096 deep' };
-  return { text, nodes, fault, references: c.references, declarations: c.declarations, implicit: c.implicit };
+  const { text, fault, c } = begun(name, source, options);
+  if (!c) return { text, fault, nodes: null, ...NOTHING };
+  /** @type {TreeNode[]} */
+  const body = [];
+  items(c, (it) => body.push(it));
+  if (c.unnamed !== null) return { text, fault: faultOf(c, false), nodes: null, ...NOTHING };
+  const nodes = numbered(program(c, { body }));
+  return { text, nodes, fault: faultOf(c, nodes === null), ...notedBy(c) };
 }
 
 /** @param {string} text @param {Fault | null} fault @returns {Converted} what is known where there is no tree */
 export function withoutTree(text, fault) {
-  return { text: wellFormed(text), tree: null, nodes: 0, fault, references: [], declarations: [], implicit: [] };
+  return { text: wellFormed(text), tree: null, nodes: 0, fault, ...NOTHING };
 }
 
 /**
- * The tree of a text, as it is written.
+ * The tree of a text, as it is written, statement by statement: so no more nodes are there at a time than one of them has.
  * @param {string} name of the file, which TypeScript is told
  * @param {string} source without a byte order mark
  * @param {Options} options
@@ -148,6 +179,11 @@ export function withoutTree(text, fault) {
  * @throws {RangeError} where the text is nested deeper than the stack allows
  */
 export function convert(name, source, options) {
-  const made = nodesOf(name, source, options);
-  return { ...made, tree: made.nodes && nodesText(made.nodes), nodes: made.nodes?.length ?? 0 };
+  const { text, fault: first, c } = begun(name, source, options);
+  if (!c) return withoutTree(text, first);
+  const made = new TreeText();
+  items(c, (it) => made.add(it));
+  const fault = faultOf(c, made.isTooDeep);
+  if (c.unnamed !== null) return withoutTree(text, fault);
+  return { text, tree: fault ? null : made.whole(program(c)), nodes: fault ? 0 : made.count, fault, ...notedBy(c) };
 }

@@ -2,7 +2,7 @@
 import { K, startOf, ts } from './typescript.js';
 import { byteOffsets } from './offsets.js';
 import { TreeNode } from './node.js';
-import { KINDS } from '../kinds.js';
+import { EXPORTED, KINDS, PRIVATE } from '../kinds.js';
 import { MODULE_SCOPE, Scope, textOf } from './scopes.js';
 
 /** @typedef {import('typescript').Node} Node */
@@ -14,6 +14,7 @@ import { MODULE_SCOPE, Scope, textOf } from './scopes.js';
  * @property {boolean} declaration whether the text is a declaration file
  * @property {boolean} bodies whether what stands in the bodies of functions becomes nodes
  * @property {boolean} ambient whether the declarations of a declaration file without exports are exported
+ * @property {string[]} [namespaces] texts of `import a = require(..)` that stand for a module without `export =`, all of which `a` is then
  */
 
 /**
@@ -25,6 +26,14 @@ import { MODULE_SCOPE, Scope, textOf } from './scopes.js';
  * @property {[name: string, local: string, scope: number, start: number][]} names what it takes from there; `*` is all
  */
 
+/**
+ * A block of a namespace that has `export { .. }`.
+ * @typedef {object} Block
+ * @property {string} name of the namespace, in full
+ * @property {string[]} exported names that stand there
+ * @property {string[]} hidden names that it declares and TypeScript doesn't export, though it is ambient
+ */
+
 const NUMBER_OF = new Map(KINDS.map((it, i) => [it, i]));
 
 /** Scopes in the bodies of functions are counted from here on, so that the others have their numbers with bodies and without. */
@@ -34,6 +43,12 @@ const SPACE = 32;
 /** @param {number} unit of UTF-16 @returns {boolean} whether it is one of A to Z, a to z and _ */
 function isLetter(unit) {
   return unit > 64 && unit < 123 && (unit < 91 || unit > 94) && unit !== 96;
+}
+
+/** @param {(TreeNode | null | undefined | false | '')[]} nodes @returns {TreeNode[]} those that there are */
+function there(nodes) {
+  for (let i = 0; i < nodes.length; i++) if (!nodes[i]) return /** @type {TreeNode[]} */ (nodes.filter(Boolean));
+  return /** @type {TreeNode[]} */ (nodes);
 }
 
 export class Converter {
@@ -58,12 +73,24 @@ export class Converter {
     this.importAt = -1;
     /** @type {Reference[]} */
     this.references = [];
-    /** @type {number[]} five for each: start, end, number of the kind, start of the name, 1 where it is private */
+    /** @type {number[]} five for each: start, end, number of the kind, start of the name, and whether it is private (1) or exported (2) */
     this.declarations = [];
     /** @type {number | null} where the first module is named by something else than a string, which the parser lets pass */
     this.unnamed = null;
     /** @type {string[]} names that TypeScript exports of a declaration file without a word, where they aren't exported here */
     this.implicit = [];
+    /** Whether declarations are exported without a word where this is. */
+    this.isImplicit = false;
+    /** @type {Set<string>} names of the module that `export { .. }` exports, with all that they are */
+    this.specified = new Set();
+    /** @type {string[] | null} the parts of the name behind `export =`; none where something else stands there */
+    this.equals = null;
+    /** @type {string[]} the modules that it declares by `declare module "name"` */
+    this.modules = [];
+    /** @type {string[]} the names of the namespaces that are open */
+    this.path = [];
+    /** @type {Block[]} */
+    this.blocks = [];
   }
 
   /** @param {Node} node @returns {number} in UTF-16 units, behind comments */
@@ -98,12 +125,12 @@ export class Converter {
 
   /** @param {Node} node @param {(TreeNode | null | undefined | false | '')[]} children */
   other(node, children) {
-    return this.node('Other', node, { children: /** @type {TreeNode[]} */ (children.filter(Boolean)) });
+    return this.node('Other', node, { children: there(children) });
   }
 
   /** @param {Node} node @param {(TreeNode | null | undefined | false | '')[]} children */
   type(node, children) {
-    return this.node('Type', node, { children: /** @type {TreeNode[]} */ (children.filter(Boolean)) });
+    return this.node('Type', node, { children: there(children) });
   }
 
   /**
@@ -114,11 +141,26 @@ export class Converter {
    * @returns {T}
    */
   within(fill, body) {
-    this.scope = new Scope(++this.scopes, this.scope);
-    fill(this.scope);
+    fill(this.open());
     const made = body();
-    this.scope = /** @type {Scope} */ (this.scope.above);
+    this.close();
     return made;
+  }
+
+  /** @returns {Scope} one that is open until it is closed */
+  open() {
+    this.scope = new Scope(++this.scopes, this.scope);
+    return this.scope;
+  }
+
+  close() {
+    this.scope = /** @type {Scope} */ (this.scope.above);
+  }
+
+  /** Takes the number of a scope that declares no names. @returns {null} */
+  withoutNames() {
+    this.scopes++;
+    return null;
   }
 
   /**
@@ -138,6 +180,20 @@ export class Converter {
   }
 
   /**
+   * Does what is to be done in a namespace.
+   * @template T
+   * @param {string} name
+   * @param {() => T} make
+   * @returns {T}
+   */
+  inNamespace(name, make) {
+    this.path.push(name);
+    const made = make();
+    this.path.pop();
+    return made;
+  }
+
+  /**
    * @template T
    * @param {boolean} inType whether names are types there
    * @param {() => T} body
@@ -153,8 +209,8 @@ export class Converter {
 
   /** @param {string} name @param {boolean} inType @returns {number} the scope that declares it: of a type, types go first */
   scopeOf(name, inType) {
-    if (inType) for (let it = /** @type {Scope | null} */ (this.scope); it; it = it.above) if (it.types.has(name)) return it.number;
-    for (let it = /** @type {Scope | null} */ (this.scope); it; it = it.above) if (it.values.has(name)) return it.number;
+    if (inType) for (let it = /** @type {Scope | null} */ (this.scope); it; it = it.above) if (it.hasType(name)) return it.number;
+    for (let it = /** @type {Scope | null} */ (this.scope); it; it = it.above) if (it.hasValue(name)) return it.number;
     return MODULE_SCOPE;
   }
 
@@ -175,11 +231,33 @@ export class Converter {
    * @param {TreeNode} made
    * @param {Node | undefined} name
    * @param {boolean} [isPrivate]
+   * @param {boolean} [isExported] by itself, and not by its name elsewhere
    * @returns {TreeNode} what was made
    */
-  declares(kind, made, name, isPrivate = false) {
+  declares(kind, made, name, isPrivate = false, isExported = false) {
     const place = name ? this.byte(this.start(name)) : made.start;
-    this.declarations.push(made.start, made.end, /** @type {number} */ (NUMBER_OF.get(kind)), place, isPrivate ? 1 : 0);
+    const flags = (isPrivate ? PRIVATE : 0) | (isExported ? EXPORTED : 0);
+    this.declarations.push(made.start, made.end, /** @type {number} */ (NUMBER_OF.get(kind)), place, flags);
+    return made;
+  }
+
+  /** @param {Node} statement that declares something @returns {boolean} whether it is exported where it stands */
+  isExported(statement) {
+    return this.isImplicit || hasModifier(statement, K.ExportKeyword);
+  }
+
+  /**
+   * Does what is to be done where declarations are exported without a word, or where they aren't.
+   * @template T
+   * @param {boolean} isImplicit
+   * @param {() => T} make
+   * @returns {T}
+   */
+  exporting(isImplicit, make) {
+    const before = this.isImplicit;
+    this.isImplicit = isImplicit;
+    const made = make();
+    this.isImplicit = before;
     return made;
   }
 
@@ -205,14 +283,19 @@ export class Converter {
   }
 }
 
+/** @type {readonly import('typescript').ModifierLike[]} */
+const NONE = [];
+
 /** @param {Node} node @returns {readonly import('typescript').ModifierLike[]} */
 export function modifiersOf(node) {
-  return /** @type {{ modifiers?: readonly import('typescript').ModifierLike[] }} */ (/** @type {unknown} */ (node)).modifiers ?? [];
+  return /** @type {{ modifiers?: readonly import('typescript').ModifierLike[] }} */ (/** @type {unknown} */ (node)).modifiers ?? NONE;
 }
 
 /** @param {Node} node @param {number} kind @returns {boolean} */
 export function hasModifier(node, kind) {
-  return modifiersOf(node).some((it) => it.kind === kind);
+  const all = modifiersOf(node);
+  for (let i = 0; i < all.length; i++) if (all[i].kind === kind) return true;
+  return false;
 }
 
 /** @param {Node} node @returns {import('typescript').Decorator[]} as TypeScript 4.7 and newer ones keep them */

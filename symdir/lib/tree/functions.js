@@ -1,11 +1,11 @@
 // Functions and classes.
 import { K, decoratorsOf, hasModifier, modifiersOf, ts } from './converter.js';
-import { hoistFunction, hoistTypeParameters, textOf } from './scopes.js';
+import { hoistBody, hoistFunction, hoistTypeParameters, textOf } from './scopes.js';
 import { key } from './names.js';
 import { parameter, parameters } from './patterns.js';
 import { annotation, element, heritage, typeArguments, typeParameters } from './types.js';
 import { expression } from './expressions.js';
-import { block, statements } from './statements.js';
+import { statements } from './statements.js';
 import { referencesIn } from './references.js';
 
 /** @typedef {import('./converter.js').Converter} Converter */
@@ -174,7 +174,8 @@ const MEMBERS = {
 
 /** @param {Converter} c @param {import('typescript').ClassStaticBlockDeclaration} member */
 function staticBlock(c, member) {
-  if (c.options.bodies) return c.inBody(() => block(c, member, member.body.statements));
+  const list = member.body.statements;
+  if (c.options.bodies) return c.inBody(() => c.within((scope) => hoistBody(list, scope), () => c.other(member, statements(c, list))));
   referencesIn(c, member);
   return c.other(member, []);
 }

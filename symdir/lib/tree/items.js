@@ -45,17 +45,17 @@ function importNode(c, it) {
     for (const part of bindings.elements) {
       const imported = part.propertyName ? moduleName(c, part.propertyName) : null;
       takesLocal(c, part.name, imported ?? textOf(part.name), part.propertyName ?? part.name);
-      specifiers.push(c.node('ImportNamed', part, { local: c.ident(part.name), imported }));
+      specifiers.push(c.node('ImportNamed', part, { local: c.ident(part.name), imported, type_only: part.isTypeOnly }));
     }
   }
-  return c.node('Import', it, { specifiers, src });
+  return c.node('Import', it, { specifiers, src, type_only: clause?.isTypeOnly });
 }
 
 /** @param {Converter} c @param {import('typescript').Identifier} name that is exported @returns {[string, number]} */
 function exportedName(c, name) {
   const text = textOf(name);
   for (let it = /** @type {import('./scopes.js').Scope | null} */ (c.scope); it; it = it.above) {
-    if (it.values.has(text) || it.types.has(text)) return [text, it.number];
+    if (it.hasValue(text) || it.hasType(text)) return [text, it.number];
   }
   return [text, MODULE_SCOPE];
 }
@@ -69,7 +69,7 @@ function exportSpecifier(c, it, hasSource) {
   /** @type {[string, number]} */
   const sym = hasSource || isString ? /** @type {[string, number]} */ ([text, MODULE_SCOPE]) : exportedName(c, name);
   const orig = isString ? c.node('Str', name, { value: text }) : c.node('Ident', name, { sym });
-  return c.node('ExportSpecifier', it, { orig, exported: it.propertyName ? moduleName(c, it.name) : null });
+  return c.node('ExportSpecifier', it, { orig, exported: it.propertyName ? moduleName(c, it.name) : null, type_only: it.isTypeOnly });
 }
 
 /** @param {Converter} c @param {import('typescript').ExportDeclaration} it */
@@ -77,35 +77,57 @@ function exportNode(c, it) {
   const from = it.moduleSpecifier;
   const clause = it.exportClause;
   const src = from ? sourceOf(c, clause ? 'export' : 'export *', from, it) : null;
-  if (!clause) return c.node('ExportAll', it, { src });
+  if (!clause) return c.node('ExportAll', it, { src, type_only: it.isTypeOnly });
   if (ts.isNamespaceExport(clause)) {
     const name = moduleName(c, clause.name);
     c.takes('*', name, 0, clause);
-    return c.node('ExportNamed', it, { specifiers: [c.declares('namespace', c.node('ExportNamespace', clause, { name }), clause.name)], src });
+    const all = c.declares('namespace', c.node('ExportNamespace', clause, { name }), clause.name);
+    return c.node('ExportNamed', it, { specifiers: [all], src, type_only: it.isTypeOnly });
   }
-  return c.node('ExportNamed', it, { specifiers: clause.elements.map((part) => exportSpecifier(c, part, from !== undefined)), src });
+  const specifiers = clause.elements.map((part) => exportSpecifier(c, part, from !== undefined));
+  return c.node('ExportNamed', it, { specifiers, src, type_only: it.isTypeOnly });
+}
+
+/** @param {import('typescript').Expression} node @returns {string[]} the parts of a dotted name; none where it is something else */
+function dottedParts(node) {
+  const parts = [];
+  let it = node;
+  for (; ts.isPropertyAccessExpression(it); it = it.expression) parts.push(textOf(it.name));
+  return ts.isIdentifier(it) ? [...parts, textOf(it)].reverse() : [];
 }
 
 /** @param {Converter} c @param {import('typescript').ExportAssignment} it */
 function exportAssignment(c, it) {
   const kind = it.isExportEquals ? 'TsExportAssignment' : 'ExportDefaultExpr';
+  if (it.isExportEquals && c.scope.above === null) c.equals = dottedParts(it.expression);
   return c.declares(it.isExportEquals ? 'export =' : 'default', c.node(kind, it, { expr: expression(c, it.expression) }), undefined);
 }
 
-/** @param {Converter} c @param {import('typescript').ImportEqualsDeclaration} it */
+/** @param {Converter} c @param {import('typescript').ImportEqualsDeclaration} it of a module without `export =` @param {string} src @returns {TreeNode[]} an import of all of it, and an export where `export` stands before it */
+function requiredNamespace(c, it, src) {
+  const all = c.declares('namespace', c.node('ImportNamespace', it, { local: c.ident(it.name, false) }), it.name);
+  const made = c.node('Import', it, { specifiers: [all], src });
+  if (!hasModifier(it, K.ExportKeyword)) return [made];
+  return [made, c.node('ExportNamed', it, { specifiers: [c.node('ExportSpecifier', it.name, { orig: c.ident(it.name, false) })] })];
+}
+
+/** @param {Converter} c @param {import('typescript').ImportEqualsDeclaration} it @returns {TreeNode | TreeNode[]} */
 function importEquals(c, it) {
   const from = it.moduleReference;
-  const fields = { is_export: hasModifier(it, K.ExportKeyword), id: c.ident(it.name, false) };
+  const fields = { is_export: hasModifier(it, K.ExportKeyword), id: c.ident(it.name, false), type_only: it.isTypeOnly };
   if (!ts.isExternalModuleReference(from)) return c.node('TsImportEqualsDecl', it, { ...fields, entity: entity(c, from, false) });
   if (!ts.isStringLiteral(from.expression)) return c.other(it, []);
   const external = c.refers('require', from.expression, it);
   takesLocal(c, it.name, '*', it);
+  if (c.scope.above === null && c.options.namespaces?.includes(external)) return requiredNamespace(c, it, external);
   return c.node('TsImportEqualsDecl', it, { ...fields, external });
 }
 
 /** @param {Converter} c @param {import('typescript').Node} it @returns {[number, number]} where `export` stands, and where what is exported starts */
 function exportStarts(c, it) {
-  const words = modifiersOf(it).filter((word) => !ts.isDecorator(word));
+  const all = modifiersOf(it);
+  if (all.length === 1) return [c.start(all[0]), skipSpace(c, all[0].end)];
+  const words = all.filter((word) => !ts.isDecorator(word));
   const at = words.findIndex((word) => word.kind === K.ExportKeyword);
   const behind = words.slice(at + 1).filter((word, i) => i > 0 || word.kind !== K.DefaultKeyword);
   const start = behind.length > 0 ? c.start(behind[0]) : skipSpace(c, words[words.length - 1].end);
@@ -116,10 +138,10 @@ function exportStarts(c, it) {
 function defaultDeclaration(c, it, start) {
   if (ts.isFunctionDeclaration(it)) {
     const ident = it.name ? c.ident(it.name, false) : null;
-    return c.declares('function', c.at('FnExpr', start, it.end, { ident, function: functionNode(c, it, start, it.end) }), it.name);
+    return c.declares('function', c.at('FnExpr', start, it.end, { ident, function: functionNode(c, it, start, it.end) }), it.name, false, true);
   }
-  if (ts.isClassDeclaration(it)) return c.declares('class', c.at('ClassExpr', start, it.end, classParts(c, it, start, it.end)), it.name);
-  return c.declares('interface', interfaceNode(c, it, start), it.name);
+  if (ts.isClassDeclaration(it)) return c.declares('class', c.at('ClassExpr', start, it.end, classParts(c, it, start, it.end)), it.name, false, true);
+  return c.declares('interface', interfaceNode(c, it, start), it.name, false, true);
 }
 
 /** @param {Converter} c @param {import('typescript').Statement} it behind `export` */
@@ -140,7 +162,7 @@ function declaresAgain(c, made) {
   c.declarations.push(made.start, made.end, ...c.declarations.slice(-3));
 }
 
-/** @type {Record<number, (c: Converter, it: any) => TreeNode>} */
+/** @type {Record<number, (c: Converter, it: any) => TreeNode | TreeNode[]>} */
 const ITEMS = {
   [K.ImportDeclaration]: importNode,
   [K.ExportDeclaration]: exportNode,
@@ -156,7 +178,7 @@ function isAmbientExport(it) {
     || ts.isTypeAliasDeclaration(it) || ts.isEnumDeclaration(it);
 }
 
-/** @param {Converter} c @param {import('typescript').Statement} it @param {boolean} isAmbient whether declarations are exported without a word @returns {TreeNode} */
+/** @param {Converter} c @param {import('typescript').Statement} it @param {boolean} isAmbient whether declarations are exported without a word @returns {TreeNode | TreeNode[]} */
 export function item(c, it, isAmbient) {
   const make = ITEMS[it.kind];
   if (make) return make(c, it);

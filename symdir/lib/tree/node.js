@@ -1,4 +1,5 @@
-// Nodes of a tree as `docs/GRAPH.md` has them, and how they are written.
+// Nodes of a tree as `docs/GRAPH.md` has them, and their numbers.
+import { TreeWriter } from './treewriter.js';
 
 /** @typedef {string | number | boolean | null | undefined | [string, number] | TreeNode | TreeNode[]} Field */
 
@@ -16,6 +17,25 @@ export class TreeNode {
     this.end = end;
     this.fields = fields;
     this.number = 0;
+    /** How many nodes there are from here on down, and how many lie below one another at most. */
+    this.size = 1;
+    this.height = 1;
+    for (const key in fields) {
+      const value = fields[key];
+      if (typeof value === 'object' && value !== null) this.measure(value);
+    }
+  }
+
+  /** @param {[string, number] | TreeNode | TreeNode[]} value of a field */
+  measure(value) {
+    if (value instanceof TreeNode) this.hold(value);
+    else if (typeof value[0] === 'object') for (const it of value) this.hold(/** @type {TreeNode} */ (it));
+  }
+
+  /** @param {TreeNode} node */
+  hold(node) {
+    this.size += node.size;
+    if (node.height >= this.height) this.height = node.height + 1;
   }
 }
 
@@ -43,16 +63,18 @@ function cut(node) {
 }
 
 /**
- * Numbers the nodes from the program on, each before what it holds.
- * @param {TreeNode} program
+ * Numbers the nodes from the root on, each before what it holds.
+ * @param {TreeNode} root the program, or what it holds
+ * @param {number} [first] the number of the root
+ * @param {number} [above] how deep the root lies below the program
  * @returns {TreeNode[] | null} by number; null where the tree is too deep
  */
-export function numbered(program) {
+export function numbered(root, first = 0, above = 0) {
   /** @type {TreeNode[]} */
   const nodes = [];
-  const waiting = [program];
+  const waiting = [root];
   // the number of a node that waits is its depth
-  program.number = 1;
+  root.number = above + 1;
   while (waiting.length > 0) {
     const node = /** @type {TreeNode} */ (waiting.pop());
     const depth = node.number;
@@ -60,7 +82,7 @@ export function numbered(program) {
       if (depth > MAX_DEPTH) return null;
       cut(node);
     }
-    node.number = nodes.length;
+    node.number = first + nodes.length;
     nodes.push(node);
     const from = waiting.length;
     pushChildren(node, waiting);
@@ -75,36 +97,51 @@ export function numbered(program) {
   return nodes;
 }
 
-const PLAIN = /^[\w$ ./@:-]*$/;
-
-/** @param {string} text @returns {string} */
-function quoted(text) {
-  return PLAIN.test(text) ? `"${text}"` : JSON.stringify(text);
-}
-
-/** @param {Field} value neither absent nor an empty list @returns {string} */
-function fieldText(value) {
-  if (value instanceof TreeNode) return `${value.number}`;
-  if (typeof value === 'string') return quoted(value);
-  if (!Array.isArray(value)) return `${value}`;
-  const [first] = value;
-  if (!(first instanceof TreeNode)) return `[${quoted(/** @type {string} */ (first))},${value[1]}]`;
-  let text = `[${first.number}`;
-  for (let i = 1; i < value.length; i++) text += `,${/** @type {TreeNode} */ (value[i]).number}`;
-  return `${text}]`;
-}
-
 /** @param {TreeNode[]} nodes numbered @returns {string} the JSON text of the list */
 export function nodesText(nodes) {
-  let text = '[';
-  for (const { number, kind, start, end, fields } of nodes) {
-    text += `${number > 0 ? ',' : ''}{"kind":"${kind}","range":[${start},${end}]`;
-    for (const key in fields) {
-      const value = fields[key];
-      if (value === null || value === undefined || value === false || (Array.isArray(value) && value.length === 0)) continue;
-      text += `,"${key}":${fieldText(value)}`;
-    }
-    text += '}';
+  const writer = new TreeWriter();
+  for (const it of nodes) writer.node(it);
+  return `[${Buffer.concat(writer.pieces())}]`;
+}
+
+/** The text of a tree that is made item by item. */
+export class TreeText {
+  constructor() {
+    /** How many nodes there are, with the program. */
+    this.count = 1;
+    this.isTooDeep = false;
+    /** @type {number[]} the numbers of the items */
+    this.body = [];
+    this.writer = new TreeWriter();
   }
-  return `${text}]`;
+
+  /** @param {TreeNode} item of the program */
+  add(item) {
+    if (this.isTooDeep) return;
+    const count = item.height + 1 < CUT_DEPTH ? this.addTree(item) : this.addDeep(item);
+    this.body.push(this.count);
+    this.count += count;
+  }
+
+  /** @param {TreeNode} item @returns {number} how many nodes it has */
+  addTree(item) {
+    item.number = this.count;
+    this.writer.tree(item);
+    return item.size;
+  }
+
+  /** @param {TreeNode} item of which parts may have to be left out @returns {number} how many nodes it has then */
+  addDeep(item) {
+    const nodes = numbered(item, this.count, 1);
+    this.isTooDeep = nodes === null;
+    for (const it of nodes ?? []) this.writer.node(it);
+    return nodes?.length ?? 0;
+  }
+
+  /** @param {TreeNode} program without its items @returns {Buffer[]} the JSON text of the list of all nodes, in pieces */
+  whole(program) {
+    const body = this.body.length > 0 ? `,"body":[${this.body.join(',')}]` : '';
+    const start = `[{"kind":"Program","range":[${program.start},${program.end}]${body}}`;
+    return [Buffer.from(start), ...this.writer.pieces(), Buffer.from(']')];
+  }
 }

@@ -1,6 +1,5 @@
 // Scopes: which numbers names get, so that two names are one variable where name and number are equal.
 import { K, ts } from './typescript.js';
-import { wellFormed } from './offsets.js';
 
 /** The scope of the module's own names, and of names that no scope declares. */
 export const MODULE_SCOPE = 1;
@@ -10,10 +9,30 @@ export class Scope {
   constructor(number, above) {
     this.number = number;
     this.above = above;
-    /** @type {Set<string>} */
-    this.values = new Set();
-    /** @type {Set<string>} */
-    this.types = new Set();
+    /** @type {Set<string> | null} most scopes have no names, or of one sort alone */
+    this.valueNames = null;
+    /** @type {Set<string> | null} */
+    this.typeNames = null;
+  }
+
+  /** @returns {Set<string>} */
+  get values() {
+    return (this.valueNames ??= new Set());
+  }
+
+  /** @returns {Set<string>} */
+  get types() {
+    return (this.typeNames ??= new Set());
+  }
+
+  /** @param {string} name @returns {boolean} */
+  hasValue(name) {
+    return this.valueNames !== null && this.valueNames.has(name);
+  }
+
+  /** @param {string} name @returns {boolean} */
+  hasType(name) {
+    return this.typeNames !== null && this.typeNames.has(name);
   }
 
   /** @param {string} name a name that is value and type */
@@ -23,9 +42,9 @@ export class Scope {
   }
 }
 
-/** @param {import('typescript').Identifier | import('typescript').PrivateIdentifier} name @returns {string} */
+/** @param {import('typescript').Identifier | import('typescript').PrivateIdentifier} name of a text that is well formed @returns {string} */
 export function textOf(name) {
-  return wellFormed(ts.idText(name));
+  return ts.idText(name);
 }
 
 /**
@@ -37,6 +56,12 @@ export function bindNames(name, set) {
   if (!name) return;
   if (ts.isIdentifier(name)) set.add(textOf(name));
   else for (const element of name.elements) if (ts.isBindingElement(element)) bindNames(element.name, set);
+}
+
+/** @param {import('typescript').BindingName} name @returns {import('typescript').Identifier[]} what it binds, in the order of the text */
+export function boundIdentifiers(name) {
+  if (ts.isIdentifier(name)) return [name];
+  return name.elements.flatMap((it) => (ts.isBindingElement(it) ? boundIdentifiers(it.name) : []));
 }
 
 /** @param {import('typescript').VariableDeclarationList} list @param {Scope} scope */
@@ -96,10 +121,12 @@ export function hoist(statements, scope) {
 /** @type {(node: import('typescript').Node) => boolean} */
 const isStatement = /** @type {any} */ (ts).isStatement;
 const HOLDS_STATEMENTS = new Set([K.CaseBlock, K.CaseClause, K.DefaultClause, K.CatchClause]);
+/** Statements in which no other one stands. */
+const PLAIN_STATEMENTS = new Set([K.InterfaceDeclaration, K.TypeAliasDeclaration, K.EnumDeclaration, K.ExpressionStatement, K.ImportDeclaration, K.ExportDeclaration]);
 
 /** @param {import('typescript').Node} node @returns {boolean} whether a `var` in it is none of the scope around it */
 function isClosed(node) {
-  return ts.isFunctionLike(node) || ts.isClassLike(node) || ts.isModuleDeclaration(node) || ts.isExpressionStatement(node);
+  return ts.isFunctionLike(node) || ts.isClassLike(node) || ts.isModuleDeclaration(node);
 }
 
 /**
@@ -108,12 +135,18 @@ function isClosed(node) {
  * @param {Scope} scope
  */
 export function hoistVars(node, scope) {
-  if (isClosed(node)) return;
+  if (PLAIN_STATEMENTS.has(node.kind) || isClosed(node)) return;
   if (ts.isVariableDeclarationList(node)) {
     if (!isBlockScoped(node)) bindList(node, scope);
   } else if (ts.isBlock(node) || isStatement(node) || HOLDS_STATEMENTS.has(node.kind)) {
     ts.forEachChild(node, (it) => hoistVars(it, scope));
   }
+}
+
+/** @param {readonly import('typescript').Statement[]} statements of a body @param {Scope} scope is given what they declare, `var` too */
+export function hoistBody(statements, scope) {
+  hoist(statements, scope);
+  for (const it of statements) hoistVars(it, scope);
 }
 
 /**
@@ -124,13 +157,25 @@ export function hoistVars(node, scope) {
 export function hoistFunction(node, scope) {
   hoistTypeParameters(node, scope);
   for (const it of node.parameters ?? []) bindNames(it.name, scope.values);
-  if (node.body && ts.isBlock(node.body)) {
-    hoist(node.body.statements, scope);
-    hoistVars(node.body, scope);
-  }
+  if (node.body && ts.isBlock(node.body)) hoistBody(node.body.statements, scope);
 }
 
 /** @param {{ typeParameters?: readonly import('typescript').TypeParameterDeclaration[] }} node @param {Scope} scope */
 export function hoistTypeParameters(node, scope) {
   for (const it of node.typeParameters ?? []) scope.types.add(textOf(it.name));
+}
+
+/** @param {import('typescript').Statement} it @returns {boolean} whether `export` stands before it */
+function isExported(it) {
+  const { modifiers } = /** @type {{ modifiers?: readonly import('typescript').ModifierLike[] }} */ (/** @type {unknown} */ (it));
+  return modifiers?.some(({ kind }) => kind === K.ExportKeyword) ?? false;
+}
+
+/** @param {import('typescript').Statement} it @returns {string[]} the names that it declares and doesn't export */
+export function declaredNames(it) {
+  if (isExported(it) || (it.flags & ts.NodeFlags.GlobalAugmentation) !== 0) return [];
+  const scope = new Scope(0, null);
+  hoist([it], scope);
+  hoistVars(it, scope);
+  return ts.isImportDeclaration(it) ? [] : [...new Set([...scope.values, ...scope.types])];
 }

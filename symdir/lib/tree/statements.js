@@ -1,7 +1,7 @@
 // Statements that are no items of a module: declarations, blocks, loops.
 import { K, hasModifier, ts } from './converter.js';
-import { bindList, bindNames, hoist, hoistTypeParameters, hoistVars, isBlockScoped, textOf } from './scopes.js';
-import { string } from './names.js';
+import { bindList, bindNames, boundIdentifiers, declaredNames, hoist, hoistBody, hoistTypeParameters, isBlockScoped, textOf } from './scopes.js';
+import { moduleName, string } from './names.js';
 import { binding, target } from './patterns.js';
 import { element, heritage, type, typeParameters } from './types.js';
 import { classParts, functionNode } from './functions.js';
@@ -11,6 +11,9 @@ import { item } from './items.js';
 /** @typedef {import('./converter.js').Converter} Converter */
 /** @typedef {import('./node.js').TreeNode} TreeNode */
 
+/** Of what stands in a declaration file or behind `declare`, as the parser marks it. */
+const AMBIENT = /** @type {Record<string, any>} */ (ts.NodeFlags).Ambient;
+
 /** @param {Converter} c @param {import('typescript').VariableDeclarationList} list @returns {'using' | 'const' | 'let' | 'var'} */
 function keyword(c, list) {
   const using = 4; // NodeFlags.Using of TypeScript 5.2, where Const and Let stand together say `await using`
@@ -19,12 +22,14 @@ function keyword(c, list) {
   return list.flags & ts.NodeFlags.Let ? 'let' : 'var';
 }
 
-/** @param {Converter} c @param {import('typescript').VariableDeclarationList} list @param {number} start @param {number} end */
-export function variables(c, list, start, end) {
+/** @param {Converter} c @param {import('typescript').VariableDeclarationList} list @param {number} start @param {number} end @param {boolean} [isExported] */
+export function variables(c, list, start, end, isExported = false) {
   const word = keyword(c, list);
-  const decls = list.declarations.map((it) => c.declares(word, c.node('VarDeclarator', it, {
-    name: binding(c, it.name, it.type), init: it.initializer ? expression(c, it.initializer) : null,
-  }), it.name));
+  const decls = list.declarations.map((it) => {
+    const made = c.node('VarDeclarator', it, { name: binding(c, it.name, it.type), init: it.initializer ? expression(c, it.initializer) : null });
+    for (const name of boundIdentifiers(it.name)) c.declares(word, made, name, false, isExported || c.specified.has(textOf(name)));
+    return made;
+  });
   return c.at(word === 'using' ? 'UsingDecl' : 'VarDecl', start, end, { decls });
 }
 
@@ -62,9 +67,11 @@ function enumNode(c, it, start) {
 
 /** @param {Converter} c @param {import('typescript').ModuleDeclaration} it @param {number} start */
 function namespace(c, it, start) {
+  if (ts.isStringLiteral(it.name)) c.modules.push(it.name.text);
   const id = ts.isStringLiteral(it.name) ? string(c, it.name) : c.ident(it.name, false);
   return c.at('TsModuleDecl', start, it.end, {
-    id, declare: hasModifier(it, K.DeclareKeyword), body: it.body ? namespaceBody(c, /** @type {any} */ (it.body)) : null,
+    id, declare: hasModifier(it, K.DeclareKeyword),
+    body: it.body ? c.inNamespace(ts.isIdentifier(it.name) ? textOf(it.name) : it.name.text, () => namespaceBody(c, /** @type {any} */ (it.body))) : null,
   });
 }
 
@@ -74,22 +81,40 @@ function namespaceBody(c, body) {
     /** @type {any} */
     let it = body;
     for (; ts.isModuleDeclaration(it); it = it.body) scope.add(textOf(/** @type {any} */ (it.name)));
-    hoist(it.statements, scope);
-    for (const statement of it.statements) hoistVars(statement, scope);
+    hoistBody(it.statements, scope);
   }, () => namespacePart(c, body));
+}
+
+/** @param {import('typescript').ModuleBlock} block @returns {boolean} whether TypeScript exports its declarations without a word */
+function exportsWithoutWord({ flags, statements }) {
+  return (flags & AMBIENT) !== 0 && !statements.some((it) => ts.isExportDeclaration(it) || ts.isExportAssignment(it));
+}
+
+/** @param {Converter} c @param {import('typescript').ModuleBlock} block notes what its `export { .. }` name, where it has any */
+function noteBlock(c, { flags, statements }) {
+  const exported = statements.flatMap((it) => (
+    ts.isExportDeclaration(it) && it.exportClause && ts.isNamedExports(it.exportClause) ? it.exportClause.elements.map(({ name }) => moduleName(c, name)) : []));
+  if (exported.length === 0) return;
+  const hidden = (flags & AMBIENT) === 0 ? [] : statements.flatMap(declaredNames).filter((it) => !exported.includes(it));
+  c.blocks.push({ name: c.path.join('.'), exported, hidden });
 }
 
 /** @param {Converter} c @param {import('typescript').ModuleBlock | import('typescript').ModuleDeclaration} body @returns {TreeNode} */
 function namespacePart(c, body) {
-  if (ts.isModuleBlock(body)) return c.node('TsModuleBlock', body, { body: body.statements.map((it) => item(c, it, false)) });
-  return c.declares('namespace', c.at('TsNamespaceDecl', c.start(body.name), body.end, {
-    id: c.ident(/** @type {any} */ (body.name), false), body: namespacePart(c, /** @type {any} */ (body.body)),
-  }), body.name);
+  if (ts.isModuleBlock(body)) {
+    noteBlock(c, body);
+    const items = () => body.statements.flatMap((it) => item(c, it, false));
+    return c.node('TsModuleBlock', body, { body: c.exporting(exportsWithoutWord(body), items) });
+  }
+  const { name } = /** @type {{ name: import('typescript').Identifier }} */ (/** @type {unknown} */ (body));
+  return c.declares('namespace', c.at('TsNamespaceDecl', c.start(name), body.end, {
+    id: c.ident(name, false), body: c.inNamespace(textOf(name), () => namespacePart(c, /** @type {any} */ (body.body))),
+  }), name);
 }
 
 /** @type {Record<number, [string, (c: Converter, it: any, start: number) => TreeNode | null]>} */
 const DECLARATIONS = {
-  [K.VariableStatement]: ['', (c, it, start) => variables(c, it.declarationList, start, it.end)],
+  [K.VariableStatement]: ['', (c, it, start) => variables(c, it.declarationList, start, it.end, c.isExported(it))],
   [K.FunctionDeclaration]: ['function', (c, it, start) => {
     const ident = it.name ? c.ident(it.name, false) : null;
     const made = functionNode(c, it, start, it.end);
@@ -115,7 +140,9 @@ const DECLARATIONS = {
 export function declaration(c, it, start) {
   const [kind, make] = DECLARATIONS[it.kind] ?? [];
   const made = make ? make(c, it, start) : null;
-  return made && kind ? c.declares(kind, made, /** @type {any} */ (it).name) : made;
+  const { name } = /** @type {{ name?: import('typescript').Node }} */ (/** @type {unknown} */ (it));
+  const isExported = c.isExported(it) || (name !== undefined && ts.isIdentifier(name) && c.specified.has(textOf(name)));
+  return made && kind ? c.declares(kind, made, name, false, isExported) : made;
 }
 
 /** @param {Converter} c @param {readonly import('typescript').Statement[]} list whose declarations stand in the open scope */

@@ -8,12 +8,14 @@ import { expression } from './expressions.js';
 /** @typedef {import('./converter.js').Converter} Converter */
 /** @typedef {import('./node.js').TreeNode} TreeNode */
 
+const [COLON, EQUALS, GREATER] = [...':=>'].map((it) => it.charCodeAt(0));
+
 /** @param {Converter} c @param {import('typescript').TypeNode | undefined} node from the colon, or the arrow, on */
 export function annotation(c, node) {
   if (!node) return null;
-  let start = c.start(node);
-  if (c.source.startsWith('=>', node.pos - 2)) start = node.pos - 2;
-  else if (c.source[node.pos - 1] === ':') start = node.pos - 1;
+  const before = c.source.charCodeAt(node.pos - 1);
+  const isArrow = before === GREATER && c.source.charCodeAt(node.pos - 2) === EQUALS;
+  const start = before === COLON ? node.pos - 1 : isArrow ? node.pos - 2 : c.start(node);
   return c.at('TsTypeAnn', start, node.end, { ty: type(c, node) });
 }
 
@@ -147,7 +149,11 @@ function functionType(c, node) {
 
 /** @param {Converter} c @param {import('typescript').Node} node @returns {TreeNode} */
 export function type(c, node) {
-  return c.typed(true, () => (TYPES[node.kind] ?? plain)(c, node));
+  const before = c.inType;
+  c.inType = true;
+  const made = (TYPES[node.kind] ?? plain)(c, node);
+  c.inType = before;
+  return made;
 }
 
 /** @param {Converter} c @param {import('typescript').SetAccessorDeclaration} m */
@@ -162,12 +168,25 @@ function signature(c, m) {
   return { type_params: typeParameters(c, m.typeParameters), params: parameters(c, m.parameters, true), type_ann: annotation(c, m.type) };
 }
 
+/** @param {Converter} c @param {import('typescript').MethodSignature} m */
+function methodSignature(c, m) {
+  const { key, computed } = elementKey(c, m.name);
+  const { type_params, params, type_ann } = signature(c, m);
+  return c.node('TsMethodSignature', m, { key, computed, type_params, params, type_ann });
+}
+
+/** @param {Converter} c @param {import('typescript').PropertySignature} m */
+function propertySignature(c, m) {
+  const { key, computed } = elementKey(c, m.name);
+  return c.node('TsPropertySignature', m, { key, computed, type_ann: annotation(c, m.type) });
+}
+
 /** @type {Record<number, [string, (c: Converter, member: any) => TreeNode]>} */
 const ELEMENTS = {
   [K.CallSignature]: ['call', (c, m) => c.node('TsCallSignatureDecl', m, signature(c, m))],
   [K.ConstructSignature]: ['construct', (c, m) => c.node('TsConstructSignatureDecl', m, signature(c, m))],
-  [K.PropertySignature]: ['property', (c, m) => c.node('TsPropertySignature', m, { ...elementKey(c, m.name), type_ann: annotation(c, m.type) })],
-  [K.MethodSignature]: ['method', (c, m) => c.node('TsMethodSignature', m, { ...elementKey(c, m.name), ...signature(c, m) })],
+  [K.PropertySignature]: ['property', propertySignature],
+  [K.MethodSignature]: ['method', methodSignature],
   [K.GetAccessor]: ['getter', (c, m) => c.node('TsGetterSignature', m, { ...elementKey(c, m.name), type_ann: annotation(c, m.type) })],
   [K.SetAccessor]: ['setter', setter],
   [K.IndexSignature]: ['index', (c, m) => c.node('TsIndexSignature', m, {
@@ -178,5 +197,13 @@ const ELEMENTS = {
 /** @param {Converter} c @param {import('typescript').TypeElement | import('typescript').IndexSignatureDeclaration} m @returns {TreeNode} */
 export function element(c, m) {
   const [kind, make] = ELEMENTS[m.kind];
-  return c.typed(true, () => c.within((scope) => hoistFunction(/** @type {any} */ (m), scope), () => c.declares(kind, make(c, m), m.name)));
+  const before = c.inType;
+  c.inType = true;
+  // a property declares no names: the number of its scope alone is taken
+  const scope = m.kind === K.PropertySignature ? c.withoutNames() : c.open();
+  if (scope) hoistFunction(/** @type {any} */ (m), scope);
+  const made = c.declares(kind, make(c, m), m.name);
+  if (scope) c.close();
+  c.inType = before;
+  return made;
 }

@@ -1,12 +1,13 @@
 // What of TypeScript parses, loaded once in each thread that does. Decoding and compiling that takes longer than parsing most
 // folders, so its text in ASCII and its compiled form are kept under the user's cache folder.
-import { closeSync, mkdirSync, openSync, readFileSync, readSync, renameSync, writeFileSync } from 'node:fs';
+import { closeSync, mkdirSync, openSync, readFileSync, readSync } from 'node:fs';
 import Module, { createRequire } from 'node:module';
 import path from 'node:path';
 import v8 from 'node:v8';
 import { Script } from 'node:vm';
 
 import { findTypeScript } from '../typescript.js';
+import { replaceFile } from '../write.js';
 import { usedTypeScript } from './which.js';
 
 /** Where the last block of the parser begins, and what each block ends with. */
@@ -55,19 +56,12 @@ export function inAscii(bytes) {
 }
 
 /** @param {string | undefined} file without its ending @returns {{ text: string, compiled: Buffer } | null} */
-function readKept(file) {
+function readStored(file) {
   try {
     return file === undefined ? null : { text: readFileSync(`${file}.js`, 'latin1'), compiled: readFileSync(`${file}.compiled`) };
   } catch {
     return null;
   }
-}
-
-/** @param {string} file @param {string | Buffer} content of which nobody reads a part */
-function write(file, content) {
-  const part = `${file}.${process.pid}`;
-  writeFileSync(part, content);
-  renameSync(part, file);
 }
 
 /** @param {string} file @param {string} text a module of CommonJS, with its wrapper @param {Buffer} [compiled] which is refused where it is another version's */
@@ -80,11 +74,20 @@ function load(file, text, compiled) {
 
 /** @type {import('./which.js').Which} */
 const which = usedTypeScript()?.it ?? { typescript: findTypeScript(process.cwd()).file };
-const kept = readKept(which.kept);
+const kept = readStored(which.kept);
 await usedTypeScript()?.when;
 // Most runs end before what V8's optimizing compiler makes pays for itself, in each of a few threads even more so: a function has to
 // run several times as long as it is set to by itself before it is compiled anew.
-v8.setFlagsFromString('--interrupt-budget=750000');
+if (!which.isGuest) v8.setFlagsFromString('--interrupt-budget=750000');
+/** What V8 sets it to by itself, and the length of a text from which on that is worth it. */
+const USUAL_BUDGET = 135_168;
+const LONG_TEXT = 1_000_000;
+
+/** @param {string} text that will be parsed */
+export function expect(text) {
+  if (text.length >= LONG_TEXT && !which.isGuest) v8.setFlagsFromString(`--interrupt-budget=${USUAL_BUDGET}`);
+}
+
 const ascii = kept ? null : inAscii(readParser(which.typescript, 'latin1'));
 const text = kept?.text ?? Module.wrap(ascii ?? readParser(which.typescript, 'utf8'));
 const loaded = load(which.typescript, text, kept?.compiled);
@@ -98,12 +101,12 @@ export const K = ts.SyntaxKind;
 export const startOf = /** @type {any} */ (ts).getTokenPosOfNode ?? ((node, file) => node.getStart(file));
 
 /** Keeps the text, and the compiled form with what was compiled of it while files were parsed, where they aren't kept yet. */
-export function keepCompiled() {
+export function storeCompiled() {
   if (!which.kept || (kept ? !loaded.script.cachedDataRejected : ascii === null)) return;
   try {
     mkdirSync(path.dirname(which.kept), { recursive: true });
-    if (!kept) write(`${which.kept}.js`, text);
-    write(`${which.kept}.compiled`, loaded.script.createCachedData());
+    if (!kept) replaceFile(`${which.kept}.js`, [Buffer.from(text)]);
+    replaceFile(`${which.kept}.compiled`, [loaded.script.createCachedData()]);
   } catch {
     // a cache folder that can't be written costs time alone
   }

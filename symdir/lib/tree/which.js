@@ -6,6 +6,7 @@ import { workerData } from 'node:worker_threads';
  * @typedef {object} Which
  * @property {string} typescript its file
  * @property {string} [kept] where what is made of it is kept, without an ending
+ * @property {boolean} [isGuest] whether the process is another program's, for which V8 is left as it is
  */
 
 /** @typedef {{ it: Which, when: Promise<unknown> }} Use when it may be loaded */

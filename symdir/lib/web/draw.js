@@ -18,6 +18,12 @@ const ROWS = 14;
 /** With more boxes than this, a box has fewer lines. */
 const BIG = 40;
 const COLORS = { entry: '#ffe9a8', own: '#e8eef8', other: '#e6e6e6' };
+/** What the lines and boxes mean, without their colors. */
+export const LEGEND = [
+  'An arrow leads from a module to the one whose names it re-exports, with their number. Thick, with a filled head: export *. '
+    + 'Thin, with an open head: one by one.',
+  'Modules of one directory that are re-exported alike share a box and an arrow. Dashed boxes: unresolved.',
+];
 /** How long a tooltip gets. */
 const TIP = 900;
 
@@ -41,9 +47,10 @@ function shortened(names, width) {
 }
 
 export class Drawing {
-  /** @param {Folder} folder @param {Web} web */
-  constructor(folder, web) {
+  /** @param {Folder} folder @param {Web} web @param {((below: string) => string) | null} [linkTo] of a file, or of a directory with a slash behind it; without it boxes lead to files */
+  constructor(folder, web, linkTo = null) {
     this.folder = folder;
+    this.linkTo = linkTo;
     this.web = web;
     this.modules = [...new Set([...web.entries, ...web.edges.flatMap((it) => [it.from, it.to]), ...web.owned.keys()])];
     this.boxes = this.group();
@@ -82,6 +89,7 @@ export class Drawing {
 
   /** @param {string} module @returns {string} */
   link(module) {
+    if (this.linkTo) return this.linkTo(this.folder.short(module));
     const file = this.folder.sources.modules.get(module)?.file;
     return file ? pathToFileURL(file).href : module;
   }
@@ -111,7 +119,8 @@ export class Drawing {
       rest = rest.slice(count);
     }
     const body = lines.length > 0 ? `<TR><TD ALIGN="LEFT" BALIGN="LEFT"><FONT POINT-SIZE="9">${lines.map(escaped).join('<BR/>')}</FONT></TD></TR>` : '';
-    const head = `<TR><TD ALIGN="LEFT" BGCOLOR="${this.color(module)}"><B>${escaped(this.title(module))}</B></TD></TR>`;
+    const title = `<B>${escaped(this.title(module))}</B>${this.web.entries.includes(module) ? ' (entry)' : ''}`;
+    const head = `<TR><TD ALIGN="LEFT" BGCOLOR="${this.color(module)}">${title}</TD></TR>`;
     return `<TABLE BORDER="0" CELLBORDER="1" CELLSPACING="0" CELLPADDING="3">${head}${body}</TABLE>`;
   }
 
@@ -134,7 +143,7 @@ export class Drawing {
   boxLine(box) {
     const [first] = box.modules;
     const label = box.modules.length > 1 ? this.many(box) : this.one(first);
-    const link = box.modules.length > 1 ? path.posix.dirname(this.link(first)) : this.link(first);
+    const link = box.modules.length > 1 ? this.linkTo?.(`${box.folder}/`) ?? path.posix.dirname(this.link(first)) : this.link(first);
     return `${box.id} [label=<${label}>, href="${escaped(link)}", tooltip="${tip(box.modules.flatMap((it) => this.names(it)))}"];`;
   }
 
@@ -166,15 +175,15 @@ export class Drawing {
     return [...drawn].filter(([key]) => key.split(' -> ')[0] !== key.split(' -> ')[1]).map(([key, { isStar, names, count }]) => {
       const width = Math.min(1.6 + names.size / 40, 5).toFixed(1);
       const style = isStar ? `penwidth=${width}` : 'penwidth=0.7, color="#999999", arrowhead=empty';
-      const label = names.has('*') ? '' : `${count > 1 ? `${count} x ` : ''}${names.size}`;
+      const label = names.has('*') ? '' : counted(names.size, 'name') + (count > 1 ? ` from ${count} modules` : '');
       return `${key} [${style}, label="${label}", edgetooltip="${tip([...names])}", labeltooltip="${tip([...names])}"];`;
     });
   }
 
-  /** @returns {string[]} a red box for each thing that leads nowhere */
+  /** @returns {string[]} a red box for each unresolved name or module */
   lostLines() {
     return this.web.lost.flatMap(({ module, text, isStar }, i) => [
-      `x${i} [shape=box, height=0.3, margin="0.08,0.04", style=dashed, color=red, fontcolor=red, label="${escaped(text)}", tooltip="leads nowhere"];`,
+      `x${i} [shape=box, height=0.3, margin="0.08,0.04", style=dashed, color=red, fontcolor=red, label="${escaped(text)}", tooltip="unresolved"];`,
       `${this.boxOf.get(module)?.id ?? `y${i}`} -> x${i} [color=red, style=${isStar ? 'solid' : 'dashed'}, penwidth=${isStar ? 1.6 : 0.8}];`,
     ]);
   }
@@ -183,9 +192,10 @@ export class Drawing {
   text() {
     const name = path.posix.basename(this.folder.sources.folder);
     const title = `${name}: ${counted(this.modules.length, 'module')} that entries reach`;
-    const legend = 'Yellow: entries. Thick: export *. Thin: one by one. 7 x 12: 12 names of 7 modules. Red: leads nowhere.';
+    // what a page shows as text isn't in its picture
+    const label = this.linkTo ? '' : [title, ...LEGEND].map(escaped).join('\\n');
     return `${['digraph exports {',
-      `graph [rankdir=LR, fontname="Helvetica", fontsize=12, label="${escaped(title)}\\n${escaped(legend)}", labelloc=t, tooltip=" "];`,
+      `graph [rankdir=LR, fontname="Helvetica", fontsize=12, label="${label}", labelloc=t, tooltip=" "];`,
       `graph [nodesep=${this.isBig ? 0.12 : 0.25}, ranksep=${this.isBig ? 0.9 : 0.7}];`,
       'node [shape=plain, fontname="Helvetica", fontsize=10];',
       'edge [color="#4466aa", arrowsize=0.6, fontname="Helvetica", fontsize=8];',

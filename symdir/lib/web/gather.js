@@ -5,7 +5,7 @@ import { endOf } from '../folder/ends.js';
 /** @typedef {import('../folder/folder.js').Folder} Folder */
 
 /** @typedef {{ from: string, to: string, isStar: boolean, names: Set<string> }} Edge names pass from `to` to `from` */
-/** @typedef {{ module: string, text: string, isStar: boolean }} Lost what leads nowhere */
+/** @typedef {{ module: string, text: string, isStar: boolean }} Lost an unresolved name or module */
 
 /**
  * @typedef {object} Web
@@ -67,17 +67,18 @@ class Gathering {
     if (end?.what === 'import') this.loses(leaf.module, end.name, false);
     if (end?.what === 'name') this.loses(leaf.module, `no ${end.name}`, false);
     if (end?.what === 'external') this.owns(end.name, '', 1);
+    if (end?.what === 'unknown') this.owns(leaf.module, end.name, 1);
   }
 
   async names() {
     const answers = await this.folder.exports(this.folder.entries);
     const all = answers.flatMap((it) => it.exports);
     for (const { unresolved } of answers) for (const [module, text] of unresolved) this.star(module, text);
-    const paths = await this.folder.ask(all.map((it) => ['paths', it.module, it.symbol]));
+    const paths = await this.folder.paths(all.map((it) => [it.module, it.symbol]));
     all.forEach((it, i) => {
       const chain = [...it.chain.map(([module]) => module), it.module];
       chain.slice(1).forEach((to, at) => this.edge(chain[at], to, true, it.name));
-      for (const entry of paths[i]?.paths ?? []) this.walk(entry, it.name, []);
+      for (const entry of paths[i]) this.walk(entry, it.name, []);
     });
   }
 

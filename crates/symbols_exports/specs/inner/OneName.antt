@@ -1,20 +1,21 @@
--- Beside the definitions of `OneName`: what inner functions and proofs say of the same.
+-- Results of a walk by its filter: definitions for inner functions and proofs.
 use Rattle.std.specs.Prelude.{ℕ, List}
-use Rattle.symbols_syntax.specs.declared.ids.ModuleId.{ModuleId}
+use Rattle.symbols_ast.specs.declared.ids.ModuleId.{ModuleId}
 use Rattle.symbols_table.specs.declared.info.fault.SymbolsFault.{SymbolsFault}
 use Rattle.symbols_root.specs.Roots.{RootView}
-use Rattle.symbols_exports.specs.declared.exports.wanted.Wanted.{Wanted}
-use Rattle.symbols_exports.specs.declared.exports.wanted.Wanted.TheVariants.{AllNames, OneName}
-use Rattle.symbols_exports.specs.Answers.{IsAnswer, IsFault}
-use Rattle.symbols_exports.specs.Shared.{Shared}
-use Rattle.symbols_exports.specs.Taking.{NameView}
-use Rattle.symbols_exports.specs.OneName.{IsNameAnswer, IsOneNameFault}
+use Rattle.symbols_exports.specs.declared.name_filter.NameFilter.{NameFilter}
+use Rattle.symbols_exports.specs.declared.name_filter.NameFilter.TheVariants.{AllNames, OneName}
+use Rattle.symbols_exports.specs.ExportAnswers.{IsExportsAnswer, IsExportsFault}
+use Rattle.symbols_exports.specs.SharedNames.{NameWithExporters}
+use Rattle.symbols_exports.specs.CollectedNames.{ResolvedExportView}
+use Rattle.symbols_exports.specs.OneName.{IsOneNameAnswer, IsOneNameFault}
 
--- what a walk gives by what is wanted of it
-abbrev pub IsWalked : Wanted → RootView → RootView → ModuleId → List NameView → List (Shared NameView) → List (ModuleId × List ℕ) → ℕ → Type 0
-IsWalked AllNames old new start names shared unresolved asked = IsAnswer old new start names shared unresolved asked
-IsWalked (OneName name) old new start names shared unresolved asked = IsNameAnswer old new start name.now names asked
+-- a walk succeeds: all exports are returned, or the one that the filter names
+abbrev pub IsExportWalkAnswer : NameFilter → RootView → RootView → ModuleId → List ResolvedExportView → List (NameWithExporters ResolvedExportView)
+    → List (ModuleId × List ℕ) → ℕ → Type 0
+IsExportWalkAnswer AllNames old new start names shared unresolved lookups = IsExportsAnswer old new start names shared unresolved lookups
+IsExportWalkAnswer (OneName name) old new start names shared unresolved lookups = IsOneNameAnswer old new start name.now names lookups
 
-abbrev pub IsWalkFault : Wanted → RootView → RootView → ModuleId → SymbolsFault → ℕ → Type 0
-IsWalkFault AllNames old new start fault asked = IsFault old new start fault asked
-IsWalkFault (OneName name) old new start fault asked = IsOneNameFault old new start name.now fault asked
+abbrev pub IsExportWalkFault : NameFilter → RootView → RootView → ModuleId → SymbolsFault → ℕ → Type 0
+IsExportWalkFault AllNames old new start fault lookups = IsExportsFault old new start fault lookups
+IsExportWalkFault (OneName name) old new start fault lookups = IsOneNameFault old new start name.now fault lookups

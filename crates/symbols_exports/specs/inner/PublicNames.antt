@@ -1,17 +1,17 @@
--- Beside the definitions of `PublicNames`: what inner functions and proofs say of the same.
+-- Public names of stored modules: definitions for inner functions and proofs.
 use Rattle.std.specs.Prelude.{ℕ, ◌<◌, List, length, Contains}
 use Rattle.symbols_root.specs.Roots.{RootView, specifier_in}
-use Rattle.symbols_exports.specs.declared.exports.path.ResolvedExport.{ResolvedExport}
-use Rattle.symbols_exports.specs.StarStatements.{owned_of}
-use Rattle.symbols_exports.specs.Taking.{NameView}
-use Rattle.symbols_exports.specs.PublicNames.{NameItem, exported_by, items_under}
+use Rattle.symbols_exports.specs.declared.export_chain.ResolvedExport.{ResolvedExport}
+use Rattle.symbols_exports.specs.StarStatements.{explicit_exports_of}
+use Rattle.symbols_exports.specs.CollectedNames.{ResolvedExportView}
+use Rattle.symbols_exports.specs.PublicNames.{PublicNameView, exports_of_symbol, name_with_members}
 
--- an export of a stored module that owns its symbol under some name
-pub record IsOwned (root : RootView) (export : ResolvedExport) : Type 0 where
+-- the module of the export is stored, and exports the symbol locally under some name
+pub record IsExplicitExport (root : RootView) (export : ResolvedExport) : Type 0 where
   pub stored : export.«module».0 < length root.stored
   pub name : List ℕ
-  pub owned : Contains (owned_of root.graph (specifier_in root export.«module»)) (name, export.symbol_id)
+  pub explicit : Contains (explicit_exports_of root.graph (specifier_in root export.«module»)) (name, export.symbol_id)
 
--- a name that a root's exports tell, with those of its symbol
-abbrev pub items_of : RootView → NameView → List NameItem
-items_of root view = items_under view.name (exported_by root.graph (specifier_in root view.export.«module») view.export.symbol_id)
+-- an exported name of a root, without a member and with each member of its symbol
+abbrev pub public_names_of_export : RootView → ResolvedExportView → List PublicNameView
+public_names_of_export root view = name_with_members view.name (exports_of_symbol root.graph (specifier_in root view.export.«module») view.export.symbol_id)

@@ -1,8 +1,8 @@
--- Beside the definitions of `Sharing`: what inner functions and proofs say of the same.
+-- Shared names of a walk: definitions for inner functions and proofs.
 use Rattle.std.specs.Prelude.{Bool}
-use Rattle.symbols_exports.specs.Taking.{NameView}
-use Rattle.symbols_exports.specs.inner.Taking.{has_statements}
+use Rattle.symbols_exports.specs.CollectedNames.{ResolvedExportView}
+use Rattle.symbols_exports.specs.inner.Collecting.{has_statements}
 
--- of groups of a walk's names those that are shared
-abbrev pub comes_along : NameView → Bool
-comes_along view = has_statements view.statements
+-- whether a name comes along an `export *`
+abbrev pub is_along_stars : ResolvedExportView → Bool
+is_along_stars view = has_statements view.statements

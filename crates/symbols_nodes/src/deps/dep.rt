@@ -1,23 +1,23 @@
-//! What a dependency is, and which are asked for.
+//! References to symbols, their namespaces, and the modes in which they are collected.
 
-ghost use Rattle.std.specs.Prelude.{◌≡◌};
+ghost use Rattle.std.specs.Prelude.{◌≡◌, true};
 ghost use Rattle.std.specs.Bool.{Decides};
 ghost use Rattle.symbols_nodes.specs.References.{visits_expressions, reference_view};
 
 use std::borrow::CowStr;
-use symbols_syntax::tree::Id;
+use symbols_ast::tree::Id;
 
-/// Of which parts of a declaration the dependencies are wanted (as deno_graph).
+/// The parts of a declaration in which dependencies are collected (as deno_graph).
 #[derive(Clone, Copy, Debug, PartialEq, Eq, Hash)]
 pub enum ResolveDepsMode {
-    /// Those of types, and of values that a declaration is made of in any case.
+    /// Types, and values that are visited in any mode, such as a superclass.
     TypesOnly,
-    /// Those of expressions too.
+    /// Types and expressions.
     TypesAndExpressions,
 }
 
 impl ResolveDepsMode {
-    /// Whether expressions are visited (as deno_graph).
+    /// Returns whether expressions are visited (as deno_graph).
     pub fn visit_exprs(self) -> bool
         ensures { result ≡ visits_expressions self }
     {
@@ -28,7 +28,7 @@ impl ResolveDepsMode {
     }
 }
 
-/// In which namespace a reference looks for its symbol (as deno_graph).
+/// The namespace in which a reference looks for its symbol (as deno_graph).
 #[derive(Clone, Copy, Debug, PartialEq, Eq, Hash)]
 pub enum ReferenceNamespace {
     Value,
@@ -37,31 +37,35 @@ pub enum ReferenceNamespace {
 }
 
 impl ReferenceNamespace {
-    /// Whether these are one namespace (own rule): what `==` answers, and with it the hash.
+    /// Returns whether both are the same namespace (extension). It agrees with `==`, and is true of
+    /// a clone.
     pub fn is_same(self, other: ReferenceNamespace) -> bool
-        ensures { Decides result (self ≡ other) }
+        ensures same { Decides result (self ≡ other) }
+        ensures equal { result ≡ ⟦<ReferenceNamespace as PartialEq>⟧.eq self other }
+        ensures cloned { ⟦<ReferenceNamespace as Clone>⟧.is_clone self other → result ≡ true }
     {
         self == other
     }
 }
 
-/// A reference to a symbol (as deno_graph). Its names are lent by the tree that it stands in, but for
-/// a private name, which is told with its `#` and so is a text of its own.
+/// A reference to a symbol (as deno_graph). Its names are borrowed from the tree. Only a private
+/// name, which is written with its `#`, is owned.
 #[derive(Clone, Debug, Drop, PartialEq, Eq, Hash)]
 pub enum SymbolNodeDep<'a> {
-    /// A name.
+    /// A reference to an identifier.
     Id(&'a Id),
-    /// A name with the parts after it, as `a.b.c`.
+    /// A dotted name like `a.b.c`: its first identifier and the parts after it.
     QualifiedId(&'a Id, Vec<CowStr<'a>>),
-    /// The text of an import type, and the parts after it.
+    /// An import type like `import("./m").a.b`: the specifier and the parts after it.
     ImportType(&'a str, Vec<CowStr<'a>>),
 }
 
 impl SymbolNodeDep<'_> {
-    /// Whether these refer to a symbol by the same names (own rule): what `==` answers, and with it
-    /// the hash.
+    /// Returns whether both are the same reference: variant, identifier and parts are equal
+    /// (extension). It agrees with `==`.
     pub fn is_same(&self, other: &SymbolNodeDep<'_>) -> bool
-        ensures { Decides result (reference_view self.now ≡ reference_view other.now) }
+        ensures same { Decides result (reference_view self.now ≡ reference_view other.now) }
+        ensures equal { result ≡ ⟦<SymbolNodeDep<'static> as PartialEq>⟧.eq self.now other.now }
     {
         self == other
     }

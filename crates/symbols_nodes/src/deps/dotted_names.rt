@@ -1,27 +1,29 @@
-//! Dotted names, of types and of expressions.
+//! Dotted names like `a.b.c`, in types and in expressions.
 
 ghost use Rattle.std.specs.Prelude.{◌≡◌, ◌∷◌, ◌<◌, Contains, IfOk, IfSome, Some};
 ghost use Rattle.std.specs.Cow.{cow_str_bytes};
 ghost use Rattle.std.specs.Option.{option_map, option_copied, option_and_then};
-ghost use Rattle.symbols_syntax.specs.NodeRefs.{node_view, node_in, kind_of};
-ghost use Rattle.symbols_syntax.specs.Nodes.{children};
-ghost use Rattle.symbols_syntax.specs.WellFormed.{IsWellFormed};
-ghost use Rattle.symbols_nodes.specs.inner.DepViews.{part_view, member_name_view};
-ghost use Rattle.symbols_nodes.specs.DottedNames.{entity_name_view, member_part, entity_name, member_name};
-ghost use Rattle.symbols_nodes.specs.Expando.{string_text};
-ghost use Rattle.symbols_nodes.specs.Readings.{node_below, read_below};
+ghost use Rattle.symbols_ast.specs.NodeRefs.{node_view, node_in, kind_of};
+ghost use Rattle.symbols_ast.specs.Nodes.{children};
+ghost use Rattle.symbols_ast.specs.WellFormed.{IsWellFormedTree};
+ghost use Rattle.symbols_nodes.specs.NameViews.{name_part_view, member_expr_name_view};
+ghost use Rattle.symbols_nodes.specs.DottedNames.{entity_name_view, name_part_of_member_prop};
+ghost use Rattle.symbols_nodes.specs.DottedNames.{entity_name, member_expr_name};
+ghost use Rattle.symbols_nodes.specs.Expando.{str_literal_value};
+ghost use Rattle.symbols_nodes.specs.Readings.{node_of_greater_number, read_node_of_greater_number};
 
 use std::alloc::{AllocError, Global};
 use std::borrow::CowStr;
-use symbols_syntax::tree::{Expr, Id, Kind, NodeId, NodeRef, Ty};
+use symbols_ast::tree::{Expr, Id, Kind, NodeId, NodeRef, Ty};
 
-/// The node of a greater number than this node's, as each child's is in a checked tree: so the
-/// way down ends in every tree.
-pub(crate) fn node_below<'a>(node: NodeRef<'a>, id: NodeId) -> Option<NodeRef<'a>>
-    ensures found { option_map node_view result ≡ node_below (node_view node.entry) id }
+/// Returns the node with this id if its number is greater than this node's. In a checked tree every
+/// child has such a number. A recursion over such nodes ends in every tree.
+pub fn node_of_greater_number<'a>(node: NodeRef<'a>, id: NodeId) -> Option<NodeRef<'a>>
+    ensures found { option_map node_view result ≡ node_of_greater_number (node_view node.entry) id }
     ensures below { IfSome result (λ child. node.entry.number < child.number) }
     ensures same_tree { IfSome result (λ child. child.tree.now ≡ node.entry.tree.now) }
-    ensures checked { IsWellFormed node.entry.tree.now.nodes.items → Contains (children node.entry.tree.now.nodes.items node.entry.number) id
+    ensures checked { IsWellFormedTree node.entry.tree.now.nodes.items
+        → Contains (children node.entry.tree.now.nodes.items node.entry.number) id
         → option_map node_view result ≡ node_in node.entry.tree.now (Some id) }
 {
     if node.number < id.0 {
@@ -31,24 +33,25 @@ pub(crate) fn node_below<'a>(node: NodeRef<'a>, id: NodeId) -> Option<NodeRef<'a
     }
 }
 
-/// A name with the parts that follow it after dots.
+/// An entity name, as TypeScript calls it: an identifier and the parts that follow it after dots.
 #[derive(Drop)]
 pub struct EntityName<'a> {
     pub leftmost: &'a Id,
     pub parts: Vec<&'a str>,
 }
 
-/// The dotted name that an `Ident` or a `TsQualifiedName` is: none of another kind, nor where
-/// such a one stands on its left. In a checked tree none does.
+/// Returns the entity name that an `Ident` or a `TsQualifiedName` is. It is `None` for any other
+/// kind, also on the left, where a checked tree has none.
 ///
 /// # Errors
 ///
-/// Memory was refused.
+/// An allocation failed.
 pub fn entity_name<'a>(
     alloc: Global,
     node: NodeRef<'a>,
 ) -> Result<Option<EntityName<'a>>, AllocError>
-    ensures { IfOk result (λ name. option_map entity_name_view name ≡ entity_name (node_view node.entry)) }
+    ensures { IfOk result
+        (λ name. option_map entity_name_view name ≡ entity_name (node_view node.entry)) }
 {
     match node.kind() {
         Kind::Expr(Expr::Ident { sym }) => Ok(Some(EntityName {
@@ -56,7 +59,7 @@ pub fn entity_name<'a>(
             parts: Vec::new(alloc),
         })),
         Kind::Ty(Ty::TsQualifiedName { left, right }) => {
-            let Some(left) = node_below(node, *left) else {
+            let Some(left) = node_of_greater_number(node, *left) else {
                 return Ok(None);
             };
             let Some(mut name) = entity_name(alloc, left)? else {
@@ -69,19 +72,19 @@ pub fn entity_name<'a>(
     }
 }
 
-/// A part of a dotted name in expressions, as it stands in the tree.
+/// A part of a dotted name in expressions, as it is in the tree.
 #[derive(Clone, Copy)]
-pub(crate) enum Part<'a> {
-    /// A name, or a string in brackets.
+pub enum Part<'a> {
+    /// A property name, or a string in brackets.
     Text(&'a str),
     /// A private name, without its `#`.
     Private(&'a str),
 }
 
 impl<'a> Part<'a> {
-    /// The part as text, which is lent but for that of a private name.
+    /// Returns the part as text. Only the text of a private name is copied.
     fn to_text(self, alloc: Global) -> Result<CowStr<'a>, AllocError>
-        ensures { IfOk result (λ text. cow_str_bytes text ≡ part_view self.entry) }
+        ensures { IfOk result (λ text. cow_str_bytes text ≡ name_part_view self.entry) }
     {
         match self {
             Part::Text(text) => Ok(CowStr::Borrowed(text)),
@@ -95,8 +98,8 @@ impl<'a> Part<'a> {
     }
 }
 
-fn string_text(kind: &Kind) -> Option<&str>
-    ensures { option_copied result ≡ string_text kind.now }
+fn str_literal_value(kind: &Kind) -> Option<&str>
+    ensures { option_copied result ≡ str_literal_value kind.now }
 {
     match kind {
         Kind::Expr(Expr::Str { value }) => Some(value.as_str()),
@@ -105,14 +108,16 @@ fn string_text(kind: &Kind) -> Option<&str>
 }
 
 fn bracket_text<'a>(prop: NodeRef<'a>, expr: NodeId) -> Option<&'a str>
-    ensures { option_copied result ≡ option_and_then string_text (read_below kind_of (node_view prop.entry) expr) }
+    ensures { option_copied result
+        ≡ option_and_then str_literal_value (read_node_of_greater_number kind_of (node_view prop.entry) expr) }
 {
-    string_text(node_below(prop, expr)?.kind())
+    str_literal_value(node_of_greater_number(prop, expr)?.kind())
 }
 
-/// The part that a property is, if it is one.
-fn member_part<'a>(prop: NodeRef<'a>) -> Option<Part<'a>>
-    ensures { option_map part_view result ≡ member_part (node_view prop.entry) }
+/// Returns the property as a part of a dotted name. It is `None` for a computed key other than a
+/// string.
+fn name_part_of_member_prop<'a>(prop: NodeRef<'a>) -> Option<Part<'a>>
+    ensures { option_map name_part_view result ≡ name_part_of_member_prop (node_view prop.entry) }
 {
     match prop.kind() {
         Kind::Expr(Expr::IdentName { name }) => Some(Part::Text(name.as_str())),
@@ -122,40 +127,44 @@ fn member_part<'a>(prop: NodeRef<'a>) -> Option<Part<'a>>
     }
 }
 
-pub(crate) fn part_below<'a>(node: NodeRef<'a>, prop: NodeId) -> Option<Part<'a>>
-    ensures { option_map part_view result ≡ read_below member_part (node_view node.entry) prop }
+/// Returns the property of this number as a part of a dotted name. It is `None` if the number is
+/// not greater than the node's, or the property is a computed key other than a string.
+pub fn prop_part_below<'a>(node: NodeRef<'a>, prop: NodeId) -> Option<Part<'a>>
+    ensures { option_map name_part_view result ≡ read_node_of_greater_number
+        name_part_of_member_prop (node_view node.entry) prop }
 {
-    member_part(node_below(node, prop)?)
+    name_part_of_member_prop(node_of_greater_number(node, prop)?)
 }
 
-/// A dotted name of expressions.
+/// A dotted name in expressions: its first identifier and the parts after it.
 #[derive(Drop)]
-pub(crate) struct MemberName<'a> {
-    pub(crate) leftmost: &'a Id,
-    pub(crate) parts: Vec<CowStr<'a>>,
+pub struct MemberExprName<'a> {
+    pub leftmost: &'a Id,
+    pub parts: Vec<CowStr<'a>>,
 }
 
-/// The dotted name that an `Ident` or a `Member` is, if it is one. A text is made only where the
-/// whole is such a name.
-pub(crate) fn member_name<'a>(
+/// Returns the dotted name that an `Ident` or a `Member` is, if it is one. No part is copied unless
+/// the whole expression is such a name.
+pub fn member_expr_name<'a>(
     alloc: Global,
     node: NodeRef<'a>,
-) -> Result<Option<MemberName<'a>>, AllocError>
-    ensures { IfOk result (λ name. option_map member_name_view name ≡ member_name (node_view node.entry)) }
+) -> Result<Option<MemberExprName<'a>>, AllocError>
+    ensures { IfOk result
+        (λ name. option_map member_expr_name_view name ≡ member_expr_name (node_view node.entry)) }
 {
     match node.kind() {
-        Kind::Expr(Expr::Ident { sym }) => Ok(Some(MemberName {
+        Kind::Expr(Expr::Ident { sym }) => Ok(Some(MemberExprName {
             leftmost: sym,
             parts: Vec::new(alloc),
         })),
         Kind::Expr(Expr::Member { obj, prop }) => {
-            let Some(part) = part_below(node, *prop) else {
+            let Some(part) = prop_part_below(node, *prop) else {
                 return Ok(None);
             };
-            let Some(obj) = node_below(node, *obj) else {
+            let Some(obj) = node_of_greater_number(node, *obj) else {
                 return Ok(None);
             };
-            let Some(mut name) = member_name(alloc, obj)? else {
+            let Some(mut name) = member_expr_name(alloc, obj)? else {
                 return Ok(None);
             };
             name.parts.push(part.to_text(alloc)?)?;

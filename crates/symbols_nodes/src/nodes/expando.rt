@@ -1,25 +1,28 @@
-//! Properties that are assigned to a function.
+//! Expando properties: properties that an assignment adds to a function.
 
 ghost use Rattle.std.specs.Prelude.{◌≡◌, Some, None, is_some, true, IsTrue};
 ghost use Rattle.std.specs.Option.{option_map, option_copied, option_map_or, option_and_then};
 ghost use Rattle.std.specs.Str.{chars};
-ghost use Rattle.symbols_syntax.specs.NodeRefs.{node_view, kind_of, range_of};
-ghost use Rattle.symbols_nodes.specs.Expando.{Expando, may_start, may_continue, is_identifier, is_plain, is_ident, string_text, prop_text, prop_name, expando_in};
-ghost use Rattle.symbols_nodes.specs.ExpandoViews.{expando_node};
-ghost use Rattle.symbols_nodes.specs.inner.ExpandoViews.{parts_view};
+ghost use Rattle.symbols_ast.specs.NodeRefs.{node_view, kind_of, range_of};
+ghost use Rattle.symbols_nodes.specs.Expando.{Expando, is_identifier_start, is_identifier_part};
+ghost use Rattle.symbols_nodes.specs.Expando.{is_identifier, is_simple_assignment};
+ghost use Rattle.symbols_nodes.specs.Expando.{is_ident, str_literal_value, prop_text, prop_name};
+ghost use Rattle.symbols_nodes.specs.Expando.{expando_of_assignment};
+ghost use Rattle.symbols_nodes.specs.ExpandoViews.{expando_property_view};
+ghost use Rattle.symbols_nodes.specs.inner.ExpandoViews.{expando_view};
 
 use crate::nodes::refs::ExpandoPropertyRef;
-use symbols_syntax::tree::{Expr, Kind, NodeRef, SourceRange};
+use symbols_ast::tree::{Expr, Kind, NodeRef, SourceRange};
 use unicode_ident::{is_xid_continue, is_xid_start};
 
-fn may_start(c: char) -> bool
-    ensures { result ≡ may_start c }
+fn is_identifier_start(c: char) -> bool
+    ensures { result ≡ is_identifier_start c }
 {
     matches!(c, '$' | '_') || is_xid_start(c)
 }
 
-fn may_continue(c: char) -> bool
-    ensures { result ≡ may_continue c }
+fn is_identifier_part(c: char) -> bool
+    ensures { result ≡ is_identifier_part c }
 {
     matches!(c, '$' | '_' | '\u{200c}' | '\u{200d}') || is_xid_continue(c)
 }
@@ -29,13 +32,13 @@ fn is_identifier(text: &str) -> bool
 {
     let mut rest = text.chars();
     match rest.next() {
-        Some(first) => may_start(first) && rest.all(may_continue),
+        Some(first) => is_identifier_start(first) && rest.all(is_identifier_part),
         None => false,
     }
 }
 
-fn is_plain(kind: &Kind) -> bool
-    ensures { result ≡ is_plain kind.now }
+fn is_simple_assignment(kind: &Kind) -> bool
+    ensures { result ≡ is_simple_assignment kind.now }
 {
     match kind {
         Kind::Expr(Expr::Assign { plain, .. }) => *plain,
@@ -49,8 +52,8 @@ fn is_ident(kind: &Kind) -> bool
     matches!(kind, Kind::Expr(Expr::Ident { .. }))
 }
 
-fn string_text(kind: &Kind) -> Option<&str>
-    ensures { option_copied result ≡ string_text kind.now }
+fn str_literal_value(kind: &Kind) -> Option<&str>
+    ensures { option_copied result ≡ str_literal_value kind.now }
 {
     match kind {
         Kind::Expr(Expr::Str { value }) => Some(value.as_str()),
@@ -58,18 +61,18 @@ fn string_text(kind: &Kind) -> Option<&str>
     }
 }
 
-/// The name after the dot, or the string in brackets.
+/// Returns the name after the dot, or the string in brackets.
 fn prop_name<'a>(prop: NodeRef<'a>) -> Option<&'a str>
     ensures { option_copied result ≡ prop_name (node_view prop.entry) }
 {
     match prop.kind() {
         Kind::Expr(Expr::IdentName { name }) => Some(name.as_str()),
-        Kind::Expr(Expr::Computed { .. }) => string_text(prop.expr()?.kind()),
+        Kind::Expr(Expr::Computed { .. }) => str_literal_value(prop.expr()?.kind()),
         _ => None,
     }
 }
 
-/// The parts of such an assignment.
+/// The parts of an expando assignment.
 #[derive(Clone, Copy)]
 struct Parts<'a> {
     member: NodeRef<'a>,
@@ -80,9 +83,9 @@ struct Parts<'a> {
 }
 
 fn find_parts<'a>(node: NodeRef<'a>) -> Option<Parts<'a>>
-    ensures { option_map parts_view result ≡ expando_in (node_view node.entry) }
+    ensures { option_map expando_view result ≡ expando_of_assignment (node_view node.entry) }
 {
-    if !is_plain(node.kind()) {
+    if !is_simple_assignment(node.kind()) {
         return None;
     }
     let right = node.right()?;
@@ -104,9 +107,10 @@ fn find_parts<'a>(node: NodeRef<'a>) -> Option<Parts<'a>>
 }
 
 impl<'a> ExpandoPropertyRef<'a> {
-    /// The assignment as such a property; none where it is of another form.
+    /// Returns the assignment as an expando property. It is `None` if the node is not of that form.
     pub fn maybe_new(node: NodeRef<'a>) -> Option<ExpandoPropertyRef<'a>>
-        ensures { option_map expando_node result ≡ option_map (λ _. node_view node.entry) (expando_in (node_view node.entry)) }
+        ensures { option_map expando_property_view result
+            ≡ option_map (λ _. node_view node.entry) (expando_of_assignment (node_view node.entry)) }
     {
         match find_parts(node) {
             Some(_) => Some(ExpandoPropertyRef { inner: node }),
@@ -115,7 +119,7 @@ impl<'a> ExpandoPropertyRef<'a> {
     }
 
     fn all_parts(self) -> Parts<'a>
-        ensures { Some (parts_view result) ≡ expando_in (expando_node self.entry) }
+        ensures { Some (expando_view result) ≡ expando_of_assignment (expando_property_view self.entry) }
     {
         match find_parts(self.inner) {
             Some(parts) => parts,
@@ -123,44 +127,49 @@ impl<'a> ExpandoPropertyRef<'a> {
         }
     }
 
-    /// The whole assignment.
+    /// Returns the whole assignment.
     pub fn inner(self) -> NodeRef<'a>
-        ensures { node_view result ≡ expando_node self.entry }
+        ensures { node_view result ≡ expando_property_view self.entry }
     {
         self.inner
     }
 
-    /// The member expression on the left.
+    /// Returns the member expression on the left.
     pub fn member_expr(self) -> NodeRef<'a>
-        ensures { Some (node_view result) ≡ option_map (λ (e : Expando). e.member) (expando_in (expando_node self.entry)) }
+        ensures { Some (node_view result)
+            ≡ option_map (λ (e : Expando). e.member) (expando_of_assignment (expando_property_view self.entry)) }
     {
         self.all_parts().member
     }
 
-    /// The identifier that the property is added to.
+    /// Returns the identifier of the object that the property is added to.
     pub fn obj_ident(self) -> NodeRef<'a>
-        ensures { Some (node_view result) ≡ option_map (λ (e : Expando). e.object) (expando_in (expando_node self.entry)) }
+        ensures { Some (node_view result)
+            ≡ option_map (λ (e : Expando). e.object) (expando_of_assignment (expando_property_view self.entry)) }
     {
         self.all_parts().object
     }
 
-    /// The name of the property.
+    /// Returns the name of the property.
     pub fn prop_name(self) -> &'a str
-        ensures { Some result.now ≡ option_map (λ (e : Expando). e.name) (expando_in (expando_node self.entry)) }
+        ensures { Some result.now
+            ≡ option_map (λ (e : Expando). e.name) (expando_of_assignment (expando_property_view self.entry)) }
     {
         self.all_parts().name
     }
 
-    /// Where the property stands, with its brackets.
+    /// Returns the range of the property, including its brackets.
     pub fn prop_name_range(self) -> SourceRange
-        ensures { Some result ≡ option_and_then (λ (e : Expando). range_of e.prop) (expando_in (expando_node self.entry)) }
+        ensures { Some result ≡ option_and_then (λ (e : Expando).
+            range_of e.prop) (expando_of_assignment (expando_property_view self.entry)) }
     {
         self.all_parts().prop.range()
     }
 
-    /// What is assigned.
+    /// Returns the assigned expression.
     pub fn assignment(self) -> NodeRef<'a>
-        ensures { Some (node_view result) ≡ option_map (λ (e : Expando). e.right) (expando_in (expando_node self.entry)) }
+        ensures { Some (node_view result)
+            ≡ option_map (λ (e : Expando). e.right) (expando_of_assignment (expando_property_view self.entry)) }
     {
         self.all_parts().right
     }

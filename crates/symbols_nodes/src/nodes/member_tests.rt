@@ -1,14 +1,16 @@
-//! Which nodes of declarations are members, and which of them are private.
+//! Tests of declaration nodes: members, and private members.
 
 ghost use Rattle.std.specs.Prelude.{◌≡◌, true, false};
-ghost use Rattle.symbols_syntax.specs.NodeRefs.{node_view, kind_of};
+ghost use Rattle.symbols_ast.specs.NodeRefs.{node_view, kind_of};
 ghost use Rattle.symbols_nodes.specs.NodeViews.{symbol_node_view};
-ghost use Rattle.symbols_nodes.specs.NodeMembers.{is_member_node, is_decl, accessibility_of, is_marked_private, has_private_name, is_private_member};
+ghost use Rattle.symbols_nodes.specs.NodeMembers.{is_member_node, is_decl, accessibility_of};
+ghost use Rattle.symbols_nodes.specs.NodeMembers.{has_private_modifier, has_private_name};
+ghost use Rattle.symbols_nodes.specs.NodeMembers.{is_private_member};
 
 use crate::nodes::refs::{ExportDeclRef, SymbolNodeRef};
-use symbols_syntax::tree::{Accessibility, Expr, Kind, Member, NodeRef};
+use symbols_ast::tree::{Accessibility, Expr, Kind, Member, NodeRef};
 
-/// Who may reach a member of a class, where that is written.
+/// Returns the accessibility modifier of a class member, if one is written.
 fn accessibility_of(kind: &Kind) -> Option<Accessibility>
     ensures { result ≡ accessibility_of kind.now }
 {
@@ -24,14 +26,14 @@ fn accessibility_of(kind: &Kind) -> Option<Accessibility>
     }
 }
 
-/// Whether `private` is written before the node.
-fn is_marked_private(node: NodeRef<'_>) -> bool
-    ensures { result ≡ is_marked_private (node_view node.entry) }
+/// Returns whether the node has the modifier `private`.
+fn has_private_modifier(node: NodeRef<'_>) -> bool
+    ensures { result ≡ has_private_modifier (node_view node.entry) }
 {
     matches!(accessibility_of(node.kind()), Some(Accessibility::Private))
 }
 
-/// Whether the node's key is a name with `#`.
+/// Returns whether the node's key is a private name, written with `#`.
 fn has_private_name(node: NodeRef<'_>) -> bool
     ensures { result ≡ has_private_name (node_view node.entry) }
 {
@@ -42,21 +44,23 @@ fn has_private_name(node: NodeRef<'_>) -> bool
 }
 
 impl ExportDeclRef<'_> {
-    /// Whether it is a member: none is (own name: deno_graph asks it of the node).
+    /// Returns false: no exported declaration is a member (own name: deno_graph has it on the
+    /// node).
     pub fn is_member(&self) -> bool
         ensures { result ≡ false }
     {
         false
     }
 
-    /// Whether it is a declaration: each is (own name: deno_graph asks it of the node).
+    /// Returns true: each is a declaration (own name: deno_graph has it on the node).
     pub fn is_decl(&self) -> bool
         ensures { result ≡ true }
     {
         true
     }
 
-    /// Whether it is a private member: none is (own name: deno_graph asks it of the node).
+    /// Returns false: no exported declaration is a member (own name: deno_graph has it on the
+    /// node).
     pub fn is_private_member(&self) -> bool
         ensures { result ≡ false }
     {
@@ -65,8 +69,8 @@ impl ExportDeclRef<'_> {
 }
 
 impl SymbolNodeRef<'_> {
-    /// Whether it is a member of a class or an interface, or a property that is assigned to a
-    /// function (as deno_graph).
+    /// Returns whether the node is a member of a class or interface, or an expando property (as
+    /// deno_graph).
     pub fn is_member(&self) -> bool
         ensures { result ≡ is_member_node (symbol_node_view self.now) }
     {
@@ -88,26 +92,27 @@ impl SymbolNodeRef<'_> {
         )
     }
 
-    /// Whether it is neither the module nor a member (as deno_graph).
+    /// Returns whether the node is neither the module nor a member (as deno_graph).
     pub fn is_decl(&self) -> bool
         ensures { result ≡ is_decl (symbol_node_view self.now) }
     {
         !self.is_module() && !self.is_member()
     }
 
-    /// Whether it is a member of a class that is marked `private`, or an accessor whose name is
-    /// private (as deno_graph). Methods and properties with private names are no declarations.
+    /// Returns whether the node is a class member with the modifier `private`, or an auto-accessor
+    /// with a private name (as deno_graph). Methods and properties with private names are no
+    /// declarations.
     pub fn is_private_member(&self) -> bool
         ensures { result ≡ is_private_member (symbol_node_view self.now) }
     {
         match self {
             SymbolNodeRef::AutoAccessor(node) => {
-                is_marked_private(*node) || has_private_name(*node)
+                has_private_modifier(*node) || has_private_name(*node)
             }
             SymbolNodeRef::ClassMethod(node)
             | SymbolNodeRef::ClassProp(node)
             | SymbolNodeRef::ClassParamProp(node)
-            | SymbolNodeRef::Constructor(node) => is_marked_private(*node),
+            | SymbolNodeRef::Constructor(node) => has_private_modifier(*node),
             _ => false,
         }
     }

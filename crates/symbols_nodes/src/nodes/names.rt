@@ -1,17 +1,22 @@
-//! What the node of a declaration is called.
+//! The names of declaration nodes.
 
 ghost use Rattle.std.specs.Prelude.{◌≡◌, ◌++◌, Some, None, IfOk, IsOkAnd, string_bytes, codes};
 ghost use Rattle.std.specs.Option.{option_map, option_copied, option_and_then};
 ghost use Rattle.std.specs.Cow.{cow_str_bytes};
-ghost use Rattle.symbols_syntax.specs.NodeRefs.{node_view, kind_of};
-ghost use Rattle.symbols_syntax.specs.ChildFields.{ident_of, id_of, key_of, expr_of};
+ghost use Rattle.symbols_ast.specs.NodeRefs.{node_view, kind_of};
+ghost use Rattle.symbols_ast.specs.ChildFields.{ident_of, id_of, key_of, expr_of};
 ghost use Rattle.symbols_nodes.specs.NodeViews.{export_decl_view, symbol_node_view};
-ghost use Rattle.symbols_nodes.specs.NodeNames.{ident_or_literal_text, text_in, key_text, key_name, binding_name, param_text, param_name, default_decl_text, default_decl_name, exported_name, lent_name, node_name};
+ghost use Rattle.symbols_nodes.specs.NodeNames.{ident_or_literal_text, child_text, key_text};
+ghost use Rattle.symbols_nodes.specs.NodeNames.{key_name};
+ghost use Rattle.symbols_nodes.specs.NodeNames.{binding_name, param_text, param_name};
+ghost use Rattle.symbols_nodes.specs.NodeNames.{default_decl_text};
+ghost use Rattle.symbols_nodes.specs.NodeNames.{default_decl_name, export_decl_name};
+ghost use Rattle.symbols_nodes.specs.NodeNames.{name_unless_class_key, node_name};
 
 use crate::nodes::refs::{ExportDeclRef, SymbolNodeRef};
 use std::alloc::{AllocError, Global};
 use std::borrow::CowStr;
-use symbols_syntax::tree::{Decl, Expr, Kind, NodeRef, Pat};
+use symbols_ast::tree::{Decl, Expr, Kind, NodeRef, Pat};
 
 fn ident_or_literal_text(kind: &Kind) -> Option<&str>
     ensures { option_copied result ≡ ident_or_literal_text kind.now }
@@ -24,14 +29,15 @@ fn ident_or_literal_text(kind: &Kind) -> Option<&str>
     }
 }
 
-/// The text of a child, if it is there.
-fn text_in<'a>(child: Option<NodeRef<'a>>) -> Option<&'a str>
-    ensures { option_copied result ≡ option_and_then ident_or_literal_text (option_and_then kind_of (option_map node_view child.entry)) }
+/// Returns the text of a child that is an identifier or a literal.
+fn child_text<'a>(child: Option<NodeRef<'a>>) -> Option<&'a str>
+    ensures { option_copied result ≡ option_and_then ident_or_literal_text (option_and_then kind_of
+        (option_map node_view child.entry)) }
 {
     ident_or_literal_text(child?.kind())
 }
 
-/// The text of a private name, after `#`.
+/// Returns a private name with `#` before it.
 fn private_text(alloc: Global, name: &str) -> Result<String, AllocError>
     ensures { IfOk result (λ text. string_bytes text ≡ codes "#" ++ name.now) }
 {
@@ -41,8 +47,8 @@ fn private_text(alloc: Global, name: &str) -> Result<String, AllocError>
     Ok(text)
 }
 
-/// A text that is lent.
-fn lent<'a>(text: Option<&'a str>) -> Option<CowStr<'a>>
+/// Returns a text as a borrowed `CowStr`.
+fn borrowed_text<'a>(text: Option<&'a str>) -> Option<CowStr<'a>>
     ensures { option_map cow_str_bytes result ≡ option_copied text.entry }
 {
     match text {
@@ -51,9 +57,11 @@ fn lent<'a>(text: Option<&'a str>) -> Option<CowStr<'a>>
     }
 }
 
-/// The name of a key: none of a big integer.
+/// Returns the name of a key; `None` for a big integer, and for a computed key that is no name or
+/// literal.
 fn key_text<'a>(alloc: Global, key: NodeRef<'a>) -> Result<Option<CowStr<'a>>, AllocError>
-    ensures { IfOk result (λ name. option_map cow_str_bytes name ≡ option_and_then (key_text (node_view key.entry)) (kind_of (node_view key.entry))) }
+    ensures { IfOk result (λ name. option_map cow_str_bytes name
+        ≡ option_and_then (key_text (node_view key.entry)) (kind_of (node_view key.entry))) }
 {
     match key.kind() {
         Kind::Expr(Expr::PrivateName { name }) => {
@@ -63,14 +71,15 @@ fn key_text<'a>(alloc: Global, key: NodeRef<'a>) -> Result<Option<CowStr<'a>>, A
         Kind::Expr(Expr::IdentName { name }) => Ok(Some(CowStr::Borrowed(name))),
         Kind::Expr(Expr::Str { value }) => Ok(Some(CowStr::Borrowed(value))),
         Kind::Expr(Expr::Num { text }) => Ok(Some(CowStr::Borrowed(text))),
-        Kind::Expr(Expr::Computed { .. }) => Ok(lent(text_in(key.expr()))),
+        Kind::Expr(Expr::Computed { .. }) => Ok(borrowed_text(child_text(key.expr()))),
         _ => Ok(None),
     }
 }
 
-/// The name of the key of a member.
+/// Returns the name of a member's key.
 fn key_name<'a>(alloc: Global, node: NodeRef<'a>) -> Result<Option<CowStr<'a>>, AllocError>
-    ensures { IfOk result (λ name. option_map cow_str_bytes name ≡ key_name (node_view node.entry)) }
+    ensures { IfOk result
+        (λ name. option_map cow_str_bytes name ≡ key_name (node_view node.entry)) }
 {
     match node.key() {
         Some(key) => key_text(alloc, key),
@@ -78,7 +87,7 @@ fn key_name<'a>(alloc: Global, node: NodeRef<'a>) -> Result<Option<CowStr<'a>>, 
     }
 }
 
-/// The name that a pattern binds, if it is a name.
+/// Returns the name that a pattern binds, if it is an identifier.
 fn binding_name<'a>(node: NodeRef<'a>) -> Option<&'a str>
     ensures { option_copied result ≡ binding_name (node_view node.entry) }
 {
@@ -88,7 +97,7 @@ fn binding_name<'a>(node: NodeRef<'a>) -> Option<&'a str>
     }
 }
 
-/// The name of a parameter that is a property.
+/// Returns the name of a parameter property.
 fn param_name<'a>(node: NodeRef<'a>) -> Option<&'a str>
     ensures { option_copied result ≡ param_name (node_view node.entry) }
 {
@@ -99,43 +108,44 @@ fn param_name<'a>(node: NodeRef<'a>) -> Option<&'a str>
     }
 }
 
-/// The name after `export default`, if one stands there.
+/// Returns the name of the declaration after `export default`, if it has one.
 fn default_name<'a>(node: NodeRef<'a>) -> Option<&'a str>
     ensures { option_copied result ≡ default_decl_name (node_view node.entry) }
 {
     let decl = node.decl()?;
     match decl.kind() {
-        Kind::Decl(Decl::TsInterfaceDecl { .. }) => text_in(decl.id()),
-        _ => text_in(decl.ident()),
+        Kind::Decl(Decl::TsInterfaceDecl { .. }) => child_text(decl.id()),
+        _ => child_text(decl.ident()),
     }
 }
 
-/// The name after `export`.
-fn exported_name<'a>(decl: ExportDeclRef<'a>) -> Option<&'a str>
-    ensures { option_copied result ≡ exported_name (export_decl_view decl.entry) }
+/// Returns the name of the declaration after `export`.
+fn export_decl_name<'a>(decl: ExportDeclRef<'a>) -> Option<&'a str>
+    ensures { option_copied result ≡ export_decl_name (export_decl_view decl.entry) }
 {
     match decl {
-        ExportDeclRef::Class(node) | ExportDeclRef::Fn(node) => text_in(node.ident()),
+        ExportDeclRef::Class(node) | ExportDeclRef::Fn(node) => child_text(node.ident()),
         ExportDeclRef::Var(_, _, ident) => binding_name(ident),
         ExportDeclRef::TsEnum(node)
         | ExportDeclRef::TsInterface(node)
         | ExportDeclRef::TsModule(node)
-        | ExportDeclRef::TsTypeAlias(node) => text_in(node.id()),
+        | ExportDeclRef::TsTypeAlias(node) => child_text(node.id()),
     }
 }
 
-/// The name, but for that of a key, which may have to be made.
-fn lent_name<'a>(node: SymbolNodeRef<'a>) -> Option<&'a str>
-    ensures { option_copied result ≡ lent_name (symbol_node_view node.entry) }
+/// Returns the name of a node whose name is in the tree as it is. It is `None` for class members
+/// named by a key, which `maybe_name` handles.
+fn name_unless_class_key<'a>(node: SymbolNodeRef<'a>) -> Option<&'a str>
+    ensures { option_copied result ≡ name_unless_class_key (symbol_node_view node.entry) }
 {
     match node {
-        SymbolNodeRef::ExportDecl(_, decl) => exported_name(decl),
+        SymbolNodeRef::ExportDecl(_, decl) => export_decl_name(decl),
         SymbolNodeRef::ExportDefaultDecl(node) => default_name(node),
-        SymbolNodeRef::ClassDecl(node) | SymbolNodeRef::FnDecl(node) => text_in(node.ident()),
+        SymbolNodeRef::ClassDecl(node) | SymbolNodeRef::FnDecl(node) => child_text(node.ident()),
         SymbolNodeRef::TsEnum(node)
         | SymbolNodeRef::TsInterface(node)
         | SymbolNodeRef::TsNamespace(node)
-        | SymbolNodeRef::TsTypeAlias(node) => text_in(node.id()),
+        | SymbolNodeRef::TsTypeAlias(node) => child_text(node.id()),
         SymbolNodeRef::Var(_, _, ident) | SymbolNodeRef::UsingVar(_, _, ident) => {
             binding_name(ident)
         }
@@ -148,7 +158,7 @@ fn lent_name<'a>(node: SymbolNodeRef<'a>) -> Option<&'a str>
         SymbolNodeRef::TsPropertySignature(node)
         | SymbolNodeRef::TsGetterSignature(node)
         | SymbolNodeRef::TsSetterSignature(node)
-        | SymbolNodeRef::TsMethodSignature(node) => text_in(node.key()),
+        | SymbolNodeRef::TsMethodSignature(node) => child_text(node.key()),
         SymbolNodeRef::Module(_)
         | SymbolNodeRef::ExportDefaultExpr(_)
         | SymbolNodeRef::AutoAccessor(_)
@@ -158,34 +168,36 @@ fn lent_name<'a>(node: SymbolNodeRef<'a>) -> Option<&'a str>
 }
 
 impl<'a> ExportDeclRef<'a> {
-    /// What the declaration is called: the name of its identifier, or the text of a module's name
-    /// (own name: deno_graph asks it of the node, and so has the type of this answer). It takes no
-    /// memory, and is never refused.
+    /// Returns the name of the declaration: its identifier, or the string that names a module (own
+    /// name: deno_graph has it on the node, which also explains the result type). It never fails.
     pub fn maybe_name(self, _: Global) -> Result<Option<CowStr<'a>>, AllocError>
-        ensures { IsOkAnd result (λ name. option_map cow_str_bytes name ≡ exported_name (export_decl_view self.entry)) }
+        ensures { IsOkAnd result
+            (λ name. option_map cow_str_bytes name ≡ export_decl_name (export_decl_view self.entry)) }
     {
-        Ok(lent(exported_name(self)))
+        Ok(borrowed_text(export_decl_name(self)))
     }
 }
 
 impl<'a> SymbolNodeRef<'a> {
-    /// What the declaration is called (as deno_graph): the name of its identifier or its key,
-    /// before a private name `#`; a constructor, a call signature, a construct signature and an
-    /// index signature have names of their own. None of a module, of an expression, of a default
-    /// class or function without a name, of a key in a class that is a big integer, and of a key
-    /// that is computed from more than a name or a literal.
+    /// Returns the name of the declaration (as deno_graph): its identifier or its key, with `#`
+    /// before a private one. A constructor, a call signature, a construct signature and an index
+    /// signature have reserved names, such as `%%dg_ctor%%`. It is `None` for a module, for an
+    /// expression, and for a default class or function without an identifier. It is also `None` for
+    /// a class member's key that is a big integer, and for a key computed from more than a name or
+    /// a literal.
     ///
     /// # Errors
     ///
-    /// Memory was refused, which only the name of a private key takes.
+    /// The allocation failed. The contract does not say which names need an allocation.
     pub fn maybe_name(self, alloc: Global) -> Result<Option<CowStr<'a>>, AllocError>
-        ensures { IfOk result (λ name. option_map cow_str_bytes name ≡ node_name (symbol_node_view self.entry)) }
+        ensures { IfOk result
+            (λ name. option_map cow_str_bytes name ≡ node_name (symbol_node_view self.entry)) }
     {
         match self {
             SymbolNodeRef::AutoAccessor(node)
             | SymbolNodeRef::ClassMethod(node)
             | SymbolNodeRef::ClassProp(node) => key_name(alloc, node),
-            _ => Ok(lent(lent_name(self))),
+            _ => Ok(borrowed_text(name_unless_class_key(self))),
         }
     }
 }

@@ -1,16 +1,18 @@
-//! What a declaration is in: the namespace of values, that of types, or both.
+//! The namespaces that a declaration is in: values, types, or both.
 
 ghost use Rattle.std.specs.Prelude.{◌≡◌};
 ghost use Rattle.symbols_nodes.specs.NodeViews.{export_decl_view, symbol_node_view};
-ghost use Rattle.symbols_nodes.specs.NodeNamespaces.{exported_namespaces, namespaces};
+ghost use Rattle.symbols_nodes.specs.NodeNamespaces.{value_type_namespaces_of_export_decl};
+ghost use Rattle.symbols_nodes.specs.NodeNamespaces.{namespaces};
 
 use crate::nodes::refs::{ExportDeclRef, SymbolNodeRef};
 
 impl ExportDeclRef<'_> {
-    /// Whether it is a value, and whether it is a type: variables and functions are values alone,
-    /// interfaces and aliases types alone, all else is both (as deno_graph).
+    /// Returns whether the declaration is in the value namespace, and whether in the type
+    /// namespace. Variables and functions are values only. Interfaces and type aliases are types
+    /// only. Classes, enums and namespaces are both (as deno_graph).
     pub fn namespaces(&self) -> (bool, bool)
-        ensures { result ≡ exported_namespaces (export_decl_view self.now) }
+        ensures { result ≡ value_type_namespaces_of_export_decl (export_decl_view self.now) }
     {
         match self {
             ExportDeclRef::Var(..) | ExportDeclRef::Fn(_) => (true, false),
@@ -23,9 +25,10 @@ impl ExportDeclRef<'_> {
 }
 
 impl SymbolNodeRef<'_> {
-    /// Whether it is a value, and whether it is a type: variables, functions, default expressions
-    /// and properties that are assigned to a function are values alone, interfaces and aliases
-    /// types alone, all else is both, modules and members too (as deno_graph).
+    /// Returns whether the node is in the value namespace, and whether in the type namespace.
+    /// Variables, functions, default expressions and expando properties are values only. Interfaces
+    /// and type aliases are types only. All others are both, the module and members included (as
+    /// deno_graph).
     pub fn namespaces(&self) -> (bool, bool)
         ensures { result ≡ namespaces (symbol_node_view self.now) }
     {

@@ -1,24 +1,34 @@
-//! What holds of the node of a declaration, by its kind.
+//! Tests of declaration nodes by their kinds.
 
 ghost use Rattle.std.specs.Prelude.{◌≡◌, true, false};
 ghost use Rattle.std.specs.Option.{option_and_then, option_copied};
-ghost use Rattle.symbols_syntax.specs.NodeRefs.{node_view, kind_of, child_of};
-ghost use Rattle.symbols_syntax.specs.ChildFields.{decl_of};
+ghost use Rattle.symbols_ast.specs.NodeRefs.{node_view, kind_of, child_in_field};
+ghost use Rattle.symbols_ast.specs.ChildFields.{decl_of};
 ghost use Rattle.symbols_nodes.specs.NodeViews.{export_decl_view, symbol_node_view};
-ghost use Rattle.symbols_nodes.specs.NodeTests.{is_exported_class, is_class, is_exported_function, is_function, is_exported_interface, is_interface, is_exported_ts_namespace, is_ts_namespace, is_exported_var, is_var, is_ctor, is_module, has_export_keyword, has_own_body, has_function_body, exported_has_body, default_has_body, has_body, is_method};
+ghost use Rattle.symbols_nodes.specs.NodeTests.{is_exported_class, is_class, is_exported_function};
+ghost use Rattle.symbols_nodes.specs.NodeTests.{is_function};
+ghost use Rattle.symbols_nodes.specs.NodeTests.{is_exported_interface, is_interface};
+ghost use Rattle.symbols_nodes.specs.NodeTests.{is_exported_ts_namespace};
+ghost use Rattle.symbols_nodes.specs.NodeTests.{is_ts_namespace, is_exported_var, is_var, is_ctor};
+ghost use Rattle.symbols_nodes.specs.NodeTests.{is_module};
+ghost use Rattle.symbols_nodes.specs.NodeTests.{has_export_keyword, has_direct_body};
+ghost use Rattle.symbols_nodes.specs.NodeTests.{has_function_body};
+ghost use Rattle.symbols_nodes.specs.NodeTests.{exported_has_body, default_has_body, has_body};
+ghost use Rattle.symbols_nodes.specs.NodeTests.{is_method};
 
 use crate::nodes::refs::{ExportDeclRef, SymbolNodeRef};
-use symbols_syntax::tree::{Decl, Kind, Member, MethodKind, NodeRef};
+use symbols_ast::tree::{Decl, Kind, Member, MethodKind, NodeRef};
 
-/// The kind of the declaration after `export default`.
+/// Returns the kind of the declaration after `export default`.
 fn default_kind<'a>(node: NodeRef<'a>) -> Option<&'a Kind>
-    ensures { option_copied result ≡ option_and_then kind_of (child_of (node_view node.entry) decl_of) }
+    ensures { option_copied result
+        ≡ option_and_then kind_of (child_in_field (node_view node.entry) decl_of) }
 {
     Some(node.decl()?.kind())
 }
 
-fn has_own_body(node: NodeRef<'_>) -> bool
-    ensures { result ≡ has_own_body (node_view node.entry) }
+fn has_direct_body(node: NodeRef<'_>) -> bool
+    ensures { result ≡ has_direct_body (node_view node.entry) }
 {
     node.body_node().is_some()
 }
@@ -27,7 +37,7 @@ fn has_function_body(node: NodeRef<'_>) -> bool
     ensures { result ≡ has_function_body (node_view node.entry) }
 {
     match node.function() {
-        Some(function) => has_own_body(function),
+        Some(function) => has_direct_body(function),
         None => false,
     }
 }
@@ -43,43 +53,44 @@ fn default_has_body(decl: NodeRef<'_>) -> bool
 }
 
 impl ExportDeclRef<'_> {
-    /// Whether it is a class (own name: deno_graph asks it of the node).
+    /// Returns whether the declaration is a class (own name: deno_graph has it on the node).
     pub fn is_class(&self) -> bool
         ensures { result ≡ is_exported_class (export_decl_view self.now) }
     {
         matches!(self, ExportDeclRef::Class(_))
     }
 
-    /// Whether it is a function (own name: deno_graph asks it of the node).
+    /// Returns whether the declaration is a function (own name: deno_graph has it on the node).
     pub fn is_function(&self) -> bool
         ensures { result ≡ is_exported_function (export_decl_view self.now) }
     {
         matches!(self, ExportDeclRef::Fn(_))
     }
 
-    /// Whether it is an interface (own name: deno_graph asks it of the node).
+    /// Returns whether the declaration is an interface (own name: deno_graph has it on the node).
     pub fn is_interface(&self) -> bool
         ensures { result ≡ is_exported_interface (export_decl_view self.now) }
     {
         matches!(self, ExportDeclRef::TsInterface(_))
     }
 
-    /// Whether it is a namespace (own name: deno_graph asks it of the node).
+    /// Returns whether the declaration is a namespace (own name: deno_graph has it on the node).
     pub fn is_ts_namespace(&self) -> bool
         ensures { result ≡ is_exported_ts_namespace (export_decl_view self.now) }
     {
         matches!(self, ExportDeclRef::TsModule(_))
     }
 
-    /// Whether it is a variable (own name: deno_graph asks it of the node).
+    /// Returns whether the declaration is a variable (own name: deno_graph has it on the node).
     pub fn is_var(&self) -> bool
         ensures { result ≡ is_exported_var (export_decl_view self.now) }
     {
         matches!(self, ExportDeclRef::Var(..))
     }
 
-    /// Whether it has a body: classes, enums and interfaces always, functions and namespaces where
-    /// one stands (as deno_graph).
+    /// Returns whether the declaration has a body (as deno_graph). Classes, enums and interfaces
+    /// always have one, variables and type aliases never; functions and namespaces have one if it
+    /// is written.
     pub fn has_body(&self) -> bool
         ensures { result ≡ exported_has_body (export_decl_view self.now) }
     {
@@ -88,26 +99,28 @@ impl ExportDeclRef<'_> {
                 true
             }
             ExportDeclRef::Fn(node) => has_function_body(*node),
-            ExportDeclRef::TsModule(node) => has_own_body(*node),
+            ExportDeclRef::TsModule(node) => has_direct_body(*node),
             ExportDeclRef::Var(..) | ExportDeclRef::TsTypeAlias(_) => false,
         }
     }
 
-    /// Whether it is a constructor: none is (own name: deno_graph asks it of the node).
+    /// Returns false: no exported declaration is a constructor (own name: deno_graph has it on the
+    /// node).
     pub fn is_ctor(&self) -> bool
         ensures { result ≡ false }
     {
         false
     }
 
-    /// Whether it is the module: none is (own name: deno_graph asks it of the node).
+    /// Returns false: no exported declaration is the module (own name: deno_graph has it on the
+    /// node).
     pub fn is_module(&self) -> bool
         ensures { result ≡ false }
     {
         false
     }
 
-    /// Whether it stands after `export`: each does (own name: deno_graph asks it of the node).
+    /// Returns true: each has the keyword `export` (own name: deno_graph has it on the node).
     pub fn has_export_keyword(&self) -> bool
         ensures { result ≡ true }
     {
@@ -116,7 +129,7 @@ impl ExportDeclRef<'_> {
 }
 
 impl SymbolNodeRef<'_> {
-    /// Whether it is a class: plain, exported or default (as deno_graph).
+    /// Returns whether the node is a class: without `export`, exported, or default (as deno_graph).
     pub fn is_class(&self) -> bool
         ensures { result ≡ is_class (symbol_node_view self.now) }
     {
@@ -133,7 +146,8 @@ impl SymbolNodeRef<'_> {
         }
     }
 
-    /// Whether it is a function: plain, exported or default (as deno_graph).
+    /// Returns whether the node is a function: without `export`, exported, or default (as
+    /// deno_graph).
     pub fn is_function(&self) -> bool
         ensures { result ≡ is_function (symbol_node_view self.now) }
     {
@@ -147,7 +161,8 @@ impl SymbolNodeRef<'_> {
         }
     }
 
-    /// Whether it is an interface: plain, exported or default (as deno_graph).
+    /// Returns whether the node is an interface: without `export`, exported, or default (as
+    /// deno_graph).
     pub fn is_interface(&self) -> bool
         ensures { result ≡ is_interface (symbol_node_view self.now) }
     {
@@ -164,7 +179,7 @@ impl SymbolNodeRef<'_> {
         }
     }
 
-    /// Whether it is a namespace: plain or exported (as deno_graph).
+    /// Returns whether the node is a namespace, exported or not (as deno_graph).
     pub fn is_ts_namespace(&self) -> bool
         ensures { result ≡ is_ts_namespace (symbol_node_view self.now) }
     {
@@ -175,8 +190,8 @@ impl SymbolNodeRef<'_> {
         }
     }
 
-    /// Whether it is a variable of `var`, `let` or `const`: plain or exported. One of `using` isn't
-    /// (as deno_graph).
+    /// Returns whether the node is a variable of `var`, `let` or `const`, exported or not. A
+    /// variable of `using` isn't (as deno_graph).
     pub fn is_var(&self) -> bool
         ensures { result ≡ is_var (symbol_node_view self.now) }
     {
@@ -187,21 +202,21 @@ impl SymbolNodeRef<'_> {
         }
     }
 
-    /// Whether it is a constructor (as deno_graph).
+    /// Returns whether the node is a constructor (as deno_graph).
     pub fn is_ctor(&self) -> bool
         ensures { result ≡ is_ctor (symbol_node_view self.now) }
     {
         matches!(self, SymbolNodeRef::Constructor(_))
     }
 
-    /// Whether it is the module (as deno_graph).
+    /// Returns whether the node is the module (as deno_graph).
     pub fn is_module(&self) -> bool
         ensures { result ≡ is_module (symbol_node_view self.now) }
     {
         matches!(self, SymbolNodeRef::Module(_))
     }
 
-    /// Whether it stands after `export` or `export default` (as deno_graph).
+    /// Returns whether the node has `export` or `export default` (as deno_graph).
     pub fn has_export_keyword(&self) -> bool
         ensures { result ≡ has_export_keyword (symbol_node_view self.now) }
     {
@@ -213,9 +228,9 @@ impl SymbolNodeRef<'_> {
         )
     }
 
-    /// Whether it has a body: modules, classes, enums and interfaces always, functions,
-    /// namespaces, methods and constructors where one stands (as deno_graph, but for an
-    /// `AutoAccessor`, which has none).
+    /// Returns whether the node has a body. Modules, classes, enums and interfaces always have one.
+    /// Functions, namespaces, methods and constructors have one if it is written (as deno_graph,
+    /// but for an `AutoAccessor`, which has none).
     pub fn has_body(&self) -> bool
         ensures { result ≡ has_body (symbol_node_view self.now) }
     {
@@ -233,14 +248,14 @@ impl SymbolNodeRef<'_> {
                 has_function_body(*node)
             }
             SymbolNodeRef::TsNamespace(node) | SymbolNodeRef::Constructor(node) => {
-                has_own_body(*node)
+                has_direct_body(*node)
             }
             _ => false,
         }
     }
 
-    /// Whether it is a method that is no getter and no setter, or a constructor (own name for what
-    /// deno_graph asks where it sets the overload flag).
+    /// Returns whether the node is a constructor, or a method other than a getter or setter (own
+    /// name for the test by which deno_graph sets the overload flag).
     pub fn is_method(&self) -> bool
         ensures { result ≡ is_method (symbol_node_view self.now) }
     {

@@ -1,12 +1,12 @@
-//! Declarations as nodes: each with the nodes that it is made of.
+//! Typed references to the syntax nodes that declare symbols.
 
 ghost use Rattle.std.specs.Prelude.{◌≡◌, is_some, true};
-ghost use Rattle.symbols_syntax.specs.NodeRefs.{node_view};
-ghost use Rattle.symbols_nodes.specs.Expando.{expando_in};
+ghost use Rattle.symbols_ast.specs.NodeRefs.{node_view};
+ghost use Rattle.symbols_nodes.specs.Expando.{expando_of_assignment};
 
-use symbols_syntax::tree::NodeRef;
+use symbols_ast::tree::NodeRef;
 
-/// The declaration that stands after `export` (as deno_graph).
+/// The declaration after `export` (as deno_graph).
 #[derive(Clone, Copy)]
 pub enum ExportDeclRef<'a> {
     /// A class.
@@ -25,15 +25,16 @@ pub enum ExportDeclRef<'a> {
     TsTypeAlias(NodeRef<'a>),
 }
 
-/// An assignment that adds a property to a function: `f.p = ..` or `f["p"] = ..`, where `f` is an
-/// identifier and so is `p` (as deno_graph).
+/// An expando assignment, which adds a property to a function: `f.p = ..` or `f["p"] = ..`. The
+/// object is an identifier, and `p` has the form of one (as deno_graph).
 #[derive(Clone, Copy)]
 pub struct ExpandoPropertyRef<'a> {
     pub(crate) inner: NodeRef<'a>,
-    pub(crate) ghost is_expando: { is_some (expando_in (node_view inner)) ≡ true },
+    pub(crate) ghost is_expando: { is_some (expando_of_assignment (node_view inner)) ≡ true },
 }
 
-/// The node of a declaration (as deno_graph).
+/// The syntax node of a declaration, in the role in which it declares a symbol (as deno_graph). The
+/// crate `symbols_table` calls it the form of a declaration.
 #[derive(Clone, Copy)]
 pub enum SymbolNodeRef<'a> {
     /// The module: its `Program`.
@@ -60,17 +61,17 @@ pub enum SymbolNodeRef<'a> {
     Var(NodeRef<'a>, NodeRef<'a>, NodeRef<'a>),
     /// A variable of `using`: the `UsingDecl`, the `VarDeclarator` and the `BindingIdent`.
     UsingVar(NodeRef<'a>, NodeRef<'a>, NodeRef<'a>),
-    /// An accessor of a class.
+    /// An auto-accessor of a class, declared with the keyword `accessor`.
     AutoAccessor(NodeRef<'a>),
     /// A method, a getter or a setter of a class.
     ClassMethod(NodeRef<'a>),
     /// A property of a class.
     ClassProp(NodeRef<'a>),
-    /// A parameter of a constructor that is a property: the `TsParamProp`.
+    /// A parameter property of a constructor: the `TsParamProp`.
     ClassParamProp(NodeRef<'a>),
     /// The constructor of a class.
     Constructor(NodeRef<'a>),
-    /// A property that is assigned to a function.
+    /// An expando property: an assignment to a property of a function.
     ExpandoProperty(ExpandoPropertyRef<'a>),
     /// An index signature.
     TsIndexSignature(NodeRef<'a>),

@@ -1,8 +1,8 @@
--- Beside the definitions of `AnswerViews`: what inner functions and proofs say of the same.
-use Rattle.symbols_paths.specs.Trees.{PathTree}
-use Rattle.symbols_queries.specs.declared.queries.paths.NamedLink.{NamedLink}
-use Rattle.symbols_queries.specs.declared.queries.paths.NamedPath.TheFolds.{fold-NamedLink}
-use Rattle.symbols_queries.specs.AnswerViews.{path_step, named_link_step}
+-- The answers of the library: definitions for inner functions and proofs.
+use Rattle.symbols_paths.specs.PathTrees.{PathTree}
+use Rattle.symbols_queries.specs.declared.paths_by_specifier.PathLinkBySpecifier.{PathLinkBySpecifier}
+use Rattle.symbols_queries.specs.declared.paths_by_specifier.PathBySpecifier.TheFolds.{fold-PathLinkBySpecifier}
+use Rattle.symbols_queries.specs.AnswerViews.{path_fold_step, link_fold_step}
 
-abbrev pub link_view : NamedLink → PathTree
-link_view = fold-NamedLink PathTree PathTree path_step named_link_step
+abbrev pub path_link_view : PathLinkBySpecifier → PathTree
+path_link_view = fold-PathLinkBySpecifier PathTree PathTree path_fold_step link_fold_step

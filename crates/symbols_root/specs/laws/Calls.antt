@@ -1,19 +1,22 @@
--- What a call on a root keeps, where other calls come before it: laws that are proved.
+-- Laws on calls of a root after earlier calls. They are proved.
 use Rattle.std.proofs.Common.{◌≡◌, Result, Ok, Err, sym, subst, ◌∙◌}
 use Rattle.std.specs.Result.{IsErrAnd}
 use Rattle.symbols_table.specs.declared.info.fault.SymbolsFault.{SymbolsFault}
 use Rattle.symbols_table.specs.declared.info.fault.SymbolsFault.TheVariants.{OutOfMemory}
 use Rattle.symbols_root.specs.Roots.{RootView}
 use Rattle.symbols_root.specs.Growing.{HasGrown}
-use Rattle.symbols_root.specs.Calls.{Keeps}
-use Rattle.symbols_root.specs.laws.Growing.{grown_on}
+use Rattle.symbols_root.specs.Calls.{KeepsStored}
+use Rattle.symbols_root.specs.laws.Growing.{has_grown_trans}
 
--- behind a root that has grown, and with what its reasons are reasons for
-pub keeps_on : {A : Type 0} {a b c : RootView} {P Q : SymbolsFault → Type 0} (result : Result A SymbolsFault) → HasGrown a b → ((fault : SymbolsFault) → P fault → Q fault) → Keeps b c P result → Keeps a c Q result
-keeps_on (Ok x) first further then = record { grown = grown_on first then.grown; refused = tt; enough = λ wide. tt }
-keeps_on (Err fault) first further then = record { grown = grown_on first then.grown; refused = further fault then.refused; enough = λ wide. then.enough (first.limits ∙ wide) }
+-- `KeepsStored` also holds from an earlier root on, and for more reasons
+pub keeps_stored_after_growth : {A : Type 0} {a b c : RootView} {P Q : SymbolsFault → Type 0} (result : Result A SymbolsFault) → HasGrown a b
+    → ((fault : SymbolsFault) → P fault → Q fault) → KeepsStored b c P result → KeepsStored a c Q result
+keeps_stored_after_growth (Ok x) first further then = record { grown = has_grown_trans first then.grown; refused = tt; enough = λ wide. tt }
+keeps_stored_after_growth (Err fault) first further then =
+    record { grown = has_grown_trans first then.grown; refused = further fault then.refused; enough = λ wide. then.enough (first.limits ∙ wide) }
 
--- where memory is refused at the end
-pub keeps_without_memory : {A : Type 0} {a b : RootView} {P : SymbolsFault → Type 0} (result : Result A SymbolsFault) → HasGrown a b → IsErrAnd result (λ fault. fault ≡ OutOfMemory) → P OutOfMemory → Keeps a b P result
-keeps_without_memory (Ok x) grown is held = record { grown = grown; refused = tt; enough = λ wide. tt }
-keeps_without_memory {P = P} (Err fault) grown is held = record { grown = grown; refused = subst P (sym is) held; enough = λ wide. is }
+-- a call that fails only with `OutOfMemory` has `KeepsStored`, if that is a reason
+pub keeps_stored_if_out_of_memory : {A : Type 0} {a b : RootView} {P : SymbolsFault → Type 0} (result : Result A SymbolsFault) → HasGrown a b
+    → IsErrAnd result (λ fault. fault ≡ OutOfMemory) → P OutOfMemory → KeepsStored a b P result
+keeps_stored_if_out_of_memory (Ok x) grown is memory_case = record { grown = grown; refused = tt; enough = λ wide. tt }
+keeps_stored_if_out_of_memory {P = P} (Err fault) grown is memory_case = record { grown = grown; refused = subst P (sym is) memory_case; enough = λ wide. is }

@@ -1,21 +1,22 @@
--- What a number says that a root gives for a specifier: laws that are proved.
+-- Laws on the number that a root returns for a specifier. They are proved.
 use Rattle.std.proofs.Common.{◌≡◌, ℕ, ◌<◌, List, [], length, Option, None, Some, option_map, refl, sym, ap}
 use Rattle.std.proofs.lemmas.Option.{get_or_from_slice_get, none-some, same_Some, slice_get_within}
-use Rattle.symbols_syntax.specs.declared.ids.ModuleId.{ModuleId}
-use Rattle.symbols_root.specs.Roots.{RootView, specifier_under, specifier_in}
+use Rattle.symbols_ast.specs.declared.ids.ModuleId.{ModuleId}
+use Rattle.symbols_root.specs.Roots.{RootView, maybe_specifier, specifier_in}
 
--- the module that something stands for, by its number
-pub record IsTarget (root : RootView) (id : ModuleId) (found : Option (List ℕ)) : Type 0 where
+-- the number is that of the stored module that was found
+pub record IsNumberOfFoundModule (root : RootView) (id : ModuleId) (found : Option (List ℕ)) : Type 0 where
   pub is : found ≡ Some (specifier_in root id)
   pub within : id.0 < length root.stored
 
-pub target_is : (root : RootView) (id : ModuleId) (found : Option (List ℕ)) → Some (specifier_under root id) ≡ option_map (λ s. Some s) found → IsTarget root id found
-target_is root id None e = absurd (none-some (specifier_under root id) (sym e))
+pub target_is : (root : RootView) (id : ModuleId) (found : Option (List ℕ)) → Some (maybe_specifier root id) ≡ option_map (λ s. Some s) found
+    → IsNumberOfFoundModule root id found
+target_is root id None e = absurd (none-some (maybe_specifier root id) (sym e))
 target_is root id (Some v) e =
-    let at : specifier_under root id ≡ Some v = same_Some (specifier_under root id) (Some v) e in
+    let at : maybe_specifier root id ≡ Some v = same_Some (maybe_specifier root id) (Some v) e in
     record { is = ap Some (sym (get_or_from_slice_get root.stored id.0 v [] at)); within = slice_get_within root.stored id.0 v at }
 
--- no number where it stands for no module
+-- if there is no number, no module was found
 pub no_target : (found : Option (List ℕ)) → None ≡ option_map (λ s. Some s) found → found ≡ None
 no_target None e = refl
 no_target (Some v) e = absurd (none-some (Some v) e)

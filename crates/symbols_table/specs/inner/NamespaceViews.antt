@@ -1,6 +1,6 @@
--- Namespaces as contracts see them.
+-- The view of a namespace declaration that contracts use.
 use Rattle.std.specs.Option.{option_map}
-use Rattle.symbols_syntax.specs.NodeRefs.{node_view}
+use Rattle.symbols_ast.specs.NodeRefs.{node_view}
 use Rattle.symbols_table.specs.declared.builder.items.Namespace.{Namespace as Found}
 use Rattle.symbols_table.specs.TreeEvents.{Namespace}
 

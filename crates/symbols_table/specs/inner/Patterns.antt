@@ -1,9 +1,9 @@
--- Beside the definitions of `Patterns`: what inner functions and proofs say of the same.
+-- A definition about patterns that only inner functions and proofs use.
 use Rattle.std.specs.Prelude.{Bool, true, false}
-use Rattle.symbols_syntax.specs.declared.tree.kinds.Kind.{Kind}
-use Rattle.symbols_syntax.specs.declared.tree.kinds.Pat.TheVariants as Pat
+use Rattle.symbols_ast.specs.declared.tree.kinds.Kind.{Kind}
+use Rattle.symbols_ast.specs.declared.tree.kinds.Pat.TheVariants as Pat
 
--- a pattern that is a name
-abbrev pub is_binding : Kind → Bool
-is_binding (Kind.Pat (Pat.BindingIdent _ _)) = true
-is_binding _ = false
+-- The pattern is an identifier.
+abbrev pub is_identifier_pattern : Kind → Bool
+is_identifier_pattern (Kind.Pat (Pat.BindingIdent _ _)) = true
+is_identifier_pattern _ = false

@@ -1,8 +1,8 @@
--- Symbols of which none stands twice.
+-- Lists of symbols without repetition.
 use Rattle.std.specs.Prelude.{◌≡◌, List, [], fold}
-use Rattle.symbols_syntax.specs.declared.ids.SymbolId.{SymbolId}
-use Rattle.symbols_table.specs.Changes.{with_first}
+use Rattle.symbols_ast.specs.declared.ids.SymbolId.{SymbolId}
+use Rattle.symbols_table.specs.Changes.{append_if_absent}
 
--- where they are added one after the other, none is left out
-abbrev pub IsEachOnce : List SymbolId → Type 0
-IsEachOnce symbols = fold with_first [] symbols ≡ symbols
+-- Inserting the symbols one by one into an empty set gives the same list, so none is repeated.
+abbrev pub HasDistinctSymbols : List SymbolId → Type 0
+HasDistinctSymbols symbols = fold append_if_absent [] symbols ≡ symbols

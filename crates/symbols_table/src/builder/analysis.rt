@@ -1,38 +1,43 @@
-//! The analysis of one module.
+//! The analysis of a module: from a graph's module to its symbol table.
 
 ghost use Rattle.std.specs.Prelude.{◌≡◌, ◌<◌, ◌≤◌, [], ◌∷◌, length, IfOk, IfErr};
-ghost use Rattle.symbols_syntax.specs.TreeFaults.{IsFaultless};
-ghost use Rattle.symbols_syntax.specs.WellFormed.{IsWellFormed};
+ghost use Rattle.symbols_ast.specs.TreeFaults.{IsFaultlessTree};
+ghost use Rattle.symbols_ast.specs.WellFormed.{IsWellFormedTree};
 ghost use Rattle.symbols_table.specs.DeclViews.{decl_view};
-ghost use Rattle.symbols_table.specs.Events.{begins, changes_by};
+ghost use Rattle.symbols_table.specs.Events.{begins, changes_of_events};
 ghost use Rattle.symbols_table.specs.JsonEvents.{json_range, json_decl};
-ghost use Rattle.symbols_table.specs.inner.Tables.{IsTableOf};
-ghost use Rattle.symbols_table.specs.Modules.{parsed, json_text, esm_table, json_table};
-ghost use Rattle.symbols_table.specs.Analysis.{tree_changes, json_changes, symbol_count, IsAnalyzed, IsTooMany, IsAnalysis, IsAnalysisFault};
+ghost use Rattle.symbols_table.specs.inner.Tables.{HasAppliedChanges};
+ghost use Rattle.symbols_table.specs.Modules.{parsed, json_text, esm_symbol_table};
+ghost use Rattle.symbols_table.specs.Modules.{json_symbol_table};
+ghost use Rattle.symbols_table.specs.Analysis.{table_changes_from_tree, table_changes_from_json};
+ghost use Rattle.symbols_table.specs.Analysis.{symbol_count};
+ghost use Rattle.symbols_table.specs.Analysis.{IsAnalyzedTable, HasTooManySymbols};
+ghost use Rattle.symbols_table.specs.Analysis.{IsAnalysisResult, IsAnalysisFault};
 ghost use Rattle.symbols_table.specs.declared.builder.table.BuildFault.TheVariants.{TooManySymbols};
 ghost use Rattle.symbols_table.specs.declared.info.fault.SymbolsFault.TheVariants as fault;
 
 use crate::builder::scope::Scope;
-use crate::builder::table::{BuildFault, Builder, Setting};
+use crate::builder::table::{BuildFault, ModuleBuilder, Setting};
 use crate::decl::{Symbol, SymbolDecl};
 use crate::info::{EsModuleInfo, JsonModuleInfo, ModuleInfo, SymbolsFault};
 use indexmap::IndexMap;
 use std::alloc::Global;
 use std::collections::HashMap;
+use symbols_ast::graph::GraphModule;
+use symbols_ast::ids::{ModuleId, SymbolId};
+use symbols_ast::tree::{NodeRef, SourceRange, Tree};
 use symbols_nodes::nodes::SymbolNodeRef;
-use symbols_syntax::graph::GraphModule;
-use symbols_syntax::ids::{ModuleId, SymbolId};
-use symbols_syntax::tree::{NodeRef, SourceRange, Tree};
 
-/// A table that has the module alone, by its declaration.
-fn begin<'a>(setting: Setting, decl: SymbolDecl<'a>) -> Result<Builder<'a>, BuildFault>
+/// Returns a builder with symbol 0, the module, and its declaration.
+fn begin<'a>(setting: Setting, decl: SymbolDecl<'a>) -> Result<ModuleBuilder<'a>, BuildFault>
     ensures setting { IfOk result (λ builder. builder.setting ≡ setting) }
     ensures module { IfOk result (λ builder. length builder.symbols.items ≡ 1) }
-    ensures table { IfOk result (λ builder. IsTableOf builder (changes_by (begins (decl_view decl.entry) ∷ []))) }
+    ensures table { IfOk result
+        (λ builder. HasAppliedChanges builder (changes_of_events (begins (decl_view decl.entry) ∷ []))) }
     ensures too_many { IfErr result (λ fault. fault ≡ TooManySymbols → setting.limit ≡ 0) }
 {
     let alloc = setting.alloc;
-    let mut builder = Builder {
+    let mut builder = ModuleBuilder {
         setting,
         symbols: Vec::new(alloc),
         ids: IndexMap::new(alloc),
@@ -44,7 +49,7 @@ fn begin<'a>(setting: Setting, decl: SymbolDecl<'a>) -> Result<Builder<'a>, Buil
     Ok(builder)
 }
 
-/// The symbols of a table that is filled, with room for no more.
+/// Returns the symbols with their spare capacity freed.
 fn without_room(symbols: Vec<Symbol<'_>>) -> Vec<Symbol<'_>>
     ensures { result.items ≡ symbols.entry.items }
 {
@@ -53,17 +58,19 @@ fn without_room(symbols: Vec<Symbol<'_>>) -> Vec<Symbol<'_>>
     symbols
 }
 
-/// The table of a tree, whole, or a fault and nothing.
+/// Returns the symbol table of a syntax tree, or a fault.
 fn build<'a>(
     setting: Setting,
     specifier: &'a str,
     text: &'a str,
     tree: &'a Tree,
 ) -> Result<EsModuleInfo<'a>, BuildFault>
-    requires well_formed { IsWellFormed tree.now.nodes.items }
-    requires faultless { IsFaultless text.now tree.now.nodes.items }
-    ensures table { IfOk result (λ esm. IsAnalyzed setting.module_id specifier.now (parsed text.now tree.now) setting.limit (esm_table esm)) }
-    ensures too_many { IfErr result (λ fault. fault ≡ TooManySymbols → setting.limit < symbol_count (tree_changes tree.now)) }
+    requires well_formed { IsWellFormedTree tree.now.nodes.items }
+    requires faultless { IsFaultlessTree text.now tree.now.nodes.items }
+    ensures table { IfOk result (λ esm. IsAnalyzedTable setting.module_id specifier.now
+        (parsed text.now tree.now) setting.limit (esm_symbol_table esm)) }
+    ensures too_many { IfErr result (λ fault. fault ≡ TooManySymbols
+        → setting.limit < symbol_count (table_changes_from_tree tree.now)) }
 {
     let program = NodeRef { tree, number: 0 };
     let decl = SymbolDecl::definition(SymbolNodeRef::Module(program), program.range());
@@ -74,7 +81,7 @@ fn build<'a>(
         is_module: true,
     };
     builder.walk_items(SymbolId(0), scope, program, program.body())?;
-    let Builder {
+    let ModuleBuilder {
         setting: _,
         symbols,
         ids,
@@ -93,7 +100,7 @@ fn build<'a>(
     })
 }
 
-/// The text without the white space at its ends.
+/// Returns the range of a JSON text without the white space at its ends.
 fn json_range(text: &str) -> SourceRange
     ensures { result ≡ json_range text.now }
 {
@@ -104,19 +111,21 @@ fn json_range(text: &str) -> SourceRange
     }
 }
 
-/// The table of a JSON text, whole, or a fault and nothing.
+/// Returns the symbol table of a JSON text, or a fault.
 fn build_json<'a>(
     setting: Setting,
     specifier: &'a str,
     text: &'a str,
 ) -> Result<JsonModuleInfo<'a>, BuildFault>
-    ensures table { IfOk result (λ json. IsAnalyzed setting.module_id specifier.now (json_text text.now) setting.limit (json_table json)) }
-    ensures too_many { IfErr result (λ fault. fault ≡ TooManySymbols → setting.limit < symbol_count (json_changes text.now)) }
+    ensures table { IfOk result (λ json. IsAnalyzedTable setting.module_id specifier.now
+        (json_text text.now) setting.limit (json_symbol_table json)) }
+    ensures too_many { IfErr result (λ fault. fault ≡ TooManySymbols
+        → setting.limit < symbol_count (table_changes_from_json text.now)) }
 {
     let range = json_range(text);
     let mut builder = begin(setting, SymbolDecl::without_node(range))?;
     builder.declare_default(SymbolId(0), SymbolDecl::without_node(range))?;
-    let Builder {
+    let ModuleBuilder {
         setting: _,
         symbols,
         ids: _,
@@ -132,13 +141,14 @@ fn build_json<'a>(
     })
 }
 
-/// The table of a module, if it has a source of symbols.
+/// Returns the symbol table of a module. It is `None` if the module has no source of symbols.
 fn build_module<'a>(
     setting: Setting,
     graph_module: &'a GraphModule,
 ) -> Result<Option<ModuleInfo<'a>>, BuildFault>
-    ensures table { IfOk result (IsAnalysis setting.module_id graph_module.now setting.limit) }
-    ensures too_many { IfErr result (λ fault. fault ≡ TooManySymbols → IsTooMany graph_module.now setting.limit) }
+    ensures table { IfOk result (IsAnalysisResult setting.module_id graph_module.now setting.limit) }
+    ensures too_many { IfErr result (λ fault. fault ≡ TooManySymbols
+        → HasTooManySymbols graph_module.now setting.limit) }
     ensures enough { IfErr result (λ fault. fault ≡ TooManySymbols → setting.limit < 4294967295) }
 {
     let specifier = graph_module.specifier();
@@ -154,22 +164,23 @@ fn build_module<'a>(
     Ok(None)
 }
 
-/// The symbols of a module of a graph, with all its tables: those of all declarations of its tree,
-/// with their exports, children and members, or the two of a JSON text. None where the module has
-/// neither: an external module, or a failed parse (own name for what deno_graph does in its
+/// Returns the symbol table of a module of a graph: the symbols of all declarations of its tree,
+/// with their exports, children and members, or the two symbols of a JSON document. It is `None`
+/// for an external module and after a failed parse (own name for what deno_graph does in its
 /// analyzer).
 ///
 /// # Errors
 ///
-/// `TooManySymbols` where the module has more symbols than the limit, which none has where the limit
-/// is `u32::MAX`; `OutOfMemory` where memory was refused. Nothing is left then.
+/// `TooManySymbols` if the module has more symbols than the limit; this cannot happen if the limit
+/// is `u32::MAX`. `OutOfMemory` if an allocation failed. After an error nothing of the module is
+/// stored.
 pub fn analyze<'a>(
     alloc: Global,
     module_id: ModuleId,
     graph_module: &'a GraphModule,
     limit: u32,
 ) -> Result<Option<ModuleInfo<'a>>, SymbolsFault>
-    ensures table { IfOk result (IsAnalysis module_id graph_module.now limit) }
+    ensures table { IfOk result (IsAnalysisResult module_id graph_module.now limit) }
     ensures fault { IfErr result (IsAnalysisFault graph_module.now limit) }
     ensures enough { limit ≡ 4294967295 → IfErr result (λ why. why ≡ fault.OutOfMemory) }
 {

@@ -1,31 +1,41 @@
-//! Declarations: variables, functions, classes, interfaces, enums and aliases.
+//! Visits declarations: variables, functions, classes, interfaces, enums and type aliases.
 
 ghost use Rattle.std.specs.Prelude.{◌≡◌, ℕ, ◌<◌, List, length, Some};
 ghost use Rattle.std.specs.Option.{option_map, option_copied};
-ghost use Rattle.symbols_syntax.specs.Ids.{id_view};
-ghost use Rattle.symbols_syntax.specs.NodeRefs.{node_view, kind_of};
-ghost use Rattle.symbols_syntax.specs.WellFormed.{IsWellFormed};
+ghost use Rattle.symbols_ast.specs.Ids.{id_view};
+ghost use Rattle.symbols_ast.specs.NodeRefs.{node_view, kind_of};
+ghost use Rattle.symbols_ast.specs.WellFormed.{IsWellFormedTree};
 ghost use Rattle.symbols_nodes.specs.NodeViews.{export_decl_view, symbol_node_view};
 ghost use Rattle.symbols_table.specs.DeclViews.{decl_view};
-ghost use Rattle.symbols_table.specs.Events.{Row, rows_after, symbol_at, changes_of};
-ghost use Rattle.symbols_table.specs.PlacedEvents.{no_placed_events, events_if_there, events_of_each};
-ghost use Rattle.symbols_table.specs.MemberEvents.{member_at, member_nodes};
-ghost use Rattle.symbols_table.specs.DeclarationEvents.{unexported_form, declaration_form, whole_range, is_exported, export_if, adding_events, declaring_events, variable_form, binding_at, declarator_at, variables_events, named_form, own_name, named_events, declaration_events};
-ghost use Rattle.symbols_table.specs.inner.VariablesViews.{variables_view};
+ghost use Rattle.symbols_table.specs.Events.{EventEffect, effects_after_events, symbol_of_event_at};
+ghost use Rattle.symbols_table.specs.Events.{changes_of_effects};
+ghost use Rattle.symbols_table.specs.EventsByPosition.{no_events_by_position, events_if_some};
+ghost use Rattle.symbols_table.specs.EventsByPosition.{events_of_each};
+ghost use Rattle.symbols_table.specs.MemberEvents.{member_events_at, member_nodes};
+ghost use Rattle.symbols_table.specs.DeclarationEvents.{unexported_node_view, maybe_exported_node};
+ghost use Rattle.symbols_table.specs.DeclarationEvents.{statement_range, is_exported};
+ghost use Rattle.symbols_table.specs.DeclarationEvents.{export_if, child_and_export_events};
+ghost use Rattle.symbols_table.specs.DeclarationEvents.{declare_and_add_events, variable_node};
+ghost use Rattle.symbols_table.specs.DeclarationEvents.{binding_events_at, declarator_events_at};
+ghost use Rattle.symbols_table.specs.DeclarationEvents.{variable_statement_events};
+ghost use Rattle.symbols_table.specs.DeclarationEvents.{export_decl_view_of_kind};
+ghost use Rattle.symbols_table.specs.DeclarationEvents.{declared_name, named_decl_events};
+ghost use Rattle.symbols_table.specs.DeclarationEvents.{declaration_events};
+ghost use Rattle.symbols_table.specs.inner.VariablesViews.{variable_statement_view};
 
 use crate::builder::members::member_nodes;
-use crate::builder::patterns::{leaves, own_leaf};
+use crate::builder::patterns::{leaves, single_leaf};
 use crate::builder::scope::Scope;
-use crate::builder::table::{BuildFault, Builder};
+use crate::builder::table::{BuildFault, ModuleBuilder};
 use crate::decl::SymbolDecl;
 use std::slice;
+use symbols_ast::ids::SymbolId;
+use symbols_ast::tree::{Decl, Id, Kind, NodeId, NodeRef, SourceRange};
 use symbols_nodes::nodes::{ExportDeclRef, SymbolNodeRef};
-use symbols_syntax::ids::SymbolId;
-use symbols_syntax::tree::{Decl, Id, Kind, NodeId, NodeRef, SourceRange};
 
-/// The plain form of a declaration, where no `export` stands before it.
-fn plain<'a>(decl: ExportDeclRef<'a>) -> SymbolNodeRef<'a>
-    ensures { symbol_node_view result ≡ unexported_form (export_decl_view decl.entry) }
+/// Returns the form of a declaration without `export`.
+fn unexported_node<'a>(decl: ExportDeclRef<'a>) -> SymbolNodeRef<'a>
+    ensures { symbol_node_view result ≡ unexported_node_view (export_decl_view decl.entry) }
 {
     match decl {
         ExportDeclRef::Class(node) => SymbolNodeRef::ClassDecl(node),
@@ -38,22 +48,23 @@ fn plain<'a>(decl: ExportDeclRef<'a>) -> SymbolNodeRef<'a>
     }
 }
 
-/// A declaration, after the `export` if one stands before it.
+/// Returns the form of a declaration, with the `export` before it, if any.
 pub(crate) fn declared_as<'a>(
     exported: Option<NodeRef<'a>>,
     decl: ExportDeclRef<'a>,
 ) -> SymbolNodeRef<'a>
-    ensures { symbol_node_view result ≡ declaration_form (option_map node_view exported.entry) (export_decl_view decl.entry) }
+    ensures { symbol_node_view result
+        ≡ maybe_exported_node (option_map node_view exported.entry) (export_decl_view decl.entry) }
 {
     match exported {
         Some(node) => SymbolNodeRef::ExportDecl(node, decl),
-        None => plain(decl),
+        None => unexported_node(decl),
     }
 }
 
-/// The range of the `export`, or of the declaration where none stands before it.
-pub(crate) fn whole_range(exported: Option<NodeRef<'_>>, node: NodeRef<'_>) -> SourceRange
-    ensures { result ≡ whole_range (option_map node_view exported.entry) (node_view node.entry) }
+/// Returns the range of the `export`, or of the declaration if it has no `export`.
+pub(crate) fn statement_range(exported: Option<NodeRef<'_>>, node: NodeRef<'_>) -> SourceRange
+    ensures { result ≡ statement_range (option_map node_view exported.entry) (node_view node.entry) }
 {
     match exported {
         Some(exported) => exported.range(),
@@ -61,16 +72,16 @@ pub(crate) fn whole_range(exported: Option<NodeRef<'_>>, node: NodeRef<'_>) -> S
     }
 }
 
-/// Whether a declaration is exported: after `export`, and in a namespace where it is ambient.
+/// Returns whether a declaration is exported: it has `export`, or it is ambient in a namespace.
 pub(crate) fn is_exported(scope: Scope, exported: Option<NodeRef<'_>>) -> bool
     ensures { result ≡ is_exported scope (option_map node_view exported.entry) }
 {
     exported.is_some() || (scope.ambient && !scope.is_module)
 }
 
-/// The name of a declaration.
-pub(crate) fn own_name<'a>(node: NodeRef<'a>) -> Option<&'a Id>
-    ensures { option_copied result ≡ own_name (node_view node.entry) }
+/// Returns the identifier of a declaration, if it has one.
+pub(crate) fn declared_name<'a>(node: NodeRef<'a>) -> Option<&'a Id>
+    ensures { option_copied result ≡ declared_name (node_view node.entry) }
 {
     let ident = match node.ident() {
         Some(ident) => ident.sym(),
@@ -82,9 +93,10 @@ pub(crate) fn own_name<'a>(node: NodeRef<'a>) -> Option<&'a Id>
     }
 }
 
-/// The form of a declaration with a name of its own.
-fn named_form<'a>(node: NodeRef<'a>) -> Option<ExportDeclRef<'a>>
-    ensures { Some (option_map export_decl_view result) ≡ option_map (named_form (node_view node.entry)) (kind_of (node_view node.entry)) }
+/// Returns the declaration if it is a class, a function, an interface, a type alias or an enum.
+fn export_decl_view_of_kind<'a>(node: NodeRef<'a>) -> Option<ExportDeclRef<'a>>
+    ensures { Some (option_map export_decl_view result)
+        ≡ option_map (export_decl_view_of_kind (node_view node.entry)) (kind_of (node_view node.entry)) }
 {
     match node.kind() {
         Kind::Decl(Decl::ClassDecl { .. }) => Some(ExportDeclRef::Class(node)),
@@ -96,22 +108,23 @@ fn named_form<'a>(node: NodeRef<'a>) -> Option<ExportDeclRef<'a>>
     }
 }
 
-/// A statement of variables, where it stands.
+/// A variable statement with its scope and the `export` before it, if any.
 #[derive(Clone, Copy)]
-pub(crate) struct Variables<'a> {
+pub(crate) struct VariableStatement<'a> {
     scope: Scope,
     exported: Option<NodeRef<'a>>,
     is_using: bool,
     decl: NodeRef<'a>,
 }
 
-/// A variable as it is declared.
-fn variable_form<'a>(
-    variables: Variables<'a>,
+/// Returns the form of a variable: with or without `export`, or of `using`.
+fn variable_node<'a>(
+    variables: VariableStatement<'a>,
     declarator: NodeRef<'a>,
     ident: NodeRef<'a>,
 ) -> SymbolNodeRef<'a>
-    ensures { symbol_node_view result ≡ variable_form (option_map node_view variables.entry.exported) variables.entry.is_using (node_view variables.entry.decl)
+    ensures { symbol_node_view result ≡ variable_node (option_map node_view
+        variables.entry.exported) variables.entry.is_using (node_view variables.entry.decl)
         (node_view declarator.entry) (node_view ident.entry) }
 {
     let decl = variables.decl;
@@ -125,11 +138,12 @@ fn variable_form<'a>(
     }
 }
 
-impl<'a> Builder<'a> {
-    ghost use Rattle.symbols_table.specs.inner.Tables.{IsTableOf, IsFilled, ReadsAll, ReadsPlaced};
-    ghost use Rattle.symbols_table.specs.inner.Keeping.{KeepsTable};
+impl<'a> ModuleBuilder<'a> {
+    ghost use Rattle.symbols_table.specs.inner.Tables.{HasAppliedChanges, HasValidTable};
+    ghost use Rattle.symbols_table.specs.inner.Tables.{AppliesEffects, AppliesEventsUnderHolder};
+    ghost use Rattle.symbols_table.specs.inner.ModuleBuilderSteps.{KeepsTableValid};
 
-    /// Exports the symbol under the name where it is exported.
+    /// Exports the symbol under the name, if it is exported.
     pub(crate) fn export_if(
         &mut self,
         holder: SymbolId,
@@ -137,13 +151,15 @@ impl<'a> Builder<'a> {
         name: &str,
         is_exported: bool,
     ) -> Result<(), BuildFault>
-        requires filled { IsFilled self.old }
+        requires filled { HasValidTable self.old }
         requires holder { holder.0 < length self.old.symbols.items }
         requires symbol { symbol.0 < length self.old.symbols.items }
         requires inner { 0 < symbol.0 }
-        ensures keeps { KeepsTable result self.old self.new }
-        ensures table { (rows : List Row) (h s : ℕ) → IsTableOf self.old (changes_of rows) → symbol_at rows h ≡ Some holder → symbol_at rows s ≡ Some symbol
-            → ReadsAll result self.old.setting.limit self.new (rows_after rows (export_if is_exported h name.now s)) }
+        ensures keeps { KeepsTableValid result self.old self.new }
+        ensures table { (rows : List EventEffect) (h s : ℕ) → HasAppliedChanges self.old (changes_of_effects rows)
+            → symbol_of_event_at rows h ≡ Some holder → symbol_of_event_at rows s ≡ Some symbol
+            → AppliesEffects result self.old.setting.limit self.new (effects_after_events rows
+            (export_if is_exported h name.now s)) }
     {
         if is_exported {
             self.add_export(holder, name, symbol)?;
@@ -151,7 +167,7 @@ impl<'a> Builder<'a> {
         Ok(())
     }
 
-    /// Makes the symbol a child of its holder, and exports it where it is exported.
+    /// Makes the symbol a child of its holder and exports it, if it is exported.
     pub(crate) fn add_to_holder(
         &mut self,
         holder: SymbolId,
@@ -159,19 +175,21 @@ impl<'a> Builder<'a> {
         name: &str,
         is_exported: bool,
     ) -> Result<(), BuildFault>
-        requires filled { IsFilled self.old }
+        requires filled { HasValidTable self.old }
         requires holder { holder.0 < length self.old.symbols.items }
         requires symbol { symbol.0 < length self.old.symbols.items }
         requires inner { 0 < symbol.0 }
-        ensures keeps { KeepsTable result self.old self.new }
-        ensures table { (rows : List Row) (h s : ℕ) → IsTableOf self.old (changes_of rows) → symbol_at rows h ≡ Some holder → symbol_at rows s ≡ Some symbol
-            → ReadsAll result self.old.setting.limit self.new (rows_after rows (adding_events is_exported h name.now s)) }
+        ensures keeps { KeepsTableValid result self.old self.new }
+        ensures table { (rows : List EventEffect) (h s : ℕ) → HasAppliedChanges self.old (changes_of_effects rows)
+            → symbol_of_event_at rows h ≡ Some holder → symbol_of_event_at rows s ≡ Some symbol
+            → AppliesEffects result self.old.setting.limit self.new (effects_after_events rows
+            (child_and_export_events is_exported h name.now s)) }
     {
         self.add_child(holder, symbol)?;
         self.export_if(holder, symbol, name, is_exported)
     }
 
-    /// Declares a name, and adds its symbol to the holder.
+    /// Declares an identifier and adds its symbol to the holder.
     fn declare_in_holder(
         &mut self,
         holder: SymbolId,
@@ -179,27 +197,29 @@ impl<'a> Builder<'a> {
         decl: SymbolDecl<'a>,
         is_exported: bool,
     ) -> Result<(), BuildFault>
-        requires filled { IsFilled self.old }
+        requires filled { HasValidTable self.old }
         requires holder { holder.0 < length self.old.symbols.items }
-        ensures keeps { KeepsTable result self.old self.new }
-        ensures table { ReadsPlaced result self.old self.new (declaring_events is_exported (id_view id.now) (decl_view decl.entry) no_placed_events) holder }
+        ensures keeps { KeepsTableValid result self.old self.new }
+        ensures table { AppliesEventsUnderHolder result self.old self.new (declare_and_add_events is_exported
+            (id_view id.now) (decl_view decl.entry) no_events_by_position) holder }
     {
         let symbol = self.declare(holder, id, decl)?;
         self.add_to_holder(holder, symbol, id.name.as_str(), is_exported)
     }
 
-    /// A name that the pattern of a declarator binds, by its number.
+    /// Declares an identifier that the pattern of a declarator binds.
     fn walk_binding(
         &mut self,
         holder: SymbolId,
-        variables: Variables<'a>,
+        variables: VariableStatement<'a>,
         declarator: NodeRef<'a>,
         n: NodeId,
     ) -> Result<(), BuildFault>
-        requires filled { IsFilled self.old }
+        requires filled { HasValidTable self.old }
         requires holder { holder.0 < length self.old.symbols.items }
-        ensures keeps { KeepsTable result self.old self.new }
-        ensures table { ReadsPlaced result self.old self.new (binding_at (variables_view variables.entry) (node_view declarator.entry) n) holder }
+        ensures keeps { KeepsTableValid result self.old self.new }
+        ensures table { AppliesEventsUnderHolder result self.old self.new
+            (binding_events_at (variable_statement_view variables.entry) (node_view declarator.entry) n) holder }
     {
         let Some(ident) = variables.decl.node(n) else {
             return Ok(());
@@ -207,7 +227,7 @@ impl<'a> Builder<'a> {
         let Some(sym) = ident.sym() else {
             return Ok(());
         };
-        let form = variable_form(variables, declarator, ident);
+        let form = variable_node(variables, declarator, ident);
         let decl = SymbolDecl::definition(form, declarator.range());
         self.declare_in_holder(
             holder,
@@ -217,19 +237,20 @@ impl<'a> Builder<'a> {
         )
     }
 
-    /// The names that the pattern of a declarator binds.
+    /// Declares the identifiers that the pattern of a declarator binds.
     fn walk_bindings(
         &mut self,
         holder: SymbolId,
-        variables: Variables<'a>,
+        variables: VariableStatement<'a>,
         declarator: NodeRef<'a>,
         names: &[NodeId],
     ) -> Result<(), BuildFault>
-        requires filled { IsFilled self.old }
+        requires filled { HasValidTable self.old }
         requires holder { holder.0 < length self.old.symbols.items }
-        ensures keeps { KeepsTable result self.old self.new }
-        ensures table { ReadsPlaced result self.old self.new (events_of_each
-            (binding_at (variables_view variables.entry) (node_view declarator.entry)) names.now) holder }
+        ensures keeps { KeepsTableValid result self.old self.new }
+        ensures table { AppliesEventsUnderHolder result self.old self.new (events_of_each
+            (binding_events_at (variable_statement_view variables.entry) (node_view declarator.entry)) names.now)
+            holder }
     {
         for n in names {
             self.walk_binding(holder, variables, declarator, *n)?;
@@ -237,18 +258,19 @@ impl<'a> Builder<'a> {
         Ok(())
     }
 
-    /// A declarator, by its number.
+    /// Visits a variable declarator.
     fn walk_declarator(
         &mut self,
         holder: SymbolId,
-        variables: Variables<'a>,
+        variables: VariableStatement<'a>,
         n: NodeId,
     ) -> Result<(), BuildFault>
-        requires well_formed { IsWellFormed variables.decl.tree.now.nodes.items }
-        requires filled { IsFilled self.old }
+        requires well_formed { IsWellFormedTree variables.decl.tree.now.nodes.items }
+        requires filled { HasValidTable self.old }
         requires holder { holder.0 < length self.old.symbols.items }
-        ensures keeps { KeepsTable result self.old self.new }
-        ensures table { ReadsPlaced result self.old self.new (declarator_at (variables_view variables.entry) n) holder }
+        ensures keeps { KeepsTableValid result self.old self.new }
+        ensures table { AppliesEventsUnderHolder result self.old self.new
+            (declarator_events_at (variable_statement_view variables.entry) n) holder }
     {
         let Some(declarator) = variables.decl.node(n) else {
             return Ok(());
@@ -256,24 +278,25 @@ impl<'a> Builder<'a> {
         let Some(pattern) = declarator.name() else {
             return Ok(());
         };
-        if let Some(name) = own_leaf(pattern) {
+        if let Some(name) = single_leaf(pattern) {
             return self.walk_bindings(holder, variables, declarator, slice::from_ref(&name));
         }
         let names = leaves(self.setting.alloc, pattern)?;
         self.walk_bindings(holder, variables, declarator, &names)
     }
 
-    /// A statement of variables.
+    /// Visits a variable statement.
     fn walk_variables(
         &mut self,
         holder: SymbolId,
-        variables: Variables<'a>,
+        variables: VariableStatement<'a>,
     ) -> Result<(), BuildFault>
-        requires well_formed { IsWellFormed variables.decl.tree.now.nodes.items }
-        requires filled { IsFilled self.old }
+        requires well_formed { IsWellFormedTree variables.decl.tree.now.nodes.items }
+        requires filled { HasValidTable self.old }
         requires holder { holder.0 < length self.old.symbols.items }
-        ensures keeps { KeepsTable result self.old self.new }
-        ensures table { ReadsPlaced result self.old self.new (variables_events (variables_view variables.entry)) holder }
+        ensures keeps { KeepsTableValid result self.old self.new }
+        ensures table { AppliesEventsUnderHolder result self.old self.new
+            (variable_statement_events (variable_statement_view variables.entry)) holder }
     {
         for n in variables.decl.decls() {
             self.walk_declarator(holder, variables, *n)?;
@@ -281,7 +304,7 @@ impl<'a> Builder<'a> {
         Ok(())
     }
 
-    /// Declares a name with the members of its node, and adds its symbol to the holder.
+    /// Declares an identifier, visits the members of its node, and adds its symbol to the holder.
     fn declare_with_members(
         &mut self,
         holder: SymbolId,
@@ -290,18 +313,20 @@ impl<'a> Builder<'a> {
         node: NodeRef<'a>,
         is_exported: bool,
     ) -> Result<(), BuildFault>
-        requires filled { IsFilled self.old }
+        requires filled { HasValidTable self.old }
         requires holder { holder.0 < length self.old.symbols.items }
-        ensures keeps { KeepsTable result self.old self.new }
-        ensures table { ReadsPlaced result self.old self.new (declaring_events is_exported (id_view id.now) (decl_view decl.entry)
-            (events_of_each (member_at node.entry.tree.now) (member_nodes (node_view node.entry)))) holder }
+        ensures keeps { KeepsTableValid result self.old self.new }
+        ensures table { AppliesEventsUnderHolder result self.old self.new
+            (declare_and_add_events is_exported (id_view id.now) (decl_view decl.entry)
+            (events_of_each (member_events_at node.entry.tree.now) (member_nodes (node_view node.entry))))
+            holder }
     {
         let symbol = self.declare(holder, id, decl)?;
         self.walk_members(symbol, node, member_nodes(node))?;
         self.add_to_holder(holder, symbol, id.name.as_str(), is_exported)
     }
 
-    /// A class, a function, an interface, an enum or an alias, with its members.
+    /// Visits a class, a function, an interface, an enum or a type alias, with its members.
     fn walk_named(
         &mut self,
         holder: SymbolId,
@@ -310,20 +335,24 @@ impl<'a> Builder<'a> {
         node: NodeRef<'a>,
         form: ExportDeclRef<'a>,
     ) -> Result<(), BuildFault>
-        requires filled { IsFilled self.old }
+        requires filled { HasValidTable self.old }
         requires holder { holder.0 < length self.old.symbols.items }
-        ensures keeps { KeepsTable result self.old self.new }
-        ensures table { ReadsPlaced result self.old self.new (named_events scope (option_map node_view exported.entry) (node_view node.entry)
+        ensures keeps { KeepsTableValid result self.old self.new }
+        ensures table { AppliesEventsUnderHolder result self.old self.new
+            (named_decl_events scope (option_map node_view exported.entry) (node_view node.entry)
             (export_decl_view form.entry)) holder }
     {
-        let Some(id) = own_name(node) else {
+        let Some(id) = declared_name(node) else {
             return Ok(());
         };
-        let decl = SymbolDecl::definition(declared_as(exported, form), whole_range(exported, node));
+        let decl = SymbolDecl::definition(
+            declared_as(exported, form),
+            statement_range(exported, node),
+        );
         self.declare_with_members(holder, id, decl, node, is_exported(scope, exported))
     }
 
-    /// A declaration that is no namespace, after the `export` if one stands before it.
+    /// Visits a declaration that is no namespace, with the `export` before it, if any.
     pub(crate) fn walk_declaration(
         &mut self,
         holder: SymbolId,
@@ -331,24 +360,26 @@ impl<'a> Builder<'a> {
         exported: Option<NodeRef<'a>>,
         node: NodeRef<'a>,
     ) -> Result<(), BuildFault>
-        requires well_formed { IsWellFormed node.tree.now.nodes.items }
-        requires filled { IsFilled self.old }
+        requires well_formed { IsWellFormedTree node.tree.now.nodes.items }
+        requires filled { HasValidTable self.old }
         requires holder { holder.0 < length self.old.symbols.items }
-        ensures keeps { KeepsTable result self.old self.new }
-        ensures table { ReadsPlaced result self.old self.new (events_if_there (kind_of (node_view node.entry))
-            (declaration_events scope (option_map node_view exported.entry) (node_view node.entry))) holder }
+        ensures keeps { KeepsTableValid result self.old self.new }
+        ensures table { AppliesEventsUnderHolder result self.old self.new
+            (events_if_some (kind_of (node_view node.entry))
+            (declaration_events scope (option_map node_view exported.entry) (node_view node.entry)))
+            holder }
     {
         let is_using = match node.kind() {
             Kind::Decl(Decl::VarDecl { .. }) => false,
             Kind::Decl(Decl::UsingDecl { .. }) => true,
             _ => {
-                return match named_form(node) {
+                return match export_decl_view_of_kind(node) {
                     Some(form) => self.walk_named(holder, scope, exported, node, form),
                     None => Ok(()),
                 };
             }
         };
-        let variables = Variables {
+        let variables = VariableStatement {
             scope,
             exported,
             is_using,

@@ -1,34 +1,41 @@
-//! The items of a module and of its namespaces.
+//! Visits the items of a module and of its namespaces.
 
 ghost use Rattle.std.specs.Prelude.{◌≡◌, ℕ, suc, ◌+◌, ◌<◌, ◌≤◌, ◌||◌, List, length, IfOk, Some};
 ghost use Rattle.std.specs.Option.{option_map, option_copied, option_and_then};
-ghost use Rattle.symbols_syntax.specs.NodeRefs.{node_view, kind_of, child_of};
-ghost use Rattle.symbols_syntax.specs.ChildFields.{id_of, body_node_of};
-ghost use Rattle.symbols_syntax.specs.WellFormed.{IsWellFormed};
+ghost use Rattle.symbols_ast.specs.NodeRefs.{node_view, kind_of, child_in_field};
+ghost use Rattle.symbols_ast.specs.ChildFields.{id_of, body_node_of};
+ghost use Rattle.symbols_ast.specs.WellFormed.{IsWellFormedTree};
 ghost use Rattle.symbols_table.specs.inner.NamespaceViews.{namespace_view};
-ghost use Rattle.symbols_table.specs.PlacedEvents.{events_if_there, sym_in};
-ghost use Rattle.symbols_table.specs.inner.Levels.{AreAbove, ReadsPart};
-ghost use Rattle.symbols_table.specs.Events.{Row, symbol_at, changes_of};
-ghost use Rattle.symbols_table.specs.TreeEvents.{as_namespace, namespace_of, declares_items, part_first, body_within, body_at, namespace_events, other_item_events, item_within, block_within};
+ghost use Rattle.symbols_table.specs.EventsByPosition.{events_if_some, child_ident_id};
+ghost use Rattle.symbols_table.specs.inner.Levels.{AreGreaterNodeNumbers};
+ghost use Rattle.symbols_table.specs.inner.Levels.{ReturnsSymbolOfFirstEvent};
+ghost use Rattle.symbols_table.specs.Events.{EventEffect, symbol_of_event_at, changes_of_effects};
+ghost use Rattle.symbols_table.specs.TreeEvents.{as_namespace, namespace_of, is_ambient_namespace};
+ghost use Rattle.symbols_table.specs.TreeEvents.{declare_name_part_events};
+ghost use Rattle.symbols_table.specs.TreeEvents.{namespace_body_events_within};
+ghost use Rattle.symbols_table.specs.TreeEvents.{namespace_body_events, namespace_events};
+ghost use Rattle.symbols_table.specs.TreeEvents.{non_namespace_item_events, item_events_within};
+ghost use Rattle.symbols_table.specs.TreeEvents.{item_list_events_within};
 
-use crate::builder::declarations::{declared_as, is_exported, whole_range};
+use crate::builder::declarations::{declared_as, is_exported, statement_range};
 use crate::builder::scope::Scope;
-use crate::builder::table::{BuildFault, Builder};
+use crate::builder::table::{BuildFault, ModuleBuilder};
 use crate::decl::SymbolDecl;
+use symbols_ast::ids::SymbolId;
+use symbols_ast::tree::{Decl, Id, Item, Kind, NodeId, NodeRef};
 use symbols_nodes::nodes::{ExportDeclRef, SymbolNodeRef};
-use symbols_syntax::ids::SymbolId;
-use symbols_syntax::tree::{Decl, Id, Item, Kind, NodeId, NodeRef};
 
-/// A namespace: the `export` before it, if one stands there, and the namespace itself.
+/// A namespace declaration, and the `export` before it, if any.
 #[derive(Clone, Copy)]
 pub(crate) struct Namespace<'a> {
     exported: Option<NodeRef<'a>>,
     decl: NodeRef<'a>,
 }
 
-/// The namespace that a node is.
+/// Returns the namespace declaration that a node is, if it is one.
 fn as_namespace<'a>(exported: Option<NodeRef<'a>>, node: NodeRef<'a>) -> Option<Namespace<'a>>
-    ensures { option_map namespace_view result ≡ option_and_then (as_namespace (option_map node_view exported.entry) (node_view node.entry))
+    ensures { option_map namespace_view result ≡ option_and_then (as_namespace
+        (option_map node_view exported.entry) (node_view node.entry))
         (kind_of (node_view node.entry)) }
 {
     match node.kind() {
@@ -40,9 +47,10 @@ fn as_namespace<'a>(exported: Option<NodeRef<'a>>, node: NodeRef<'a>) -> Option<
     }
 }
 
-/// The namespace that an item is, after the `export` if one stands before it.
+/// Returns the namespace declaration that an item is, with the `export` before it, if any.
 fn namespace_of<'a>(node: NodeRef<'a>) -> Option<Namespace<'a>>
-    ensures { option_map namespace_view result ≡ option_and_then (namespace_of (node_view node.entry)) (kind_of (node_view node.entry)) }
+    ensures { option_map namespace_view result
+        ≡ option_and_then (namespace_of (node_view node.entry)) (kind_of (node_view node.entry)) }
 {
     match node.kind() {
         Kind::Item(Item::ExportDecl { .. }) => as_namespace(Some(node), node.decl()?),
@@ -50,9 +58,9 @@ fn namespace_of<'a>(node: NodeRef<'a>) -> Option<Namespace<'a>>
     }
 }
 
-/// Whether `declare` stands before a namespace, so that its items are ambient.
-fn declares_items(kind: &Kind) -> bool
-    ensures { result ≡ declares_items kind.now }
+/// Returns whether a namespace has `declare`, so that its items are ambient.
+fn is_ambient_namespace(kind: &Kind) -> bool
+    ensures { result ≡ is_ambient_namespace kind.now }
 {
     match kind {
         Kind::Decl(Decl::TsModuleDecl { declare, .. }) => *declare,
@@ -60,25 +68,27 @@ fn declares_items(kind: &Kind) -> bool
     }
 }
 
-/// Whether the items of a namespace are ambient.
+/// Returns whether the items of a namespace are ambient.
 fn inner_ambient(scope: Scope, kind: &Kind) -> bool
-    ensures { result ≡ (scope.ambient || declares_items kind.now) }
+    ensures { result ≡ (scope.ambient || is_ambient_namespace kind.now) }
 {
-    scope.ambient || declares_items(kind)
+    scope.ambient || is_ambient_namespace(kind)
 }
 
-/// The name of a namespace, or of a later part of a dotted one; none where it is a text.
+/// Returns the identifier of a namespace, or of a later part of a dotted one. It is `None` if the
+/// name is a string, as in `declare module "m"`.
 fn namespace_id<'a>(node: NodeRef<'a>) -> Option<&'a Id>
-    ensures { option_copied result ≡ sym_in id_of (node_view node.entry) }
+    ensures { option_copied result ≡ child_ident_id id_of (node_view node.entry) }
 {
     node.id()?.sym()
 }
 
-impl<'a> Builder<'a> {
-    ghost use Rattle.symbols_table.specs.inner.Tables.{IsTableOf, IsFilled, ReadsPlaced};
-    ghost use Rattle.symbols_table.specs.inner.Keeping.{KeepsTable};
+impl<'a> ModuleBuilder<'a> {
+    ghost use Rattle.symbols_table.specs.inner.Tables.{HasAppliedChanges, HasValidTable};
+    ghost use Rattle.symbols_table.specs.inner.Tables.{AppliesEventsUnderHolder};
+    ghost use Rattle.symbols_table.specs.inner.ModuleBuilderSteps.{KeepsTableValid};
 
-    /// A later part of the dotted name of a namespace.
+    /// Declares a later part of a namespace's dotted name.
     fn declare_part(
         &mut self,
         holder: SymbolId,
@@ -86,12 +96,14 @@ impl<'a> Builder<'a> {
         node: NodeRef<'a>,
         id: &'a Id,
     ) -> Result<SymbolId, BuildFault>
-        requires filled { IsFilled self.old }
+        requires filled { HasValidTable self.old }
         requires holder { holder.0 < length self.old.symbols.items }
         ensures inside { IfOk result (λ s. s.0 < length self.new.symbols.items) }
-        ensures keeps { KeepsTable result self.old self.new }
-        ensures table { (rows : List Row) (h : ℕ) → IsTableOf self.old (changes_of rows) → symbol_at rows h ≡ Some holder
-            → ReadsPart result self.old.setting.limit self.new rows (part_first (node_view whole.entry) (node_view node.entry) id.now h (length rows)) }
+        ensures keeps { KeepsTableValid result self.old self.new }
+        ensures table { (rows : List EventEffect) (h : ℕ) → HasAppliedChanges self.old (changes_of_effects rows)
+            → symbol_of_event_at rows h ≡ Some holder
+            → ReturnsSymbolOfFirstEvent result self.old.setting.limit self.new rows (declare_name_part_events
+            (node_view whole.entry) (node_view node.entry) id.now h (length rows)) }
     {
         let decl = SymbolDecl::definition(SymbolNodeRef::TsNamespace(whole), node.range());
         let symbol = self.declare(holder, id, decl)?;
@@ -100,7 +112,8 @@ impl<'a> Builder<'a> {
         Ok(symbol)
     }
 
-    /// The body of a namespace: the later parts of its name, and its items in the last of them.
+    /// Visits the body of a namespace: declares the later parts of its dotted name, and visits the
+    /// items in the last part.
     #[cycle(walk)]
     fn walk_body(
         &mut self,
@@ -109,13 +122,16 @@ impl<'a> Builder<'a> {
         ambient: bool,
         n: NodeId,
     ) -> Result<(), BuildFault>
-        requires well_formed { IsWellFormed whole.tree.now.nodes.items }
+        requires well_formed { IsWellFormedTree whole.tree.now.nodes.items }
         requires inside { n < length whole.tree.now.nodes.items }
-        requires filled { IsFilled self.old }
+        requires filled { HasValidTable self.old }
         requires holder { holder.0 < length self.old.symbols.items }
-        ensures keeps { KeepsTable result self.old self.new }
-        ensures table { (levels parts : ℕ) → length whole.entry.tree.now.nodes.items ≤ n + suc levels → length whole.entry.tree.now.nodes.items ≤ n + parts
-            → ReadsPlaced result self.old self.new (body_within (block_within whole.entry.tree.now levels) (node_view whole.entry) ambient parts n) holder }
+        ensures keeps { KeepsTableValid result self.old self.new }
+        ensures table { (levels parts : ℕ) → length whole.entry.tree.now.nodes.items
+            ≤ n + suc levels → length whole.entry.tree.now.nodes.items ≤ n + parts
+            → AppliesEventsUnderHolder result self.old self.new
+            (namespace_body_events_within (item_list_events_within whole.entry.tree.now
+            levels) (node_view whole.entry) ambient parts n) holder }
     {
         let Some(node) = whole.node(n) else {
             return Ok(());
@@ -139,7 +155,7 @@ impl<'a> Builder<'a> {
         }
     }
 
-    /// What is in a namespace, where it has a body.
+    /// Visits the items of a namespace, if it has a body.
     #[cycle(walk)]
     fn walk_inside(
         &mut self,
@@ -147,13 +163,17 @@ impl<'a> Builder<'a> {
         whole: NodeRef<'a>,
         ambient: bool,
     ) -> Result<(), BuildFault>
-        requires well_formed { IsWellFormed whole.tree.now.nodes.items }
-        requires filled { IsFilled self.old }
+        requires well_formed { IsWellFormedTree whole.tree.now.nodes.items }
+        requires filled { HasValidTable self.old }
         requires holder { holder.0 < length self.old.symbols.items }
-        ensures keeps { KeepsTable result self.old self.new }
-        ensures table { (levels : ℕ) → length whole.entry.tree.now.nodes.items ≤ whole.entry.number + suc levels
-            → ReadsPlaced result self.old self.new (events_if_there (child_of (node_view whole.entry) body_node_of)
-            (body_at (block_within whole.entry.tree.now levels) (node_view whole.entry) ambient)) holder }
+        ensures keeps { KeepsTableValid result self.old self.new }
+        ensures table { (levels : ℕ)
+            → length whole.entry.tree.now.nodes.items ≤ whole.entry.number + suc levels
+            → AppliesEventsUnderHolder result self.old self.new (events_if_some
+            (child_in_field (node_view whole.entry) body_node_of)
+            (namespace_body_events (item_list_events_within whole.entry.tree.now levels)
+            (node_view whole.entry) ambient))
+            holder }
     {
         match whole.body_node() {
             Some(body) => self.walk_body(holder, whole, ambient, body.node_id()),
@@ -161,7 +181,7 @@ impl<'a> Builder<'a> {
         }
     }
 
-    /// A namespace: it is declared, with its body, where it has a name.
+    /// Declares a namespace and visits its body. One without an identifier is skipped.
     #[cycle(walk)]
     fn walk_namespace(
         &mut self,
@@ -169,13 +189,16 @@ impl<'a> Builder<'a> {
         scope: Scope,
         namespace: Namespace<'a>,
     ) -> Result<(), BuildFault>
-        requires well_formed { IsWellFormed namespace.decl.tree.now.nodes.items }
-        requires filled { IsFilled self.old }
+        requires well_formed { IsWellFormedTree namespace.decl.tree.now.nodes.items }
+        requires filled { HasValidTable self.old }
         requires holder { holder.0 < length self.old.symbols.items }
-        ensures keeps { KeepsTable result self.old self.new }
-        ensures table { (levels : ℕ) → length namespace.entry.decl.tree.now.nodes.items ≤ namespace.entry.decl.number + suc levels
-            → ReadsPlaced result self.old self.new (events_if_there (kind_of (node_view namespace.entry.decl))
-            (namespace_events (block_within namespace.entry.decl.tree.now levels) scope (namespace_view namespace.entry))) holder }
+        ensures keeps { KeepsTableValid result self.old self.new }
+        ensures table { (levels : ℕ) → length namespace.entry.decl.tree.now.nodes.items
+            ≤ namespace.entry.decl.number + suc levels
+            → AppliesEventsUnderHolder result self.old self.new (events_if_some
+            (kind_of (node_view namespace.entry.decl))
+            (namespace_events (item_list_events_within namespace.entry.decl.tree.now levels) scope
+            (namespace_view namespace.entry))) holder }
     {
         let Namespace { exported, decl } = namespace;
         let kind = decl.kind();
@@ -183,7 +206,7 @@ impl<'a> Builder<'a> {
             return Ok(());
         };
         let form = declared_as(exported, ExportDeclRef::TsModule(decl));
-        let definition = SymbolDecl::definition(form, whole_range(exported, decl));
+        let definition = SymbolDecl::definition(form, statement_range(exported, decl));
         let symbol = self.declare(holder, id, definition)?;
         self.walk_inside(symbol, decl, inner_ambient(scope, kind))?;
         self.add_to_holder(
@@ -194,19 +217,20 @@ impl<'a> Builder<'a> {
         )
     }
 
-    /// An item that is no namespace.
-    fn walk_plain_item(
+    /// Visits an item that is no namespace.
+    fn walk_other_item(
         &mut self,
         holder: SymbolId,
         scope: Scope,
         node: NodeRef<'a>,
     ) -> Result<(), BuildFault>
-        requires well_formed { IsWellFormed node.tree.now.nodes.items }
-        requires filled { IsFilled self.old }
+        requires well_formed { IsWellFormedTree node.tree.now.nodes.items }
+        requires filled { HasValidTable self.old }
         requires holder { holder.0 < length self.old.symbols.items }
-        ensures keeps { KeepsTable result self.old self.new }
-        ensures table { ReadsPlaced result self.old self.new (events_if_there (kind_of (node_view node.entry))
-            (other_item_events scope (node_view node.entry))) holder }
+        ensures keeps { KeepsTableValid result self.old self.new }
+        ensures table { AppliesEventsUnderHolder result self.old self.new
+            (events_if_some (kind_of (node_view node.entry))
+            (non_namespace_item_events scope (node_view node.entry))) holder }
     {
         match node.kind() {
             Kind::Item(Item::ExportDecl { .. }) => match node.decl() {
@@ -218,7 +242,7 @@ impl<'a> Builder<'a> {
         }
     }
 
-    /// An item, by its number.
+    /// Visits an item.
     #[cycle(walk)]
     fn walk_item(
         &mut self,
@@ -227,24 +251,25 @@ impl<'a> Builder<'a> {
         parent: NodeRef<'a>,
         n: NodeId,
     ) -> Result<(), BuildFault>
-        requires well_formed { IsWellFormed parent.tree.now.nodes.items }
+        requires well_formed { IsWellFormedTree parent.tree.now.nodes.items }
         requires inside { n < length parent.tree.now.nodes.items }
-        requires filled { IsFilled self.old }
+        requires filled { HasValidTable self.old }
         requires holder { holder.0 < length self.old.symbols.items }
-        ensures keeps { KeepsTable result self.old self.new }
+        ensures keeps { KeepsTableValid result self.old self.new }
         ensures table { (levels : ℕ) → length parent.entry.tree.now.nodes.items ≤ n + levels
-            → ReadsPlaced result self.old self.new (item_within parent.entry.tree.now levels scope n) holder }
+            → AppliesEventsUnderHolder result self.old self.new (item_events_within parent.entry.tree.now levels scope
+            n) holder }
     {
         let Some(node) = parent.node(n) else {
             return Ok(());
         };
         match namespace_of(node) {
             Some(namespace) => self.walk_namespace(holder, scope, namespace),
-            None => self.walk_plain_item(holder, scope, node),
+            None => self.walk_other_item(holder, scope, node),
         }
     }
 
-    /// The items of a body.
+    /// Visits the items of a body.
     #[cycle(walk)]
     pub(crate) fn walk_items(
         &mut self,
@@ -253,13 +278,16 @@ impl<'a> Builder<'a> {
         parent: NodeRef<'a>,
         items: &'a [NodeId],
     ) -> Result<(), BuildFault>
-        requires well_formed { IsWellFormed parent.tree.now.nodes.items }
-        requires above { AreAbove parent.tree.now.nodes.items parent.number items.now }
-        requires filled { IsFilled self.old }
+        requires well_formed { IsWellFormedTree parent.tree.now.nodes.items }
+        requires greater { AreGreaterNodeNumbers parent.tree.now.nodes.items parent.number items.now }
+        requires filled { HasValidTable self.old }
         requires holder { holder.0 < length self.old.symbols.items }
-        ensures keeps { KeepsTable result self.old self.new }
-        ensures table { (levels : ℕ) → length parent.entry.tree.now.nodes.items ≤ parent.entry.number + suc levels
-            → ReadsPlaced result self.old self.new (block_within parent.entry.tree.now levels scope items.now) holder }
+        ensures keeps { KeepsTableValid result self.old self.new }
+        ensures table { (levels : ℕ)
+            → length parent.entry.tree.now.nodes.items ≤ parent.entry.number + suc levels
+            → AppliesEventsUnderHolder result self.old self.new
+            (item_list_events_within parent.entry.tree.now levels scope
+            items.now) holder }
     {
         for n in items {
             self.walk_item(holder, scope, parent, *n)?;

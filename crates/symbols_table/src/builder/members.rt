@@ -1,20 +1,23 @@
-//! The members of classes and interfaces.
+//! Events of the members of classes and interfaces.
 
 ghost use Rattle.std.specs.Prelude.{◌≡◌, ◌<◌, length, Some};
 ghost use Rattle.std.specs.Option.{option_map, option_and_then};
-ghost use Rattle.symbols_syntax.specs.NodeRefs.{node_view, kind_of};
+ghost use Rattle.symbols_ast.specs.NodeRefs.{node_view, kind_of};
 ghost use Rattle.symbols_nodes.specs.NodeViews.{symbol_node_view};
 ghost use Rattle.symbols_table.specs.inner.MemberViews.{member_view};
-ghost use Rattle.symbols_table.specs.PlacedEvents.{events_of_each};
-ghost use Rattle.symbols_table.specs.MemberEvents.{member_nodes, one_member, param_at, constructor_events, simple_member, member_at};
+ghost use Rattle.symbols_table.specs.EventsByPosition.{events_of_each};
+ghost use Rattle.symbols_table.specs.MemberEvents.{member_nodes, member_event};
+ghost use Rattle.symbols_table.specs.MemberEvents.{constructor_param_events_at};
+ghost use Rattle.symbols_table.specs.MemberEvents.{constructor_events, non_constructor_member};
+ghost use Rattle.symbols_table.specs.MemberEvents.{member_events_at};
 
-use crate::builder::table::{BuildFault, Builder};
+use crate::builder::table::{BuildFault, ModuleBuilder};
 use crate::decl::SymbolDecl;
+use symbols_ast::ids::SymbolId;
+use symbols_ast::tree::{Decl, Kind, Member, NodeId, NodeRef};
 use symbols_nodes::nodes::SymbolNodeRef;
-use symbols_syntax::ids::SymbolId;
-use symbols_syntax::tree::{Decl, Kind, Member, NodeId, NodeRef};
 
-/// The members of a class or an interface, by their numbers.
+/// Returns the member nodes of a class or interface; empty for any other node.
 pub(crate) fn member_nodes<'a>(node: NodeRef<'a>) -> &'a [NodeId]
     ensures { result.now ≡ member_nodes (node_view node.entry) }
 {
@@ -27,23 +30,26 @@ pub(crate) fn member_nodes<'a>(node: NodeRef<'a>) -> &'a [NodeId]
     }
 }
 
-/// A member that has no parts that are members: its form, and whether it is static.
+/// A class or interface member other than a constructor or a parameter property: the form of its
+/// declaration, and whether it is static. A form is a `SymbolNodeRef`: a node with its syntactic
+/// role.
 #[derive(Clone, Copy)]
 pub(crate) struct SimpleMember<'a> {
     form: SymbolNodeRef<'a>,
     is_static: bool,
 }
 
-/// A member of this form that has no parts.
+/// Returns a member of this form.
 fn simple<'a>(form: SymbolNodeRef<'a>, is_static: bool) -> Option<SimpleMember<'a>>
     ensures { option_map member_view result ≡ Some (symbol_node_view form.entry, is_static) }
 {
     Some(SimpleMember { form, is_static })
 }
 
-/// The member that a node is, where it has no parts that are members.
-fn simple_member<'a>(node: NodeRef<'a>) -> Option<SimpleMember<'a>>
-    ensures { option_map member_view result ≡ option_and_then (simple_member (node_view node.entry)) (kind_of (node_view node.entry)) }
+/// Returns the node as a member other than a constructor or a parameter property, if it is one.
+fn non_constructor_member<'a>(node: NodeRef<'a>) -> Option<SimpleMember<'a>>
+    ensures { option_map member_view result
+        ≡ option_and_then (non_constructor_member (node_view node.entry)) (kind_of (node_view node.entry)) }
 {
     let Kind::Member(member) = node.kind() else {
         return None;
@@ -76,11 +82,11 @@ fn simple_member<'a>(node: NodeRef<'a>) -> Option<SimpleMember<'a>>
     }
 }
 
-impl<'a> Builder<'a> {
-    ghost use Rattle.symbols_table.specs.inner.Tables.{IsFilled, ReadsPlaced};
-    ghost use Rattle.symbols_table.specs.inner.Keeping.{KeepsTable};
+impl<'a> ModuleBuilder<'a> {
+    ghost use Rattle.symbols_table.specs.inner.Tables.{HasValidTable, AppliesEventsUnderHolder};
+    ghost use Rattle.symbols_table.specs.inner.ModuleBuilderSteps.{KeepsTableValid};
 
-    /// One member, where its node stands.
+    /// Declares a member at the range of its node.
     fn define_member(
         &mut self,
         holder: SymbolId,
@@ -88,29 +94,32 @@ impl<'a> Builder<'a> {
         node: NodeRef<'a>,
         is_static: bool,
     ) -> Result<(), BuildFault>
-        requires filled { IsFilled self.old }
+        requires filled { HasValidTable self.old }
         requires holder { holder.0 < length self.old.symbols.items }
         requires inner { 0 < holder.0 }
-        ensures keeps { KeepsTable result self.old self.new }
-        ensures table { ReadsPlaced result self.old self.new (one_member (symbol_node_view form.entry) (node_view node.entry) is_static) holder }
+        ensures keeps { KeepsTableValid result self.old self.new }
+        ensures table { AppliesEventsUnderHolder result self.old self.new
+            (member_event (symbol_node_view form.entry) (node_view node.entry) is_static) holder }
     {
         let decl = SymbolDecl::definition(form, node.range());
         self.declare_member(holder, decl, is_static)?;
         Ok(())
     }
 
-    /// A parameter of a constructor, by its number: it may be a property too.
+    /// Visits a parameter of a constructor and declares it if it is a parameter property.
     fn walk_param(
         &mut self,
         holder: SymbolId,
         constructor: NodeRef<'a>,
         n: NodeId,
     ) -> Result<(), BuildFault>
-        requires filled { IsFilled self.old }
+        requires filled { HasValidTable self.old }
         requires holder { holder.0 < length self.old.symbols.items }
         requires inner { 0 < holder.0 }
-        ensures keeps { KeepsTable result self.old self.new }
-        ensures table { ReadsPlaced result self.old self.new (param_at constructor.entry.tree.now n) holder }
+        ensures keeps { KeepsTableValid result self.old self.new }
+        ensures table { AppliesEventsUnderHolder result self.old self.new
+            (constructor_param_events_at constructor.entry.tree.now n)
+            holder }
     {
         let Some(param) = constructor.node(n) else {
             return Ok(());
@@ -123,18 +132,19 @@ impl<'a> Builder<'a> {
         }
     }
 
-    /// The parameters of a constructor.
+    /// Visits the parameters of a constructor.
     fn walk_params(
         &mut self,
         holder: SymbolId,
         node: NodeRef<'a>,
         params: &'a [NodeId],
     ) -> Result<(), BuildFault>
-        requires filled { IsFilled self.old }
+        requires filled { HasValidTable self.old }
         requires holder { holder.0 < length self.old.symbols.items }
         requires inner { 0 < holder.0 }
-        ensures keeps { KeepsTable result self.old self.new }
-        ensures table { ReadsPlaced result self.old self.new (events_of_each (param_at node.entry.tree.now) params.now) holder }
+        ensures keeps { KeepsTableValid result self.old self.new }
+        ensures table { AppliesEventsUnderHolder result self.old self.new
+            (events_of_each (constructor_param_events_at node.entry.tree.now) params.now) holder }
     {
         for n in params {
             self.walk_param(holder, node, *n)?;
@@ -142,36 +152,38 @@ impl<'a> Builder<'a> {
         Ok(())
     }
 
-    /// A constructor, and then its parameters.
+    /// Declares a constructor, then visits its parameters.
     fn walk_constructor(
         &mut self,
         holder: SymbolId,
         node: NodeRef<'a>,
         params: &'a [NodeId],
     ) -> Result<(), BuildFault>
-        requires filled { IsFilled self.old }
+        requires filled { HasValidTable self.old }
         requires holder { holder.0 < length self.old.symbols.items }
         requires inner { 0 < holder.0 }
-        ensures keeps { KeepsTable result self.old self.new }
-        ensures table { ReadsPlaced result self.old self.new (constructor_events (node_view node.entry) params.now) holder }
+        ensures keeps { KeepsTableValid result self.old self.new }
+        ensures table { AppliesEventsUnderHolder result self.old self.new
+            (constructor_events (node_view node.entry) params.now) holder }
     {
         let decl = SymbolDecl::definition(SymbolNodeRef::Constructor(node), node.range());
         self.declare_member(holder, decl, true)?;
         self.walk_params(holder, node, params)
     }
 
-    /// A member of a class or an interface, by its number.
+    /// Visits a member of a class or interface.
     fn walk_member(
         &mut self,
         holder: SymbolId,
         parent: NodeRef<'a>,
         n: NodeId,
     ) -> Result<(), BuildFault>
-        requires filled { IsFilled self.old }
+        requires filled { HasValidTable self.old }
         requires holder { holder.0 < length self.old.symbols.items }
         requires inner { 0 < holder.0 }
-        ensures keeps { KeepsTable result self.old self.new }
-        ensures table { ReadsPlaced result self.old self.new (member_at parent.entry.tree.now n) holder }
+        ensures keeps { KeepsTableValid result self.old self.new }
+        ensures table { AppliesEventsUnderHolder result self.old self.new (member_events_at parent.entry.tree.now n)
+            holder }
     {
         let Some(node) = parent.node(n) else {
             return Ok(());
@@ -179,24 +191,25 @@ impl<'a> Builder<'a> {
         if let Kind::Member(Member::Constructor { params, .. }) = node.kind() {
             return self.walk_constructor(holder, node, params);
         }
-        match simple_member(node) {
+        match non_constructor_member(node) {
             Some(member) => self.define_member(holder, member.form, node, member.is_static),
             None => Ok(()),
         }
     }
 
-    /// The members of a class or an interface.
+    /// Visits the members of a class or interface.
     pub(crate) fn walk_members(
         &mut self,
         holder: SymbolId,
         parent: NodeRef<'a>,
         members: &'a [NodeId],
     ) -> Result<(), BuildFault>
-        requires filled { IsFilled self.old }
+        requires filled { HasValidTable self.old }
         requires holder { holder.0 < length self.old.symbols.items }
         requires inner { 0 < holder.0 }
-        ensures keeps { KeepsTable result self.old self.new }
-        ensures table { ReadsPlaced result self.old self.new (events_of_each (member_at parent.entry.tree.now) members.now) holder }
+        ensures keeps { KeepsTableValid result self.old self.new }
+        ensures table { AppliesEventsUnderHolder result self.old self.new
+            (events_of_each (member_events_at parent.entry.tree.now) members.now) holder }
     {
         for n in members {
             self.walk_member(holder, parent, *n)?;

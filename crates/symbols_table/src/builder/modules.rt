@@ -1,30 +1,44 @@
-//! Imports and exports.
+//! Visits imports, exports and expression statements.
 
-ghost use Rattle.std.specs.Prelude.{◌≡◌, ℕ, ◌<◌, List, length, OnOk, IfOk, IfErr, Some, string_bytes};
+ghost use Rattle.std.specs.Prelude.{◌≡◌, ℕ, ◌<◌, List, length, OnOk, IfOk, IfErr, Some};
+ghost use Rattle.std.specs.Prelude.{string_bytes};
 ghost use Rattle.std.specs.Option.{option_map, option_copied, option_and_then};
-ghost use Rattle.symbols_syntax.specs.NodeRefs.{node_view, kind_of};
-ghost use Rattle.symbols_syntax.specs.WellFormed.{IsWellFormed};
-ghost use Rattle.symbols_table.specs.DeclViews.{decl_view, decl_kind_view, dep_name_view, file_ref};
-ghost use Rattle.symbols_table.specs.PlacedEvents.{events_if_there, events_of_each};
-ghost use Rattle.symbols_table.specs.Events.{Row, changes_of, symbol_at, rows_after};
-ghost use Rattle.symbols_table.specs.DeclarationEvents.{own_name};
+ghost use Rattle.symbols_ast.specs.NodeRefs.{node_view, kind_of};
+ghost use Rattle.symbols_ast.specs.WellFormed.{IsWellFormedTree};
+ghost use Rattle.symbols_table.specs.DeclViews.{decl_view, decl_kind_view, file_dep_name_view};
+ghost use Rattle.symbols_table.specs.DeclViews.{file_ref};
+ghost use Rattle.symbols_table.specs.EventsByPosition.{events_if_some, events_of_each};
+ghost use Rattle.symbols_table.specs.Events.{EventEffect, changes_of_effects, symbol_of_event_at};
+ghost use Rattle.symbols_table.specs.Events.{effects_after_events};
+ghost use Rattle.symbols_table.specs.DeclarationEvents.{declared_name};
 ghost use Rattle.symbols_table.specs.declared.builder.table.BuildFault.TheVariants.{OutOfMemory};
-ghost use Rattle.symbols_table.specs.ModuleEvents.{import_name, import_at, named_export, orig_name, orig_kind, specifier_at, export_at, binds_if, default_decl_events, default_at, default_expr, assignment_events, alias_kind, import_equals_events, expando_events, module_events};
+ghost use Rattle.symbols_table.specs.ModuleEvents.{import_dep_name, import_specifier_events_at};
+ghost use Rattle.symbols_table.specs.ModuleEvents.{new_exported_symbol_events, orig_name};
+ghost use Rattle.symbols_table.specs.ModuleEvents.{orig_decl_kind};
+ghost use Rattle.symbols_table.specs.ModuleEvents.{export_named_specifier_events_at};
+ghost use Rattle.symbols_table.specs.ModuleEvents.{export_specifier_events_at, bind_events_if};
+ghost use Rattle.symbols_table.specs.ModuleEvents.{default_decl_events};
+ghost use Rattle.symbols_table.specs.ModuleEvents.{default_export_events, default_expr_decl};
+ghost use Rattle.symbols_table.specs.ModuleEvents.{export_assignment_events};
+ghost use Rattle.symbols_table.specs.ModuleEvents.{import_equals_decl_kind};
+ghost use Rattle.symbols_table.specs.ModuleEvents.{import_equals_events, expando_events};
+ghost use Rattle.symbols_table.specs.ModuleEvents.{import_export_or_expando_events};
 
-use crate::builder::declarations::own_name;
+use crate::builder::declarations::declared_name;
 use crate::builder::events::DEFAULT;
 use crate::builder::members::member_nodes;
-use crate::builder::table::{BuildFault, Builder};
+use crate::builder::table::{BuildFault, ModuleBuilder};
 use crate::decl::{FileDep, FileDepName, SymbolDecl, SymbolDeclKind};
 use std::alloc::{AllocError, Global};
+use symbols_ast::ids::SymbolId;
+use symbols_ast::tree::{Expr, Id, Item, Kind, NodeId, NodeRef};
 use symbols_nodes::deps::entity_name;
 use symbols_nodes::nodes::{ExpandoPropertyRef, SymbolNodeRef};
-use symbols_syntax::ids::SymbolId;
-use symbols_syntax::tree::{Expr, Id, Item, Kind, NodeId, NodeRef};
 
-/// What an import takes of the other module under a local name.
-fn import_name<'a>(node: NodeRef<'a>, local: &'a Id) -> Option<FileDepName<'a>>
-    ensures { option_map dep_name_view result ≡ option_and_then (import_name local.now) (kind_of (node_view node.entry)) }
+/// Returns the part of the other module that an import specifier imports under a local name.
+fn import_dep_name<'a>(node: NodeRef<'a>, local: &'a Id) -> Option<FileDepName<'a>>
+    ensures { option_map file_dep_name_view result
+        ≡ option_and_then (import_dep_name local.now) (kind_of (node_view node.entry)) }
 {
     match node.kind() {
         Kind::Item(Item::ImportNamed { imported, .. }) => match imported {
@@ -37,7 +51,7 @@ fn import_name<'a>(node: NodeRef<'a>, local: &'a Id) -> Option<FileDepName<'a>>
     }
 }
 
-/// The name before `as`.
+/// Returns the name before `as`, an identifier or a string.
 fn orig_name(kind: &Kind) -> Option<&str>
     ensures { option_copied result ≡ orig_name kind.now }
 {
@@ -48,20 +62,22 @@ fn orig_name(kind: &Kind) -> Option<&str>
     }
 }
 
-/// A name of another module, where its text stands for that.
+/// Returns the declaration kind of a name of another module, by the specifier.
 fn file_ref<'a>(name: FileDepName<'a>, specifier: &'a str) -> SymbolDeclKind<'a>
-    ensures { decl_kind_view result ≡ file_ref (dep_name_view name.entry) specifier.now }
+    ensures { decl_kind_view result ≡ file_ref (file_dep_name_view name.entry) specifier.now }
 {
     SymbolDeclKind::FileRef(FileDep { name, specifier })
 }
 
-/// What the name before `as` is: of the other module, or of this one.
-fn orig_kind<'a>(
+/// Returns the declaration kind of an export's name before `as`: with a specifier a name of the
+/// other module, else an alias of a name of this one.
+fn orig_decl_kind<'a>(
     src: Option<&'a str>,
     orig: NodeRef<'a>,
     name: &'a str,
 ) -> Option<SymbolDeclKind<'a>>
-    ensures { Some (option_map decl_kind_view result) ≡ option_map (λ kind. orig_kind (option_copied src.entry) kind name.now)
+    ensures { Some (option_map decl_kind_view result)
+        ≡ option_map (λ kind. orig_decl_kind (option_copied src.entry) kind name.now)
         (kind_of (node_view orig.entry)) }
 {
     match src {
@@ -70,9 +86,11 @@ fn orig_kind<'a>(
     }
 }
 
-/// A default export of a name or of another expression.
-fn default_expr<'a>(node: NodeRef<'a>, expr: NodeRef<'a>) -> SymbolDecl<'a>
-    ensures { Some (decl_view result) ≡ option_map (default_expr (node_view node.entry) (node_view expr.entry)) (kind_of (node_view expr.entry)) }
+/// Returns the declaration of `export default expr`: an alias if the expression is an identifier,
+/// else a definition.
+fn default_expr_decl<'a>(node: NodeRef<'a>, expr: NodeRef<'a>) -> SymbolDecl<'a>
+    ensures { Some (decl_view result) ≡ option_map (default_expr_decl (node_view node.entry)
+        (node_view expr.entry)) (kind_of (node_view expr.entry)) }
 {
     match expr.kind() {
         Kind::Expr(Expr::Ident { sym }) => SymbolDecl::new(
@@ -83,14 +101,16 @@ fn default_expr<'a>(node: NodeRef<'a>, expr: NodeRef<'a>) -> SymbolDecl<'a>
     }
 }
 
-/// What `import id = ..` is: the parts of an entity, or the default of another module.
-fn alias_kind<'a>(
+/// Returns the declaration kind of `import id = ..`: a dotted name of this module, or the default
+/// export of another one.
+fn import_equals_decl_kind<'a>(
     alloc: Global,
     node: NodeRef<'a>,
     entity: Option<NodeId>,
     external: &'a Option<String>,
 ) -> Result<Option<SymbolDeclKind<'a>>, AllocError>
-    ensures { IfOk result (λ kind. option_map decl_kind_view kind ≡ alias_kind (node_view node.entry) entity external.now) }
+    ensures { IfOk result (λ kind. option_map decl_kind_view kind
+        ≡ import_equals_decl_kind (node_view node.entry) entity external.now) }
 {
     let Some(entity) = entity else {
         return match external {
@@ -107,11 +127,12 @@ fn alias_kind<'a>(
     }
 }
 
-impl<'a> Builder<'a> {
-    ghost use Rattle.symbols_table.specs.inner.Tables.{IsTableOf, IsFilled, ReadsPlaced};
-    ghost use Rattle.symbols_table.specs.inner.Keeping.{KeepsTable};
+impl<'a> ModuleBuilder<'a> {
+    ghost use Rattle.symbols_table.specs.inner.Tables.{HasAppliedChanges, HasValidTable};
+    ghost use Rattle.symbols_table.specs.inner.Tables.{AppliesEventsUnderHolder};
+    ghost use Rattle.symbols_table.specs.inner.ModuleBuilderSteps.{KeepsTableValid};
 
-    /// One name of an import, by its number.
+    /// Visits an import specifier.
     fn walk_import_specifier(
         &mut self,
         holder: SymbolId,
@@ -119,10 +140,11 @@ impl<'a> Builder<'a> {
         import: NodeRef<'a>,
         n: NodeId,
     ) -> Result<(), BuildFault>
-        requires filled { IsFilled self.old }
+        requires filled { HasValidTable self.old }
         requires holder { holder.0 < length self.old.symbols.items }
-        ensures keeps { KeepsTable result self.old self.new }
-        ensures table { ReadsPlaced result self.old self.new (import_at src.now import.entry.tree.now n) holder }
+        ensures keeps { KeepsTableValid result self.old self.new }
+        ensures table { AppliesEventsUnderHolder result self.old self.new
+            (import_specifier_events_at src.now import.entry.tree.now n) holder }
     {
         let Some(node) = import.node(n) else {
             return Ok(());
@@ -133,7 +155,7 @@ impl<'a> Builder<'a> {
         let Some(id) = local.sym() else {
             return Ok(());
         };
-        let Some(name) = import_name(node, id) else {
+        let Some(name) = import_dep_name(node, id) else {
             return Ok(());
         };
         self.declare(
@@ -144,7 +166,7 @@ impl<'a> Builder<'a> {
         Ok(())
     }
 
-    /// The names of an import.
+    /// Visits the specifiers of an import.
     fn walk_import(
         &mut self,
         holder: SymbolId,
@@ -152,10 +174,11 @@ impl<'a> Builder<'a> {
         specifiers: &'a [NodeId],
         src: &'a str,
     ) -> Result<(), BuildFault>
-        requires filled { IsFilled self.old }
+        requires filled { HasValidTable self.old }
         requires holder { holder.0 < length self.old.symbols.items }
-        ensures keeps { KeepsTable result self.old self.new }
-        ensures table { ReadsPlaced result self.old self.new (events_of_each (import_at src.now node.entry.tree.now) specifiers.now) holder }
+        ensures keeps { KeepsTableValid result self.old self.new }
+        ensures table { AppliesEventsUnderHolder result self.old self.new
+            (events_of_each (import_specifier_events_at src.now node.entry.tree.now) specifiers.now) holder }
     {
         for n in specifiers {
             self.walk_import_specifier(holder, src, node, *n)?;
@@ -163,24 +186,25 @@ impl<'a> Builder<'a> {
         Ok(())
     }
 
-    /// A new symbol under an exported name.
+    /// Adds a new symbol and exports it under a name. No identifier is bound to it.
     fn export_new(
         &mut self,
         holder: SymbolId,
         name: &str,
         decl: SymbolDecl<'a>,
     ) -> Result<(), BuildFault>
-        requires filled { IsFilled self.old }
+        requires filled { HasValidTable self.old }
         requires holder { holder.0 < length self.old.symbols.items }
-        ensures keeps { KeepsTable result self.old self.new }
-        ensures table { ReadsPlaced result self.old self.new (named_export name.now (decl_view decl.entry)) holder }
+        ensures keeps { KeepsTableValid result self.old self.new }
+        ensures table { AppliesEventsUnderHolder result self.old self.new
+            (new_exported_symbol_events name.now (decl_view decl.entry)) holder }
     {
         let symbol = self.add_symbol(Some(holder), decl)?;
         self.add_export(holder, name, symbol)?;
         Ok(())
     }
 
-    /// `orig as exported`.
+    /// Visits an export specifier `orig as exported`.
     fn walk_export_specifier(
         &mut self,
         holder: SymbolId,
@@ -188,10 +212,11 @@ impl<'a> Builder<'a> {
         node: NodeRef<'a>,
         exported: &'a Option<String>,
     ) -> Result<(), BuildFault>
-        requires filled { IsFilled self.old }
+        requires filled { HasValidTable self.old }
         requires holder { holder.0 < length self.old.symbols.items }
-        ensures keeps { KeepsTable result self.old self.new }
-        ensures table { ReadsPlaced result self.old self.new (specifier_at (option_copied src.entry) (node_view node.entry)
+        ensures keeps { KeepsTableValid result self.old self.new }
+        ensures table { AppliesEventsUnderHolder result self.old self.new
+            (export_named_specifier_events_at (option_copied src.entry) (node_view node.entry)
             (option_map string_bytes exported.now)) holder }
     {
         let Some(orig) = node.orig() else {
@@ -200,7 +225,7 @@ impl<'a> Builder<'a> {
         let Some(name) = orig_name(orig.kind()) else {
             return Ok(());
         };
-        let Some(kind) = orig_kind(src, orig, name) else {
+        let Some(kind) = orig_decl_kind(src, orig, name) else {
             return Ok(());
         };
         let exported = match exported {
@@ -210,7 +235,7 @@ impl<'a> Builder<'a> {
         self.export_new(holder, exported, SymbolDecl::new(kind, node.range()))
     }
 
-    /// One name of an export, by its number.
+    /// Visits a specifier of an `export { .. }`.
     fn walk_export_name(
         &mut self,
         holder: SymbolId,
@@ -218,10 +243,11 @@ impl<'a> Builder<'a> {
         export: NodeRef<'a>,
         n: NodeId,
     ) -> Result<(), BuildFault>
-        requires filled { IsFilled self.old }
+        requires filled { HasValidTable self.old }
         requires holder { holder.0 < length self.old.symbols.items }
-        ensures keeps { KeepsTable result self.old self.new }
-        ensures table { ReadsPlaced result self.old self.new (export_at (option_copied src.entry) export.entry.tree.now n) holder }
+        ensures keeps { KeepsTableValid result self.old self.new }
+        ensures table { AppliesEventsUnderHolder result self.old self.new
+            (export_specifier_events_at (option_copied src.entry) export.entry.tree.now n) holder }
     {
         let Some(node) = export.node(n) else {
             return Ok(());
@@ -241,7 +267,7 @@ impl<'a> Builder<'a> {
         }
     }
 
-    /// The names of an export.
+    /// Visits the specifiers of an `export { .. }`.
     fn walk_export_named(
         &mut self,
         holder: SymbolId,
@@ -249,10 +275,11 @@ impl<'a> Builder<'a> {
         specifiers: &'a [NodeId],
         src: Option<&'a str>,
     ) -> Result<(), BuildFault>
-        requires filled { IsFilled self.old }
+        requires filled { HasValidTable self.old }
         requires holder { holder.0 < length self.old.symbols.items }
-        ensures keeps { KeepsTable result self.old self.new }
-        ensures table { ReadsPlaced result self.old self.new (events_of_each (export_at (option_copied src.entry) node.entry.tree.now) specifiers.now) holder }
+        ensures keeps { KeepsTableValid result self.old self.new }
+        ensures table { AppliesEventsUnderHolder result self.old self.new (events_of_each
+            (export_specifier_events_at (option_copied src.entry) node.entry.tree.now) specifiers.now) holder }
     {
         for n in specifiers {
             self.walk_export_name(holder, src, node, *n)?;
@@ -260,33 +287,37 @@ impl<'a> Builder<'a> {
         Ok(())
     }
 
-    /// The name of a declaration, if it has one, stands for the symbol.
+    /// Binds the identifier of a declaration, if it has one, to the symbol.
     fn bind_name(&mut self, decl: NodeRef<'a>, symbol: SymbolId) -> Result<(), BuildFault>
-        requires filled { IsFilled self.old }
+        requires filled { HasValidTable self.old }
         requires symbol { symbol.0 < length self.old.symbols.items }
         requires inner { 0 < symbol.0 }
-        ensures keeps { KeepsTable result self.old self.new }
-        ensures table { OnOk result ((rows : List Row) (s : ℕ) → IsTableOf self.old (changes_of rows) → symbol_at rows s ≡ Some symbol
-            → IsTableOf self.new (changes_of (rows_after rows (binds_if (own_name (node_view decl.entry)) s)))) }
+        ensures keeps { KeepsTableValid result self.old self.new }
+        ensures table { OnOk result ((rows : List EventEffect) (s : ℕ)
+            → HasAppliedChanges self.old (changes_of_effects rows) → symbol_of_event_at rows s ≡ Some symbol
+            → HasAppliedChanges self.new (changes_of_effects
+            (effects_after_events rows (bind_events_if (declared_name (node_view decl.entry)) s)))) }
         ensures full { IfErr result (λ fault. fault ≡ OutOfMemory) }
     {
-        match own_name(decl) {
+        match declared_name(decl) {
             Some(id) => self.map_id(id, symbol),
             None => Ok(()),
         }
     }
 
-    /// `export default` before a class, a function or an interface.
+    /// Visits `export default` before a class, a function or an interface. The declaration's own
+    /// identifier is bound to the default symbol, which gets the members.
     fn walk_export_default_decl(
         &mut self,
         holder: SymbolId,
         node: NodeRef<'a>,
         decl: NodeRef<'a>,
     ) -> Result<(), BuildFault>
-        requires filled { IsFilled self.old }
+        requires filled { HasValidTable self.old }
         requires holder { holder.0 < length self.old.symbols.items }
-        ensures keeps { KeepsTable result self.old self.new }
-        ensures table { ReadsPlaced result self.old self.new (default_decl_events (node_view node.entry) (node_view decl.entry)) holder }
+        ensures keeps { KeepsTableValid result self.old self.new }
+        ensures table { AppliesEventsUnderHolder result self.old self.new
+            (default_decl_events (node_view node.entry) (node_view decl.entry)) holder }
     {
         let definition = SymbolDecl::definition(
             SymbolNodeRef::ExportDefaultDecl(node),
@@ -297,28 +328,30 @@ impl<'a> Builder<'a> {
         self.walk_members(symbol, decl, member_nodes(decl))
     }
 
-    /// A default export with nothing under it.
+    /// Declares a default export that has no members.
     fn walk_default(&mut self, holder: SymbolId, decl: SymbolDecl<'a>) -> Result<(), BuildFault>
-        requires filled { IsFilled self.old }
+        requires filled { HasValidTable self.old }
         requires holder { holder.0 < length self.old.symbols.items }
-        ensures keeps { KeepsTable result self.old self.new }
-        ensures table { ReadsPlaced result self.old self.new (default_at (decl_view decl.entry)) holder }
+        ensures keeps { KeepsTableValid result self.old self.new }
+        ensures table { AppliesEventsUnderHolder result self.old self.new (default_export_events (decl_view decl.entry))
+            holder }
     {
         self.declare_default(holder, decl)?;
         Ok(())
     }
 
-    /// `export = expr`: of a name alone.
+    /// Visits `export = expr`. Only an identifier is exported; any other expression is skipped.
     fn walk_export_assignment(
         &mut self,
         holder: SymbolId,
         expr: NodeRef<'a>,
     ) -> Result<(), BuildFault>
-        requires filled { IsFilled self.old }
+        requires filled { HasValidTable self.old }
         requires holder { holder.0 < length self.old.symbols.items }
-        ensures keeps { KeepsTable result self.old self.new }
-        ensures table { ReadsPlaced result self.old self.new
-            (events_if_there (kind_of (node_view expr.entry)) (assignment_events (node_view expr.entry))) holder }
+        ensures keeps { KeepsTableValid result self.old self.new }
+        ensures table { AppliesEventsUnderHolder result self.old self.new
+            (events_if_some (kind_of (node_view expr.entry))
+            (export_assignment_events (node_view expr.entry))) holder }
     {
         match expr.kind() {
             Kind::Expr(Expr::Ident { sym }) => {
@@ -329,7 +362,7 @@ impl<'a> Builder<'a> {
         }
     }
 
-    /// `import id = ..`.
+    /// Visits `import id = ..`.
     fn walk_import_equals(
         &mut self,
         holder: SymbolId,
@@ -338,11 +371,12 @@ impl<'a> Builder<'a> {
         external: &'a Option<String>,
         is_export: bool,
     ) -> Result<(), BuildFault>
-        requires well_formed { IsWellFormed node.tree.now.nodes.items }
-        requires filled { IsFilled self.old }
+        requires well_formed { IsWellFormedTree node.tree.now.nodes.items }
+        requires filled { HasValidTable self.old }
         requires holder { holder.0 < length self.old.symbols.items }
-        ensures keeps { KeepsTable result self.old self.new }
-        ensures table { ReadsPlaced result self.old self.new (import_equals_events (node_view node.entry) is_export entity external.now) holder }
+        ensures keeps { KeepsTableValid result self.old self.new }
+        ensures table { AppliesEventsUnderHolder result self.old self.new
+            (import_equals_events (node_view node.entry) is_export entity external.now) holder }
     {
         let Some(ident) = node.id() else {
             return Ok(());
@@ -350,19 +384,21 @@ impl<'a> Builder<'a> {
         let Some(id) = ident.sym() else {
             return Ok(());
         };
-        let Some(kind) = alias_kind(self.setting.alloc, node, entity, external)? else {
+        let Some(kind) = import_equals_decl_kind(self.setting.alloc, node, entity, external)? else {
             return Ok(());
         };
         let symbol = self.declare_alias(holder, id, SymbolDecl::new(kind, node.range()))?;
         self.export_if(holder, symbol, id.name.as_str(), is_export)
     }
 
-    /// An expression as a statement: an assignment may add a property.
+    /// Visits an expression statement. An assignment like `f.p = ..` may add a property to a
+    /// function.
     fn walk_expression(&mut self, holder: SymbolId, expr: NodeRef<'a>) -> Result<(), BuildFault>
-        requires filled { IsFilled self.old }
+        requires filled { HasValidTable self.old }
         requires holder { holder.0 < length self.old.symbols.items }
-        ensures keeps { KeepsTable result self.old self.new }
-        ensures table { ReadsPlaced result self.old self.new (expando_events (node_view expr.entry)) holder }
+        ensures keeps { KeepsTableValid result self.old self.new }
+        ensures table { AppliesEventsUnderHolder result self.old self.new (expando_events (node_view expr.entry))
+            holder }
     {
         let Some(expando) = ExpandoPropertyRef::maybe_new(expr) else {
             return Ok(());
@@ -374,17 +410,18 @@ impl<'a> Builder<'a> {
         self.declare_expando(id, SymbolDecl::definition(form, expr.range()))
     }
 
-    /// An import, an export or a statement that declares nothing by itself.
+    /// Visits an import, an export or an expression statement. Other items are skipped.
     pub(crate) fn walk_module_item(
         &mut self,
         holder: SymbolId,
         node: NodeRef<'a>,
     ) -> Result<(), BuildFault>
-        requires well_formed { IsWellFormed node.tree.now.nodes.items }
-        requires filled { IsFilled self.old }
+        requires well_formed { IsWellFormedTree node.tree.now.nodes.items }
+        requires filled { HasValidTable self.old }
         requires holder { holder.0 < length self.old.symbols.items }
-        ensures keeps { KeepsTable result self.old self.new }
-        ensures table { ReadsPlaced result self.old self.new (events_if_there (kind_of (node_view node.entry)) (module_events (node_view node.entry))) holder }
+        ensures keeps { KeepsTableValid result self.old self.new }
+        ensures table { AppliesEventsUnderHolder result self.old self.new (events_if_some
+            (kind_of (node_view node.entry)) (import_export_or_expando_events (node_view node.entry))) holder }
     {
         let Kind::Item(item) = node.kind() else {
             return Ok(());
@@ -404,7 +441,7 @@ impl<'a> Builder<'a> {
                 None => Ok(()),
             },
             Item::ExportDefaultExpr { .. } => match node.expr() {
-                Some(expr) => self.walk_default(holder, default_expr(node, expr)),
+                Some(expr) => self.walk_default(holder, default_expr_decl(node, expr)),
                 None => Ok(()),
             },
             Item::TsExportAssignment { .. } => match node.expr() {

@@ -1,9 +1,9 @@
-//! Names of symbols in a holder.
+//! Keys by which a builder finds children and members.
 
 use std::borrow::CowStr;
-use symbols_syntax::ids::SymbolId;
+use symbols_ast::ids::SymbolId;
 
-/// A local name of a child or a member, with its holder.
+/// The local name of a child or a member, with its holder.
 #[derive(Drop, PartialEq, Eq, Hash)]
 pub(crate) struct LocalName<'a> {
     pub(crate) holder: SymbolId,

@@ -1,22 +1,23 @@
-//! The names that a pattern binds.
+//! The identifiers that a destructuring pattern binds.
 
 ghost use Rattle.std.specs.Prelude.{◌≡◌, ◌≤◌, ◌+◌, ◌++◌, ◌∷◌, [], ℕ, length, IfOk, IfSome, OnOk};
-ghost use Rattle.symbols_syntax.specs.WellFormed.{IsWellFormed};
-ghost use Rattle.symbols_table.specs.Patterns.{pattern_parts, leaves_within, pattern_leaves};
-ghost use Rattle.symbols_table.specs.inner.Patterns.{is_binding};
+ghost use Rattle.symbols_ast.specs.WellFormed.{IsWellFormedTree};
+ghost use Rattle.symbols_table.specs.Patterns.{pattern_parts, pattern_bindings_within};
+ghost use Rattle.symbols_table.specs.Patterns.{pattern_bindings};
+ghost use Rattle.symbols_table.specs.inner.Patterns.{is_identifier_pattern};
 
 use std::alloc::{AllocError, Global};
 use std::slice;
-use symbols_syntax::tree::{Kind, NodeId, NodeRef, Pat};
+use symbols_ast::tree::{Kind, NodeId, NodeRef, Pat};
 
-/// Whether a pattern is a name.
-fn is_binding(kind: &Kind) -> bool
-    ensures { result ≡ is_binding kind.now }
+/// Returns whether a pattern is an identifier.
+fn is_identifier_pattern(kind: &Kind) -> bool
+    ensures { result ≡ is_identifier_pattern kind.now }
 {
     matches!(kind, Kind::Pat(Pat::BindingIdent { .. }))
 }
 
-/// The parts of a pattern that bind names.
+/// Returns the parts of a pattern that may bind identifiers.
 fn pattern_parts(kind: &Kind) -> &[NodeId]
     ensures { result.now ≡ pattern_parts kind.now }
 {
@@ -31,14 +32,16 @@ fn pattern_parts(kind: &Kind) -> &[NodeId]
     }
 }
 
-/// Adds the names that a pattern binds.
+/// Appends the identifiers that a pattern binds.
 fn add_leaves(node: NodeRef<'_>, leaves: &mut Vec<NodeId>) -> Result<(), AllocError>
-    requires { IsWellFormed node.tree.now.nodes.items }
-    ensures { OnOk result ((levels : ℕ) → length node.entry.tree.now.nodes.items ≤ node.entry.number + levels
-        → leaves.new.items ≡ leaves.old.items ++ leaves_within node.entry.tree.now levels node.entry.number) }
+    requires { IsWellFormedTree node.tree.now.nodes.items }
+    ensures { OnOk result ((levels : ℕ)
+        → length node.entry.tree.now.nodes.items ≤ node.entry.number + levels
+        → leaves.new.items
+        ≡ leaves.old.items ++ pattern_bindings_within node.entry.tree.now levels node.entry.number) }
 {
     let kind = node.kind();
-    if is_binding(kind) {
+    if is_identifier_pattern(kind) {
         leaves.push(node.node_id())?;
         return Ok(());
     }
@@ -50,21 +53,23 @@ fn add_leaves(node: NodeRef<'_>, leaves: &mut Vec<NodeId>) -> Result<(), AllocEr
     Ok(())
 }
 
-/// The name that a pattern is, if it is one, as most are: no list is made of it.
-pub(crate) fn own_leaf(pattern: NodeRef<'_>) -> Option<NodeId>
-    ensures { IfSome result (λ name. pattern_leaves pattern.entry.tree.now pattern.entry.number ≡ name ∷ []) }
+/// Returns the identifier if the pattern is one, as most are. It saves the list of `leaves`.
+pub(crate) fn single_leaf(pattern: NodeRef<'_>) -> Option<NodeId>
+    ensures { IfSome result
+        (λ name. pattern_bindings pattern.entry.tree.now pattern.entry.number ≡ name ∷ []) }
 {
-    if is_binding(pattern.kind()) {
+    if is_identifier_pattern(pattern.kind()) {
         Some(pattern.node_id())
     } else {
         None
     }
 }
 
-/// The names that a pattern binds, in order.
+/// Returns the identifiers that a pattern binds, in order.
 pub(crate) fn leaves(alloc: Global, pattern: NodeRef<'_>) -> Result<Vec<NodeId>, AllocError>
-    requires { IsWellFormed pattern.tree.now.nodes.items }
-    ensures { IfOk result (λ leaves. leaves.items ≡ pattern_leaves pattern.entry.tree.now pattern.entry.number) }
+    requires { IsWellFormedTree pattern.tree.now.nodes.items }
+    ensures { IfOk result
+        (λ leaves. leaves.items ≡ pattern_bindings pattern.entry.tree.now pattern.entry.number) }
 {
     let mut leaves = Vec::new(alloc);
     add_leaves(pattern, &mut leaves)?;

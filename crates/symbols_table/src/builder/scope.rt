@@ -1,7 +1,8 @@
-//! Where the items of a body stand.
+//! The kind of body that items are in.
 
-/// Whether items are ambient, and whether they are those of the module itself: in a namespace all
-/// that is ambient is exported, in the module nothing is that has no `export`.
+/// Whether items are ambient, and whether they are in the module's own body rather than a
+/// namespace. In a namespace every ambient item is exported. In the module nothing is exported
+/// without `export`.
 #[derive(Clone, Copy)]
 pub(crate) struct Scope {
     pub(crate) ambient: bool,

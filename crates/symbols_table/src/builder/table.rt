@@ -1,16 +1,21 @@
-//! A table that is being filled, and the steps that fill it.
+//! The module builder, which holds the symbol table while it is filled, and its elementary updates.
 
-ghost use Rattle.std.specs.Prelude.{◌≡◌, ◌+◌, ◌<◌, ◌≤◌, ◌++◌, [], ◌∷◌, List, length, IfOk, OnOk, IfErr, IfSome, Some, None};
-ghost use Rattle.symbols_syntax.specs.Ids.{id_view};
+ghost use Rattle.std.specs.Prelude.{◌≡◌, ◌+◌, ◌<◌, ◌≤◌, ◌++◌, [], ◌∷◌, List};
+ghost use Rattle.std.specs.Prelude.{length, IfOk, OnOk, IfErr, IfSome, Some, None};
+ghost use Rattle.symbols_ast.specs.Ids.{id_view};
 ghost use Rattle.std.specs.Option.{option_map, option_or};
 ghost use Rattle.std.specs.Cow.{cow_str_bytes};
 ghost use Rattle.symbols_table.specs.DeclViews.{decl_view};
-ghost use Rattle.symbols_table.specs.Laws.{IsParentOf};
-ghost use Rattle.symbols_table.specs.Changes.{Change, only_if, makes, declares, exports, has_child, has_member, maps, passes_on, mapped_after};
-ghost use Rattle.symbols_table.specs.inner.Tables.{name_in, symbol_named};
-ghost use Rattle.symbols_table.specs.inner.LocalNames.{is_entry_of};
+ghost use Rattle.symbols_table.specs.Laws.{IsLawfulParent};
+ghost use Rattle.symbols_table.specs.Changes.{Change, some_if, makes_symbol, adds_decl, exports};
+ghost use Rattle.symbols_table.specs.Changes.{adds_child};
+ghost use Rattle.symbols_table.specs.Changes.{adds_member, maps, re_exports_all};
+ghost use Rattle.symbols_table.specs.Changes.{mapped_symbol_after};
+ghost use Rattle.symbols_table.specs.inner.Tables.{local_name_in_symbols, symbol_by_local_name};
+ghost use Rattle.symbols_table.specs.inner.LocalNames.{is_local_name_of_symbol};
 ghost use Rattle.symbols_table.specs.declared.builder.names.LocalName.{LocalName};
-ghost use Rattle.symbols_table.specs.declared.builder.table.BuildFault.TheVariants.{OutOfMemory, TooManySymbols};
+ghost use Rattle.symbols_table.specs.declared.builder.table.BuildFault.TheVariants.{OutOfMemory};
+ghost use Rattle.symbols_table.specs.declared.builder.table.BuildFault.TheVariants.{TooManySymbols};
 
 use crate::builder::names::LocalName;
 use crate::decl::{Symbol, SymbolDecl, Tables};
@@ -20,10 +25,10 @@ use smallvec::SmallVec;
 use std::alloc::{AllocError, AllocFailed, Global};
 use std::borrow::CowStr;
 use std::collections::HashMap;
-use symbols_syntax::ids::{ModuleId, SymbolId};
-use symbols_syntax::tree::{Id, NodeId};
+use symbols_ast::ids::{ModuleId, SymbolId};
+use symbols_ast::tree::{Id, NodeId};
 
-/// Why no table is given.
+/// The reason why a table could not be built.
 #[derive(Clone, Copy, Debug, PartialEq, Eq)]
 pub(crate) enum BuildFault {
     OutOfMemory,
@@ -46,7 +51,7 @@ impl<T: Drop> From<AllocFailed<T>> for BuildFault {
     }
 }
 
-/// What stays while a table is filled.
+/// The settings of a builder: its allocator, the module's number and the limit of symbols.
 #[derive(Clone, Copy)]
 pub(crate) struct Setting {
     pub(crate) alloc: Global,
@@ -54,10 +59,10 @@ pub(crate) struct Setting {
     pub(crate) limit: u32,
 }
 
-/// A table that is being filled. Children and members are found by the names that they have in
-/// their holders.
+/// The symbol table of a module while it is filled. The holder of a symbol is the symbol that it is
+/// a child or a member of. A child or a member is found by its holder and its local name.
 #[derive(Drop)]
-pub(crate) struct Builder<'a> {
+pub(crate) struct ModuleBuilder<'a> {
     pub(crate) setting: Setting,
     pub(crate) symbols: Vec<Symbol<'a>>,
     pub(crate) ids: IndexMap<&'a Id, SymbolId>,
@@ -66,15 +71,16 @@ pub(crate) struct Builder<'a> {
     pub(crate) stars: Vec<StarStatement<'a>>,
 }
 
-/// Adds the name of a symbol, if it has one, where its holder has no symbol of that name.
+/// Adds an entry for a symbol's name, if it has one and its holder has no entry of that name.
 fn add_name<'a>(
     names: &mut HashMap<LocalName<'a>, SymbolId>,
     holder: SymbolId,
     name: Option<CowStr<'a>>,
     symbol: SymbolId,
 ) -> Result<(), BuildFault>
-    ensures named { OnOk result ((q : LocalName) → symbol_named names.new q
-        ≡ option_or (symbol_named names.old q) (only_if (is_entry_of holder (option_map cow_str_bytes name.entry) q) symbol)) }
+    ensures named { OnOk result ((q : LocalName) → symbol_by_local_name names.new q
+        ≡ option_or (symbol_by_local_name names.old q) (some_if
+        (is_local_name_of_symbol holder (option_map cow_str_bytes name.entry) q) symbol)) }
     ensures full { IfErr result (λ fault. fault ≡ OutOfMemory) }
 {
     let Some(name) = name else {
@@ -90,29 +96,33 @@ fn add_name<'a>(
     }
 }
 
-impl<'a> Builder<'a> {
-    ghost use Rattle.symbols_table.specs.inner.Tables.{IsTableOf, IsFilled};
-    ghost use Rattle.symbols_table.specs.inner.Keeping.{KeepsCount};
+impl<'a> ModuleBuilder<'a> {
+    ghost use Rattle.symbols_table.specs.inner.Tables.{HasAppliedChanges, HasValidTable};
+    ghost use Rattle.symbols_table.specs.inner.ModuleBuilderSteps.{KeepsSymbolCount};
 
-    /// Makes the next symbol, with its first declaration.
+    /// Adds a symbol with the next number and its first declaration. It fails if the limit is
+    /// reached.
     pub(crate) fn add_symbol(
         &mut self,
         parent: Option<SymbolId>,
         decl: SymbolDecl<'a>,
     ) -> Result<SymbolId, BuildFault>
-        requires { IsParentOf (length self.old.symbols.items) parent }
+        requires { IsLawfulParent (length self.old.symbols.items) parent }
         ensures numbered { IfOk result (λ s. s.0 ≡ length self.old.symbols.items) }
         ensures setting { self.new.setting ≡ self.old.setting }
-        ensures longer { OnOk result (length self.new.symbols.items ≡ length self.old.symbols.items + 1) }
-        ensures table { IfOk result (λ s. (changes : List Change) → IsTableOf self.old changes
-            → IsTableOf self.new ((changes ++ makes parent ∷ []) ++ declares s (decl_view decl.entry) ∷ [])) }
-        ensures full { IfErr result (λ fault. fault ≡ TooManySymbols → self.old.setting.limit ≤ length self.old.symbols.items) }
+        ensures longer { OnOk result
+            (length self.new.symbols.items ≡ length self.old.symbols.items + 1) }
+        ensures table { IfOk result (λ s. (changes : List Change) → HasAppliedChanges self.old changes
+            → HasAppliedChanges self.new ((changes ++ makes_symbol parent ∷ [])
+            ++ adds_decl s (decl_view decl.entry) ∷ [])) }
+        ensures full { IfErr result (λ fault. fault ≡ TooManySymbols
+            → self.old.setting.limit ≤ length self.old.symbols.items) }
     {
         if self.symbols.len() >= self.setting.limit as usize {
             return Err(BuildFault::TooManySymbols);
         }
         let symbol_id = SymbolId(self.symbols.len() as u32);
-        let has_function = decl.is_function();
+        let has_function_decl = decl.is_function();
         self.symbols.reserve(1)?;
         let decls = SmallVec::from_buf(self.setting.alloc, [decl.with_overloads(false)]);
         self.symbols.push_reserved(Symbol {
@@ -122,12 +132,12 @@ impl<'a> Builder<'a> {
             parent_id: parent,
             decls,
             tables: Tables::new(),
-            has_function,
+            has_function_decl,
         });
         Ok(symbol_id)
     }
 
-    /// Sets an export. A name that is there keeps its place and takes the symbol.
+    /// Sets an export. A name that is exported already keeps its position and gets the new symbol.
     pub(crate) fn add_export(
         &mut self,
         holder: SymbolId,
@@ -137,41 +147,46 @@ impl<'a> Builder<'a> {
         requires holder { holder.0 < length self.old.symbols.items }
         requires symbol { symbol.0 < length self.old.symbols.items }
         requires inner { 0 < symbol.0 }
-        ensures keeps { KeepsCount result self.old self.new }
-        ensures table { OnOk result ((changes : List Change) → IsTableOf self.old changes
-            → IsTableOf self.new (changes ++ exports holder name.now symbol ∷ [])) }
+        ensures keeps { KeepsSymbolCount result self.old self.new }
+        ensures table { OnOk result ((changes : List Change) → HasAppliedChanges self.old changes
+            → HasAppliedChanges self.new (changes ++ exports holder name.now symbol ∷ [])) }
         ensures full { IfErr result (λ fault. fault ≡ OutOfMemory) }
     {
         let name = String::from_str(self.setting.alloc, name)?;
-        let held = &mut self.symbols[holder.0 as usize];
-        held.tables.add_export(self.setting.alloc, name, symbol)?;
+        let borrowed_symbol = &mut self.symbols[holder.0 as usize];
+        borrowed_symbol
+            .tables
+            .add_export(self.setting.alloc, name, symbol)?;
         Ok(())
     }
 
-    /// Adds a declaration to a symbol, with its flag of an overload.
+    /// Adds a declaration to a symbol and sets its overload flag.
     pub(crate) fn add_decl(
         &mut self,
         symbol: SymbolId,
         decl: SymbolDecl<'a>,
     ) -> Result<(), BuildFault>
         requires { symbol.0 < length self.old.symbols.items }
-        ensures keeps { KeepsCount result self.old self.new }
-        ensures table { OnOk result ((changes : List Change) → IsTableOf self.old changes
-            → IsTableOf self.new (changes ++ declares symbol (decl_view decl.entry) ∷ [])) }
+        ensures keeps { KeepsSymbolCount result self.old self.new }
+        ensures table { OnOk result ((changes : List Change) → HasAppliedChanges self.old changes
+            → HasAppliedChanges self.new (changes ++ adds_decl symbol (decl_view decl.entry) ∷ [])) }
         ensures full { IfErr result (λ fault. fault ≡ OutOfMemory) }
     {
-        let held = &mut self.symbols[symbol.0 as usize];
-        let has_overloads = decl.is_overload_after(held.decls.as_slice());
+        let borrowed_symbol = &mut self.symbols[symbol.0 as usize];
+        let has_overloads = decl.is_overload_after(borrowed_symbol.decls.as_slice());
         let is_function = decl.is_function();
-        held.decls.push(decl.with_overloads(has_overloads))?;
-        held.has_function = held.has_function | is_function;
+        borrowed_symbol
+            .decls
+            .push(decl.with_overloads(has_overloads))?;
+        borrowed_symbol.has_function_decl = borrowed_symbol.has_function_decl | is_function;
         Ok(())
     }
 
-    /// The local name of a symbol: that of its first declaration.
+    /// Returns the local name of a symbol, which is the name of its first declaration.
     fn local_name(&self, symbol: SymbolId) -> Result<Option<CowStr<'a>>, AllocError>
         requires { symbol.0 < length self.now.symbols.items }
-        ensures { IfOk result (λ name. option_map cow_str_bytes name ≡ name_in self.now.symbols.items symbol) }
+        ensures { IfOk result
+            (λ name. option_map cow_str_bytes name ≡ local_name_in_symbols self.now.symbols.items symbol) }
     {
         match self.symbols[symbol.0 as usize].decls.first() {
             Some(decl) => decl.maybe_name(self.setting.alloc),
@@ -179,8 +194,8 @@ impl<'a> Builder<'a> {
         }
     }
 
-    /// The name by which a child is asked for in its holder: its local name; none in the module's own
-    /// symbol, whose children aren't asked for by name.
+    /// Returns the name by which a child is looked up in its holder: its local name. It is `None`
+    /// if the holder is the module's own symbol, whose children are not looked up by name.
     fn child_name(
         &self,
         holder: SymbolId,
@@ -188,7 +203,8 @@ impl<'a> Builder<'a> {
     ) -> Result<Option<CowStr<'a>>, AllocError>
         requires { symbol.0 < length self.now.symbols.items }
         ensures module { holder.0 ≡ 0 → IfOk result (λ name. name ≡ None) }
-        ensures inner { 0 < holder.0 → IfOk result (λ name. option_map cow_str_bytes name ≡ name_in self.now.symbols.items symbol) }
+        ensures inner { 0 < holder.0 → IfOk result (λ name. option_map cow_str_bytes name
+            ≡ local_name_in_symbols self.now.symbols.items symbol) }
     {
         if holder == SymbolId(0) {
             return Ok(None);
@@ -196,21 +212,24 @@ impl<'a> Builder<'a> {
         self.local_name(symbol)
     }
 
-    /// Adds a child, once.
+    /// Adds a child to a holder, unless it is one already.
     pub(crate) fn add_child(&mut self, holder: SymbolId, symbol: SymbolId) -> Result<(), BuildFault>
         requires holder { holder.0 < length self.old.symbols.items }
         requires symbol { symbol.0 < length self.old.symbols.items }
-        ensures keeps { KeepsCount result self.old self.new }
-        ensures table { OnOk result ((changes : List Change) → IsTableOf self.old changes → IsTableOf self.new (changes ++ has_child holder symbol ∷ [])) }
+        ensures keeps { KeepsSymbolCount result self.old self.new }
+        ensures table { OnOk result ((changes : List Change) → HasAppliedChanges self.old changes
+            → HasAppliedChanges self.new (changes ++ adds_child holder symbol ∷ [])) }
         ensures full { IfErr result (λ fault. fault ≡ OutOfMemory) }
     {
         let name = self.child_name(holder, symbol)?;
-        let held = &mut self.symbols[holder.0 as usize];
-        held.tables.add_child(self.setting.alloc, symbol)?;
+        let borrowed_symbol = &mut self.symbols[holder.0 as usize];
+        borrowed_symbol
+            .tables
+            .add_child(self.setting.alloc, symbol)?;
         add_name(&mut self.child_names, holder, name, symbol)
     }
 
-    /// Adds a member, once.
+    /// Adds a member to a holder, unless it is one already.
     pub(crate) fn add_member(
         &mut self,
         holder: SymbolId,
@@ -218,21 +237,26 @@ impl<'a> Builder<'a> {
     ) -> Result<(), BuildFault>
         requires holder { holder.0 < length self.old.symbols.items }
         requires symbol { symbol.0 < length self.old.symbols.items }
-        ensures keeps { KeepsCount result self.old self.new }
-        ensures table { OnOk result ((changes : List Change) → IsTableOf self.old changes → IsTableOf self.new (changes ++ has_member holder symbol ∷ [])) }
+        ensures keeps { KeepsSymbolCount result self.old self.new }
+        ensures table { OnOk result ((changes : List Change) → HasAppliedChanges self.old changes
+            → HasAppliedChanges self.new (changes ++ adds_member holder symbol ∷ [])) }
         ensures full { IfErr result (λ fault. fault ≡ OutOfMemory) }
     {
         let name = self.local_name(symbol)?;
-        let held = &mut self.symbols[holder.0 as usize];
-        held.tables.add_member(self.setting.alloc, symbol)?;
+        let borrowed_symbol = &mut self.symbols[holder.0 as usize];
+        borrowed_symbol
+            .tables
+            .add_member(self.setting.alloc, symbol)?;
         add_name(&mut self.member_names, holder, name, symbol)
     }
 
-    /// Adds a statement `export *`.
+    /// Adds an `export *` statement.
     pub(crate) fn add_star(&mut self, node_id: NodeId, src: &'a str) -> Result<(), BuildFault>
-        ensures keeps { KeepsCount result self.old self.new }
-        ensures table { OnOk result ((changes : List Change) → IsTableOf self.old changes
-            → IsTableOf self.new (changes ++ passes_on (record { number = node_id; text = src.now }) ∷ [])) }
+        ensures keeps { KeepsSymbolCount result self.old self.new }
+        ensures table { OnOk result ((changes : List Change) → HasAppliedChanges self.old changes
+            → HasAppliedChanges self.new
+            (changes ++ re_exports_all (record { number = node_id; specifier_text = src.now })
+            ∷ [])) }
         ensures full { IfErr result (λ fault. fault ≡ OutOfMemory) }
     {
         match self.stars.push(StarStatement { node_id, src }) {
@@ -241,12 +265,13 @@ impl<'a> Builder<'a> {
         }
     }
 
-    /// Maps a name, also one that is mapped already.
+    /// Binds an identifier to a symbol, also one that is bound already.
     pub(crate) fn map_id(&mut self, id: &'a Id, symbol: SymbolId) -> Result<(), BuildFault>
         requires symbol { symbol.0 < length self.old.symbols.items }
         requires inner { 0 < symbol.0 }
-        ensures keeps { KeepsCount result self.old self.new }
-        ensures table { OnOk result ((changes : List Change) → IsTableOf self.old changes → IsTableOf self.new (changes ++ maps (id_view id.now) symbol ∷ [])) }
+        ensures keeps { KeepsSymbolCount result self.old self.new }
+        ensures table { OnOk result ((changes : List Change) → HasAppliedChanges self.old changes
+            → HasAppliedChanges self.new (changes ++ maps (id_view id.now) symbol ∷ [])) }
         ensures full { IfErr result (λ fault. fault ≡ OutOfMemory) }
     {
         match self.ids.insert(id, symbol) {
@@ -255,10 +280,11 @@ impl<'a> Builder<'a> {
         }
     }
 
-    /// The symbol that a name stands for.
+    /// Returns the symbol that an identifier is bound to, if any.
     pub(crate) fn mapped_symbol(&self, id: &Id) -> Option<SymbolId>
-        requires { IsFilled self.now }
-        ensures table { (changes : List Change) → IsTableOf self.now changes → result ≡ mapped_after changes (id_view id.now) }
+        requires { HasValidTable self.now }
+        ensures table { (changes : List Change) → HasAppliedChanges self.now changes
+            → result ≡ mapped_symbol_after changes (id_view id.now) }
         ensures inside { IfSome result (λ s. s.0 < length self.now.symbols.items) }
         ensures inner { IfSome result (λ s. 0 < s.0) }
     {

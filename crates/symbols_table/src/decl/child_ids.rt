@@ -1,4 +1,4 @@
-//! The children of a symbol, one after another.
+//! The iterator over the children of a symbol.
 
 ghost use Rattle.std.specs.Prelude.{◌≡◌, IfSome, Some, length};
 ghost use Rattle.std.specs.Iterator.{YieldsFirst, at_most, item_count, UpTo};
@@ -6,10 +6,10 @@ ghost use Rattle.std.specs.Iterator.SizeHint.{IsWithinCount};
 
 use std::iter::FusedIterator;
 use std::marker::Model;
-use symbols_syntax::ids::SymbolId;
+use symbols_ast::ids::SymbolId;
 
-/// The symbols that are declared in a symbol's own body, each once, in order. It is seen as the
-/// list of those that it has left.
+/// An iterator over the symbols that are declared in a symbol's body, each once, in order of first
+/// insertion. Its view is the list of the symbols that remain.
 #[derive(Drop)]
 pub struct ChildIds<'a> {
     rest: &'a [SymbolId],
@@ -17,7 +17,7 @@ pub struct ChildIds<'a> {
 
 impl<'a> Model for ChildIds<'a> {
     ghost use Rattle.std.specs.Prelude.{List};
-    ghost use Rattle.symbols_syntax.specs.declared.ids.SymbolId.{SymbolId};
+    ghost use Rattle.symbols_ast.specs.declared.ids.SymbolId.{SymbolId};
 
     ghost Value = { List SymbolId };
 
@@ -31,7 +31,7 @@ impl<'a> ChildIds<'a> {
         ChildIds { rest: children }
     }
 
-    /// The symbols that are left.
+    /// Returns the symbols that the iterator has not returned yet.
     pub fn as_slice(&self) -> &'a [SymbolId]
         ensures { result.now ≡ self.now }
     {
@@ -47,8 +47,8 @@ impl<'a> Iterator for ChildIds<'a> {
     ghost remaining = { item_count (λ left. left) };
 
     fn next(&mut self) -> Option<SymbolId> {
-        let (first, others) = self.rest.split_first()?;
-        self.rest = others;
+        let (first, other_items) = self.rest.split_first()?;
+        self.rest = other_items;
         Some(*first)
     }
 

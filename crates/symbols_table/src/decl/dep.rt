@@ -1,10 +1,11 @@
-//! What a declaration takes of another module.
+//! Names that a declaration imports or re-exports from another module.
 
-ghost use Rattle.std.specs.Prelude.{◌≡◌};
+ghost use Rattle.std.specs.Prelude.{◌≡◌, true};
 ghost use Rattle.std.specs.Bool.{Decides};
 ghost use Rattle.std.specs.Option.{option_copied};
 
-/// What is taken of a module: all of it, or a name (as deno_graph).
+/// The part of another module that is imported: the whole module or one exported name (as
+/// deno_graph).
 #[derive(Clone, Copy, Debug, PartialEq, Eq, Hash)]
 pub enum FileDepName<'a> {
     Star,
@@ -12,11 +13,11 @@ pub enum FileDepName<'a> {
 }
 
 impl<'a> FileDepName<'a> {
-    ghost use Rattle.symbols_table.specs.DeclViews.{dep_name_view, taken_name};
+    ghost use Rattle.symbols_table.specs.DeclViews.{file_dep_name_view, imported_name};
 
-    /// The name that is taken; none where all of the module is (as deno_graph).
+    /// Returns the imported name. It is `None` where the whole module is imported (as deno_graph).
     pub fn maybe_name(&self) -> Option<&'a str>
-        ensures { option_copied result ≡ taken_name (dep_name_view self.now) }
+        ensures { option_copied result ≡ imported_name (file_dep_name_view self.now) }
     {
         match self {
             FileDepName::Star => None,
@@ -24,15 +25,19 @@ impl<'a> FileDepName<'a> {
         }
     }
 
-    /// Whether the same is taken (own rule): what `==` answers, and with it the hash.
+    /// Returns whether both import the same name, or both the whole module (extension). It agrees
+    /// with `==`, and is true of a clone.
     pub fn is_same(&self, other: &FileDepName<'_>) -> bool
-        ensures { Decides result (dep_name_view self.now ≡ dep_name_view other.now) }
+        ensures same { Decides result (file_dep_name_view self.now ≡ file_dep_name_view other.now) }
+        ensures equal { result ≡ ⟦<FileDepName<'static> as PartialEq>⟧.eq self.now other.now }
+        ensures cloned { ⟦<FileDepName<'static> as Clone>⟧.is_clone self.now other.now
+            → result ≡ true }
     {
         self == other
     }
 }
 
-/// A name of another module, by the text that stands for the module (as deno_graph).
+/// A name of another module with that module's specifier (as deno_graph).
 #[derive(Clone, Copy, Debug, PartialEq, Eq, Hash)]
 pub struct FileDep<'a> {
     pub name: FileDepName<'a>,
@@ -40,12 +45,14 @@ pub struct FileDep<'a> {
 }
 
 impl FileDep<'_> {
-    ghost use Rattle.symbols_table.specs.DeclViews.{dep_view};
+    ghost use Rattle.symbols_table.specs.DeclViews.{file_dep_view};
 
-    /// Whether the same is taken by the same text (own rule): what `==` answers, and with it the
-    /// hash.
+    /// Returns whether both have the same name and the same specifier text (extension). It agrees
+    /// with `==`, and is true of a clone. No specifier is resolved.
     pub fn is_same(&self, other: &FileDep<'_>) -> bool
-        ensures { Decides result (dep_view self.now ≡ dep_view other.now) }
+        ensures same { Decides result (file_dep_view self.now ≡ file_dep_view other.now) }
+        ensures equal { result ≡ ⟦<FileDep<'static> as PartialEq>⟧.eq self.now other.now }
+        ensures cloned { ⟦<FileDep<'static> as Clone>⟧.is_clone self.now other.now → result ≡ true }
     {
         self == other
     }

@@ -1,19 +1,19 @@
-//! The exports of a symbol, one after another.
+//! The iterator over the exports of a symbol.
 
 ghost use Rattle.std.specs.Prelude.{◌≡◌, [], IfSome, Some, length};
 ghost use Rattle.std.specs.Iterator.{YieldsFirstBy, at_most, item_count, UpTo};
 ghost use Rattle.std.specs.Iterator.SizeHint.{IsWithinCount};
 ghost use Rattle.symbols_table.specs.DeclViews.{exports_view};
-ghost use Rattle.symbols_table.specs.TableViews.{export_view};
+ghost use Rattle.symbols_table.specs.TableViews.{export_entry_view};
 
 use indexmap::IndexMap;
 use indexmap::map::Slice;
 use std::iter::FusedIterator;
 use std::marker::Model;
-use symbols_syntax::ids::SymbolId;
+use symbols_ast::ids::SymbolId;
 
-/// The names that a symbol exports, with their symbols, each name at the place where it was first
-/// exported. It is seen as the list of those that it has left.
+/// An iterator over the exported names of a symbol with their symbols. A name has the position of
+/// its first export. The view is the list of the exports that remain.
 #[derive(Drop)]
 pub struct Exports<'a> {
     rest: Slice<'a, String, SymbolId>,
@@ -21,7 +21,7 @@ pub struct Exports<'a> {
 
 impl<'a> Model for Exports<'a> {
     ghost use Rattle.std.specs.Prelude.{ℕ, List};
-    ghost use Rattle.symbols_syntax.specs.declared.ids.SymbolId.{SymbolId};
+    ghost use Rattle.symbols_ast.specs.declared.ids.SymbolId.{SymbolId};
     ghost use Rattle.symbols_table.specs.DeclViews.{exports_view};
 
     ghost Value = { List (List ℕ × SymbolId) };
@@ -48,13 +48,13 @@ impl<'a> Exports<'a> {
 impl<'a> Iterator for Exports<'a> {
     type Item = (&'a str, SymbolId);
 
-    ghost next_gives = { YieldsFirstBy export_view (λ left. left) };
+    ghost next_gives = { YieldsFirstBy export_entry_view (λ left. left) };
 
     ghost remaining = { item_count (λ left. left) };
 
     fn next(&mut self) -> Option<(&'a str, SymbolId)> {
-        let ((name, symbol_id), others) = self.rest.split_first()?;
-        self.rest = others;
+        let ((name, symbol_id), other_items) = self.rest.split_first()?;
+        self.rest = other_items;
         Some((name.as_str(), *symbol_id))
     }
 

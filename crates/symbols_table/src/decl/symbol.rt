@@ -1,4 +1,4 @@
-//! A symbol with its tables.
+//! A symbol of a module.
 
 ghost use Rattle.std.specs.Prelude.{◌≡◌, [], None, IfOk, string_bytes, map};
 ghost use Rattle.std.specs.Cow.{cow_str_bytes};
@@ -9,7 +9,8 @@ ghost use Rattle.std.specs.Str.{bytes_eq};
 ghost use Rattle.symbols_nodes.specs.NodeTests.{is_function, is_module};
 ghost use Rattle.symbols_nodes.specs.NodeMembers.{is_decl, is_member_node, is_private_member};
 ghost use Rattle.symbols_nodes.specs.NodeViews.{symbol_node_view};
-ghost use Rattle.symbols_table.specs.DeclViews.{decl_view, dep_view, first_dep, node_test};
+ghost use Rattle.symbols_table.specs.DeclViews.{decl_view, file_dep_view, first_file_dep};
+ghost use Rattle.symbols_table.specs.DeclViews.{decl_node_satisfies};
 
 use crate::decl::child_ids::ChildIds;
 use crate::decl::dep::FileDep;
@@ -19,10 +20,10 @@ use crate::decl::tables::Tables;
 use smallvec::SmallVec;
 use std::alloc::{AllocError, Global};
 use std::borrow::CowStr;
+use symbols_ast::ids::{ModuleId, SymbolId, UniqueSymbolId};
 use symbols_nodes::nodes::SymbolNodeRef;
-use symbols_syntax::ids::{ModuleId, SymbolId, UniqueSymbolId};
 
-/// A symbol: what is declared under one name of a module, and the names that it has itself.
+/// A symbol of a module: its declarations, exports, children and members.
 #[derive(Drop)]
 pub struct Symbol<'a> {
     pub(crate) alloc: Global,
@@ -31,13 +32,14 @@ pub struct Symbol<'a> {
     pub(crate) parent_id: Option<SymbolId>,
     pub(crate) decls: SmallVec<SymbolDecl<'a>, 1>,
     pub(crate) tables: Tables,
-    pub(crate) has_function: bool,
-    ghost functions: { has_function ≡ list_any (node_test is_function) (map decl_view decls.items) },
+    pub(crate) has_function_decl: bool,
+    ghost functions: { has_function_decl
+        ≡ list_any (decl_node_satisfies is_function) (map decl_view decls.items) },
 }
 
-/// The first of what declarations take of other modules.
-fn first_dep<'a>(decls: &[SymbolDecl<'a>]) -> Option<FileDep<'a>>
-    ensures { option_map dep_view result ≡ first_dep (map decl_view decls.now) }
+/// Returns the other module's name of the first declaration that refers to one, if any.
+fn first_file_dep<'a>(decls: &[SymbolDecl<'a>]) -> Option<FileDep<'a>>
+    ensures { option_map file_dep_view result ≡ first_file_dep (map decl_view decls.now) }
 {
     for decl in decls {
         if let Some(dep) = decl.file_dep() {
@@ -48,23 +50,28 @@ fn first_dep<'a>(decls: &[SymbolDecl<'a>]) -> Option<FileDep<'a>>
 }
 
 impl<'a> Symbol<'a> {
-    ghost use Rattle.symbols_table.specs.SymbolViews.{symbol_view, first_node, symbol_name, symbol_test};
-    ghost use Rattle.symbols_table.specs.Symbols.{number_in, module_number_in, unique_in, parent_in, parent_unique_in, decls_in, exports_in, children_in, members_in};
+    ghost use Rattle.symbols_table.specs.SymbolViews.{symbol_view, node_of_first_decl, symbol_name};
+    ghost use Rattle.symbols_table.specs.SymbolViews.{first_decl_node_satisfies};
+    ghost use Rattle.symbols_table.specs.Symbols.{symbol_local_id, symbol_module_id};
+    ghost use Rattle.symbols_table.specs.Symbols.{symbol_unique_id, symbol_parent};
+    ghost use Rattle.symbols_table.specs.Symbols.{symbol_parent_unique_id, symbol_decls};
+    ghost use Rattle.symbols_table.specs.Symbols.{symbol_export_entries, symbol_children};
+    ghost use Rattle.symbols_table.specs.Symbols.{symbol_members};
 
-    /// A symbol that nothing is declared of, with empty tables.
+    /// Returns a symbol without declarations, exports, children and members.
     pub fn new(
         alloc: Global,
         module_id: ModuleId,
         symbol_id: SymbolId,
         parent_id: Option<SymbolId>,
     ) -> Symbol<'a>
-        ensures number { number_in result ≡ symbol_id }
-        ensures of_module { module_number_in result ≡ module_id }
-        ensures parent { parent_in result ≡ parent_id }
-        ensures decls { decls_in result ≡ [] }
-        ensures exports { exports_in result ≡ [] }
-        ensures children { children_in result ≡ [] }
-        ensures members { members_in result ≡ [] }
+        ensures number { symbol_local_id result ≡ symbol_id }
+        ensures of_module { symbol_module_id result ≡ module_id }
+        ensures parent { symbol_parent result ≡ parent_id }
+        ensures decls { symbol_decls result ≡ [] }
+        ensures exports { symbol_export_entries result ≡ [] }
+        ensures children { symbol_children result ≡ [] }
+        ensures members { symbol_members result ≡ [] }
     {
         Symbol {
             alloc,
@@ -73,42 +80,42 @@ impl<'a> Symbol<'a> {
             parent_id,
             decls: SmallVec::new(alloc),
             tables: Tables::new(),
-            has_function: false,
+            has_function_decl: false,
         }
     }
 
-    /// The symbol among those of all modules.
+    /// Returns the symbol's id across all modules: its module's number and its own.
     pub fn unique_id(&self) -> UniqueSymbolId
-        ensures { result ≡ unique_in self.now }
+        ensures { result ≡ symbol_unique_id self.now }
     {
         UniqueSymbolId::new(self.module_id, self.symbol_id)
     }
 
-    /// The module that the symbol is of.
+    /// Returns the number of the module that has the symbol.
     pub fn module_id(&self) -> ModuleId
-        ensures { result ≡ module_number_in self.now }
+        ensures { result ≡ symbol_module_id self.now }
     {
         self.module_id
     }
 
-    /// The symbol among those of its module.
+    /// Returns the symbol's number within its module.
     pub fn symbol_id(&self) -> SymbolId
-        ensures { result ≡ number_in self.now }
+        ensures { result ≡ symbol_local_id self.now }
     {
         self.symbol_id
     }
 
-    /// The symbol in which this one is declared; none of symbol 0 alone.
+    /// Returns the number of the symbol in which this one is declared. Only symbol 0 has none.
     pub fn parent_id(&self) -> Option<SymbolId>
-        ensures { result ≡ parent_in self.now }
+        ensures { result ≡ symbol_parent self.now }
     {
         self.parent_id
     }
 
-    /// The symbol in which this one is declared, among those of all modules: it is of the same
-    /// module.
+    /// Returns the id across all modules of the symbol in which this one is declared. Both are in
+    /// the same module.
     pub fn parent_unique_id(&self) -> Option<UniqueSymbolId>
-        ensures { result ≡ parent_unique_in self.now }
+        ensures { result ≡ symbol_parent_unique_id self.now }
     {
         match self.parent_id {
             Some(parent_id) => Some(UniqueSymbolId::new(self.module_id, parent_id)),
@@ -116,14 +123,15 @@ impl<'a> Symbol<'a> {
         }
     }
 
-    /// What the symbol is called (as deno_graph): what its first declaration is called; without one
-    /// it has no name.
+    /// Returns the name of the symbol's first declaration (as deno_graph). It is `None` if the
+    /// symbol has no declaration or that declaration has no name.
     ///
     /// # Errors
     ///
-    /// Memory was refused, which only the name of a private key takes.
+    /// The allocation failed. The contract does not say which names need an allocation.
     pub fn maybe_name(&self) -> Result<Option<CowStr<'a>>, AllocError>
-        ensures { IfOk result (λ name. option_map cow_str_bytes name ≡ symbol_name (symbol_view self.now)) }
+        ensures { IfOk result
+            (λ name. option_map cow_str_bytes name ≡ symbol_name (symbol_view self.now)) }
     {
         match self.decls.first() {
             Some(decl) => decl.maybe_name(self.alloc),
@@ -131,93 +139,97 @@ impl<'a> Symbol<'a> {
         }
     }
 
-    /// The declarations, in order.
+    /// Returns the symbol's declarations, in order.
     pub fn decls(&self) -> &[SymbolDecl<'a>]
-        ensures { map decl_view result.now ≡ decls_in self.now }
+        ensures { map decl_view result.now ≡ symbol_decls self.now }
     {
         self.decls.as_slice()
     }
 
-    /// The exported names with their symbols: a name has the place where it was first exported, and
-    /// the symbol of the last export.
+    /// Returns the exported names with their symbols. A name exported twice has the position of its
+    /// first export and the symbol of its last.
     pub fn exports(&self) -> Exports<'_>
-        ensures { result ≡ exports_in self.now }
+        ensures { result ≡ symbol_export_entries self.now }
     {
         self.tables.exports()
     }
 
-    /// The symbol that is exported under a name.
+    /// Returns the symbol that this one exports under a name, if any.
     pub fn export(&self, name: &str) -> Option<SymbolId>
-        ensures { result ≡ lookup (λ key. bytes_eq name.now key) (exports_in self.now) }
+        ensures { result ≡ lookup (λ key. bytes_eq name.now key) (symbol_export_entries self.now) }
     {
         self.tables.export(name)
     }
 
-    /// What is declared in the symbol's own body, each once, in order.
+    /// Returns the symbols that are declared in this symbol's body, each once, in order of first
+    /// insertion.
     pub fn child_ids(&self) -> ChildIds<'_>
-        ensures { result ≡ children_in self.now }
+        ensures { result ≡ symbol_children self.now }
     {
         self.tables.child_ids()
     }
 
-    /// The instance members of a class, or the members of an interface, each once.
+    /// Returns the instance members of a class, or the members of an interface, each once.
     pub fn members(&self) -> &[SymbolId]
-        ensures { result.now ≡ members_in self.now }
+        ensures { result.now ≡ symbol_members self.now }
     {
         self.tables.members()
     }
 
-    /// What the symbol takes of another module (as deno_graph): what the first of its declarations
-    /// takes that is a name of another module; none without such a declaration.
+    /// Returns the other module's name that the symbol refers to (as deno_graph). It is that of the
+    /// first declaration of kind `FileRef`; `None` if there is no such declaration.
     pub fn file_dep(&self) -> Option<FileDep<'a>>
-        ensures { option_map dep_view result ≡ first_dep (decls_in self.now) }
+        ensures { option_map file_dep_view result ≡ first_file_dep (symbol_decls self.now) }
     {
-        first_dep(self.decls.as_slice())
+        first_file_dep(self.decls.as_slice())
     }
 
-    /// The node of the first declaration, if there is one that has a node.
-    pub(crate) fn first_node(&self) -> Option<SymbolNodeRef<'a>>
-        ensures { option_map symbol_node_view result ≡ first_node (symbol_view self.now) }
+    /// Returns the node of the first declaration, if that declaration has a node.
+    pub(crate) fn node_of_first_decl(&self) -> Option<SymbolNodeRef<'a>>
+        ensures { option_map symbol_node_view result ≡ node_of_first_decl (symbol_view self.now) }
     {
         self.decls.first()?.maybe_node()
     }
 
-    /// Whether its first declaration is the module (as deno_graph); false without a node.
+    /// Returns whether the symbol's first declaration is the module (as deno_graph); false without
+    /// a node.
     pub fn is_module(&self) -> bool
-        ensures { result ≡ symbol_test is_module (symbol_view self.now) }
+        ensures { result ≡ first_decl_node_satisfies is_module (symbol_view self.now) }
     {
-        match self.first_node() {
+        match self.node_of_first_decl() {
             Some(node) => node.is_module(),
             None => false,
         }
     }
 
-    /// Whether its first declaration is neither the module nor a member (as deno_graph); false
-    /// without a node.
+    /// Returns whether the symbol's first declaration is neither the module nor a member (as
+    /// deno_graph); false without a node.
     pub fn is_decl(&self) -> bool
-        ensures { result ≡ symbol_test is_decl (symbol_view self.now) }
+        ensures { result ≡ first_decl_node_satisfies is_decl (symbol_view self.now) }
     {
-        match self.first_node() {
+        match self.node_of_first_decl() {
             Some(node) => node.is_decl(),
             None => false,
         }
     }
 
-    /// Whether its first declaration is a member (as deno_graph); false without a node.
+    /// Returns whether the symbol's first declaration is a member (as deno_graph); false without a
+    /// node.
     pub fn is_member(&self) -> bool
-        ensures { result ≡ symbol_test is_member_node (symbol_view self.now) }
+        ensures { result ≡ first_decl_node_satisfies is_member_node (symbol_view self.now) }
     {
-        match self.first_node() {
+        match self.node_of_first_decl() {
             Some(node) => node.is_member(),
             None => false,
         }
     }
 
-    /// Whether its first declaration is a private member (as deno_graph); false without a node.
+    /// Returns whether the symbol's first declaration is a private member (as deno_graph); false
+    /// without a node.
     pub fn is_private_member(&self) -> bool
-        ensures { result ≡ symbol_test is_private_member (symbol_view self.now) }
+        ensures { result ≡ first_decl_node_satisfies is_private_member (symbol_view self.now) }
     {
-        match self.first_node() {
+        match self.node_of_first_decl() {
             Some(node) => node.is_private_member(),
             None => false,
         }

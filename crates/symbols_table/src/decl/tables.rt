@@ -1,12 +1,12 @@
-//! The names that a symbol has itself.
+//! The exports, children and members of a symbol.
 
 ghost use Rattle.std.specs.Prelude.{◌≡◌, OnOk, IsSome, string_bytes};
 ghost use Rattle.std.specs.List.{list_any};
 ghost use Rattle.std.specs.Map.{lookup};
 ghost use Rattle.std.specs.Str.{bytes_eq};
 ghost use Rattle.indexmap.specs.IndexMap.{insert_entry};
-ghost use Rattle.symbols_table.specs.Changes.{same_symbol_id, with_first};
-ghost use Rattle.symbols_table.specs.TableViews.{empty_tables, tables_view};
+ghost use Rattle.symbols_table.specs.Changes.{is_same_symbol_id, append_if_absent};
+ghost use Rattle.symbols_table.specs.TableViews.{empty_symbol_maps, symbol_maps_view};
 
 use crate::decl::child_ids::ChildIds;
 use crate::decl::exports::Exports;
@@ -14,9 +14,9 @@ use crate::decl::symbol_set::SymbolSet;
 use indexmap::IndexMap;
 use std::alloc::{AllocError, AllocFailed, Global};
 use std::marker::Model;
-use symbols_syntax::ids::SymbolId;
+use symbols_ast::ids::SymbolId;
 
-/// What is kept of a symbol in which something is declared or exported.
+/// The allocated tables of a symbol that exports or declares something.
 #[derive(Drop)]
 struct Maps {
     exports: IndexMap<String, SymbolId>,
@@ -24,24 +24,24 @@ struct Maps {
     members: SymbolSet,
 }
 
-/// What a symbol exports, its children and its members. Most symbols have none of these, so there
-/// are no maps before the first of them is added.
+/// The exports, children and members of a symbol. Most symbols have none of them, so the maps are
+/// allocated when the first entry is added.
 #[derive(Drop)]
 pub(crate) struct Tables {
     maps: Option<Box<Maps>>,
 }
 
 impl Model for Tables {
-    ghost use Rattle.symbols_table.specs.TableViews.{TablesView, tables_view};
+    ghost use Rattle.symbols_table.specs.TableViews.{SymbolMapsView, symbol_maps_view};
 
-    ghost Value = { TablesView };
+    ghost Value = { SymbolMapsView };
 
-    ghost view = { λ tables. tables_view tables.maps };
+    ghost view = { λ tables. symbol_maps_view tables.maps };
 }
 
-/// Makes maps where there are none.
+/// Allocates the maps, if there are none.
 fn fill(maps: &mut Option<Box<Maps>>, alloc: Global) -> Result<(), AllocFailed<Maps>>
-    ensures same { tables_view maps.new ≡ tables_view maps.old }
+    ensures same { symbol_maps_view maps.new ≡ symbol_maps_view maps.old }
     ensures made { OnOk result (IsSome maps.new) }
 {
     if maps.is_none() {
@@ -58,14 +58,14 @@ fn fill(maps: &mut Option<Box<Maps>>, alloc: Global) -> Result<(), AllocFailed<M
 }
 
 impl Tables {
-    /// Empty tables.
+    /// Returns empty tables.
     pub(crate) fn new() -> Tables
-        ensures { result ≡ empty_tables }
+        ensures { result ≡ empty_symbol_maps }
     {
         Tables { maps: None }
     }
 
-    /// The exported names with their symbols.
+    /// Returns the exported names with their symbols.
     pub(crate) fn exports(&self) -> Exports<'_>
         ensures { result ≡ self.now.exports }
     {
@@ -75,7 +75,7 @@ impl Tables {
         }
     }
 
-    /// The symbol that is exported under a name.
+    /// Returns the symbol that is exported under a name, if any.
     pub(crate) fn export(&self, name: &str) -> Option<SymbolId>
         ensures { result ≡ lookup (λ key. bytes_eq name.now key) self.now.exports }
     {
@@ -85,7 +85,7 @@ impl Tables {
         }
     }
 
-    /// The children.
+    /// Returns the children, each once.
     pub(crate) fn child_ids(&self) -> ChildIds<'_>
         ensures { result ≡ self.now.children }
     {
@@ -95,7 +95,7 @@ impl Tables {
         }
     }
 
-    /// The members.
+    /// Returns the members, each once.
     pub(crate) fn members(&self) -> &[SymbolId]
         ensures { result.now ≡ self.now.members }
     {
@@ -105,9 +105,9 @@ impl Tables {
         }
     }
 
-    /// Whether a symbol is one of the members.
+    /// Returns whether a symbol is one of the members.
     pub(crate) fn has_member(&self, symbol: SymbolId) -> bool
-        ensures { result ≡ list_any (same_symbol_id symbol) self.now.members }
+        ensures { result ≡ list_any (is_same_symbol_id symbol) self.now.members }
     {
         match &self.maps {
             Some(maps) => maps.members.contains(symbol),
@@ -115,14 +115,17 @@ impl Tables {
         }
     }
 
-    /// Sets an export. A name that is there keeps its place and takes the symbol.
+    /// Sets an export. A name that is exported already keeps its position and gets the new symbol.
     pub(crate) fn add_export(
         &mut self,
         alloc: Global,
         name: String,
         symbol: SymbolId,
     ) -> Result<(), AllocError>
-        ensures { OnOk result (self.new ≡ record self.old { exports = insert_entry bytes_eq self.old.exports (string_bytes name) symbol }) }
+        ensures { OnOk result (self.new ≡ record self.old {
+          exports = insert_entry bytes_eq
+              self.old.exports (string_bytes name) symbol;
+        }) }
     {
         fill(&mut self.maps, alloc)?;
         match &mut self.maps {
@@ -134,9 +137,10 @@ impl Tables {
         Ok(())
     }
 
-    /// Adds a child, once.
+    /// Adds a child, unless it is one already.
     pub(crate) fn add_child(&mut self, alloc: Global, symbol: SymbolId) -> Result<(), AllocError>
-        ensures { OnOk result (self.new ≡ record self.old { children = with_first self.old.children symbol }) }
+        ensures { OnOk result
+            (self.new ≡ record self.old { children = append_if_absent self.old.children symbol }) }
     {
         fill(&mut self.maps, alloc)?;
         match &mut self.maps {
@@ -148,9 +152,10 @@ impl Tables {
         Ok(())
     }
 
-    /// Adds a member, once.
+    /// Adds a member, unless it is one already.
     pub(crate) fn add_member(&mut self, alloc: Global, symbol: SymbolId) -> Result<(), AllocError>
-        ensures { OnOk result (self.new ≡ record self.old { members = with_first self.old.members symbol }) }
+        ensures { OnOk result
+            (self.new ≡ record self.old { members = append_if_absent self.old.members symbol }) }
     {
         fill(&mut self.maps, alloc)?;
         match &mut self.maps {

@@ -1,4 +1,4 @@
-//! Why a call on symbols gives nothing.
+//! The error type of calls on symbols.
 
 ghost use Rattle.std.specs.Prelude.{◌≡◌};
 ghost use Rattle.symbols_table.specs.declared.info.fault.SymbolsFault.TheVariants.{OutOfMemory};
@@ -6,22 +6,23 @@ ghost use Rattle.symbols_table.specs.declared.info.fault.SymbolsFault.TheVariant
 use std::alloc::{AllocError, AllocFailed};
 use thiserror::Error;
 
-/// Why a call on symbols gives nothing (own rule). What was stored before stays whole.
+/// The reason why a call on symbols fails (extension). What was stored before the call is
+/// unchanged.
 #[derive(Debug, Drop, PartialEq, Eq, Error)]
 pub enum SymbolsFault {
-    /// Memory was refused.
+    /// An allocation failed.
     #[error("out of memory")]
     OutOfMemory,
-    /// A module must be stored, and as many as the limit allows are.
+    /// Another module would have to be stored, and the limit of stored modules is reached.
     #[error("too many modules")]
     TooManyModules,
     /// The module of this specifier has more symbols than the limit allows.
     #[error("too many symbols in {0}")]
     TooManySymbols(String),
-    /// The id names no stored module.
+    /// No stored module has the id.
     #[error("unknown module")]
     UnknownModule,
-    /// The id names no symbol of the module.
+    /// The module has no symbol of the id.
     #[error("unknown symbol")]
     UnknownSymbol,
 }

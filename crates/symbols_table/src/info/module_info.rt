@@ -1,23 +1,26 @@
-//! A module of any kind with its symbols, owned or lent.
+//! A module of either kind with its symbol table, owned or borrowed.
 
 ghost use Rattle.std.specs.Prelude.{◌≡◌, ◌<◌, ◌^◌, length, Some, slice_get};
 ghost use Rattle.std.specs.Option.{option_copied, option_map};
 ghost use Rattle.std.specs.Slice.Iter.{iter_rest};
-ghost use Rattle.symbols_table.specs.Laws.{AreLawful};
-ghost use Rattle.symbols_table.specs.Modules.{json_in, esm_in, lent_json, lent_esm, table_of, lent_table, source_text};
-ghost use Rattle.symbols_table.specs.ReExports.{nodes_left, star_nodes_in};
+ghost use Rattle.symbols_table.specs.Laws.{AreLawfulSymbols};
+ghost use Rattle.symbols_table.specs.Modules.{maybe_json_info, maybe_esm_info, maybe_json_of_ref};
+ghost use Rattle.symbols_table.specs.Modules.{maybe_esm_of_ref};
+ghost use Rattle.symbols_table.specs.Modules.{symbol_table_of, symbol_table_of_ref, source_text};
+ghost use Rattle.symbols_table.specs.ReExports.{remaining_export_star_nodes};
+ghost use Rattle.symbols_table.specs.ReExports.{export_star_nodes_of_table};
 
 use crate::decl::Symbol;
 use crate::info::es_module::EsModuleInfo;
 use crate::info::json_module::JsonModuleInfo;
 use crate::info::re_exports::ReExportNodes;
 use std::slice;
-use symbols_syntax::ids::{ModuleId, SymbolId};
+use symbols_ast::ids::{ModuleId, SymbolId};
 
-/// The symbols of a module, by their numbers.
+/// An iterator over the symbols of a module, in order of their numbers.
 pub type Symbols<'r, 'a> = slice::Iter<'r, Symbol<'a>>;
 
-/// A module with its symbols (as deno_graph).
+/// A module with its symbol table (as deno_graph).
 #[derive(Drop)]
 pub enum ModuleInfo<'a> {
     Json(JsonModuleInfo<'a>),
@@ -25,9 +28,9 @@ pub enum ModuleInfo<'a> {
 }
 
 impl<'a> ModuleInfo<'a> {
-    /// The JSON module, if it is one.
+    /// Returns the module if it is JSON, else `None`.
     pub fn json(&self) -> Option<&JsonModuleInfo<'a>>
-        ensures { option_copied result ≡ json_in self.now }
+        ensures { option_copied result ≡ maybe_json_info self.now }
     {
         match self {
             ModuleInfo::Json(json) => Some(json),
@@ -35,9 +38,9 @@ impl<'a> ModuleInfo<'a> {
         }
     }
 
-    /// The ECMAScript or TypeScript module, if it is one.
+    /// Returns the module if it is ECMAScript or TypeScript, else `None`.
     pub fn esm(&self) -> Option<&EsModuleInfo<'a>>
-        ensures { option_copied result ≡ esm_in self.now }
+        ensures { option_copied result ≡ maybe_esm_info self.now }
     {
         match self {
             ModuleInfo::Json(_) => None,
@@ -45,11 +48,11 @@ impl<'a> ModuleInfo<'a> {
         }
     }
 
-    /// The module, lent.
+    /// Returns the module borrowed as a `ModuleInfoRef`.
     pub fn as_ref(&self) -> ModuleInfoRef<'_, 'a>
-        ensures json { lent_json result ≡ json_in self.now }
-        ensures esm { lent_esm result ≡ esm_in self.now }
-        ensures table { lent_table result ≡ table_of self.now }
+        ensures json { maybe_json_of_ref result ≡ maybe_json_info self.now }
+        ensures esm { maybe_esm_of_ref result ≡ maybe_esm_info self.now }
+        ensures table { symbol_table_of_ref result ≡ symbol_table_of self.now }
     {
         match self {
             ModuleInfo::Json(json) => ModuleInfoRef::Json(json),
@@ -57,36 +60,36 @@ impl<'a> ModuleInfo<'a> {
         }
     }
 
-    /// The module's number.
+    /// Returns the module's number.
     pub fn module_id(&self) -> ModuleId
-        ensures { result ≡ (table_of self.now).module_id }
+        ensures { result ≡ (symbol_table_of self.now).module_id }
     {
         self.as_ref().module_id()
     }
 
-    /// The module's specifier.
+    /// Returns the module's specifier.
     pub fn specifier(&self) -> &'a str
-        ensures { result.now ≡ (table_of self.now).specifier }
+        ensures { result.now ≡ (symbol_table_of self.now).specifier }
     {
         self.as_ref().specifier()
     }
 
-    /// The symbol of a number, if the module has one.
+    /// Returns the symbol of a number. It is `None` if the module has no symbol of this number.
     pub fn symbol(&self, symbol_id: SymbolId) -> Option<&Symbol<'a>>
-        ensures { option_copied result ≡ slice_get (table_of self.now).symbols symbol_id.0 }
+        ensures { option_copied result ≡ slice_get (symbol_table_of self.now).symbols symbol_id.0 }
     {
         self.as_ref().symbol(symbol_id)
     }
 
-    /// The symbols by their numbers.
+    /// Returns an iterator over the module's symbols, in order of their numbers.
     pub fn symbols(&self) -> Symbols<'_, 'a>
-        ensures { iter_rest result ≡ (table_of self.now).symbols }
+        ensures { iter_rest result ≡ (symbol_table_of self.now).symbols }
     {
         self.as_ref().symbols()
     }
 }
 
-/// A module with its symbols, lent (as deno_graph).
+/// A borrowed module with its symbol table (as deno_graph).
 #[derive(Clone, Copy)]
 pub enum ModuleInfoRef<'r, 'a> {
     Json(&'r JsonModuleInfo<'a>),
@@ -94,9 +97,9 @@ pub enum ModuleInfoRef<'r, 'a> {
 }
 
 impl<'r, 'a> ModuleInfoRef<'r, 'a> {
-    /// The JSON module, if it is one.
+    /// Returns the module if it is JSON, else `None`.
     pub fn json(self) -> Option<&'r JsonModuleInfo<'a>>
-        ensures { option_copied result ≡ lent_json self.entry }
+        ensures { option_copied result ≡ maybe_json_of_ref self.entry }
     {
         match self {
             ModuleInfoRef::Json(json) => Some(json),
@@ -104,9 +107,9 @@ impl<'r, 'a> ModuleInfoRef<'r, 'a> {
         }
     }
 
-    /// The ECMAScript or TypeScript module, if it is one.
+    /// Returns the module if it is ECMAScript or TypeScript, else `None`.
     pub fn esm(self) -> Option<&'r EsModuleInfo<'a>>
-        ensures { option_copied result ≡ lent_esm self.entry }
+        ensures { option_copied result ≡ maybe_esm_of_ref self.entry }
     {
         match self {
             ModuleInfoRef::Json(_) => None,
@@ -114,9 +117,9 @@ impl<'r, 'a> ModuleInfoRef<'r, 'a> {
         }
     }
 
-    /// The module's number.
+    /// Returns the module's number.
     pub fn module_id(self) -> ModuleId
-        ensures { result ≡ (lent_table self.entry).module_id }
+        ensures { result ≡ (symbol_table_of_ref self.entry).module_id }
     {
         match self {
             ModuleInfoRef::Json(json) => json.module_id,
@@ -124,9 +127,9 @@ impl<'r, 'a> ModuleInfoRef<'r, 'a> {
         }
     }
 
-    /// The module's specifier.
+    /// Returns the module's specifier.
     pub fn specifier(self) -> &'a str
-        ensures { result.now ≡ (lent_table self.entry).specifier }
+        ensures { result.now ≡ (symbol_table_of_ref self.entry).specifier }
     {
         match self {
             ModuleInfoRef::Json(json) => json.specifier,
@@ -134,9 +137,9 @@ impl<'r, 'a> ModuleInfoRef<'r, 'a> {
         }
     }
 
-    /// The module's text.
+    /// Returns the module's source text.
     pub fn text(self) -> &'a str
-        ensures { result.now ≡ source_text (lent_table self.entry).source }
+        ensures { result.now ≡ source_text (symbol_table_of_ref self.entry).source }
     {
         match self {
             ModuleInfoRef::Json(json) => json.text,
@@ -144,11 +147,11 @@ impl<'r, 'a> ModuleInfoRef<'r, 'a> {
         }
     }
 
-    /// All symbols in order.
+    /// Returns the module's symbols as a slice, in order of their numbers.
     pub(crate) fn all_symbols(self) -> &'r [Symbol<'a>]
-        ensures symbols { result.now ≡ (lent_table self.entry).symbols }
+        ensures symbols { result.now ≡ (symbol_table_of_ref self.entry).symbols }
         ensures has_module { 0 < length result.now }
-        ensures lawful { AreLawful (lent_table self.entry).module_id result.now }
+        ensures lawful { AreLawfulSymbols (symbol_table_of_ref self.entry).module_id result.now }
     {
         match self {
             ModuleInfoRef::Json(json) => &json.symbols,
@@ -156,45 +159,49 @@ impl<'r, 'a> ModuleInfoRef<'r, 'a> {
         }
     }
 
-    /// The symbol of a number, if the module has one.
+    /// Returns the symbol of a number. It is `None` if the module has no symbol of this number.
     pub fn symbol(self, symbol_id: SymbolId) -> Option<&'r Symbol<'a>>
-        ensures { option_copied result ≡ slice_get (lent_table self.entry).symbols symbol_id.0 }
+        ensures { option_copied result ≡ slice_get (symbol_table_of_ref self.entry).symbols symbol_id.0 }
     {
         self.all_symbols().get(symbol_id.0 as usize)
     }
 
-    /// The symbols by their numbers.
+    /// Returns an iterator over the module's symbols, in order of their numbers.
     pub fn symbols(self) -> Symbols<'r, 'a>
-        ensures { iter_rest result ≡ (lent_table self.entry).symbols }
+        ensures { iter_rest result ≡ (symbol_table_of_ref self.entry).symbols }
     {
         self.all_symbols().iter()
     }
 
-    /// The symbol of the module itself: symbol 0.
+    /// Returns the symbol of the module itself, which is symbol 0.
     pub fn module_symbol(self) -> &'r Symbol<'a>
-        ensures { slice_get (lent_table self.entry).symbols 0 ≡ Some result.now }
+        ensures { slice_get (symbol_table_of_ref self.entry).symbols 0 ≡ Some result.now }
     {
         &self.all_symbols()[0]
     }
 
-    /// The text of a statement `export *`, by its place among them; none where there is none, as in
-    /// a JSON module (own rule).
-    pub fn re_export_all_text(self, place: usize) -> Option<&'a str>
-        ensures text { option_map (λ text. text.now) result ≡ option_map (λ star. star.text) (slice_get (lent_table self.entry).stars place) }
-        ensures few { length (lent_table self.entry).stars < 2 ^ 63 }
+    /// Returns the specifier of the `export *` statement of an index (extension). It is `None` past
+    /// the last statement, and always for a JSON module.
+    pub fn re_export_all_specifier(self, index: usize) -> Option<&'a str>
+        ensures specifier_text { option_map (λ specifier_text. specifier_text.now) result
+            ≡ option_map (λ star.
+            star.specifier_text) (slice_get (symbol_table_of_ref self.entry).stars index) }
+        ensures few { length (symbol_table_of_ref self.entry).stars < 2 ^ 63 }
     {
         match self {
             ModuleInfoRef::Json(_) => None,
-            ModuleInfoRef::Esm(esm) => match esm.stars.get(place) {
+            ModuleInfoRef::Esm(esm) => match esm.stars.get(index) {
                 Some(star) => Some(star.src),
                 None => None,
             },
         }
     }
 
-    /// The nodes of the statements `export *`, in order; none of a JSON module.
+    /// Returns an iterator over the nodes of the module's `export *` statements, in order. It is
+    /// `None` for a JSON module.
     pub fn re_export_all_nodes(self) -> Option<ReExportNodes<'r, 'a>>
-        ensures { option_map nodes_left result ≡ star_nodes_in (lent_table self.entry) }
+        ensures { option_map remaining_export_star_nodes result ≡ export_star_nodes_of_table
+            (symbol_table_of_ref self.entry) }
     {
         match self {
             ModuleInfoRef::Json(_) => None,

@@ -1,32 +1,39 @@
-//! What a symbol is called in full.
+//! Fully qualified names of symbols.
 
-ghost use Rattle.std.specs.Prelude.{◌≡◌, ◌<◌, ◌++◌, ◌∷◌, [], List, length, Some, codes, string_bytes, encode_utf8_all, IfOk, OnOk, IfErr, IsSome};
+ghost use Rattle.std.specs.Prelude.{◌≡◌, ◌<◌, ◌++◌, ◌∷◌, [], List, length, Some, codes};
+ghost use Rattle.std.specs.Prelude.{string_bytes, encode_utf8_all, IfOk, OnOk, IfErr, IsSome};
 ghost use Rattle.std.specs.Cow.{cow_str_bytes};
 ghost use Rattle.std.specs.Option.{option_map};
-ghost use Rattle.symbols_syntax.specs.declared.ids.ModuleId.{ModuleId};
+ghost use Rattle.symbols_ast.specs.declared.ids.ModuleId.{ModuleId};
 ghost use Rattle.symbols_nodes.specs.NodeTests.{is_class};
-ghost use Rattle.symbols_table.specs.Laws.{AreLawful};
-ghost use Rattle.symbols_table.specs.SymbolViews.{SymbolView, symbol_view, symbol_name, symbol_test, symbol_numbered};
-ghost use Rattle.symbols_table.specs.Modules.{lent_table, symbol_in};
-ghost use Rattle.symbols_table.specs.QualifiedNames.{escaped_char, escaped_text, inner_suffix, unless_empty, qualified_name, IsQualifiedNameFault};
-ghost use Rattle.symbols_table.specs.inner.NamePaths.{text_told, named_text, IsNamed};
+ghost use Rattle.symbols_table.specs.Laws.{AreLawfulSymbols};
+ghost use Rattle.symbols_table.specs.SymbolViews.{SymbolView, symbol_view, symbol_name};
+ghost use Rattle.symbols_table.specs.SymbolViews.{first_decl_node_satisfies, symbol_view_of_number};
+ghost use Rattle.symbols_table.specs.Modules.{symbol_table_of_ref, symbol_in};
+ghost use Rattle.symbols_table.specs.QualifiedNames.{escaped_char, escaped_text};
+ghost use Rattle.symbols_table.specs.QualifiedNames.{nested_symbol_suffix};
+ghost use Rattle.symbols_table.specs.QualifiedNames.{text_unless_empty, qualified_name};
+ghost use Rattle.symbols_table.specs.QualifiedNames.{IsQualifiedNameFault};
+ghost use Rattle.symbols_table.specs.inner.NamePaths.{reversed_pieces_text, suffix_text};
+ghost use Rattle.symbols_table.specs.inner.NamePaths.{IsNameOfPathSuffixIfAny};
 
 use crate::decl::Symbol;
 use crate::info::fault::SymbolsFault;
 use crate::info::module_info::ModuleInfoRef;
 use std::alloc::{AllocError, Global};
 use std::borrow::CowStr;
-use symbols_syntax::ids::SymbolId;
+use symbols_ast::ids::SymbolId;
 
-/// Up to how many bytes of a name are copied behind the one above it; a longer one stays in pieces, so
-/// that a path of any length is told in the time of its text.
+/// The length in bytes up to which an inner name is copied when an outer name is put before it. A
+/// longer name stays in pieces, so that a path of any length takes time linear in its text.
 const COPIED: usize = 128;
 
-/// The length of the longest sign between two names.
+/// The length in bytes of the longest separator between two names, `.prototype.`.
 const LONGEST_SIGN: usize = 11;
 
 fn push_escaped(text: &mut String, c: char) -> Result<(), AllocError>
-    ensures { OnOk result (string_bytes text.new ≡ string_bytes text.old ++ encode_utf8_all (escaped_char c)) }
+    ensures { OnOk result
+        (string_bytes text.new ≡ string_bytes text.old ++ encode_utf8_all (escaped_char c)) }
 {
     if c == '"' {
         text.push('\\')?;
@@ -34,7 +41,7 @@ fn push_escaped(text: &mut String, c: char) -> Result<(), AllocError>
     text.push(c)
 }
 
-/// Adds a text with `\` before each `"`.
+/// Appends a text with `\` before each `"`.
 fn push_all_escaped(made: &mut String, text: &str) -> Result<(), AllocError>
     ensures { OnOk result (string_bytes made.new ≡ string_bytes made.old ++ escaped_text text.now) }
 {
@@ -48,17 +55,17 @@ fn push_all_escaped(made: &mut String, text: &str) -> Result<(), AllocError>
     Ok(())
 }
 
-/// Whether the first declaration is a class.
+/// Returns whether the symbol's first declaration is a class.
 fn is_class(symbol: &Symbol<'_>) -> bool
-    ensures { result ≡ symbol_test is_class (symbol_view symbol.now) }
+    ensures { result ≡ first_decl_node_satisfies is_class (symbol_view symbol.now) }
 {
-    match symbol.first_node() {
+    match symbol.node_of_first_decl() {
         Some(node) => node.is_class(),
         None => false,
     }
 }
 
-/// How many bytes pieces have together: room to begin with, which nothing else goes by.
+/// Returns the total number of bytes of the pieces. It is only a capacity to begin with.
 fn room_for(pieces: &[CowStr<'_>]) -> usize {
     let mut room = 0usize;
     for piece in pieces {
@@ -67,9 +74,9 @@ fn room_for(pieces: &[CowStr<'_>]) -> usize {
     room
 }
 
-/// Pieces of a text, from the last to the first, as one text.
+/// Joins pieces, stored from the last to the first, to one text.
 fn text_of(alloc: Global, pieces: Vec<CowStr<'_>>) -> Result<String, AllocError>
-    ensures { IfOk result (λ text. string_bytes text ≡ text_told pieces.entry.items) }
+    ensures { IfOk result (λ text. string_bytes text ≡ reversed_pieces_text pieces.entry.items) }
 {
     let mut text = String::with_capacity(alloc, room_for(&pieces))?;
     let mut pieces = pieces;
@@ -79,28 +86,30 @@ fn text_of(alloc: Global, pieces: Vec<CowStr<'_>>) -> Result<String, AllocError>
     Ok(text)
 }
 
-/// What the lower part of a path is called, which isn't empty: its first piece and those behind it,
-/// from the last to the second, and the first symbol of that part.
+/// The non-empty name of the lower part of a path: the number of its first symbol, its first piece,
+/// and the later pieces from the last to the second.
 #[derive(Drop)]
-pub(crate) struct Named<'a> {
+pub(crate) struct NamedSuffix<'a> {
     pub(crate) number: SymbolId,
     pub(crate) first: CowStr<'a>,
-    pub(crate) behind: Vec<CowStr<'a>>,
+    pub(crate) later: Vec<CowStr<'a>>,
 }
 
-/// The pieces with one before them.
+/// Returns the pieces with another piece before the text they have so far.
 fn with_piece<'a>(pieces: Vec<CowStr<'a>>, piece: CowStr<'a>) -> Result<Vec<CowStr<'a>>, AllocError>
-    ensures { IfOk result (λ more. text_told more.items ≡ cow_str_bytes piece.entry ++ text_told pieces.entry.items) }
+    ensures { IfOk result (λ more. reversed_pieces_text more.items
+        ≡ cow_str_bytes piece.entry ++ reversed_pieces_text pieces.entry.items) }
 {
     let mut pieces = pieces;
     pieces.push(piece)?;
     Ok(pieces)
 }
 
-/// Takes pieces of a text, from the last to the first, and adds them as one text with `\` before each
-/// `"`.
+/// Removes all pieces, stored from the last to the first, and appends their text with `\` before
+/// each `"`.
 fn take_all_escaped(made: &mut String, pieces: &mut Vec<CowStr<'_>>) -> Result<(), AllocError>
-    ensures { OnOk result (string_bytes made.new ≡ string_bytes made.old ++ escaped_text (text_told pieces.old.items)) }
+    ensures { OnOk result (string_bytes made.new
+        ≡ string_bytes made.old ++ escaped_text (reversed_pieces_text pieces.old.items)) }
 {
     while let Some(piece) = pieces.pop() {
         push_all_escaped(made, piece.as_str())?;
@@ -108,9 +117,10 @@ fn take_all_escaped(made: &mut String, pieces: &mut Vec<CowStr<'_>>) -> Result<(
     Ok(())
 }
 
-/// A text of pieces in brackets and quotes, as one piece.
+/// Returns the text of the pieces in brackets and quotes, as one piece.
 fn in_brackets<'a>(alloc: Global, pieces: Vec<CowStr<'a>>) -> Result<Vec<CowStr<'a>>, AllocError>
-    ensures { IfOk result (λ more. text_told more.items ≡ codes "[\"" ++ (escaped_text (text_told pieces.entry.items) ++ codes "\"]")) }
+    ensures { IfOk result (λ more. reversed_pieces_text more.items
+        ≡ codes "[\"" ++ (escaped_text (reversed_pieces_text pieces.entry.items) ++ codes "\"]")) }
 {
     let mut pieces = pieces;
     let mut made = String::with_capacity(alloc, room_for(&pieces).saturating_add(4))?;
@@ -121,15 +131,16 @@ fn in_brackets<'a>(alloc: Global, pieces: Vec<CowStr<'a>>) -> Result<Vec<CowStr<
     with_piece(pieces, CowStr::Owned(made))
 }
 
-/// The pieces behind the name of a symbol that say what a symbol in it is called, from the pieces of
-/// that one's name.
-fn pieces_behind<'a>(
+/// Returns the pieces that follow a symbol's name in the name of a symbol inside it: a separator
+/// and the inner name's pieces.
+fn suffix_pieces<'a>(
     alloc: Global,
     symbol: &Symbol<'a>,
     number: SymbolId,
     inner: Vec<CowStr<'a>>,
 ) -> Result<Vec<CowStr<'a>>, AllocError>
-    ensures { IfOk result (λ pieces. text_told pieces.items ≡ inner_suffix (symbol_view symbol.now) number (text_told inner.entry.items)) }
+    ensures { IfOk result (λ pieces. reversed_pieces_text pieces.items
+        ≡ nested_symbol_suffix (symbol_view symbol.now) number (reversed_pieces_text inner.entry.items)) }
 {
     if !symbol.tables.has_member(number) {
         return with_piece(inner, CowStr::Borrowed("."));
@@ -140,14 +151,16 @@ fn pieces_behind<'a>(
     in_brackets(alloc, inner)
 }
 
-/// Adds what stands behind the name of a symbol where a symbol in it is called so.
-fn push_behind(
+/// Appends what follows a symbol's name in the name of a symbol inside it: a separator and the
+/// inner name.
+fn push_suffix(
     text: &mut String,
     symbol: &Symbol<'_>,
     number: SymbolId,
     inner: &str,
 ) -> Result<(), AllocError>
-    ensures { OnOk result (string_bytes text.new ≡ string_bytes text.old ++ inner_suffix (symbol_view symbol.now) number inner.now) }
+    ensures { OnOk result (string_bytes text.new
+        ≡ string_bytes text.old ++ nested_symbol_suffix (symbol_view symbol.now) number inner.now) }
 {
     if !symbol.tables.has_member(number) {
         text.push_str(".")?;
@@ -162,7 +175,7 @@ fn push_behind(
     text.push_str("\"]")
 }
 
-/// The name of a symbol with what stands behind it where a symbol in it is called so, as one text.
+/// Returns a symbol's name followed by a separator and the name of a symbol inside it, as one text.
 fn with_inner(
     alloc: Global,
     symbol: &Symbol<'_>,
@@ -170,29 +183,31 @@ fn with_inner(
     number: SymbolId,
     inner: &str,
 ) -> Result<String, AllocError>
-    ensures { IfOk result (λ text. string_bytes text ≡ name.now ++ inner_suffix (symbol_view symbol.now) number inner.now) }
+    ensures { IfOk result (λ text. string_bytes text
+        ≡ name.now ++ nested_symbol_suffix (symbol_view symbol.now) number inner.now) }
 {
     let room = name.len().saturating_add(inner.len());
     let mut text = String::with_capacity(alloc, room.saturating_add(LONGEST_SIGN))?;
     text.push_str(name)?;
-    push_behind(&mut text, symbol, number, inner)?;
+    push_suffix(&mut text, symbol, number, inner)?;
     Ok(text)
 }
 
-/// What a path is called that begins one symbol higher. A short name is put behind the new one at
-/// once.
-fn name_above<'a>(
+/// Returns the name of the path that begins one symbol higher. A short inner name is copied into
+/// one text with the new name.
+fn name_with_outer<'a>(
     alloc: Global,
     symbol: &Symbol<'a>,
     name: CowStr<'a>,
-    inner: Named<'a>,
-) -> Result<Named<'a>, AllocError>
+    inner: NamedSuffix<'a>,
+) -> Result<NamedSuffix<'a>, AllocError>
     ensures number { IfOk result (λ named. named.number ≡ (symbol_view symbol.now).number) }
-    ensures text { IfOk result (λ named. named_text named
-        ≡ cow_str_bytes name.entry ++ inner_suffix (symbol_view symbol.now) inner.entry.number (named_text inner.entry)) }
+    ensures text { IfOk result (λ named. suffix_text named
+        ≡ cow_str_bytes name.entry
+        ++ nested_symbol_suffix (symbol_view symbol.now) inner.entry.number (suffix_text inner.entry)) }
 {
     let number = symbol.symbol_id;
-    if inner.behind.is_empty() && inner.first.as_str().len() <= COPIED {
+    if inner.later.is_empty() && inner.first.as_str().len() <= COPIED {
         let text = with_inner(
             alloc,
             symbol,
@@ -200,29 +215,30 @@ fn name_above<'a>(
             inner.number,
             inner.first.as_str(),
         )?;
-        return Ok(Named {
+        return Ok(NamedSuffix {
             number,
             first: CowStr::Owned(text),
-            behind: inner.behind,
+            later: inner.later,
         });
     }
-    let pieces = with_piece(inner.behind, inner.first)?;
-    Ok(Named {
+    let pieces = with_piece(inner.later, inner.first)?;
+    Ok(NamedSuffix {
         number,
         first: name,
-        behind: pieces_behind(alloc, symbol, inner.number, pieces)?,
+        later: suffix_pieces(alloc, symbol, inner.number, pieces)?,
     })
 }
 
-/// What a path that begins one symbol higher is called; nothing where that is empty.
+/// Returns the name of the path that begins one symbol higher; `None` if it is empty.
 fn name_from<'a>(
     alloc: Global,
     symbol: &Symbol<'a>,
     name: CowStr<'a>,
-    inner: Option<Named<'a>>,
-) -> Result<Option<Named<'a>>, AllocError>
-    ensures { IfOk result (λ named. (path : List SymbolView) → IsNamed inner.entry path → symbol_name (symbol_view symbol.now) ≡ Some (cow_str_bytes name.entry)
-        → IsNamed named (symbol_view symbol.now ∷ path)) }
+    inner: Option<NamedSuffix<'a>>,
+) -> Result<Option<NamedSuffix<'a>>, AllocError>
+    ensures { IfOk result (λ named. (path : List SymbolView) → IsNameOfPathSuffixIfAny inner.entry path
+        → symbol_name (symbol_view symbol.now) ≡ Some (cow_str_bytes name.entry)
+        → IsNameOfPathSuffixIfAny named (symbol_view symbol.now ∷ path)) }
 {
     let number = symbol.symbol_id;
     match inner {
@@ -230,23 +246,23 @@ fn name_from<'a>(
             if name.as_str().is_empty() {
                 return Ok(None);
             }
-            Ok(Some(Named {
+            Ok(Some(NamedSuffix {
                 number,
                 first: name,
-                behind: Vec::new(alloc),
+                later: Vec::new(alloc),
             }))
         }
-        Some(inner) => Ok(Some(name_above(alloc, symbol, name, inner)?)),
+        Some(inner) => Ok(Some(name_with_outer(alloc, symbol, name, inner)?)),
     }
 }
 
-/// What a path is called, as one text.
-fn whole_text(alloc: Global, named: Named<'_>) -> Result<String, AllocError>
-    ensures { IfOk result (λ text. string_bytes text ≡ named_text named.entry) }
+/// Returns the name of a path as one text.
+fn whole_text(alloc: Global, named: NamedSuffix<'_>) -> Result<String, AllocError>
+    ensures { IfOk result (λ text. string_bytes text ≡ suffix_text named.entry) }
 {
-    let Named { first, behind, .. } = named;
-    if !behind.is_empty() {
-        return text_of(alloc, with_piece(behind, first)?);
+    let NamedSuffix { first, later, .. } = named;
+    if !later.is_empty() {
+        return text_of(alloc, with_piece(later, first)?);
     }
     match first {
         CowStr::Owned(text) => Ok(text),
@@ -254,17 +270,19 @@ fn whole_text(alloc: Global, named: Named<'_>) -> Result<String, AllocError>
     }
 }
 
-/// The name along the path from below the module to a symbol, of any length; none where that is empty.
+/// Returns the name along the path from below the module to a symbol, of any length. It is `None`
+/// if the name is empty or a symbol on the path has no name.
 fn name_along(
     alloc: Global,
     symbols: &[Symbol<'_>],
     symbol_id: SymbolId,
 ) -> Result<Option<String>, AllocError>
-    requires lawful { (module_id : ModuleId) × AreLawful module_id symbols.now }
+    requires lawful { (module_id : ModuleId) × AreLawfulSymbols module_id symbols.now }
     requires stored { symbol_id.0 < length symbols.now }
-    ensures { IfOk result (λ name. option_map string_bytes name ≡ qualified_name (symbol_numbered symbols.now) symbol_id) }
+    ensures { IfOk result (λ name. option_map string_bytes name
+        ≡ qualified_name (symbol_view_of_number symbols.now) symbol_id) }
 {
-    let mut inner: Option<Named<'_>> = None;
+    let mut inner: Option<NamedSuffix<'_>> = None;
     let mut number = symbol_id;
     while let Some(parent) = symbols[number.0 as usize].parent_id {
         let symbol = &symbols[number.0 as usize];
@@ -280,9 +298,9 @@ fn name_along(
     }
 }
 
-/// The text of a name that stands alone; none where it is empty.
+/// Returns the text of a name; `None` if it is empty.
 fn lone_name(alloc: Global, name: &str) -> Result<Option<String>, AllocError>
-    ensures { IfOk result (λ text. option_map string_bytes text ≡ unless_empty name.now) }
+    ensures { IfOk result (λ text. option_map string_bytes text ≡ text_unless_empty name.now) }
 {
     if name.is_empty() {
         return Ok(None);
@@ -290,16 +308,17 @@ fn lone_name(alloc: Global, name: &str) -> Result<Option<String>, AllocError>
     Ok(Some(String::from_str(alloc, name)?))
 }
 
-/// The name along the path from below the module to a symbol; none where that is empty. That of a
-/// symbol right below the module is its own.
+/// Returns the name along the path from below the module to a symbol, as `name_along`. For a symbol
+/// right below the module it is the symbol's own name, without a search along parents.
 fn qualified_name(
     alloc: Global,
     symbols: &[Symbol<'_>],
     symbol_id: SymbolId,
 ) -> Result<Option<String>, AllocError>
-    requires lawful { (module_id : ModuleId) × AreLawful module_id symbols.now }
+    requires lawful { (module_id : ModuleId) × AreLawfulSymbols module_id symbols.now }
     requires stored { symbol_id.0 < length symbols.now }
-    ensures { IfOk result (λ name. option_map string_bytes name ≡ qualified_name (symbol_numbered symbols.now) symbol_id) }
+    ensures { IfOk result (λ name. option_map string_bytes name
+        ≡ qualified_name (symbol_view_of_number symbols.now) symbol_id) }
 {
     let symbol = &symbols[symbol_id.0 as usize];
     let Some(parent) = symbol.parent_id else {
@@ -315,23 +334,26 @@ fn qualified_name(
 }
 
 impl<'r, 'a> ModuleInfoRef<'r, 'a> {
-    /// What a symbol is called in full (as deno_graph): the names on the path from the module down
-    /// to it. An inner name follows behind `.`, one of a member behind `.prototype.` in a class, and
-    /// in brackets and quotes in anything else, each `"` of it written `\"`. None of the module
-    /// itself, where a symbol on the path has no name, and where the whole name is empty.
+    /// Returns the fully qualified name of a symbol (as deno_graph): the names on the path from the
+    /// module down to it. An inner name follows after `.`. The name of a member follows after
+    /// `.prototype.` in a class. In anything else it is in brackets and quotes, with each `"`
+    /// written `\"`. It is `None` for the module itself, if a symbol on the path has no name, and
+    /// if the whole name is empty.
     ///
     /// # Errors
     ///
-    /// `UnknownSymbol` where the module has no symbol of this number, `OutOfMemory` where memory was
-    /// refused.
+    /// `UnknownSymbol` if the module has no symbol of this number. `OutOfMemory` if an allocation
+    /// failed.
     pub fn fully_qualified_symbol_name(
         self,
         alloc: Global,
         symbol_id: SymbolId,
     ) -> Result<Option<String>, SymbolsFault>
-        ensures name { IfOk result (λ name. IsSome (symbol_in (lent_table self.entry) symbol_id)
-            × (option_map string_bytes name ≡ qualified_name (symbol_in (lent_table self.entry)) symbol_id)) }
-        ensures fault { IfErr result (IsQualifiedNameFault (symbol_in (lent_table self.entry) symbol_id)) }
+        ensures name { IfOk result (λ name. IsSome (symbol_in (symbol_table_of_ref self.entry) symbol_id)
+            × (option_map string_bytes name
+            ≡ qualified_name (symbol_in (symbol_table_of_ref self.entry)) symbol_id)) }
+        ensures fault { IfErr result
+            (IsQualifiedNameFault (symbol_in (symbol_table_of_ref self.entry) symbol_id)) }
     {
         if self.symbol(symbol_id).is_none() {
             return Err(SymbolsFault::UnknownSymbol);

@@ -1,17 +1,17 @@
--- Beside the definitions of `GraphTexts`: what inner functions and proofs say of the same.
+-- What inner functions and proofs say about the graph of a text, beside `GraphTexts`.
 use Rattle.std.specs.Prelude.{⊤, ℕ, List}
-use Rattle.symbols_syntax.specs.declared.graph.faults.GraphFault.TheVariants as graph
+use Rattle.symbols_ast.specs.declared.graph.faults.GraphFault.TheVariants as graph
 use Rattle.symq_reader.specs.declared.faults.FormatFault.TheVariants as format
-use Rattle.symq_core.specs.declared.program.stop.Stop.{Stop}
+use Rattle.symq_core.specs.declared.exit_error.ExitError.{ExitError}
 use Rattle.symq_c.specs.GraphTexts.{IsFormatFaultOf, IsGraphFaultOf}
 
--- why the text gives no graph to be asked, memory apart
-abbrev pub IsRefusalOf : List ℕ → Stop → Type 0
-IsRefusalOf text Stop.Usage = ⊥
-IsRefusalOf text Stop.NotRead = ⊥
-IsRefusalOf text (Stop.Format format.OutOfMemory) = ⊤
-IsRefusalOf text (Stop.Format format.NotJson) = IsFormatFaultOf text format.NotJson
-IsRefusalOf text (Stop.Format format.BadForm) = IsFormatFaultOf text format.BadForm
-IsRefusalOf text (Stop.Graph graph.OutOfMemory) = ⊤
-IsRefusalOf text (Stop.Graph fault) = IsGraphFaultOf text fault
-IsRefusalOf text (Stop.Engine fault) = ⊥
+-- the error says why the text has no checked graph; a failed allocation is possible for any text
+abbrev pub IsGraphRefusal : List ℕ → ExitError → Type 0
+IsGraphRefusal text ExitError.Usage = ⊥
+IsGraphRefusal text ExitError.NotRead = ⊥
+IsGraphRefusal text (ExitError.Format format.OutOfMemory) = ⊤
+IsGraphRefusal text (ExitError.Format format.NotJson) = IsFormatFaultOf text format.NotJson
+IsGraphRefusal text (ExitError.Format format.BadForm) = IsFormatFaultOf text format.BadForm
+IsGraphRefusal text (ExitError.Graph graph.OutOfMemory) = ⊤
+IsGraphRefusal text (ExitError.Graph fault) = IsGraphFaultOf text fault
+IsGraphRefusal text (ExitError.Engine fault) = ⊥

@@ -1,4 +1,4 @@
--- Beside the definitions of `JsonData`: what inner functions and proofs say of the same.
+-- What inner functions and proofs say about the data of JSON values, beside `JsonData`.
 use Rattle.std.specs.Prelude.{List, Bool, true, ◌&&◌, Option, Some, None, is_some}
 use Rattle.std.specs.Borrow.{Bor}
 use Rattle.json.specs.Json as json
@@ -7,14 +7,14 @@ use Rattle.json.specs.declared.value.Value.{Value}
 use Rattle.serde_json.specs.Data.{Items, no_items}
 use Rattle.serde_json.specs.Find.{as_u64}
 use Rattle.serde_json.specs.Read.{number_of}
-use Rattle.symq_reader.specs.JsonData.{num_or, json_items_data}
+use Rattle.symq_reader.specs.JsonData.{number_or_minus_one, json_items_data}
 
--- whether each number is whole, one that a later key replaces too
+-- each number is whole and fits 64 bits, also one that a later key replaces
 abbrev mutual
   pub fits : json.Json → Bool
   fits json.null = true
   fits (json.boolean b) = true
-  fits (json.number s) = is_some (as_u64 (num_or (number_of s)))
+  fits (json.number s) = is_some (as_u64 (number_or_minus_one (number_of s)))
   fits (json.string s) = true
   fits (json.array js) = items_fit js
   fits (json.object ms) = members_fit ms
@@ -27,7 +27,7 @@ abbrev mutual
   members_fit json.no_members = true
   members_fit (json.member k j ms) = fits j && members_fit ms
 
--- the data of a list's items, of which there are none where there is no list
-abbrev pub data_listed : {A : Type 0} → Option (Bor (List (Value A))) → Items
-data_listed None = no_items
-data_listed (Some items) = json_items_data (items_view items.now)
+-- the data of a list's items; none if there is no list
+abbrev pub optional_items_data : {A : Type 0} → Option (Bor (List (Value A))) → Items
+optional_items_data None = no_items
+optional_items_data (Some items) = json_items_data (items_view items.now)

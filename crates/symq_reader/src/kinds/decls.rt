@@ -1,18 +1,21 @@
+// Generated from tools/kinds/kinds.txt by tools/kinds.py --write. Do not edit.
 //! Declarations and their parts.
 
 ghost use Rattle.std.specs.Prelude.{option_map};
-ghost use Rattle.symbols_syntax.specs.declared.tree.names.KindName.TheVariants as Name;
+ghost use Rattle.symbols_ast.specs.declared.tree.names.KindName.TheVariants as Name;
 ghost use Rattle.symq_reader.specs.inner.Objects.{object_data};
-ghost use Rattle.symq_reader.specs.inner.Reading.{Gives};
-ghost use Rattle.symq_reader.specs.KindShapes.{read_as_kind, read_decl, decl_shape};
+ghost use Rattle.symq_reader.specs.inner.Reading.{IsReadResult};
+ghost use Rattle.symq_reader.specs.KindShapes.{read_as_kind};
+ghost use Rattle.symq_reader.specs.KindShapesTable.{read_decl, decl_shape};
 
 use crate::faults::FormatFault;
 use crate::fields::{self, Object};
+use crate::kinds::some_kind;
 use std::alloc::Global;
-use symbols_syntax::tree::Decl;
+use symbols_ast::tree::Decl;
 
 fn class_decl(object: &Object<'_, '_>) -> Result<Decl, FormatFault>
-    ensures { Gives decl_shape result (read_as_kind Name.ClassDecl (object_data object.now)) }
+    ensures { IsReadResult decl_shape result (read_as_kind Name.ClassDecl (object_data object.now)) }
 {
     let ident = fields::child(object, "ident")?;
     let class = fields::child(object, "class")?;
@@ -20,7 +23,7 @@ fn class_decl(object: &Object<'_, '_>) -> Result<Decl, FormatFault>
 }
 
 fn class_expr(object: &Object<'_, '_>) -> Result<Decl, FormatFault>
-    ensures { Gives decl_shape result (read_as_kind Name.ClassExpr (object_data object.now)) }
+    ensures { IsReadResult decl_shape result (read_as_kind Name.ClassExpr (object_data object.now)) }
 {
     let ident = fields::optional_child(object, "ident")?;
     let class = fields::child(object, "class")?;
@@ -28,7 +31,7 @@ fn class_expr(object: &Object<'_, '_>) -> Result<Decl, FormatFault>
 }
 
 fn class(alloc: Global, object: &Object<'_, '_>) -> Result<Decl, FormatFault>
-    ensures { Gives decl_shape result (read_as_kind Name.Class (object_data object.now)) }
+    ensures { IsReadResult decl_shape result (read_as_kind Name.Class (object_data object.now)) }
 {
     Ok(Decl::Class {
         type_params: fields::optional_child(object, "type_params")?,
@@ -40,7 +43,7 @@ fn class(alloc: Global, object: &Object<'_, '_>) -> Result<Decl, FormatFault>
 }
 
 fn fn_decl(object: &Object<'_, '_>) -> Result<Decl, FormatFault>
-    ensures { Gives decl_shape result (read_as_kind Name.FnDecl (object_data object.now)) }
+    ensures { IsReadResult decl_shape result (read_as_kind Name.FnDecl (object_data object.now)) }
 {
     let ident = fields::child(object, "ident")?;
     let function = fields::child(object, "function")?;
@@ -48,7 +51,7 @@ fn fn_decl(object: &Object<'_, '_>) -> Result<Decl, FormatFault>
 }
 
 fn fn_expr(object: &Object<'_, '_>) -> Result<Decl, FormatFault>
-    ensures { Gives decl_shape result (read_as_kind Name.FnExpr (object_data object.now)) }
+    ensures { IsReadResult decl_shape result (read_as_kind Name.FnExpr (object_data object.now)) }
 {
     let ident = fields::optional_child(object, "ident")?;
     let function = fields::child(object, "function")?;
@@ -56,7 +59,7 @@ fn fn_expr(object: &Object<'_, '_>) -> Result<Decl, FormatFault>
 }
 
 fn function(alloc: Global, object: &Object<'_, '_>) -> Result<Decl, FormatFault>
-    ensures { Gives decl_shape result (read_as_kind Name.Function (object_data object.now)) }
+    ensures { IsReadResult decl_shape result (read_as_kind Name.Function (object_data object.now)) }
 {
     Ok(Decl::Function {
         type_params: fields::optional_child(object, "type_params")?,
@@ -67,21 +70,21 @@ fn function(alloc: Global, object: &Object<'_, '_>) -> Result<Decl, FormatFault>
 }
 
 fn var_decl(alloc: Global, object: &Object<'_, '_>) -> Result<Decl, FormatFault>
-    ensures { Gives decl_shape result (read_as_kind Name.VarDecl (object_data object.now)) }
+    ensures { IsReadResult decl_shape result (read_as_kind Name.VarDecl (object_data object.now)) }
 {
     let decls = fields::children(alloc, object, "decls")?;
     Ok(Decl::VarDecl { decls })
 }
 
 fn using_decl(alloc: Global, object: &Object<'_, '_>) -> Result<Decl, FormatFault>
-    ensures { Gives decl_shape result (read_as_kind Name.UsingDecl (object_data object.now)) }
+    ensures { IsReadResult decl_shape result (read_as_kind Name.UsingDecl (object_data object.now)) }
 {
     let decls = fields::children(alloc, object, "decls")?;
     Ok(Decl::UsingDecl { decls })
 }
 
 fn var_declarator(object: &Object<'_, '_>) -> Result<Decl, FormatFault>
-    ensures { Gives decl_shape result (read_as_kind Name.VarDeclarator (object_data object.now)) }
+    ensures { IsReadResult decl_shape result (read_as_kind Name.VarDeclarator (object_data object.now)) }
 {
     let name = fields::child(object, "name")?;
     let init = fields::optional_child(object, "init")?;
@@ -89,7 +92,7 @@ fn var_declarator(object: &Object<'_, '_>) -> Result<Decl, FormatFault>
 }
 
 fn ts_interface_decl(alloc: Global, object: &Object<'_, '_>) -> Result<Decl, FormatFault>
-    ensures { Gives decl_shape result (read_as_kind Name.TsInterfaceDecl (object_data object.now)) }
+    ensures { IsReadResult decl_shape result (read_as_kind Name.TsInterfaceDecl (object_data object.now)) }
 {
     Ok(Decl::TsInterfaceDecl {
         id: fields::child(object, "id")?,
@@ -100,7 +103,7 @@ fn ts_interface_decl(alloc: Global, object: &Object<'_, '_>) -> Result<Decl, For
 }
 
 fn ts_type_alias_decl(object: &Object<'_, '_>) -> Result<Decl, FormatFault>
-    ensures { Gives decl_shape result (read_as_kind Name.TsTypeAliasDecl (object_data object.now)) }
+    ensures { IsReadResult decl_shape result (read_as_kind Name.TsTypeAliasDecl (object_data object.now)) }
 {
     Ok(Decl::TsTypeAliasDecl {
         id: fields::child(object, "id")?,
@@ -110,7 +113,7 @@ fn ts_type_alias_decl(object: &Object<'_, '_>) -> Result<Decl, FormatFault>
 }
 
 fn ts_enum_decl(alloc: Global, object: &Object<'_, '_>) -> Result<Decl, FormatFault>
-    ensures { Gives decl_shape result (read_as_kind Name.TsEnumDecl (object_data object.now)) }
+    ensures { IsReadResult decl_shape result (read_as_kind Name.TsEnumDecl (object_data object.now)) }
 {
     let id = fields::child(object, "id")?;
     let members = fields::children(alloc, object, "members")?;
@@ -118,14 +121,14 @@ fn ts_enum_decl(alloc: Global, object: &Object<'_, '_>) -> Result<Decl, FormatFa
 }
 
 fn ts_enum_member(object: &Object<'_, '_>) -> Result<Decl, FormatFault>
-    ensures { Gives decl_shape result (read_as_kind Name.TsEnumMember (object_data object.now)) }
+    ensures { IsReadResult decl_shape result (read_as_kind Name.TsEnumMember (object_data object.now)) }
 {
     let init = fields::optional_child(object, "init")?;
     Ok(Decl::TsEnumMember { init })
 }
 
 fn ts_module_decl(object: &Object<'_, '_>) -> Result<Decl, FormatFault>
-    ensures { Gives decl_shape result (read_as_kind Name.TsModuleDecl (object_data object.now)) }
+    ensures { IsReadResult decl_shape result (read_as_kind Name.TsModuleDecl (object_data object.now)) }
 {
     Ok(Decl::TsModuleDecl {
         id: fields::child(object, "id")?,
@@ -135,7 +138,7 @@ fn ts_module_decl(object: &Object<'_, '_>) -> Result<Decl, FormatFault>
 }
 
 fn ts_namespace_decl(object: &Object<'_, '_>) -> Result<Decl, FormatFault>
-    ensures { Gives decl_shape result (read_as_kind Name.TsNamespaceDecl (object_data object.now)) }
+    ensures { IsReadResult decl_shape result (read_as_kind Name.TsNamespaceDecl (object_data object.now)) }
 {
     let id = fields::child(object, "id")?;
     let body = fields::child(object, "body")?;
@@ -143,38 +146,38 @@ fn ts_namespace_decl(object: &Object<'_, '_>) -> Result<Decl, FormatFault>
 }
 
 fn ts_module_block(alloc: Global, object: &Object<'_, '_>) -> Result<Decl, FormatFault>
-    ensures { Gives decl_shape result (read_as_kind Name.TsModuleBlock (object_data object.now)) }
+    ensures { IsReadResult decl_shape result (read_as_kind Name.TsModuleBlock (object_data object.now)) }
 {
     let body = fields::children(alloc, object, "body")?;
     Ok(Decl::TsModuleBlock { body })
 }
 
 /// The declaration of a kind's text; none where no declaration has it.
-#[tactic(auto, unfolding(crate::specs::KindShapes::read_decl))]
+#[tactic(auto, unfolding(crate::specs::KindShapesTable::read_decl))]
 pub(crate) fn decl(
     alloc: Global,
     kind: &str,
     object: &Object<'_, '_>,
 ) -> Result<Option<Decl>, FormatFault>
-    ensures { Gives (option_map decl_shape) result (read_decl kind.now (object_data object.now)) }
+    ensures { IsReadResult (option_map decl_shape) result (read_decl kind.now (object_data object.now)) }
 {
     match kind {
-        "ClassDecl" => Ok(Some(class_decl(object)?)),
-        "ClassExpr" => Ok(Some(class_expr(object)?)),
-        "Class" => Ok(Some(class(alloc, object)?)),
-        "FnDecl" => Ok(Some(fn_decl(object)?)),
-        "FnExpr" => Ok(Some(fn_expr(object)?)),
-        "Function" => Ok(Some(function(alloc, object)?)),
-        "VarDecl" => Ok(Some(var_decl(alloc, object)?)),
-        "UsingDecl" => Ok(Some(using_decl(alloc, object)?)),
-        "VarDeclarator" => Ok(Some(var_declarator(object)?)),
-        "TsInterfaceDecl" => Ok(Some(ts_interface_decl(alloc, object)?)),
-        "TsTypeAliasDecl" => Ok(Some(ts_type_alias_decl(object)?)),
-        "TsEnumDecl" => Ok(Some(ts_enum_decl(alloc, object)?)),
-        "TsEnumMember" => Ok(Some(ts_enum_member(object)?)),
-        "TsModuleDecl" => Ok(Some(ts_module_decl(object)?)),
-        "TsNamespaceDecl" => Ok(Some(ts_namespace_decl(object)?)),
-        "TsModuleBlock" => Ok(Some(ts_module_block(alloc, object)?)),
+        "ClassDecl" => some_kind(class_decl(object)),
+        "ClassExpr" => some_kind(class_expr(object)),
+        "Class" => some_kind(class(alloc, object)),
+        "FnDecl" => some_kind(fn_decl(object)),
+        "FnExpr" => some_kind(fn_expr(object)),
+        "Function" => some_kind(function(alloc, object)),
+        "VarDecl" => some_kind(var_decl(alloc, object)),
+        "UsingDecl" => some_kind(using_decl(alloc, object)),
+        "VarDeclarator" => some_kind(var_declarator(object)),
+        "TsInterfaceDecl" => some_kind(ts_interface_decl(alloc, object)),
+        "TsTypeAliasDecl" => some_kind(ts_type_alias_decl(object)),
+        "TsEnumDecl" => some_kind(ts_enum_decl(alloc, object)),
+        "TsEnumMember" => some_kind(ts_enum_member(object)),
+        "TsModuleDecl" => some_kind(ts_module_decl(object)),
+        "TsNamespaceDecl" => some_kind(ts_namespace_decl(object)),
+        "TsModuleBlock" => some_kind(ts_module_block(alloc, object)),
         _ => Ok(None),
     }
 }

@@ -1,25 +1,28 @@
+// Generated from tools/kinds/kinds.txt by tools/kinds.py --write. Do not edit.
 //! Expressions and names.
 
 ghost use Rattle.std.specs.Prelude.{option_map};
-ghost use Rattle.symbols_syntax.specs.declared.tree.names.KindName.TheVariants as Name;
+ghost use Rattle.symbols_ast.specs.declared.tree.names.KindName.TheVariants as Name;
 ghost use Rattle.symq_reader.specs.inner.Objects.{object_data};
-ghost use Rattle.symq_reader.specs.inner.Reading.{Gives};
-ghost use Rattle.symq_reader.specs.KindShapes.{read_as_kind, read_expr, expr_shape};
+ghost use Rattle.symq_reader.specs.inner.Reading.{IsReadResult};
+ghost use Rattle.symq_reader.specs.KindShapes.{read_as_kind};
+ghost use Rattle.symq_reader.specs.KindShapesTable.{read_expr, expr_shape};
 
 use crate::faults::FormatFault;
 use crate::fields::{self, Object};
+use crate::kinds::some_kind;
 use std::alloc::Global;
-use symbols_syntax::tree::Expr;
+use symbols_ast::tree::Expr;
 
 fn ident(alloc: Global, object: &Object<'_, '_>) -> Result<Expr, FormatFault>
-    ensures { Gives expr_shape result (read_as_kind Name.Ident (object_data object.now)) }
+    ensures { IsReadResult expr_shape result (read_as_kind Name.Ident (object_data object.now)) }
 {
     let sym = fields::identifier(alloc, object, "sym")?;
     Ok(Expr::Ident { sym })
 }
 
 fn member(object: &Object<'_, '_>) -> Result<Expr, FormatFault>
-    ensures { Gives expr_shape result (read_as_kind Name.Member (object_data object.now)) }
+    ensures { IsReadResult expr_shape result (read_as_kind Name.Member (object_data object.now)) }
 {
     let obj = fields::child(object, "obj")?;
     let prop = fields::child(object, "prop")?;
@@ -27,49 +30,49 @@ fn member(object: &Object<'_, '_>) -> Result<Expr, FormatFault>
 }
 
 fn ident_name(alloc: Global, object: &Object<'_, '_>) -> Result<Expr, FormatFault>
-    ensures { Gives expr_shape result (read_as_kind Name.IdentName (object_data object.now)) }
+    ensures { IsReadResult expr_shape result (read_as_kind Name.IdentName (object_data object.now)) }
 {
     let name = fields::text(alloc, object, "name")?;
     Ok(Expr::IdentName { name })
 }
 
 fn private_name(alloc: Global, object: &Object<'_, '_>) -> Result<Expr, FormatFault>
-    ensures { Gives expr_shape result (read_as_kind Name.PrivateName (object_data object.now)) }
+    ensures { IsReadResult expr_shape result (read_as_kind Name.PrivateName (object_data object.now)) }
 {
     let name = fields::text(alloc, object, "name")?;
     Ok(Expr::PrivateName { name })
 }
 
 fn string(alloc: Global, object: &Object<'_, '_>) -> Result<Expr, FormatFault>
-    ensures { Gives expr_shape result (read_as_kind Name.Str (object_data object.now)) }
+    ensures { IsReadResult expr_shape result (read_as_kind Name.Str (object_data object.now)) }
 {
     let value = fields::text(alloc, object, "value")?;
     Ok(Expr::Str { value })
 }
 
 fn number(alloc: Global, object: &Object<'_, '_>) -> Result<Expr, FormatFault>
-    ensures { Gives expr_shape result (read_as_kind Name.Num (object_data object.now)) }
+    ensures { IsReadResult expr_shape result (read_as_kind Name.Num (object_data object.now)) }
 {
     let text = fields::text(alloc, object, "text")?;
     Ok(Expr::Num { text })
 }
 
 fn big_int(alloc: Global, object: &Object<'_, '_>) -> Result<Expr, FormatFault>
-    ensures { Gives expr_shape result (read_as_kind Name.BigInt (object_data object.now)) }
+    ensures { IsReadResult expr_shape result (read_as_kind Name.BigInt (object_data object.now)) }
 {
     let text = fields::text(alloc, object, "text")?;
     Ok(Expr::BigInt { text })
 }
 
 fn computed(object: &Object<'_, '_>) -> Result<Expr, FormatFault>
-    ensures { Gives expr_shape result (read_as_kind Name.Computed (object_data object.now)) }
+    ensures { IsReadResult expr_shape result (read_as_kind Name.Computed (object_data object.now)) }
 {
     let expr = fields::child(object, "expr")?;
     Ok(Expr::Computed { expr })
 }
 
 fn assign(object: &Object<'_, '_>) -> Result<Expr, FormatFault>
-    ensures { Gives expr_shape result (read_as_kind Name.Assign (object_data object.now)) }
+    ensures { IsReadResult expr_shape result (read_as_kind Name.Assign (object_data object.now)) }
 {
     Ok(Expr::Assign {
         plain: fields::flag(object, "plain")?,
@@ -79,7 +82,7 @@ fn assign(object: &Object<'_, '_>) -> Result<Expr, FormatFault>
 }
 
 fn arrow(alloc: Global, object: &Object<'_, '_>) -> Result<Expr, FormatFault>
-    ensures { Gives expr_shape result (read_as_kind Name.Arrow (object_data object.now)) }
+    ensures { IsReadResult expr_shape result (read_as_kind Name.Arrow (object_data object.now)) }
 {
     Ok(Expr::Arrow {
         type_params: fields::optional_child(object, "type_params")?,
@@ -91,25 +94,25 @@ fn arrow(alloc: Global, object: &Object<'_, '_>) -> Result<Expr, FormatFault>
 }
 
 /// The expression of a kind's text; none where no expression has it.
-#[tactic(auto, unfolding(crate::specs::KindShapes::read_expr))]
+#[tactic(auto, unfolding(crate::specs::KindShapesTable::read_expr))]
 pub(crate) fn expr(
     alloc: Global,
     kind: &str,
     object: &Object<'_, '_>,
 ) -> Result<Option<Expr>, FormatFault>
-    ensures { Gives (option_map expr_shape) result (read_expr kind.now (object_data object.now)) }
+    ensures { IsReadResult (option_map expr_shape) result (read_expr kind.now (object_data object.now)) }
 {
     match kind {
-        "Ident" => Ok(Some(ident(alloc, object)?)),
-        "Member" => Ok(Some(member(object)?)),
-        "IdentName" => Ok(Some(ident_name(alloc, object)?)),
-        "PrivateName" => Ok(Some(private_name(alloc, object)?)),
-        "Str" => Ok(Some(string(alloc, object)?)),
-        "Num" => Ok(Some(number(alloc, object)?)),
-        "BigInt" => Ok(Some(big_int(alloc, object)?)),
-        "Computed" => Ok(Some(computed(object)?)),
-        "Assign" => Ok(Some(assign(object)?)),
-        "Arrow" => Ok(Some(arrow(alloc, object)?)),
+        "Ident" => some_kind(ident(alloc, object)),
+        "Member" => some_kind(member(object)),
+        "IdentName" => some_kind(ident_name(alloc, object)),
+        "PrivateName" => some_kind(private_name(alloc, object)),
+        "Str" => some_kind(string(alloc, object)),
+        "Num" => some_kind(number(alloc, object)),
+        "BigInt" => some_kind(big_int(alloc, object)),
+        "Computed" => some_kind(computed(object)),
+        "Assign" => some_kind(assign(object)),
+        "Arrow" => some_kind(arrow(alloc, object)),
         _ => Ok(None),
     }
 }

@@ -1,25 +1,28 @@
+// Generated from tools/kinds/kinds.txt by tools/kinds.py --write. Do not edit.
 //! Types and what holds them.
 
 ghost use Rattle.std.specs.Prelude.{option_map};
-ghost use Rattle.symbols_syntax.specs.declared.tree.names.KindName.TheVariants as Name;
+ghost use Rattle.symbols_ast.specs.declared.tree.names.KindName.TheVariants as Name;
 ghost use Rattle.symq_reader.specs.inner.Objects.{object_data};
-ghost use Rattle.symq_reader.specs.inner.Reading.{Gives};
-ghost use Rattle.symq_reader.specs.KindShapes.{read_as_kind, read_ty, ty_shape};
+ghost use Rattle.symq_reader.specs.inner.Reading.{IsReadResult};
+ghost use Rattle.symq_reader.specs.KindShapes.{read_as_kind};
+ghost use Rattle.symq_reader.specs.KindShapesTable.{read_ty, ty_shape};
 
 use crate::faults::FormatFault;
 use crate::fields::{self, Object};
+use crate::kinds::some_kind;
 use std::alloc::Global;
-use symbols_syntax::tree::Ty;
+use symbols_ast::tree::Ty;
 
 fn ts_type_param_decl(alloc: Global, object: &Object<'_, '_>) -> Result<Ty, FormatFault>
-    ensures { Gives ty_shape result (read_as_kind Name.TsTypeParamDecl (object_data object.now)) }
+    ensures { IsReadResult ty_shape result (read_as_kind Name.TsTypeParamDecl (object_data object.now)) }
 {
     let params = fields::children(alloc, object, "params")?;
     Ok(Ty::TsTypeParamDecl { params })
 }
 
 fn ts_type_param(object: &Object<'_, '_>) -> Result<Ty, FormatFault>
-    ensures { Gives ty_shape result (read_as_kind Name.TsTypeParam (object_data object.now)) }
+    ensures { IsReadResult ty_shape result (read_as_kind Name.TsTypeParam (object_data object.now)) }
 {
     Ok(Ty::TsTypeParam {
         constraint: fields::optional_child(object, "constraint")?,
@@ -28,7 +31,7 @@ fn ts_type_param(object: &Object<'_, '_>) -> Result<Ty, FormatFault>
 }
 
 fn ts_type_param_instantiation(alloc: Global, object: &Object<'_, '_>) -> Result<Ty, FormatFault>
-    ensures { Gives ty_shape result (read_as_kind Name.TsTypeParamInstantiation (object_data object.now)) }
+    ensures { IsReadResult ty_shape result (read_as_kind Name.TsTypeParamInstantiation (object_data object.now)) }
 {
     let params = fields::children(alloc, object, "params")?;
     Ok(Ty::TsTypeParamInstantiation { params })
@@ -36,14 +39,14 @@ fn ts_type_param_instantiation(alloc: Global, object: &Object<'_, '_>) -> Result
 
 /// Tried before all other kinds, by `kinds`.
 pub(crate) fn ts_type_ann(object: &Object<'_, '_>) -> Result<Ty, FormatFault>
-    ensures { Gives ty_shape result (read_as_kind Name.TsTypeAnn (object_data object.now)) }
+    ensures { IsReadResult ty_shape result (read_as_kind Name.TsTypeAnn (object_data object.now)) }
 {
     let ty = fields::child(object, "ty")?;
     Ok(Ty::TsTypeAnn { ty })
 }
 
 fn ts_expr_with_type_args(object: &Object<'_, '_>) -> Result<Ty, FormatFault>
-    ensures { Gives ty_shape result (read_as_kind Name.TsExprWithTypeArgs (object_data object.now)) }
+    ensures { IsReadResult ty_shape result (read_as_kind Name.TsExprWithTypeArgs (object_data object.now)) }
 {
     let expr = fields::child(object, "expr")?;
     let type_args = fields::optional_child(object, "type_args")?;
@@ -51,7 +54,7 @@ fn ts_expr_with_type_args(object: &Object<'_, '_>) -> Result<Ty, FormatFault>
 }
 
 fn ts_as_expr(object: &Object<'_, '_>) -> Result<Ty, FormatFault>
-    ensures { Gives ty_shape result (read_as_kind Name.TsAsExpr (object_data object.now)) }
+    ensures { IsReadResult ty_shape result (read_as_kind Name.TsAsExpr (object_data object.now)) }
 {
     let expr = fields::child(object, "expr")?;
     let ty = fields::child(object, "ty")?;
@@ -59,7 +62,7 @@ fn ts_as_expr(object: &Object<'_, '_>) -> Result<Ty, FormatFault>
 }
 
 fn ts_type_assertion(object: &Object<'_, '_>) -> Result<Ty, FormatFault>
-    ensures { Gives ty_shape result (read_as_kind Name.TsTypeAssertion (object_data object.now)) }
+    ensures { IsReadResult ty_shape result (read_as_kind Name.TsTypeAssertion (object_data object.now)) }
 {
     let expr = fields::child(object, "expr")?;
     let ty = fields::child(object, "ty")?;
@@ -67,7 +70,7 @@ fn ts_type_assertion(object: &Object<'_, '_>) -> Result<Ty, FormatFault>
 }
 
 fn ts_type_query(object: &Object<'_, '_>) -> Result<Ty, FormatFault>
-    ensures { Gives ty_shape result (read_as_kind Name.TsTypeQuery (object_data object.now)) }
+    ensures { IsReadResult ty_shape result (read_as_kind Name.TsTypeQuery (object_data object.now)) }
 {
     Ok(Ty::TsTypeQuery {
         expr_name: fields::child(object, "expr_name")?,
@@ -76,7 +79,7 @@ fn ts_type_query(object: &Object<'_, '_>) -> Result<Ty, FormatFault>
 }
 
 fn ts_import_type(alloc: Global, object: &Object<'_, '_>) -> Result<Ty, FormatFault>
-    ensures { Gives ty_shape result (read_as_kind Name.TsImportType (object_data object.now)) }
+    ensures { IsReadResult ty_shape result (read_as_kind Name.TsImportType (object_data object.now)) }
 {
     Ok(Ty::TsImportType {
         arg: fields::text(alloc, object, "arg")?,
@@ -86,7 +89,7 @@ fn ts_import_type(alloc: Global, object: &Object<'_, '_>) -> Result<Ty, FormatFa
 }
 
 fn ts_tuple_element(object: &Object<'_, '_>) -> Result<Ty, FormatFault>
-    ensures { Gives ty_shape result (read_as_kind Name.TsTupleElement (object_data object.now)) }
+    ensures { IsReadResult ty_shape result (read_as_kind Name.TsTupleElement (object_data object.now)) }
 {
     let label = fields::optional_child(object, "label")?;
     let ty = fields::child(object, "ty")?;
@@ -94,7 +97,7 @@ fn ts_tuple_element(object: &Object<'_, '_>) -> Result<Ty, FormatFault>
 }
 
 fn ts_qualified_name(alloc: Global, object: &Object<'_, '_>) -> Result<Ty, FormatFault>
-    ensures { Gives ty_shape result (read_as_kind Name.TsQualifiedName (object_data object.now)) }
+    ensures { IsReadResult ty_shape result (read_as_kind Name.TsQualifiedName (object_data object.now)) }
 {
     let left = fields::child(object, "left")?;
     let right = fields::text(alloc, object, "right")?;
@@ -102,26 +105,26 @@ fn ts_qualified_name(alloc: Global, object: &Object<'_, '_>) -> Result<Ty, Forma
 }
 
 /// The type, or what holds one, of a kind's text; none where nothing here has it.
-#[tactic(auto, unfolding(crate::specs::KindShapes::read_ty))]
+#[tactic(auto, unfolding(crate::specs::KindShapesTable::read_ty))]
 pub(crate) fn ty(
     alloc: Global,
     kind: &str,
     object: &Object<'_, '_>,
 ) -> Result<Option<Ty>, FormatFault>
-    ensures { Gives (option_map ty_shape) result (read_ty kind.now (object_data object.now)) }
+    ensures { IsReadResult (option_map ty_shape) result (read_ty kind.now (object_data object.now)) }
 {
     match kind {
-        "TsTypeParamDecl" => Ok(Some(ts_type_param_decl(alloc, object)?)),
-        "TsTypeParam" => Ok(Some(ts_type_param(object)?)),
-        "TsTypeParamInstantiation" => Ok(Some(ts_type_param_instantiation(alloc, object)?)),
-        "TsTypeAnn" => Ok(Some(ts_type_ann(object)?)),
-        "TsExprWithTypeArgs" => Ok(Some(ts_expr_with_type_args(object)?)),
-        "TsAsExpr" => Ok(Some(ts_as_expr(object)?)),
-        "TsTypeAssertion" => Ok(Some(ts_type_assertion(object)?)),
-        "TsTypeQuery" => Ok(Some(ts_type_query(object)?)),
-        "TsImportType" => Ok(Some(ts_import_type(alloc, object)?)),
-        "TsTupleElement" => Ok(Some(ts_tuple_element(object)?)),
-        "TsQualifiedName" => Ok(Some(ts_qualified_name(alloc, object)?)),
+        "TsTypeParamDecl" => some_kind(ts_type_param_decl(alloc, object)),
+        "TsTypeParam" => some_kind(ts_type_param(object)),
+        "TsTypeParamInstantiation" => some_kind(ts_type_param_instantiation(alloc, object)),
+        "TsTypeAnn" => some_kind(ts_type_ann(object)),
+        "TsExprWithTypeArgs" => some_kind(ts_expr_with_type_args(object)),
+        "TsAsExpr" => some_kind(ts_as_expr(object)),
+        "TsTypeAssertion" => some_kind(ts_type_assertion(object)),
+        "TsTypeQuery" => some_kind(ts_type_query(object)),
+        "TsImportType" => some_kind(ts_import_type(alloc, object)),
+        "TsTupleElement" => some_kind(ts_tuple_element(object)),
+        "TsQualifiedName" => some_kind(ts_qualified_name(alloc, object)),
         _ => Ok(None),
     }
 }

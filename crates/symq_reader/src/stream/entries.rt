@@ -1,4 +1,4 @@
-//! The members of a node, token by token.
+//! Reads the members of a node, token by token.
 
 ghost use Rattle.std.specs.Prelude.{◌≡◌, ◌∷◌, ◌++◌, ℕ, List, map, IfOk, Some};
 ghost use Rattle.json.specs.Json as spec;
@@ -7,41 +7,42 @@ ghost use Rattle.json.specs.Reads.{token_of};
 ghost use Rattle.json.specs.Value.{members_view};
 ghost use Rattle.serde_json.specs.Find.{as_u64};
 ghost use Rattle.serde_json.specs.Read.{number_of};
-ghost use Rattle.symq_reader.specs.inner.Objects.{whole_number, entry_data, entries_data};
-ghost use Rattle.symq_reader.specs.JsonData.{num_or, json_data};
+ghost use Rattle.symq_reader.specs.inner.Objects.{whole_number, fast_path_value_data, entries_data};
+ghost use Rattle.symq_reader.specs.JsonData.{number_or_minus_one, json_data};
 ghost use Rattle.symq_reader.specs.inner.Streams.{ReadsValue, ReadsItems, ReadsMembers};
 
 use crate::entries::Entry;
 use crate::numbers;
-use crate::stream::GiveUp;
+use crate::stream::FastPathFault;
 use json::{Reader, Token, Value};
 use std::alloc::Global;
 
-/// The whole number of a numeral's text.
+/// Returns the whole number of a numeral. It gives up if the number isn't whole or doesn't fit 64
+/// bits.
 #[inline(always)]
-fn whole(digits: &str) -> Result<u64, GiveUp>
-    ensures { IfOk result (λ n. as_u64 (num_or (number_of digits.now)) ≡ Some n) }
+fn whole(digits: &str) -> Result<u64, FastPathFault>
+    ensures { IfOk result (λ n. as_u64 (number_or_minus_one (number_of digits.now)) ≡ Some n) }
 {
     match numbers::whole(digits) {
         Some(number) => Ok(number),
-        None => Err(GiveUp::Odd),
+        None => Err(FastPathFault::Unsupported),
     }
 }
 
-/// The whole number that comes next.
+/// Reads the next token as a whole number. It gives up if it is none.
 #[inline(always)]
-fn next_whole(reader: &mut Reader<'_>) -> Result<u64, GiveUp>
-    ensures { IfOk result (λ n. ReadsValue 120 reader.old reader.new (λ d. Some d) (whole_number n)) }
+fn next_whole(reader: &mut Reader<'_>) -> Result<u64, FastPathFault>
+    ensures { IfOk result
+        (λ n. ReadsValue 120 reader.old reader.new (λ d. Some d) (whole_number n)) }
 {
     match reader.next() {
         Some(Token::Number(digits)) => whole(digits),
-        _ => Err(GiveUp::Odd),
+        _ => Err(FastPathFault::Unsupported),
     }
 }
 
-/// Takes the other whole numbers of a list, up to its end, and puts them behind those that were
-/// found.
-fn others(reader: &mut Reader<'_>, found: &mut Vec<u64>) -> Result<(), GiveUp>
+/// Reads the remaining whole numbers of a list up to its end, and appends them.
+fn other_items(reader: &mut Reader<'_>, found: &mut Vec<u64>) -> Result<(), FastPathFault>
     ensures { IfOk result (λ _. (rest : List ℕ)
         × ReadsItems 120 reader.old reader.new (λ d. Some d) (map whole_number rest)
         × (found.new.items ≡ found.old.items ++ rest)) }
@@ -52,15 +53,15 @@ fn others(reader: &mut Reader<'_>, found: &mut Vec<u64>) -> Result<(), GiveUp>
     Ok(())
 }
 
-/// A list of whole numbers, of which the first numeral was taken.
+/// Reads a list of whole numbers, after its first numeral.
 fn list_of_wholes<'a>(
     alloc: Global,
     reader: &mut Reader<'a>,
     digits: &str,
-) -> Result<Entry<'a>, GiveUp>
+) -> Result<Entry<'a>, FastPathFault>
     ensures { IfOk result (λ entry.
         ReadsValue 121 (SpecToken.begin_array ∷ SpecToken.number digits.now ∷ reader.old) reader.new
-        (λ d. Some d) (entry_data entry)) }
+        (λ d. Some d) (fast_path_value_data entry)) }
 {
     let first = whole(digits)?;
     if reader.take_end_array() {
@@ -73,40 +74,43 @@ fn list_of_wholes<'a>(
     let mut found = Vec::new(alloc);
     found.push(first)?;
     found.push(second)?;
-    others(reader, &mut found)?;
+    other_items(reader, &mut found)?;
     Ok(Entry::List(found))
 }
 
-/// A list of a text and a whole number, of which the text was taken.
-fn list_of_name<'a>(reader: &mut Reader<'a>, name: &'a str) -> Result<Entry<'a>, GiveUp>
+/// Reads a list of a string and a whole number, after the string.
+fn list_of_name<'a>(reader: &mut Reader<'a>, name: &'a str) -> Result<Entry<'a>, FastPathFault>
     ensures { IfOk result (λ entry.
         ReadsValue 121 (SpecToken.begin_array ∷ SpecToken.string name.now ∷ reader.old) reader.new
-        (λ d. Some d) (entry_data entry)) }
+        (λ d. Some d) (fast_path_value_data entry)) }
 {
     let number = next_whole(reader)?;
     if reader.take_end_array() {
-        Ok(Entry::Named(name, number))
+        Ok(Entry::NameAndScope(name, number))
     } else {
-        Err(GiveUp::Odd)
+        Err(FastPathFault::Unsupported)
     }
 }
 
-/// A list whose bracket was taken.
-fn list<'a>(alloc: Global, reader: &mut Reader<'a>) -> Result<Entry<'a>, GiveUp>
+/// Reads a list, after its bracket.
+fn list<'a>(alloc: Global, reader: &mut Reader<'a>) -> Result<Entry<'a>, FastPathFault>
     ensures { IfOk result (λ entry.
         ReadsValue 121 (SpecToken.begin_array ∷ reader.old) reader.new
-        (λ d. Some d) (entry_data entry)) }
+        (λ d. Some d) (fast_path_value_data entry)) }
 {
     match reader.next() {
         Some(Token::Number(digits)) => list_of_wholes(alloc, reader, digits),
         Some(Token::String(name)) => list_of_name(reader, name),
         Some(Token::EndArray) => Ok(Entry::List(Vec::new(alloc))),
-        _ => Err(GiveUp::Odd),
+        _ => Err(FastPathFault::Unsupported),
     }
 }
 
-/// The members of an object whose brace was taken, as values.
-fn object<'a>(alloc: Global, reader: &mut Reader<'a>) -> Result<Vec<(&'a str, Value<'a>)>, GiveUp>
+/// Reads the members of an object as JSON values, after its brace.
+fn object<'a>(
+    alloc: Global,
+    reader: &mut Reader<'a>,
+) -> Result<Vec<(&'a str, Value<'a>)>, FastPathFault>
     ensures { IfOk result (λ found.
         ReadsValue 121 (SpecToken.begin_object ∷ reader.old) reader.new
         (λ d. Some d) (json_data (spec.object (members_view found.items)))) }
@@ -118,61 +122,61 @@ fn object<'a>(alloc: Global, reader: &mut Reader<'a>) -> Result<Vec<(&'a str, Va
         };
         let value = Value::read(alloc, reader, 120)?;
         if !numbers::fits(&value) {
-            return Err(GiveUp::Odd);
+            return Err(FastPathFault::Unsupported);
         }
         found.push((name, value))?;
     }
 }
 
-/// The value that begins with this token, if it is null, a flag or an object, as few are.
+/// Returns the value that begins with this token: null, a boolean or an object. These are rare in
+/// nodes.
 #[inline(never)]
 fn rare_entry<'a>(
     alloc: Global,
     reader: &mut Reader<'a>,
     token: Token<'a>,
-) -> Result<Entry<'a>, GiveUp>
+) -> Result<Entry<'a>, FastPathFault>
     ensures { IfOk result (λ entry. ReadsValue 121 (token_of token.entry ∷ reader.old) reader.new
-        (λ d. Some d) (entry_data entry)) }
+        (λ d. Some d) (fast_path_value_data entry)) }
 {
     match token {
         Token::BeginObject => Ok(Entry::Object(object(alloc, reader)?)),
         Token::Null => Ok(Entry::Null),
         Token::Bool(b) => Ok(Entry::Flag(b)),
-        _ => Err(GiveUp::Odd),
+        _ => Err(FastPathFault::Unsupported),
     }
 }
 
-/// The value that comes next, if it is of one of the forms that fields have, or an object.
+/// Reads the next value: one of the forms that fields have, or an object.
 #[inline(always)]
-fn next_entry<'a>(alloc: Global, reader: &mut Reader<'a>) -> Result<Entry<'a>, GiveUp>
+fn next_entry<'a>(alloc: Global, reader: &mut Reader<'a>) -> Result<Entry<'a>, FastPathFault>
     ensures { IfOk result (λ entry. ReadsValue 121 reader.old reader.new
-        (λ d. Some d) (entry_data entry)) }
+        (λ d. Some d) (fast_path_value_data entry)) }
 {
     match reader.next() {
         Some(Token::Number(digits)) => Ok(Entry::Whole(whole(digits)?)),
         Some(Token::String(text)) => Ok(Entry::Text(text)),
         Some(Token::BeginArray) => list(alloc, reader),
         Some(token) => rare_entry(alloc, reader, token),
-        None => Err(GiveUp::Odd),
+        None => Err(FastPathFault::Unsupported),
     }
 }
 
-/// Takes the members of an object whose brace was taken, and keeps them in place of those that were
-/// kept.
+/// Reads the members of an object, after its brace. They replace the members in `retained`.
 pub(crate) fn take_all<'a>(
     alloc: Global,
     reader: &mut Reader<'a>,
-    kept: &mut Vec<(&'a str, Entry<'a>)>,
-) -> Result<(), GiveUp>
+    retained: &mut Vec<(&'a str, Entry<'a>)>,
+) -> Result<(), FastPathFault>
     ensures { IfOk result (λ _. ReadsMembers 121 reader.old reader.new
-        (λ d. Some d) (entries_data kept.new.items)) }
+        (λ d. Some d) (entries_data retained.new.items)) }
 {
-    kept.clear();
+    retained.clear();
     'members: loop {
         let Some(name) = reader.next_key()? else {
             return Ok(());
         };
         let entry = next_entry(alloc, reader)?;
-        kept.push((name, entry))?;
+        retained.push((name, entry))?;
     }
 }

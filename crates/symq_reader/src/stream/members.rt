@@ -1,27 +1,28 @@
-//! The members of an object of which one isn't kept with the others.
+//! Reads the members of an object up to one key, whose value the caller reads.
 
 ghost use Rattle.std.specs.Prelude.{◌≡◌, IfOk};
 ghost use Rattle.json.specs.Json as spec;
 ghost use Rattle.json.specs.Value.{members_view};
-ghost use Rattle.symq_reader.specs.inner.Streams.{Passed, members_joined};
+ghost use Rattle.symq_reader.specs.inner.Streams.{SkipsToKey, members_joined};
 
 use crate::numbers;
-use crate::stream::GiveUp;
+use crate::stream::FastPathFault;
 use json::{Reader, Value};
 use std::alloc::Global;
 
-/// Takes members and keeps them, up to the key, whose value comes next then, or up to the object's
-/// end: whether the key was met.
+/// Reads members into `retained` up to this key or the end of the object. Returns whether the key
+/// was found; its value comes next then.
 pub(crate) fn pass_until<'a>(
     alloc: Global,
     reader: &mut Reader<'a>,
     depth: usize,
     key: &str,
-    kept: &mut Vec<(&'a str, Value<'a>)>,
-) -> Result<bool, GiveUp>
-    ensures { IfOk result (λ met. (done : spec.Members)
-        × Passed depth reader.old key.now met reader.new done
-        × (members_view kept.new.items ≡ members_joined (members_view kept.old.items) done)) }
+    retained: &mut Vec<(&'a str, Value<'a>)>,
+) -> Result<bool, FastPathFault>
+    ensures { IfOk result (λ found_key. (done : spec.Members)
+        × SkipsToKey depth reader.old key.now found_key reader.new done
+        × (members_view retained.new.items
+        ≡ members_joined (members_view retained.old.items) done)) }
 {
     'members: loop {
         let Some(name) = reader.next_key()? else {
@@ -32,8 +33,8 @@ pub(crate) fn pass_until<'a>(
         }
         let value = Value::read(alloc, reader, depth)?;
         if !numbers::fits(&value) {
-            return Err(GiveUp::Odd);
+            return Err(FastPathFault::Unsupported);
         }
-        kept.push((name, value))?;
+        retained.push((name, value))?;
     }
 }

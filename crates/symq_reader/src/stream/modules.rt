@@ -1,44 +1,47 @@
-//! Modules, one by one.
+//! Reads modules, one by one.
 
 ghost use Rattle.std.specs.Prelude.{◌≡◌, [], IfOk, OnOk, Option, codes, map, option_map, Some};
 ghost use Rattle.json.specs.Json as spec;
 ghost use Rattle.json.specs.Value.{members_view};
 ghost use Rattle.symq_reader.specs.GraphText.{as_module, as_tree, module_shape, tree_shape};
-ghost use Rattle.symq_reader.specs.inner.Pieces.{ReadsMore};
+ghost use Rattle.symq_reader.specs.inner.Pieces.{ReadsModulesToEnd};
 ghost use Rattle.symq_reader.specs.JsonData.{json_data};
-ghost use Rattle.symq_reader.specs.inner.Streams.{Around, ReadsValue, ReadsItems, ReadsMembers, list_at, optional_at, with_tree};
+ghost use Rattle.symq_reader.specs.inner.Streams.{ReadsMemberApart, ReadsValue, ReadsItems};
+ghost use Rattle.symq_reader.specs.inner.Streams.{ReadsMembers};
+ghost use Rattle.symq_reader.specs.inner.Streams.{list_in_optional_data, value_in_optional_data};
+ghost use Rattle.symq_reader.specs.inner.Streams.{module_shape_with_tree};
 
 use crate::graph;
-use crate::stream::{GiveUp, members, trees};
+use crate::stream::{FastPathFault, members, trees};
 use json::{Reader, Token, Value};
 use std::alloc::Global;
-use symbols_syntax::graph::{RawModule, RawModuleKind};
-use symbols_syntax::tree::Tree;
+use symbols_ast::graph::{RawModule, RawModuleKind};
+use symbols_ast::tree::Tree;
 
-/// The tree of a module; its other members are kept.
+/// Reads the tree of a module. Its other members are stored in `retained`.
 fn tree_among<'a>(
     alloc: Global,
     reader: &mut Reader<'a>,
-    kept: &mut Vec<(&'a str, Value<'a>)>,
-) -> Result<Option<Tree>, GiveUp>
-    requires { kept.old.items ≡ [] }
+    retained: &mut Vec<(&'a str, Value<'a>)>,
+) -> Result<Option<Tree>, FastPathFault>
+    requires { retained.old.items ≡ [] }
     ensures { IfOk result (λ found. (there : Option spec.Json)
-        × Around 124 reader.old reader.new (codes "tree") there (members_view kept.new.items)
-        × (optional_at as_tree (option_map json_data there) ≡ Some (option_map tree_shape found))) }
+        × ReadsMemberApart 124 reader.old reader.new (codes "tree") there (members_view retained.new.items)
+        × (value_in_optional_data as_tree (option_map json_data there) ≡ Some (option_map tree_shape found))) }
 {
-    if !members::pass_until(alloc, reader, 124, "tree", kept)? {
+    if !members::pass_until(alloc, reader, 124, "tree", retained)? {
         return Ok(None);
     }
     let found = trees::optional_tree(alloc, reader)?;
-    if members::pass_until(alloc, reader, 124, "tree", kept)? {
-        return Err(GiveUp::Odd);
+    if members::pass_until(alloc, reader, 124, "tree", retained)? {
+        return Err(FastPathFault::Unsupported);
     }
     Ok(found)
 }
 
-/// A module with this tree, if it is of a kind that has one.
-fn with_tree(read: RawModule, tree: Option<Tree>) -> RawModule
-    ensures { module_shape result ≡ with_tree (option_map tree_shape tree) (module_shape read) }
+/// Returns the module with this tree; a kind without a tree stays as it is.
+fn module_shape_with_tree(read: RawModule, tree: Option<Tree>) -> RawModule
+    ensures { module_shape result ≡ module_shape_with_tree (option_map tree_shape tree) (module_shape read) }
 {
     let RawModule { specifier, kind } = read;
     let kind = match kind {
@@ -48,34 +51,38 @@ fn with_tree(read: RawModule, tree: Option<Tree>) -> RawModule
     RawModule { specifier, kind }
 }
 
-/// The module of an object whose brace was taken.
-pub(crate) fn module_members(alloc: Global, reader: &mut Reader<'_>) -> Result<RawModule, GiveUp>
+/// Reads a module from the members of an object, after its brace.
+pub(crate) fn module_members(
+    alloc: Global,
+    reader: &mut Reader<'_>,
+) -> Result<RawModule, FastPathFault>
     ensures { IfOk result (λ found. ReadsMembers 124 reader.old reader.new
         as_module (module_shape found)) }
 {
-    let mut kept = Vec::new(alloc);
-    let tree = tree_among(alloc, reader, &mut kept)?;
-    let found = graph::module(alloc, &Value::Object(kept))?;
-    Ok(with_tree(found, tree))
+    let mut retained = Vec::new(alloc);
+    let tree = tree_among(alloc, reader, &mut retained)?;
+    let found = graph::module(alloc, &Value::Object(retained))?;
+    Ok(module_shape_with_tree(found, tree))
 }
 
-/// A module, of whose value nothing but its tree's nodes is large.
-fn module(alloc: Global, reader: &mut Reader<'_>) -> Result<RawModule, GiveUp>
-    ensures { IfOk result (λ found. ReadsValue 125 reader.old reader.new as_module (module_shape found)) }
+/// Reads a module. Its nodes are read one by one, without a JSON value of the tree.
+fn module(alloc: Global, reader: &mut Reader<'_>) -> Result<RawModule, FastPathFault>
+    ensures { IfOk result
+        (λ found. ReadsValue 125 reader.old reader.new as_module (module_shape found)) }
 {
     let Some(Token::BeginObject) = reader.next() else {
-        return Err(GiveUp::Odd);
+        return Err(FastPathFault::Unsupported);
     };
     module_members(alloc, reader)
 }
 
-/// The modules up to the end of their list, behind those before.
+/// Reads the remaining modules of a list up to its end, and appends them.
 pub(crate) fn more_modules(
     alloc: Global,
     reader: &mut Reader<'_>,
     found: &mut Vec<RawModule>,
-) -> Result<(), GiveUp>
-    ensures { OnOk result (ReadsMore reader.old reader.new found.old.items found.new.items) }
+) -> Result<(), FastPathFault>
+    ensures { OnOk result (ReadsModulesToEnd reader.old reader.new found.old.items found.new.items) }
 {
     'items: while !reader.take_end_array() {
         found.push(module(alloc, reader)?)?;
@@ -83,8 +90,8 @@ pub(crate) fn more_modules(
     Ok(())
 }
 
-/// The modules of a list whose bracket was taken.
-fn module_items(alloc: Global, reader: &mut Reader<'_>) -> Result<Vec<RawModule>, GiveUp>
+/// Reads the modules of a list, after its bracket.
+fn module_items(alloc: Global, reader: &mut Reader<'_>) -> Result<Vec<RawModule>, FastPathFault>
     ensures { IfOk result (λ found. ReadsItems 125 reader.old reader.new
         as_module (map module_shape found.items)) }
 {
@@ -94,35 +101,35 @@ fn module_items(alloc: Global, reader: &mut Reader<'_>) -> Result<Vec<RawModule>
     Ok(found)
 }
 
-/// The modules of a list, which may be null.
-fn module_list(alloc: Global, reader: &mut Reader<'_>) -> Result<Vec<RawModule>, GiveUp>
+/// Reads a list of modules; none if it is null.
+fn module_list(alloc: Global, reader: &mut Reader<'_>) -> Result<Vec<RawModule>, FastPathFault>
     ensures { IfOk result (λ found. ReadsValue 126 reader.old reader.new
-        (λ d. list_at as_module (Some d)) (map module_shape found.items)) }
+        (λ d. list_in_optional_data as_module (Some d)) (map module_shape found.items)) }
 {
     match reader.next() {
         Some(Token::BeginArray) => module_items(alloc, reader),
         Some(Token::Null) => Ok(Vec::new(alloc)),
-        _ => Err(GiveUp::Odd),
+        _ => Err(FastPathFault::Unsupported),
     }
 }
 
-/// The modules of a graph; its other members are kept.
+/// Reads the modules of a graph. Its other members are stored in `retained`.
 pub(crate) fn modules_among<'a>(
     alloc: Global,
     reader: &mut Reader<'a>,
-    kept: &mut Vec<(&'a str, Value<'a>)>,
-) -> Result<Vec<RawModule>, GiveUp>
-    requires { kept.old.items ≡ [] }
+    retained: &mut Vec<(&'a str, Value<'a>)>,
+) -> Result<Vec<RawModule>, FastPathFault>
+    requires { retained.old.items ≡ [] }
     ensures { IfOk result (λ found. (there : Option spec.Json)
-        × Around 126 reader.old reader.new (codes "modules") there (members_view kept.new.items)
-        × (list_at as_module (option_map json_data there) ≡ Some (map module_shape found.items))) }
+        × ReadsMemberApart 126 reader.old reader.new (codes "modules") there (members_view retained.new.items)
+        × (list_in_optional_data as_module (option_map json_data there) ≡ Some (map module_shape found.items))) }
 {
-    if !members::pass_until(alloc, reader, 126, "modules", kept)? {
+    if !members::pass_until(alloc, reader, 126, "modules", retained)? {
         return Ok(Vec::new(alloc));
     }
     let found = module_list(alloc, reader)?;
-    if members::pass_until(alloc, reader, 126, "modules", kept)? {
-        return Err(GiveUp::Odd);
+    if members::pass_until(alloc, reader, 126, "modules", retained)? {
+        return Err(FastPathFault::Unsupported);
     }
     Ok(found)
 }

@@ -1,123 +1,128 @@
-//! Trees, node by node.
+//! Reads trees, node by node.
 
 ghost use Rattle.std.specs.Prelude.{◌≡◌, ◌++◌, ◌∷◌, [], IfOk, Option, codes, map, option_map, Some};
 ghost use Rattle.json.specs.Json as spec;
 ghost use Rattle.json.specs.Value.{members_view};
 ghost use Rattle.symq_reader.specs.GraphText.{as_node, as_tree, node_shape, tree_shape};
 ghost use Rattle.symq_reader.specs.JsonData.{json_data};
-ghost use Rattle.symq_reader.specs.inner.Streams.{Around, ReadsValue, ReadsItems, ReadsMembers, list_at, optional_at};
-ghost use Rattle.symbols_syntax.specs.declared.tree.arena.Node.{Node as SpecNode};
+ghost use Rattle.symq_reader.specs.inner.Streams.{ReadsMemberApart, ReadsValue, ReadsItems};
+ghost use Rattle.symq_reader.specs.inner.Streams.{ReadsMembers, list_in_optional_data};
+ghost use Rattle.symq_reader.specs.inner.Streams.{value_in_optional_data};
+ghost use Rattle.symbols_ast.specs.declared.tree.arena.Node.{Node as SpecNode};
 
 use crate::entries::Entry;
 use crate::fields::Object;
 use crate::nodes;
-use crate::stream::{GiveUp, entries, members};
+use crate::stream::{FastPathFault, entries, members};
 use json::{Reader, Token, Value};
 use std::alloc::Global;
-use symbols_syntax::tree::{Node, Tree};
+use symbols_ast::tree::{Node, Tree};
 
-/// Gives a list that has become long room for many more nodes at once. The C library's allocator takes
-/// so much from the system in pages of its own: they count where they are written to, and a list in
-/// them grows without being copied. One that doubles among others leaves the rooms that it had behind.
+/// Reserves room for many more nodes once a list is long. The C library's allocator maps so large a
+/// block separately: its pages count only when they are written to, and it grows without a copy. A
+/// vector that doubles would leave its former blocks unused.
 fn widen(found: &mut Vec<Node>)
     ensures { found.new.items ≡ found.old.items }
 {
     const LONG: usize = 16_384;
-    // (34 MB, since a node takes 104 bytes)
+    // 34 MB: a node takes 104 bytes
     const MANY: usize = 327_680;
     if found.len() == LONG {
-        // (where so much is refused, the list grows as it would)
+        // if the allocation fails, the vector grows as usual
         let _ = found.try_reserve_exact(MANY);
     }
 }
 
-/// Puts a node behind those that were found, by its members, which are kept in place of those that
-/// were kept.
+/// Reads a node and appends it. Its members replace those in `retained`.
 fn add_node<'a>(
     alloc: Global,
     reader: &mut Reader<'a>,
-    kept: &mut Vec<(&'a str, Entry<'a>)>,
+    retained: &mut Vec<(&'a str, Entry<'a>)>,
     found: &mut Vec<Node>,
-) -> Result<(), GiveUp>
+) -> Result<(), FastPathFault>
     ensures { IfOk result (λ _. (node : SpecNode)
         × ReadsValue 122 reader.old reader.new as_node (node_shape node)
         × (found.new.items ≡ found.old.items ++ node ∷ [])) }
 {
     let Some(Token::BeginObject) = reader.next() else {
-        return Err(GiveUp::Odd);
+        return Err(FastPathFault::Unsupported);
     };
-    entries::take_all(alloc, reader, kept)?;
-    nodes::add_node(alloc, &Object::Entries(kept.as_slice()), found)?;
+    entries::take_all(alloc, reader, retained)?;
+    nodes::add_node(alloc, &Object::Entries(retained.as_slice()), found)?;
     Ok(())
 }
 
-/// The nodes of a list whose bracket was taken.
-fn node_items<'a>(alloc: Global, reader: &mut Reader<'a>) -> Result<Vec<Node>, GiveUp>
+/// Reads the nodes of a list, after its bracket.
+fn node_items<'a>(alloc: Global, reader: &mut Reader<'a>) -> Result<Vec<Node>, FastPathFault>
     ensures { IfOk result (λ found. ReadsItems 122 reader.old reader.new
         as_node (map node_shape found.items)) }
 {
     let mut found = Vec::new(alloc);
-    let mut kept = Vec::new(alloc);
+    let mut retained = Vec::new(alloc);
     'items: while !reader.take_end_array() {
         widen(&mut found);
-        add_node(alloc, reader, &mut kept, &mut found)?;
+        add_node(alloc, reader, &mut retained, &mut found)?;
     }
     found.shrink_to_fit();
     Ok(found)
 }
 
-/// The nodes of a list, which may be null.
-fn node_list(alloc: Global, reader: &mut Reader<'_>) -> Result<Vec<Node>, GiveUp>
+/// Reads a list of nodes; none if it is null.
+fn node_list(alloc: Global, reader: &mut Reader<'_>) -> Result<Vec<Node>, FastPathFault>
     ensures { IfOk result (λ found. ReadsValue 123 reader.old reader.new
-        (λ d. list_at as_node (Some d)) (map node_shape found.items)) }
+        (λ d. list_in_optional_data as_node (Some d)) (map node_shape found.items)) }
 {
     match reader.next() {
         Some(Token::BeginArray) => node_items(alloc, reader),
         Some(Token::Null) => Ok(Vec::new(alloc)),
-        _ => Err(GiveUp::Odd),
+        _ => Err(FastPathFault::Unsupported),
     }
 }
 
-/// The nodes of a tree; its other members are kept.
+/// Reads the nodes of a tree. Its other members are stored in `retained`.
 fn nodes_among<'a>(
     alloc: Global,
     reader: &mut Reader<'a>,
-    kept: &mut Vec<(&'a str, Value<'a>)>,
-) -> Result<Vec<Node>, GiveUp>
-    requires { kept.old.items ≡ [] }
+    retained: &mut Vec<(&'a str, Value<'a>)>,
+) -> Result<Vec<Node>, FastPathFault>
+    requires { retained.old.items ≡ [] }
     ensures { IfOk result (λ found. (there : Option spec.Json)
-        × Around 123 reader.old reader.new (codes "nodes") there (members_view kept.new.items)
-        × (list_at as_node (option_map json_data there) ≡ Some (map node_shape found.items))) }
+        × ReadsMemberApart 123 reader.old reader.new (codes "nodes") there (members_view retained.new.items)
+        × (list_in_optional_data as_node (option_map json_data there) ≡ Some (map node_shape found.items))) }
 {
-    if !members::pass_until(alloc, reader, 123, "nodes", kept)? {
+    if !members::pass_until(alloc, reader, 123, "nodes", retained)? {
         return Ok(Vec::new(alloc));
     }
     let found = node_list(alloc, reader)?;
-    if members::pass_until(alloc, reader, 123, "nodes", kept)? {
-        return Err(GiveUp::Odd);
+    if members::pass_until(alloc, reader, 123, "nodes", retained)? {
+        return Err(FastPathFault::Unsupported);
     }
     Ok(found)
 }
 
-/// The tree of an object whose brace was taken.
-fn tree_members(alloc: Global, reader: &mut Reader<'_>) -> Result<Tree, GiveUp>
-    ensures { IfOk result (λ tree. ReadsMembers 123 reader.old reader.new as_tree (tree_shape tree)) }
+/// Reads a tree from the members of an object, after its brace.
+fn tree_members(alloc: Global, reader: &mut Reader<'_>) -> Result<Tree, FastPathFault>
+    ensures { IfOk result
+        (λ tree. ReadsMembers 123 reader.old reader.new as_tree (tree_shape tree)) }
 {
-    let mut kept = Vec::new(alloc);
-    let found = nodes_among(alloc, reader, &mut kept)?;
-    let mut tree = nodes::tree(alloc, &Value::Object(kept))?;
+    let mut retained = Vec::new(alloc);
+    let found = nodes_among(alloc, reader, &mut retained)?;
+    let mut tree = nodes::tree(alloc, &Value::Object(retained))?;
     tree.nodes = found;
     Ok(tree)
 }
 
-/// A tree, which may be null.
-pub(crate) fn optional_tree(alloc: Global, reader: &mut Reader<'_>) -> Result<Option<Tree>, GiveUp>
+/// Reads a tree; `None` if it is null.
+pub(crate) fn optional_tree(
+    alloc: Global,
+    reader: &mut Reader<'_>,
+) -> Result<Option<Tree>, FastPathFault>
     ensures { IfOk result (λ found. ReadsValue 124 reader.old reader.new
-        (λ d. optional_at as_tree (Some d)) (option_map tree_shape found)) }
+        (λ d. value_in_optional_data as_tree (Some d)) (option_map tree_shape found)) }
 {
     match reader.next() {
         Some(Token::BeginObject) => Ok(Some(tree_members(alloc, reader)?)),
         Some(Token::Null) => Ok(None),
-        _ => Err(GiveUp::Odd),
+        _ => Err(FastPathFault::Unsupported),
     }
 }

@@ -1,5 +1,5 @@
 //! Stand-in for the crate root around `src/symbols`: the graph types that its
-//! files import, over tables that are handed in.
+//! files import, over given tables.
 
 use std::collections::HashMap;
 use std::sync::Arc;
@@ -34,7 +34,7 @@ pub mod ast {
         fn parse_program(&self, options: ParseOptions) -> Result<ParsedSource, ParseDiagnostic>;
     }
 
-    /// Hands out trees that were built before; a module without one failed to parse.
+    /// Returns trees that were built before; a module without one failed to parse.
     #[derive(Default)]
     pub struct CapturingModuleParser {
         pub sources: HashMap<ModuleSpecifier, ParsedSource>,

@@ -1,4 +1,4 @@
-//! What a query is answered with.
+//! Answers queries.
 
 use std::collections::HashMap;
 

@@ -13,7 +13,7 @@ use std::panic::catch_unwind;
 
 use deno_graph::symbols::RootSymbol;
 
-/// Megabytes left under the limit, for what a last step may still need.
+/// Megabytes left under the limit, for the last step.
 const SPARE: usize = 16;
 const BLOCK: usize = 1 << 16;
 const USAGE: &str = "usage: crate-symq GRAPH [--swc-edges] [--stack MB]";
@@ -43,7 +43,7 @@ fn arguments() -> Option<Arguments> {
     Some(found)
 }
 
-/// Answers line by line; what waits is written when the lines that were read are used up.
+/// Answers line by line. Pending answers are written when all lines that were read are answered.
 fn serve(loaded: &load::Loaded) -> std::io::Result<()> {
     let root = RootSymbol::new(&loaded.graph, &loaded.parser);
     let mut server = answer::Server::default();

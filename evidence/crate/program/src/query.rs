@@ -1,4 +1,4 @@
-//! Query lines in.
+//! Reads query lines.
 
 use deno_ast::swc::ast::Id;
 use deno_ast::swc::ast::SyntaxContext;
@@ -35,7 +35,7 @@ fn dep(value: &Value) -> Option<SymbolNodeDep> {
     }
 }
 
-/// What a line asks of a module.
+/// The query of a line on a module.
 pub enum Query {
     Module,
     Exports,
@@ -46,12 +46,12 @@ pub enum Query {
     Definitions(u32),
     Leaves(u32),
     Resolve(SymbolNodeDep),
-    /// No form of `symq`: all that a module's symbols tell.
+    /// No form of `symq`: the full table of a module's symbols.
     Table,
 }
 
 impl Query {
-    /// The symbol that is asked for by its number.
+    /// The symbol with the queried number.
     pub fn symbol(&self) -> Option<u32> {
         match self {
             Query::Name(k)
@@ -64,7 +64,7 @@ impl Query {
     }
 }
 
-/// The specifier of the module, and what is asked of it.
+/// The specifier of the module, and the query on it.
 pub fn query(line: &str) -> Option<(String, Query)> {
     let value: Value = serde_json::from_str(line).ok()?;
     let items = value.as_array()?;

@@ -1,4 +1,4 @@
-//! Answers as text.
+//! Writes answers as text.
 
 use std::collections::HashMap;
 use std::fmt::Write;
@@ -9,7 +9,7 @@ pub fn symbol_number(id: SymbolId) -> u32 {
     format!("{id:?}").parse().expect("a symbol's number")
 }
 
-/// For each declaration of a module, by its address, its symbol and place.
+/// The symbol and the index of each declaration of a module, by its address.
 pub type DeclTable = HashMap<*const SymbolDecl, (u32, usize)>;
 
 /// Writes one answer; the tables of declarations are kept between answers.

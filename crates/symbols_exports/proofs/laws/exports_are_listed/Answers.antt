@@ -1,4 +1,4 @@
-use Rattle.symbols_exports.proofs.WalkingEnd.{are_listed}
+use Rattle.symbols_exports.proofs.WalkEndsOrBreaks.{are_listed}
 use Rattle.symbols_exports.proofs.laws.exports_are_listed.Goals as goal
 
 pub returns : goal.returns

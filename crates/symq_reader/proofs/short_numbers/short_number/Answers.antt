@@ -6,7 +6,8 @@ pub returns-then-first-eq0-clause-text : goal.returns-then-first-eq0-clause-text
 returns-then-first-eq0-clause-text c =
     let bytes = c.args.bytes.now in
     let zero : c.in_ok-first.first ≡ 0 = omega arith in
-    let first : take 1 bytes ≡ decimal 0 = subst (λ n. take 1 bytes ≡ decimal n) zero (digit_first bytes c.in_ok-first.first c.in_ok-first.ensures.within c.in_ok-first.ensures.found c.in_ok-first.ensures.small) in
+    let first : take 1 bytes ≡ decimal 0 = subst (λ n. take 1 bytes
+    ≡ decimal n) zero (digit_first bytes c.in_ok-first.first c.in_ok-first.ensures.within c.in_ok-first.ensures.found c.in_ok-first.ensures.small) in
     cc (digits_then bytes 1 0 first)
 
 pub first_digits-found-requires-clause-first : goal.first_digits-found-requires-clause-first
@@ -21,5 +22,9 @@ digits-init c =
 
 pub digits-preserved : goal.digits-preserved
 digits-preserved c =
-    let bytes = c.args.bytes.now in
-    (omega arith, omega (arith, c.in-Some.ensures.within), digit_more bytes c.digits.place c.digits.found c.in-Some.next (omega arith) (omega arith) c.in-Some.ensures.small c.in-Some.ensures.within c.in-Some.ensures.found c.digits.invariant.2)
+    let bytes = c.args.bytes.now in (
+      omega arith,
+      omega (arith, c.in-Some.ensures.within),
+      digit_more bytes c.digits.index c.digits.found c.in-Some.next (omega arith) (omega arith)
+          c.in-Some.ensures.small c.in-Some.ensures.within c.in-Some.ensures.found c.digits.invariant.2,
+    )

@@ -2,7 +2,7 @@ use Rattle.std.proofs.Common.{◌≡◌, ◌-◌, ◌<◌, ◌≤◌, length, ta
 use Rattle.symq_reader.proofs.short_numbers.short_number.Given as goal
 
 abbrev pub invariant-digits : goal.invariant-digits
-invariant-digits l = (0 < l.found) × (l.place ≤ length l.bytes) × (take l.place l.bytes ≡ decimal l.found)
+invariant-digits l = (0 < l.found) × (l.index ≤ length l.bytes) × (take l.index l.bytes ≡ decimal l.found)
 
 abbrev pub decreases-digits : goal.decreases-digits
-decreases-digits l = length l.bytes - l.place
+decreases-digits l = length l.bytes - l.index

@@ -7,4 +7,5 @@ pub returns : goal.returns
 returns c =
     let utf8 = c.in-Ok.ensures.cases in
     let over : c.graph_value.new.reader ≡ [] = search rules in
-    text_outcome c.args.bytes.now c.in-Ok.text.now c.in_ok-reader.reader c.graph_value.new.reader (graph_shape c.in_ok-graph.graph) utf8.1 utf8.0 c.in_ok-reader.ensures.ok over c.in_ok-graph.ensures
+    text_outcome c.args.bytes.now c.in-Ok.text.now c.in_ok-reader.reader c.graph_value.new.reader (graph_shape c.in_ok-graph.graph) utf8.1 utf8.0
+    c.in_ok-reader.ensures.ok over c.in_ok-graph.ensures

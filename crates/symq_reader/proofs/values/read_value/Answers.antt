@@ -4,18 +4,18 @@ use Rattle.json.specs.Lex.{tokens}
 use Rattle.json.specs.Value.{value_view}
 use Rattle.serde_json.specs.Read.{read}
 use Rattle.symq_reader.specs.inner.JsonData.{fits}
-use Rattle.symq_reader.proofs.Outcomes.{json_of-refused}
+use Rattle.symq_reader.proofs.Outcomes.{json_of_bytes-refused}
 use Rattle.symq_reader.proofs.Texts.{fitting_value, misfitting_value, no_value}
 use Rattle.symq_reader.proofs.values.read_value.Goals as goal
 
 pub returns-in_default : goal.returns-in_default
-returns-in_default c = no_value c.args.bytes.now (json_of-refused c.args.bytes.now (λ utf8. absurd (c.in_default.ensures.cases.0 utf8)))
+returns-in_default c = no_value c.args.bytes.now (json_of_bytes-refused c.args.bytes.now (λ utf8. absurd (c.in_default.ensures.cases.0 utf8)))
 
 pub returns-in_default-2 : goal.returns-in_default-2
 returns-in_default-2 c =
     let same = c.in-Ok.ensures.cases.0 in
     let refused : read c.in-Ok.text.now ≡ None = search rules in
-    no_value c.args.bytes.now (json_of-refused c.args.bytes.now (λ utf8. ap read (sym same) ∙ refused))
+    no_value c.args.bytes.now (json_of_bytes-refused c.args.bytes.now (λ utf8. ap read (sym same) ∙ refused))
 
 pub returns-then-fits : goal.returns-then-fits
 returns-then-fits c =

@@ -42,7 +42,7 @@ impl<'a> Nodes<'a> {
         })
     }
 
-    /// Parts that are visited alike wherever they stand.
+    /// Parts that are visited alike in every position.
     fn any_part(&self, n: N<'a>) -> Result<AnyNode> {
         Ok(match n.kind {
             "VarDeclarator" => AnyNode::VarDeclarator(boxed(self.declarator(n))?),

@@ -35,7 +35,7 @@ pub struct Loaded {
     pub specifiers: Vec<ModuleSpecifier>,
 }
 
-/// Which edges namespaces have where a walk meets them in an opaque node.
+/// Which edges namespaces have when they are visited in an opaque node.
 #[derive(Clone, Copy)]
 pub struct Options {
     /// swc's own (identifier and body) in place of the tables' none.

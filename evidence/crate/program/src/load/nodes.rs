@@ -1,4 +1,4 @@
-//! Nodes of a graph's text by their numbers, and what is read of one.
+//! Nodes of a graph's text by their numbers, and the readers of their fields.
 
 use deno_ast::SourceRange;
 use deno_ast::swc::ast::*;
@@ -29,7 +29,7 @@ pub fn flag(value: &Value, key: &str) -> bool {
     value.get(key).and_then(Value::as_bool).unwrap_or(false)
 }
 
-/// Where a node of any kind stands; it decides how some kinds are visited.
+/// The position of a node of any kind; it decides how some kinds are visited.
 #[derive(Clone, Copy, PartialEq)]
 pub enum Parent {
     Type,

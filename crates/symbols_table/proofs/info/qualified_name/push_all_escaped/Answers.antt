@@ -11,7 +11,8 @@ use Rattle.symbols_table.proofs.info.qualified_name.push_all_escaped.Goals as go
 pub loop-c-preserved : goal.loop-c-preserved
 loop-c-preserved c =
     rw (flat_map-append, encodes-append, append-nil (escaped_char c.in-Some.c))
-    (c.in_ok-push_escaped.ensures ∙ (ap (λ made. made ++ encode_utf8_all (escaped_char c.in-Some.c)) c.loop-c.invariant ∙ append_assoc (string_bytes c.args.made.now) (encode_utf8_all (flat_map escaped_char c.loop-c.yielded)) (encode_utf8_all (escaped_char c.in-Some.c))))
+    (c.in_ok-push_escaped.ensures ∙ (ap (λ made. made ++ encode_utf8_all (escaped_char c.in-Some.c)) c.loop-c.invariant
+    ∙ append_assoc (string_bytes c.args.made.now) (encode_utf8_all (flat_map escaped_char c.loop-c.yielded)) (encode_utf8_all (escaped_char c.in-Some.c))))
 
 pub returns-then-not-contains : goal.returns-then-not-contains
 returns-then-not-contains c =
@@ -20,5 +21,6 @@ returns-then-not-contains c =
 
 pub returns : goal.returns
 returns c =
-    let done = YieldsList-end (YieldsList-from_chars c.args.text.now c.utf8.text cc) c.loop-c.yielded _ c.loop-c.yielded_by _ _ c.in-None.is c.next.ensures.steps in
+    let done = YieldsList-end (YieldsList-from_chars c.args.text.now c.utf8.text cc) c.loop-c.yielded _ c.loop-c.yielded_by _ _ c.in-None.is
+    c.next.ensures.steps in
     c.loop-c.invariant ∙ ap (λ cs. string_bytes c.args.made.now ++ encode_utf8_all (flat_map escaped_char cs)) (sym (map-id c.loop-c.yielded) ∙ done.0)

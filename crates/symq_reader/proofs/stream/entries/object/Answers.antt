@@ -4,7 +4,7 @@ use Rattle.json.specs.Value.{value_view, members_view}
 use Rattle.symq_reader.specs.inner.JsonData.{fits}
 use Rattle.symq_reader.specs.inner.Streams.{members_joined}
 use Rattle.symq_reader.proofs.Entered.{members_read}
-use Rattle.symq_reader.proofs.Taking.{took_none, took_all, took_member, member_fits, members_view-more}
+use Rattle.symq_reader.proofs.ConsumedTokens.{took_none, took_all, took_member, member_fits, members_view-more}
 use Rattle.symq_reader.proofs.stream.entries.object.Goals as goal
 
 pub members-init : goal.members-init

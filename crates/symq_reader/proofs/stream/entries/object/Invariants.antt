@@ -2,13 +2,13 @@ use Rattle.std.proofs.Common.{◌≡◌, length, true}
 use Rattle.json.specs.Json as json
 use Rattle.json.specs.Value.{members_view}
 use Rattle.symq_reader.specs.inner.JsonData.{members_fit}
-use Rattle.symq_reader.specs.inner.Streams.{Took}
+use Rattle.symq_reader.specs.inner.Streams.{ConsumesMembers}
 use Rattle.symq_reader.proofs.stream.entries.object.Given as goal
 
--- the members that were taken stand before those to come
+-- the members that were read precede those to come
 abbrev pub invariant-members : goal.invariant-members
 invariant-members l =
-    (done : json.Members) × Took 120 l.initial.reader done l.reader
+    (done : json.Members) × ConsumesMembers 120 l.initial.reader done l.reader
     × (members_fit done ≡ true)
     × (members_view l.found.items ≡ done)
 

@@ -8,5 +8,7 @@ use Rattle.symq_reader.proofs.stream.modules.module.Goals as goal
 pub returns : goal.returns
 returns c =
     let begins : c.args.reader.now ≡ Token.begin_object ∷ c.next.new.self = grind arith in
-    mapped_ok c.module_members.result (λ found. ReadsMembers 124 c.next.new.self c.module_members.new.reader as_module (module_shape found)) (λ found. ReadsValue 125 c.args.reader.now c.module_members.new.reader as_module (module_shape found))
-    (λ found h. object_read as_module 125 124 c.args.reader.now c.next.new.self c.module_members.new.reader (module_shape found) (lit< tt) refl begins h) c.module_members.ensures
+    mapped_ok c.module_members.result (λ found. ReadsMembers 124 c.next.new.self c.module_members.new.reader as_module (module_shape found))
+    (λ found. ReadsValue 125 c.args.reader.now c.module_members.new.reader as_module (module_shape found))
+    (λ found h. object_read as_module 125 124 c.args.reader.now c.next.new.self c.module_members.new.reader (module_shape found) (lit< tt) refl begins h)
+    c.module_members.ensures

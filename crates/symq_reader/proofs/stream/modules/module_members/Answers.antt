@@ -10,13 +10,14 @@ use Rattle.symq_reader.proofs.stream.modules.module_members.Goals as goal
 pub returns : goal.returns
 returns c =
     let h = c.in_ok-tree.ensures in
-    let kept = members_view c.tree_among.new.kept.items in
+    let retained = members_view c.tree_among.new.retained.items in
     let read = module_shape c.in_ok-found.found in
     let tree = option_map tree_shape c.in_ok-tree.tree in
-    let around : as_module (json_data (object kept)) ≡ Some read = ap (λ j. as_module (json_data j)) (sym (view-Object c.tree_among.new.kept)) ∙ c.in_ok-found.ensures in
+    let around : as_module (json_data (object retained)) ≡ Some read =
+    ap (λ j. as_module (json_data j)) (sym (view-Object c.tree_among.new.retained)) ∙ c.in_ok-found.ensures in
     record {
       all = h.1.all;
       read = h.1.read;
       fit = h.1.fit;
-      is = module_whole 124 c.args.reader.now c.tree_among.new.reader h.0 kept h.1 read tree around h.2 ∙ ap Some (sym c.with_tree.ensures);
+      is = module_whole 124 c.args.reader.now c.tree_among.new.reader h.0 retained h.1 read tree around h.2 ∙ ap Some (sym c.module_shape_with_tree.ensures);
     }

@@ -1,10 +1,10 @@
 use Rattle.std.proofs.Common.{◌≡◌, ◌<◌, length, Some, None, sym, ap, ◌∙◌, arith, rules}
 use Rattle.json.specs.Json.{after_end_array, no_items, item, value}
 use Rattle.symq_reader.specs.GraphText.{as_module}
-use Rattle.symq_reader.specs.inner.Pieces.{TookModule}
+use Rattle.symq_reader.specs.inner.Pieces.{ConsumesModule}
 use Rattle.symq_reader.specs.inner.Streams.{items_joined}
 use Rattle.symq_reader.proofs.Pieces.{none_more, one_more}
-use Rattle.symq_reader.proofs.Taking.{took_item, took_no_items, took_all_items}
+use Rattle.symq_reader.proofs.ConsumedTokens.{took_item, took_no_items, took_all_items}
 use Rattle.symq_reader.proofs.Streamed.{reads_shorter}
 use Rattle.symq_reader.proofs.stream.modules.more_modules.Goals as goal
 
@@ -24,7 +24,8 @@ items-preserved c =
     let stays : (after_end_array l.reader ≡ None) × (c.take_end_array.new.self ≡ l.reader) = grind arith in
     let reads = c.in_ok-module.ensures in
     let is : value 125 l.reader ≡ Some (reads.at, c.module.new.reader) = ap (value 125) (sym stays.1) ∙ reads.read in
-    let took : TookModule c.take_end_array.new.self c.module.new.reader l.found.items c.push.new.self.items = record { one = c.in_ok-module.field-0; reads = reads; pushed = search rules } in (
+    let took : ConsumesModule c.take_end_array.new.self c.module.new.reader l.found.items c.push.new.self.items =
+    record { one = c.in_ok-module.field-0; reads = reads; pushed = search rules } in (
       items_joined l.invariant.0 (item reads.at no_items),
       took_item 125 c.args.reader.now l.reader c.module.new.reader l.invariant.0 reads.at l.invariant.1 stays.0 is,
       one_more c.take_end_array.new.self c.module.new.reader l.invariant.0 c.args.found.now.items l.found.items c.push.new.self.items took l.invariant.2,

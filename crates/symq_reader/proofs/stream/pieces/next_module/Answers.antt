@@ -10,6 +10,7 @@ returns-in_ok-push-in-Some-BeginObject c =
     let found = c.in_ok-module_members-in-Some-BeginObject in
     record {
       one = found.field-0;
-      reads = object_read as_module 125 124 c.args.reader.now c.next.new.self c.module_members.new.reader (module_shape found.field-0) (lit< tt) refl begins found.ensures;
+      reads = object_read as_module 125 124 c.args.reader.now c.next.new.self c.module_members.new.reader (module_shape found.field-0) (lit< tt) refl begins
+          found.ensures;
       pushed = search rules;
     }

@@ -1,8 +1,8 @@
 use Rattle.std.proofs.Common.{◌≡◌, ◌<◌, length, map, Some, None, refl, sym, ap, ◌∙◌, arith}
 use Rattle.json.specs.Json.{after_end_array, no_items}
 use Rattle.symq_reader.specs.GraphText.{as_node, node_shape}
-use Rattle.symq_reader.proofs.Taking.{took_no_items}
-use Rattle.symq_reader.proofs.Streamed.{reads_shorter, items_turn, items_done}
+use Rattle.symq_reader.proofs.ConsumedTokens.{took_no_items}
+use Rattle.symq_reader.proofs.Streamed.{reads_shorter, items_round, items_done}
 use Rattle.symq_reader.proofs.stream.trees.node_items.Goals as goal
 
 pub items-init : goal.items-init
@@ -20,12 +20,15 @@ items-preserved c =
     let l = c.items in
     let stays : (after_end_array l.reader ≡ None) × (c.take_end_array.new.self ≡ l.reader) = grind arith in
     let same : c.widen.new.found.items ≡ l.found.items = c.widen.ensures in
-    items_turn as_node node_shape 122 c.args.reader.now l.reader c.take_end_array.new.self c.add_node.new.reader l.invariant.0 c.widen.new.found.items c.add_node.new.found.items c.in_ok-add_node.ensures.0 l.invariant.1 l.invariant.2 (l.invariant.3 ∙ ap (λ xs. Some (map node_shape xs)) (sym same)) stays.0 stays.1
+    items_round as_node node_shape 122 c.args.reader.now l.reader c.take_end_array.new.self c.add_node.new.reader l.invariant.0 c.widen.new.found.items
+    c.add_node.new.found.items c.in_ok-add_node.ensures.0 l.invariant.1 l.invariant.2 (l.invariant.3
+    ∙ ap (λ xs. Some (map node_shape xs)) (sym same)) stays.0 stays.1
     c.in_ok-add_node.ensures.1 c.in_ok-add_node.ensures.2
 
 pub returns : goal.returns
 returns c =
     let l = c.items in
-    let kept = c.shrink_to_fit.new.self.items in
+    let retained = c.shrink_to_fit.new.self.items in
     let are = l.invariant.3 ∙ ap (λ xs. Some (map node_shape xs)) (sym c.shrink_to_fit.ensures.items) in
-    items_done as_node 122 c.args.reader.now l.reader c.take_end_array.new.self l.invariant.0 (map node_shape kept) l.invariant.1 l.invariant.2 are (grind arith)
+    items_done as_node 122 c.args.reader.now l.reader c.take_end_array.new.self l.invariant.0 (map node_shape retained) l.invariant.1 l.invariant.2 are
+    (grind arith)

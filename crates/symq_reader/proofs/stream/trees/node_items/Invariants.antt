@@ -3,16 +3,16 @@ use Rattle.json.specs.Json as json
 use Rattle.symq_reader.specs.GraphText.{as_node, node_shape}
 use Rattle.symq_reader.specs.JsonData.{json_items_data}
 use Rattle.symq_reader.specs.inner.JsonData.{items_fit}
-use Rattle.symq_reader.specs.inner.Streams.{TookItems}
-use Rattle.symq_reader.specs.UnderKeys.{each_item}
+use Rattle.symq_reader.specs.inner.Streams.{ConsumesItems}
+use Rattle.symq_reader.specs.UnderKeys.{read_each_item}
 use Rattle.symq_reader.proofs.stream.trees.node_items.Given as goal
 
--- the items that were taken stand before those to come
+-- the items that were read precede those to come
 abbrev pub invariant-items : goal.invariant-items
 invariant-items l =
-    (done : json.Items) × TookItems 122 l.initial.reader done l.reader
+    (done : json.Items) × ConsumesItems 122 l.initial.reader done l.reader
     × (items_fit done ≡ true)
-    × (each_item as_node (json_items_data done) ≡ Some (map node_shape l.found.items))
+    × (read_each_item as_node (json_items_data done) ≡ Some (map node_shape l.found.items))
 
 abbrev pub decreases-items : goal.decreases-items
 decreases-items l = length l.reader

@@ -10,11 +10,13 @@ use Rattle.symq_reader.proofs.stream.trees.tree_members.Goals as goal
 pub returns : goal.returns
 returns c =
     let h = c.in_ok-found.ensures in
-    let kept = members_view c.nodes_among.new.kept.items in
-    let around : as_tree (json_data (object kept)) ≡ Some (tree_shape c.in_ok-tree.tree) = ap (λ j. as_tree (json_data j)) (sym (view-Object c.nodes_among.new.kept)) ∙ c.in_ok-tree.ensures in
+    let retained = members_view c.nodes_among.new.retained.items in
+    let around : as_tree (json_data (object retained)) ≡ Some (tree_shape c.in_ok-tree.tree) =
+    ap (λ j. as_tree (json_data j)) (sym (view-Object c.nodes_among.new.retained)) ∙ c.in_ok-tree.ensures in
     record {
       all = h.1.all;
       read = h.1.read;
       fit = h.1.fit;
-      is = tree_whole 123 c.args.reader.now c.nodes_among.new.reader h.0 kept h.1 (tree_shape c.in_ok-tree.tree) (map node_shape c.in_ok-found.found.items) around h.2;
+      is = tree_whole 123 c.args.reader.now c.nodes_among.new.reader h.0 retained h.1 (tree_shape c.in_ok-tree.tree) (map node_shape c.in_ok-found.found.items)
+          around h.2;
     }

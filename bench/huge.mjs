@@ -1,0 +1,131 @@
+// Times a huge generated file, kind of text by kind: what symdir makes of it, beside TypeScript's parser alone.
+//
+//   node bench/huge.mjs [--megabytes 17] [--rounds 3] [--kinds interface,namespace] [--command]
+//
+// In each round two processes run one after the other: one parses the text with TypeScript; one converts it as symdir does, parsing
+// included. Each times its work alone, once the text is read and TypeScript is loaded. With --command the second process is a whole
+// run of `symdir graph` without a cache. It prints the least times of the rounds in seconds, and the ratio to the parser's.
+import { spawnSync } from 'node:child_process';
+import { mkdtempSync, readFileSync, rmSync, writeFileSync } from 'node:fs';
+import os from 'node:os';
+import path from 'node:path';
+import { fileURLToPath } from 'node:url';
+import { parseArgs } from 'node:util';
+
+const SELF = fileURLToPath(import.meta.url);
+const COMMAND = fileURLToPath(new URL('../symdir/bin/symdir.js', import.meta.url));
+const USAGE = 'usage: node bench/huge.mjs [--megabytes N] [--rounds N] [--kinds KIND,..] [--command]';
+
+/** A piece of each kind of text, by its number. */
+/** @type {Record<string, (i: number) => string>} */
+const PIECES = {
+  docs: (i) => `/**\n * Returns what the service has for the name number ${i}, or the default value.\n * @param name of what is looked up, as it stands in the list\n`
+    + ` * @param limit how many are returned at most\n * @returns the values in the order of their names\n * @deprecated use {@link find${i}} with a limit\n */\n`
+    + `export declare function find${i}(name: string, limit?: number): string[];\n`,
+  imports: (i) => `import { value${i}, type Type${i} } from "./module${i % 500}";\nexport const sum${i} = value${i} * ${i} + compute(value${i}, "text ${i}", [1, 2, ${i}]) - (value${i} || ${i});\n`,
+  classes: (i) => `export class Shape${i}<T> extends Base<T> implements Drawn {\n  private readonly items: Map<string, T> = new Map();\n  static count = ${i};\n`
+    + `  constructor(public name: string, protected size: number) { super(name); }\n  at(index: number): T | undefined { return this.list[index]; }\n`
+    + `  get length(): number { return this.list.length; }\n}\nexport const row${i} = ["a${i}", ${i}, true, null, { id: ${i}, name: "row ${i}" }];\n`,
+  object: (i) => `  "key${i}": { id: ${i}, name: "name of ${i}", tags: ["a", "b", "c${i % 10}"], at: [${i}.5, -${i}], isOn: ${i % 2 === 0}, inner: { deep: null } },\n`,
+  interface: (i) => `export interface Options${i}<T = string> extends Base {\n  name: string;\n  readonly items?: ReadonlyArray<T>;\n  find(name: string, limit?: number): Promise<Options${i}<T> | null>;\n`
+    + `  on(event: "open" | "close", listener: (value: T, index: number) => void): this;\n  [key: string]: unknown;\n}\n`,
+  namespace: (i) => `export declare namespace Space${i} {\n  const version: string;\n  function make(name: string, options?: Options): Item;\n  interface Options { size: number; color?: Color }\n`
+    + `  type Color = "red" | "green" | Custom<number>;\n  class Item { constructor(name: string); value: Options; static of(a: Item): Item }\n}\n`,
+};
+const KINDS = [...Object.keys(PIECES), 'mixed'];
+
+/** @param {string} kind @param {number} i */
+function pieceOf(kind, i) {
+  const all = ['docs', 'imports', 'classes', 'interface', 'namespace'];
+  return PIECES[kind === 'mixed' ? all[i % all.length] : kind](i);
+}
+
+/** @param {string} kind @param {number} bytes @returns {string} */
+function textOf(kind, bytes) {
+  const parts = kind === 'object' ? ['export const data = {\n'] : [];
+  for (let i = 0, length = 0; length < bytes; i++) {
+    const piece = pieceOf(kind, i);
+    parts.push(piece);
+    length += piece.length;
+  }
+  if (kind === 'object') parts.push('};\n');
+  return parts.join('');
+}
+
+/** @param {string} file @returns {Promise<number>} seconds that TypeScript's parser takes */
+async function parse(file) {
+  const { ts } = await import('../symdir/lib/tree/typescript.js');
+  const text = readFileSync(file, 'utf8');
+  const began = performance.now();
+  const made = ts.createSourceFile(file, text, ts.ScriptTarget.Latest, false, ts.ScriptKind.TS);
+  const took = performance.now() - began;
+  if (/** @type {any} */ (made).parseDiagnostics.length > 0) throw new Error('the text has a fault');
+  return took / 1000;
+}
+
+/** @param {string} file @returns {Promise<number>} seconds that symdir takes to parse and convert */
+async function convert(file) {
+  const { parseFile } = await import('../symdir/lib/folder/parse.js');
+  const began = performance.now();
+  const made = parseFile({ file, specifier: 'file:///a.ts' }, { bodies: false, ambient: true });
+  const took = performance.now() - began;
+  if (made.fault) throw new Error('the text has a fault');
+  return took / 1000;
+}
+
+/** @param {string[]} words of Node @returns {string} what it prints */
+function run(words) {
+  const { status, signal, stdout, stderr } = spawnSync(process.execPath, words, { encoding: 'utf8' });
+  if (status !== 0) throw new Error(`${words.join(' ')}: status ${status}, signal ${signal}: ${stderr}`);
+  return stdout;
+}
+
+/** @param {string} folder @param {string} file @returns {number} seconds that a run of the command takes */
+function commanded(folder, file) {
+  const began = performance.now();
+  run([COMMAND, 'graph', '--no-cache', folder, '-o', path.join(path.dirname(folder), 'graph.json')]);
+  return (performance.now() - began) / 1000;
+}
+
+/** @param {string} kind @param {{ megabytes: number, rounds: number, command: boolean }} how */
+function compare(kind, { megabytes, rounds, command }) {
+  const made = mkdtempSync(path.join(os.tmpdir(), 'huge-'));
+  try {
+    const file = path.join(made, 'a.ts');
+    writeFileSync(file, textOf(kind, megabytes * 1e6));
+    const flags = ['--max-semi-space-size=64', '--max-old-space-size=8192', SELF];
+    const times = Array.from({ length: rounds }, () => [Number(run([...flags, '--time', 'parse', file])), command ? commanded(made, file) : Number(run([...flags, '--time', 'convert', file]))]);
+    const [parser, ours] = [0, 1].map((k) => Math.min(...times.map((it) => it[k])));
+    console.log(`${kind.padEnd(10)} parser ${parser.toFixed(2)} s, ${command ? 'symdir graph' : 'converted'} ${ours.toFixed(2)} s (${(ours / parser).toFixed(2)}); load ${os.loadavg()[0].toFixed(1)}`);
+  } finally {
+    rmSync(made, { recursive: true });
+  }
+}
+
+/** @param {string} text what is wrong with the arguments @returns {never} */
+function usageError(text) {
+  console.error(`huge.mjs: ${text}\n${USAGE}`);
+  process.exit(2);
+}
+
+function argumentsOf() {
+  try {
+    return parseArgs({ allowPositionals: true, options: {
+      megabytes: { type: 'string', default: '17' }, rounds: { type: 'string', default: '3' }, kinds: { type: 'string', default: KINDS.join(',') },
+      command: { type: 'boolean', default: false }, time: { type: 'string' }, help: { type: 'boolean', short: 'h' } } });
+  } catch (error) {
+    return usageError(/** @type {Error} */ (error).message.split('. To specify')[0]);
+  }
+}
+
+const { values, positionals: [file] } = argumentsOf();
+if (values.help) console.log(USAGE);
+else if (values.time) console.log(await (values.time === 'parse' ? parse(file) : convert(file)));
+else {
+  const kinds = String(values.kinds).split(',');
+  const odd = kinds.find((it) => !KINDS.includes(it));
+  if (odd !== undefined) usageError(`no kind ${odd}: there are ${KINDS.join(', ')}`);
+  const [megabytes, rounds] = [Number(values.megabytes), Number(values.rounds)];
+  if (!(megabytes > 0) || !(rounds >= 1)) usageError('--megabytes and --rounds are numbers from 1');
+  for (const it of kinds) compare(it, { megabytes, rounds, command: Boolean(values.command) });
+}

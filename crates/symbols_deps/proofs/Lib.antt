@@ -1,0 +1,7 @@
+pub mod KnownLemmas
+pub mod PathLists
+pub mod PathOrders
+pub mod StepLemmas
+pub mod WholeLists
+pub mod VisitLists
+pub mod DependencyLists

@@ -1,0 +1,24 @@
+-- The contents of the maps of a graph.
+use Rattle.std.specs.Prelude.{ℕ, List, map, String, string_bytes}
+use Rattle.std.specs.Global.{Global}
+use Rattle.std.specs.List.{flat_map}
+use Rattle.std.specs.declared.hash.FoldHasher.{FoldHasher}
+use Rattle.std.specs.declared.hash.BuildHasherDefault.{BuildHasherDefault}
+use Rattle.indexmap.specs.IndexMap.{IndexMap}
+use Rattle.symbols_ast.specs.Graph.{Resolution}
+
+-- A map from strings.
+abbrev pub StringMap : Type 0 → Type 0
+StringMap V = IndexMap (String Global) V (BuildHasherDefault FoldHasher)
+
+-- Pairs of strings, as bytes.
+abbrev pub string_pairs_view : List (String Global × String Global) → List (List ℕ × List ℕ)
+string_pairs_view entries = map (λ e. (string_bytes e.0, string_bytes e.1)) entries
+
+-- The resolutions of one referrer.
+abbrev pub resolutions_of_referrer : String Global × StringMap (String Global) → List Resolution
+resolutions_of_referrer e = map (λ r. record { referrer = string_bytes e.0; specifier_text = string_bytes r.0; specifier = string_bytes r.1 }) e.1.entries
+
+-- The resolutions as one list, referrer by referrer.
+abbrev pub flat_resolutions : List (String Global × StringMap (String Global)) → List Resolution
+flat_resolutions entries = flat_map resolutions_of_referrer entries

@@ -1,0 +1,116 @@
+//! The checked module graph.
+
+ghost use Rattle.std.specs.Prelude.{◌≡◌, ◌≢◌, ◌<◌, ℕ, length, string_bytes, IfErr, IfOk, List};
+ghost use Rattle.std.specs.Prelude.{OnOk};
+ghost use Rattle.std.specs.Map.{lookup};
+ghost use Rattle.std.specs.Option.{option_copied};
+ghost use Rattle.std.specs.Str.{bytes_eq};
+ghost use Rattle.symbols_ast.specs.declared.graph.faults.GraphFault.TheVariants.{OutOfMemory};
+ghost use Rattle.symbols_ast.specs.Graph.{graph_view, module_after_redirect, resolved_dependency};
+ghost use Rattle.symbols_graph.specs.GraphFaults.{IsFaultlessGraph, IsFirstGraphFault};
+
+use crate::graph_check::check;
+use crate::graph_maps::{Resolutions, keyed_modules, keyed_redirects, keyed_resolutions};
+use indexmap::IndexMap;
+use std::alloc::Global;
+use std::marker::Model;
+use symbols_ast::graph::{GraphFault, GraphModule, RawGraph};
+
+/// A checked module graph: modules by specifier, redirects, and the table of resolved specifiers.
+#[derive(Drop)]
+pub struct ModuleGraph {
+    modules: IndexMap<String, GraphModule>,
+    redirects: IndexMap<String, String>,
+    resolutions: Resolutions,
+}
+
+impl Model for ModuleGraph {
+    ghost use Rattle.std.specs.Prelude.{◌<◌, length};
+    ghost use Rattle.std.specs.String.{string_eq};
+    ghost use Rattle.indexmap.specs.IndexMap.{values, IsUnique};
+    ghost use Rattle.symbols_ast.specs.Graph.{GraphView};
+    ghost use Rattle.symbols_graph.specs.Tables.{flat_resolutions, string_pairs_view};
+    ghost use Rattle.symbols_graph.specs.inner.Tables.{AreKeyedBySpecifier};
+
+    ghost Value = { GraphView };
+
+    ghost view = { λ g.
+        record {
+          modules = values g.modules;
+          redirects = string_pairs_view g.redirects.entries;
+          resolutions = flat_resolutions g.resolutions.entries;
+        } };
+
+    ghost invariant = { λ g. AreKeyedBySpecifier g.modules.entries × IsUnique string_eq g.resolutions
+        × (length g.modules.entries < 4294967296) };
+}
+
+/// Returns the target of the redirect from a specifier, if there is one. It skips the lookup if the
+/// graph has no redirects.
+fn target<'r>(redirects: &'r IndexMap<String, String>, specifier: &str) -> Option<&'r String>
+    ensures { option_copied result
+        ≡ lookup (λ k. bytes_eq specifier.now (string_bytes k)) redirects.now.entries }
+{
+    if redirects.is_empty() {
+        return None;
+    }
+    redirects.get(specifier)
+}
+
+impl ModuleGraph {
+    /// Checks a raw graph and returns it as a module graph, or the first fault (extension).
+    /// Accepted are a redirect to an absent module, and a resolution with an absent referrer or
+    /// target.
+    ///
+    /// # Errors
+    ///
+    /// The first fault in the order of `GraphFault`, or `OutOfMemory` if an allocation failed.
+    pub fn new(alloc: Global, raw: RawGraph) -> Result<ModuleGraph, GraphFault>
+        ensures faultless { OnOk result (IsFaultlessGraph (graph_view raw)) }
+        ensures refused { IfErr result (λ fault. fault ≢ OutOfMemory
+            → IsFirstGraphFault (graph_view raw) fault) }
+
+        ensures modules { IfOk result (λ graph. graph.modules ≡ (graph_view raw).modules) }
+        ensures redirects { IfOk result (λ graph. graph.redirects ≡ (graph_view raw).redirects) }
+        ensures resolutions { IfOk result (λ graph. (referrer specifier_text : List ℕ)
+            → resolved_dependency graph referrer specifier_text
+            ≡ resolved_dependency (graph_view raw) referrer specifier_text) }
+    {
+        check(alloc, &raw)?;
+        let RawGraph {
+            modules,
+            redirects,
+            resolutions,
+        } = raw;
+        let modules = keyed_modules(alloc, modules)?;
+        let redirects = keyed_redirects(alloc, redirects)?;
+        let resolutions = keyed_resolutions(alloc, resolutions)?;
+        Ok(ModuleGraph {
+            modules,
+            redirects,
+            resolutions,
+        })
+    }
+
+    /// Returns the module of a specifier, after at most one redirect; `None` if the graph has no
+    /// such module. If the specifier is redirected, it is the target's module, even if a module has
+    /// the specifier itself.
+    pub fn get(&self, specifier: &str) -> Option<&GraphModule>
+        ensures found { option_copied result ≡ module_after_redirect self.now specifier.now }
+        ensures few { length self.now.modules < 4294967296 }
+    {
+        match target(&self.redirects, specifier) {
+            Some(target) => self.modules.get(target.as_str()),
+            None => self.modules.get(specifier),
+        }
+    }
+
+    /// Resolves a specifier in a module to that of another module, by the raw graph's table. It is
+    /// `None` if the table has no entry. No redirect is applied to the referrer.
+    pub fn resolve_dependency(&self, specifier_text: &str, referrer: &str) -> Option<&str>
+        ensures { option_copied result ≡ resolved_dependency self.now referrer.now specifier_text.now }
+    {
+        let table = self.resolutions.get(referrer)?;
+        table.get(specifier_text).map(String::as_str)
+    }
+}

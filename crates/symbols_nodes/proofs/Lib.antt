@@ -1,8 +1,0 @@
-pub mod ReadingLemmas
-pub mod KnownLemmas
-pub mod PathLists
-pub mod PathOrders
-pub mod StepLemmas
-pub mod WholeLists
-pub mod VisitLists
-pub mod DependencyLists

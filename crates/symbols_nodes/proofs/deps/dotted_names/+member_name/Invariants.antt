@@ -1,5 +1,0 @@
-use Rattle.std.proofs.Common.{◌-◌, length}
-use Rattle.symbols_nodes.proofs.deps.dotted_names.+member_name.Given as goal
-
-abbrev pub decreases-member_name : goal.decreases-member_name
-decreases-member_name l = length l.node.tree.now.nodes.items - l.node.number

@@ -1,0 +1,170 @@
+-- The definitions of builders in order, and builders with their definitions replaced.
+use Rattle.std.proofs.Common.{◌≡◌, ℕ, suc, ◌+◌, ◌<◌, List, [], ◌∷◌, ◌++◌, length, map, drop, get_or, add-one, Option}
+use Rattle.std.proofs.Common.{None, Some, option_to_list, Vec, Box, sym, ap, subst, ◌∙◌, append_assoc, append-nil}
+use Rattle.std.proofs.Math.Seq.{drop-cons}
+use Rattle.std.specs.Global.{Global}
+use Rattle.std.specs.Option.{option_flatten}
+use Rattle.symbols_root.specs.Roots.{RootView}
+use Rattle.symbols_paths.specs.declared.definition.Definition.{Definition}
+use Rattle.symbols_paths.specs.declared.definition_iter.DefinitionOrUnresolved.{DefinitionOrUnresolved}
+use Rattle.symbols_paths.specs.declared.path_builder.Segment.{Segment}
+use Rattle.symbols_paths.specs.declared.path_builder.PathBuilder.{PathBuilder}
+use Rattle.symbols_paths.specs.declared.path_builder.PathBuilder.TheVariants as builder
+use Rattle.symbols_paths.specs.PathTrees.{QualifiedNameParts, PathForest, leaf, forest_of_tree, joined_forests}
+use Rattle.symbols_paths.specs.inner.ReplacedDefinitions.{definitions_of_tree, definitions_of_forest, rebuilt_tree, rebuilt}
+use Rattle.symbols_paths.specs.Views.{definition_by_specifier, path_leaf_of_end, module_of_definition, AreModulesStored}
+use Rattle.symbols_paths.specs.inner.PathBuilders.{link_heads_of_segments, link_heads_with_parts, forest_below_links, built_path, built_paths}
+use Rattle.symbols_paths.specs.inner.PathBuilders.{built_paths_of_option, modules_of_builder, modules_of_builders, builders_among}
+use Rattle.symbols_paths.proofs.LoopInvariants.{join_none, join_assoc}
+use Rattle.symbols_paths.proofs.BuilderLemmas.{named_to, named_fork, named_with_option, stored_apart, none_stored, stored_with_option}
+use Rattle.symbols_paths.proofs.BuilderLemmas.{stored_one, rebuilt_linked, rebuilt_join, rebuilt_one, defined_linked, defined_join}
+
+-- ---- the loop that lists definitions: `found` so far, `rest` of the builders left
+
+pub drop_read : {A : Type 0} (xs : List A) (i : ℕ) (x : A) → i < length xs → x ≡ get_or xs i x → drop i xs ≡ x ∷ drop (i + 1) xs
+drop_read xs i x lt e = rw (add-one, drop-cons xs i x) (ap (λ y. y ∷ drop (suc i) xs) (sym e))
+
+pub record IsListedSoFar (found : List Definition) (rest : List PathBuilder) (begun : List Definition) (builders : List PathBuilder) : Type 0 where
+  pub view : (root : RootView) → map (definition_by_specifier root) found ++ definitions_of_forest (built_paths root rest)
+      ≡ map (definition_by_specifier root) begun ++ definitions_of_forest (built_paths root builders)
+  pub stored : (root : RootView) → AreModulesStored root (map module_of_definition begun) → AreModulesStored root (modules_of_builders builders)
+      → AreModulesStored root (map module_of_definition found) × AreModulesStored root (modules_of_builders rest)
+
+pub listed_next : {found more_found begun : List Definition} {rest builders : List PathBuilder} (builder : PathBuilder)
+    → IsListedSoFar found (builder ∷ rest) begun builders
+    → ((root : RootView) → map (definition_by_specifier root) more_found ≡ map (definition_by_specifier root) found
+    ++ definitions_of_forest (built_path root builder)) → ((root : RootView) → AreModulesStored root (map module_of_definition found)
+    → AreModulesStored root (modules_of_builder builder) → AreModulesStored root (map module_of_definition more_found))
+    → IsListedSoFar more_found rest begun builders
+listed_next {found = found} {rest = rest} builder is view stored = record {
+  view = λ root.
+      ap (λ xs. xs ++ definitions_of_forest (built_paths root rest)) (view root)
+      ∙ (append_assoc (map (definition_by_specifier root) found) (definitions_of_forest (built_path root builder))
+      (definitions_of_forest (built_paths root rest))
+      ∙ (ap (λ xs. map (definition_by_specifier root) found ++ xs) (sym (defined_join (built_path root builder) (built_paths root rest))) ∙ is.view root));
+  stored = λ root a b. let h = is.stored root a b in let q = stored_apart root (modules_of_builder builder) (modules_of_builders rest) h.1 in
+      (stored root h.0 q.0, q.1);
+}
+
+pub listed_last : {found begun : List Definition} {rest builders : List PathBuilder} → IsListedSoFar found rest begun builders → rest ≡ [] → (root : RootView)
+    → map (definition_by_specifier root) found ≡ map (definition_by_specifier root) begun ++ definitions_of_forest (built_paths root builders)
+listed_last {found = found} is over root = sym (append-nil (map (definition_by_specifier root) found))
+    ∙ (ap (λ xs. map (definition_by_specifier root) found ++ definitions_of_forest (built_paths root xs)) (sym over) ∙ is.view root)
+
+-- the definitions of a builder with an end, and of one with branches
+pub defined_to : (root : RootView) (xs : Vec Segment Global) (end : DefinitionOrUnresolved)
+    → definitions_of_forest (built_path root (builder.End xs end)) ≡ definitions_of_tree (leaf (path_leaf_of_end root end))
+defined_to root xs end =
+    let path_of_end = forest_of_tree (leaf (path_leaf_of_end root end)) in
+    ap definitions_of_forest (named_to root xs end)
+    ∙ (defined_linked (link_heads_of_segments root xs.items) path_of_end ∙ append-nil (definitions_of_tree (leaf (path_leaf_of_end root end))))
+
+pub defined_fork : (root : RootView) (xs : Vec Segment Global) (branches : Vec PathBuilder Global) (last : Box PathBuilder Global)
+    → definitions_of_forest (built_path root (builder.Fork xs branches last))
+    ≡ definitions_of_forest (built_paths root branches.items) ++ definitions_of_forest (built_path root last.value)
+defined_fork root xs branches last =
+    let next = joined_forests (built_paths root branches.items) (built_path root last.value) in
+    ap definitions_of_forest (named_fork root xs branches last)
+    ∙ (defined_linked (link_heads_of_segments root xs.items) next ∙ defined_join (built_paths root branches.items) (built_path root last.value))
+
+-- ---- the loop that replaces definitions: `found` so far, `rest` of the builders left, `ready` the replacements left
+
+pub record AreRebuilt (parts : QualifiedNameParts) (found rest : List PathBuilder) (ready : List (Option PathBuilder)) (builders : List PathBuilder)
+    (begun : List
+    (Option PathBuilder)) : Type 0 where
+  pub view : (root : RootView) → joined_forests (built_paths root found) (rebuilt parts (built_paths root rest) (map (built_paths_of_option root) ready)).0
+      ≡ (rebuilt parts (built_paths root builders) (map (built_paths_of_option root) begun)).0
+  pub left : (root : RootView) → (rebuilt parts (built_paths root rest) (map (built_paths_of_option root) ready)).1
+      ≡ (rebuilt parts (built_paths root builders) (map (built_paths_of_option root) begun)).1
+  pub stored : (root : RootView) → AreModulesStored root (modules_of_builders builders) → AreModulesStored root (modules_of_builders (builders_among begun))
+      → AreModulesStored root (modules_of_builders found)
+      × (AreModulesStored root (modules_of_builders rest) × AreModulesStored root (modules_of_builders (builders_among ready)))
+
+pub rebuilt_next : {parts : QualifiedNameParts} {found rest : List PathBuilder} {ready branches : List (Option PathBuilder)} {builders : List PathBuilder}
+    {begun : List
+    (Option PathBuilder)} (builder : PathBuilder) (put : Option PathBuilder) → AreRebuilt parts found (builder ∷ rest) ready builders begun
+    → ((root : RootView) → built_paths_of_option root put ≡ (rebuilt parts (built_path root builder) (map (built_paths_of_option root) ready)).0)
+    → ((root : RootView) → map (built_paths_of_option root) branches ≡ (rebuilt parts (built_path root builder) (map (built_paths_of_option root) ready)).1)
+    → ((root : RootView) → AreModulesStored root (modules_of_builder builder) → AreModulesStored root (modules_of_builders (builders_among ready))
+    → AreModulesStored root (modules_of_builders (option_to_list put)) × AreModulesStored root (modules_of_builders (builders_among branches)))
+    → AreRebuilt parts (found ++ option_to_list put) rest branches builders begun
+rebuilt_next {parts = parts} {found = found} {rest = rest} {ready = ready} {branches = branches} builder put is put_is left_is stored = record {
+  view = λ root.
+      let r = rebuilt parts (built_path root builder) (map (built_paths_of_option root) ready) in
+      (λ i. joined_forests (named_with_option root found put i) (rebuilt parts (built_paths root rest) (left_is root i)).0)
+      ∙ (join_assoc (built_paths root found) (built_paths_of_option root put) (rebuilt parts (built_paths root rest) r.1).0
+      ∙ (ap (λ g. joined_forests (built_paths root found) (joined_forests g (rebuilt parts (built_paths root rest) r.1).0)) (put_is root)
+      ∙ (ap (λ (p : PathForest × List PathForest). joined_forests (built_paths root found) p.0) (sym
+      (rebuilt_join parts (built_path root builder) (built_paths root rest) (map (built_paths_of_option root) ready))) ∙ is.view root)));
+  left = λ root.
+      ap (λ gs. (rebuilt parts (built_paths root rest) gs).1) (left_is root)
+      ∙ (ap (λ (p : PathForest × List PathForest).
+      p.1) (sym (rebuilt_join parts (built_path root builder) (built_paths root rest) (map (built_paths_of_option root) ready))) ∙ is.left root);
+  stored = λ root a b.
+      let h = is.stored root a b in
+      let q = stored_apart root (modules_of_builder builder) (modules_of_builders rest) h.1.0 in
+      let p = stored root q.0 h.1.1 in
+      (stored_with_option root found put h.0 p.0, (q.1, p.1));
+}
+
+pub rebuilt_last : {parts : QualifiedNameParts} {found rest : List PathBuilder} {ready : List (Option PathBuilder)} {builders : List PathBuilder} {begun : List
+    (Option PathBuilder)} → AreRebuilt parts found rest ready builders begun → rest ≡ [] → (root : RootView)
+    → (built_paths root found ≡ (rebuilt parts (built_paths root builders) (map (built_paths_of_option root) begun)).0)
+    × (map (built_paths_of_option root) ready ≡ (rebuilt parts (built_paths root builders) (map (built_paths_of_option root) begun)).1)
+rebuilt_last {parts = parts} {found = found} {ready = ready} is over root = (
+  sym (join_none (built_paths root found)) ∙ (ap (λ xs.
+      joined_forests (built_paths root found) (rebuilt parts (built_paths root xs) (map (built_paths_of_option root) ready)).0) (sym over) ∙ is.view root),
+  ap (λ xs. (rebuilt parts (built_paths root xs) (map (built_paths_of_option root) ready)).1) (sym over) ∙ is.left root,
+)
+
+-- a builder with an end, and one with branches, with their definitions replaced
+pub rebuilt_to : (root : RootView) (parts : QualifiedNameParts) (xs : Vec Segment Global) (end : DefinitionOrUnresolved) (ready : List PathForest)
+    → rebuilt parts (built_path root (builder.End xs end)) ready ≡ (
+      forest_below_links (link_heads_with_parts parts (link_heads_of_segments root xs.items))
+          (rebuilt_tree parts (leaf (path_leaf_of_end root end)) ready).0,
+      (rebuilt_tree parts (leaf (path_leaf_of_end root end)) ready).1,
+    )
+rebuilt_to root parts xs end ready =
+    let heads = link_heads_with_parts parts (link_heads_of_segments root xs.items) in
+    let here = leaf (path_leaf_of_end root end) in
+    ap (λ f. rebuilt parts f ready) (named_to root xs end) ∙ (rebuilt_linked parts (link_heads_of_segments root xs.items) (forest_of_tree here) ready
+    ∙ (λ i. (forest_below_links heads (rebuilt_one parts here ready i).0, (rebuilt_one parts here ready i).1)))
+
+pub rebuilt_fork : (root : RootView) (parts : QualifiedNameParts) (xs : Vec Segment Global) (branches : Vec PathBuilder Global) (last : Box PathBuilder Global)
+    (ready : List
+    PathForest) → rebuilt parts (built_path root (builder.Fork xs branches last)) ready
+    ≡ (
+      forest_below_links (link_heads_with_parts parts (link_heads_of_segments root xs.items))
+          (rebuilt parts (joined_forests (built_paths root branches.items) (built_path root last.value))
+          ready).0,
+      (rebuilt parts (joined_forests (built_paths root branches.items) (built_path root last.value)) ready).1,
+    )
+rebuilt_fork root parts xs branches last ready =
+    ap (λ f. rebuilt parts f ready) (named_fork root xs branches last)
+    ∙ rebuilt_linked parts (link_heads_of_segments root xs.items) (joined_forests (built_paths root branches.items) (built_path root last.value)) ready
+
+-- the branches and the last one, with their definitions replaced
+pub both_rebuilt : (parts : QualifiedNameParts) (f g : PathForest) (ready mid : List PathForest) (a b : PathForest) → a ≡ (rebuilt parts f ready).0
+    → mid ≡ (rebuilt parts f ready).1
+    → b ≡ (rebuilt parts g mid).0 → joined_forests a b ≡ (rebuilt parts (joined_forests f g) ready).0
+both_rebuilt parts f g ready mid a b a_is mid_is b_is =
+    (λ i. joined_forests (a_is i) (b_is i))
+    ∙ (ap (λ m. joined_forests (rebuilt parts f ready).0 (rebuilt parts g m).0) mid_is
+    ∙ ap (λ (p : PathForest × List PathForest). p.0) (sym (rebuilt_join parts f g ready)))
+
+pub left_of_both : (parts : QualifiedNameParts) (f g : PathForest) (ready mid rest : List PathForest) → mid ≡ (rebuilt parts f ready).1
+    → rest ≡ (rebuilt parts g mid).1
+    → rest ≡ (rebuilt parts (joined_forests f g) ready).1
+left_of_both parts f g ready mid rest mid_is rest_is =
+    rest_is ∙ (ap (λ m. (rebuilt parts g m).1) mid_is ∙ ap (λ (p : PathForest × List PathForest). p.1) (sym (rebuilt_join parts f g ready)))
+
+-- the replacements without the first are of stored modules, and so is the first
+pub popped_stored : (root : RootView) (popped : Option (Option PathBuilder)) (rest begun : List (Option PathBuilder)) → begun ≡ option_to_list popped ++ rest
+    → AreModulesStored root (modules_of_builders (builders_among begun))
+    → AreModulesStored root (modules_of_builders (option_to_list (option_flatten popped))) × AreModulesStored root (modules_of_builders (builders_among rest))
+popped_stored root None rest begun e h = (none_stored root, subst (λ xs. AreModulesStored root (modules_of_builders (builders_among xs))) e h)
+popped_stored root (Some None) rest begun e h = (none_stored root, subst (λ xs. AreModulesStored root (modules_of_builders (builders_among xs))) e h)
+popped_stored root (Some (Some builder)) rest begun e h =
+    let q = stored_apart root (modules_of_builder builder) (modules_of_builders (builders_among rest))
+    (subst (λ xs. AreModulesStored root (modules_of_builders (builders_among xs))) e h) in
+    (stored_one root builder q.0, q.1)

@@ -1,0 +1,148 @@
+-- Resolved specifiers and names along `export *`, in a root that stores their modules.
+use Rattle.std.proofs.Common.{◌≡◌, ℕ, ◌<◌, inl, inr, List, [], ◌∷◌, length, map, get_or, Option, None, Some}
+use Rattle.std.proofs.Common.{option_map, option_to_list, option_and_then, refl, sym, ap, subst, ◌∙◌, arith, slice_get}
+use Rattle.std.proofs.lemmas.Option.{none-some, same_Some, slice_get-map, get_or_from_slice_get}
+use Rattle.symbols_ast.specs.declared.ids.ModuleId.{ModuleId}
+use Rattle.symbols_ast.specs.declared.ids.UniqueSymbolId.{UniqueSymbolId}
+use Rattle.symbols_ast.specs.Graph.{GraphView}
+use Rattle.symbols_table.specs.declared.info.fault.SymbolsFault.{SymbolsFault}
+use Rattle.symbols_root.specs.Roots.{RootView, IsStoringFault, specifier_in}
+use Rattle.symbols_root.specs.Growing.{HasGrown}
+use Rattle.symbols_root.specs.laws.Numbers.{IsNumberOfFoundModule}
+use Rattle.symbols_exports.specs.declared.export_chain.ResolvedExportOrReExportAllPath.{ResolvedExportOrReExportAllPath}
+use Rattle.symbols_exports.specs.Chains.{star_target_at, chain_end_module}
+use Rattle.symbols_exports.specs.Exports.{ExportEntry}
+use Rattle.symbols_exports.specs.OneName.{find_export, IsOneNameAnswer, IsOneNameFault}
+use Rattle.symbols_exports.specs.ExportChains.{resolved_export}
+use Rattle.symbols_exports.specs.StarStatements.{star_specifiers, resolve_specifier, star_targets_of}
+use Rattle.symbols_exports.specs.CollectedNames.{resolved_chain_view}
+use Rattle.symbols_exports.specs.ExportViews.{ExportView, entry_export_view, export_by_specifier}
+use Rattle.symbols_paths.specs.PathTrees.{SymbolBySpecifier}
+use Rattle.symbols_paths.specs.DeclTargets.{re_exported_symbol}
+use Rattle.symbols_paths.specs.inner.Views.{symbol_of_unique_id}
+use Rattle.symbols_paths.specs.NeededModules.{IsModuleNeeded, begun, passed_on, IsNeededModuleRefused}
+
+at_map : {A B : Type 0} (f : A → B) (d : B) (xs : List A) (i : ℕ) (x : A) → slice_get xs i ≡ Some x → get_or (map f xs) i d ≡ f x
+at_map f d xs i x e = get_or_from_slice_get (map f xs) i (f x) d (slice_get-map f xs i ∙ ap (option_map f) e)
+
+-- ---- needed modules
+
+pub needed_along : {graph : GraphView} {start m u : List ℕ} (chain : List ℕ) → IsModuleNeeded graph start m
+    → chain_end_module (star_targets_of graph) m chain ≡ Some u
+    → IsModuleNeeded graph start u
+needed_along {graph = graph} {start = start} {m = m} {u = u} [] is e = subst (IsModuleNeeded graph start) (same_Some m u e) is
+needed_along {graph = graph} {start = start} {m = m} {u = u} (k ∷ chain) is e =
+    by (star_target_at (star_targets_of graph) m k) refl e (λ v at q. needed_along chain (passed_on m k is at) q)
+  where
+    by : (next : Option (List ℕ)) → star_target_at (star_targets_of graph) m k ≡ next
+        → option_and_then (λ v. chain_end_module (star_targets_of graph) v chain) next
+        ≡ Some u → ((v : List ℕ) → star_target_at (star_targets_of graph) m k ≡ Some v → chain_end_module (star_targets_of graph) v chain ≡ Some u
+        → IsModuleNeeded graph start u) → IsModuleNeeded graph start u
+    by None at q on = absurd (none-some u q)
+    by (Some v) at q on = on v at q
+
+-- the module of an `export *` statement is needed
+pub needed_there : (graph : GraphView) (m specifier_text v : List ℕ) (position : ℕ) → slice_get (star_specifiers graph m) position ≡ Some specifier_text
+    → resolve_specifier graph m specifier_text ≡ Some v → IsModuleNeeded graph m v
+needed_there graph m specifier_text v position at decl_targets =
+    passed_on m position begun (at_map (resolve_specifier graph m) None (star_specifiers graph m) position specifier_text at ∙ decl_targets)
+
+pub refused_there : (old new : RootView) (m specifier_text : List ℕ) (fault : SymbolsFault) → (position : ℕ) × (slice_get (star_specifiers old.graph m) position
+    ≡ Some specifier_text) → new ≡ old → IsStoringFault old (resolve_specifier old.graph m specifier_text) fault → IsNeededModuleRefused new m fault
+refused_there old new m specifier_text fault occurs same refusal = subst (λ root. IsNeededModuleRefused root m fault) (sym same) (record {
+  needed = resolve_specifier old.graph m specifier_text;
+  is_needed = λ v decl_targets. needed_there old.graph m specifier_text v occurs.0 occurs.1 decl_targets;
+  refused = refusal;
+})
+
+-- ---- a name along an `export *` statement
+
+pub refused_along : (old mid new : RootView) (m specifier_text name : List ℕ) (id : ModuleId) (fault : SymbolsFault) (lookups : ℕ) → HasGrown old mid
+    → HasGrown mid new → (position : ℕ) × (slice_get (star_specifiers old.graph m) position ≡ Some specifier_text)
+    → IsNumberOfFoundModule mid id (resolve_specifier old.graph m specifier_text) → IsOneNameFault mid new id name fault lookups
+    → IsNeededModuleRefused new m fault
+refused_along old mid new m specifier_text name id fault lookups grown more occurs decl_targets (inl is) =
+    absurd (omega (arith, is.unknown, decl_targets.within))
+refused_along old mid new m specifier_text name id fault lookups grown more occurs decl_targets (inr is) =
+    record { needed = is.needed; is_needed = needed; refused = is.refused }
+  where
+    same : new.graph ≡ mid.graph
+    same = more.graph
+
+    there : IsModuleNeeded mid.graph m (specifier_in mid id)
+    there = subst (λ g. IsModuleNeeded g m (specifier_in mid id)) (sym grown.graph)
+        (needed_there old.graph m specifier_text (specifier_in mid id) occurs.0 occurs.1 decl_targets.is)
+
+    needed : (v : List ℕ) → is.needed ≡ Some v → IsModuleNeeded new.graph m v
+    needed v e =
+        let at = is.is_needed v e in
+        let referenced_symbol = is.lookups_are at.0 at.1 in
+        subst (λ g. IsModuleNeeded g m v) (sym same)
+        (passed_on at.0.0 at.0.1 (needed_along referenced_symbol.0 there referenced_symbol.1.is_chain.ends_at) at.2)
+
+abbrev pub symbol_of_export_entry : ExportEntry → SymbolBySpecifier
+symbol_of_export_entry entry = record { specifier = entry.exporter; number = entry.symbol }
+
+-- the result of looking a name up, as a list
+abbrev one_named : RootView → List ℕ → Option ResolvedExportOrReExportAllPath → List ExportView
+one_named root name path = map (export_by_specifier root) (option_to_list (option_map (resolved_chain_view name) path))
+
+pub none_along : (old mid new : RootView) (m specifier_text name : List ℕ) (id : ModuleId) (lookups : ℕ) → HasGrown old mid
+    → IsNumberOfFoundModule mid id (resolve_specifier old.graph m specifier_text) → IsOneNameAnswer mid new id name [] lookups
+    → None ≡ re_exported_symbol old.graph name (resolve_specifier old.graph m specifier_text)
+none_along old mid new m specifier_text name id lookups grown decl_targets is =
+    sym (ap (re_exported_symbol old.graph name) decl_targets.is ∙ (ap (λ g. re_exported_symbol g name (Some (specifier_in mid id))) (sym grown.graph)
+    ∙ by (find_export mid.graph (specifier_in mid id) name) is.export_is))
+  where
+    by : (found : Option ExportEntry) → [] ≡ option_to_list (option_map (entry_export_view mid.graph (specifier_in mid id)) found)
+        → option_map symbol_of_export_entry found ≡ None
+    by None e = refl
+    by (Some entry) e = absurd cc
+
+pub some_along : (old mid new : RootView) (m specifier_text name : List ℕ) (id : ModuleId) (path : ResolvedExportOrReExportAllPath) (s : UniqueSymbolId)
+    (lookups : ℕ) → HasGrown old mid → IsNumberOfFoundModule mid id (resolve_specifier old.graph m specifier_text)
+    → IsOneNameAnswer mid new id name (resolved_chain_view name path
+    ∷ []) lookups → s.module_id ≡ (resolved_export path).«module» → s.symbol_id ≡ (resolved_export path).symbol_id
+    → Some (symbol_of_unique_id new s) ≡ re_exported_symbol old.graph name (resolve_specifier old.graph m specifier_text)
+some_along old mid new m specifier_text name id path s lookups grown decl_targets is in_module number =
+    by (find_export mid.graph (specifier_in mid id) name) is.export_is
+    ∙ sym (ap (re_exported_symbol old.graph name) decl_targets.is ∙ ap (λ g. re_exported_symbol g name (Some (specifier_in mid id))) (sym grown.graph))
+  where
+    first : (x y : ExportView) (xs ys : List ExportView) → x ∷ xs ≡ y ∷ ys → x ≡ y
+    first x y xs ys e = cc
+
+    by : (found : Option ExportEntry) → export_by_specifier new (resolved_chain_view name path) ∷ []
+        ≡ option_to_list (option_map (entry_export_view mid.graph (specifier_in mid id)) found)
+        → Some (symbol_of_unique_id new s) ≡ option_map symbol_of_export_entry found
+    by None e = absurd cc
+    by (Some entry) e =
+        let same = first (export_by_specifier new (resolved_chain_view name path)) (entry_export_view mid.graph (specifier_in mid id) entry) [] [] e in
+        let exporter : specifier_in new s.module_id ≡ entry.exporter = ap (specifier_in new) in_module ∙ ap (λ (x : ExportView). x.exporter) same in
+        let symbol : s.symbol_id ≡ entry.symbol = number ∙ ap (λ (x : ExportView). x.symbol) same in
+        λ i. Some (record { specifier = exporter i; number = symbol i })
+
+pub some_stored : (old new : RootView) (name : List ℕ) (id : ModuleId) (path : ResolvedExportOrReExportAllPath) (lookups : ℕ)
+    → IsOneNameAnswer old new id name (resolved_chain_view name path ∷ []) lookups → (resolved_export path).«module».0 < length new.stored
+some_stored old new name id path lookups is = (is.names_stored 0 (resolved_chain_view name path) (omega arith)).export_is_stored
+
+-- ---- a name of a stored module
+
+pub refused_export : (old new : RootView) (name : List ℕ) (id : ModuleId) (fault : SymbolsFault) (lookups : ℕ) → id.0 < length old.stored → HasGrown old new
+    → IsOneNameFault old new id name fault lookups → IsNeededModuleRefused new (specifier_in old id) fault
+refused_export old new name id fault lookups known grown (inl is) = absurd (omega (arith, is.unknown, known))
+refused_export old new name id fault lookups known grown (inr is) = record { needed = is.needed; is_needed = needed; refused = is.refused }
+  where
+    needed : (v : List ℕ) → is.needed ≡ Some v → IsModuleNeeded new.graph (specifier_in old id) v
+    needed v e =
+        let at = is.is_needed v e in
+        let referenced_symbol = is.lookups_are at.0 at.1 in
+        subst (λ g. IsModuleNeeded g (specifier_in old id) v) (sym grown.graph)
+        (passed_on at.0.0 at.0.1 (needed_along referenced_symbol.0 begun referenced_symbol.1.is_chain.ends_at) at.2)
+
+pub none_exported : (old new : RootView) (id : ModuleId) (name : List ℕ) (lookups : ℕ) → IsOneNameAnswer old new id name [] lookups
+    → find_export old.graph (specifier_in old id) name ≡ None
+none_exported old new id name lookups is = by (find_export old.graph (specifier_in old id) name) is.export_is
+  where
+    by : (found : Option ExportEntry) → [] ≡ option_to_list (option_map (entry_export_view old.graph (specifier_in old id)) found) → found ≡ None
+    by None e = refl
+    by (Some entry) e = absurd cc

@@ -1,0 +1,100 @@
+use Rattle.std.proofs.Common.{◌≡◌, ◌<◌, length, map, inr, sym, ap, subst, ◌∙◌, rules}
+use Rattle.std.specs.Cow.{cow_str_bytes}
+use Rattle.std.proofs.lemmas.Result.{IfOk-weaker, IfErr-weaker}
+use Rattle.symbols_ast.specs.Ids.{id_view}
+use Rattle.symbols_nodes.specs.References.{SymbolReference, id, qualified_id, import_type, reference_view}
+use Rattle.symbols_root.specs.Roots.{specifier_in}
+use Rattle.symbols_paths.specs.PartTargets.{routes_of_root}
+use Rattle.symbols_paths.specs.inner.PathBuilders.{remaining_parts}
+use Rattle.symbols_paths.specs.DepAnswers.{resolved_dep_entry_view, dep_entries_of, IsDepAnswer, IsDepRefused}
+use Rattle.symbols_paths.proofs.DepEntries.{dep_refused}
+use Rattle.symbols_paths.specs.NeededModules.{IsNeededByReference, StoresOnly}
+use Rattle.symbols_paths.specs.laws.Storing.{stores_wider}
+use Rattle.symbols_paths.proofs.OneOutcome.{chosen_once}
+use Rattle.symbols_paths.proofs.find_definitions.RootSymbolFindDefinitions.resolve_symbol_dep.Goals as goal
+
+pub returns-in_ok-parts-in-QualifiedId-clause-answers : goal.returns-in_ok-parts-in-QualifiedId-clause-answers
+returns-in_ok-parts-in-QualifiedId-clause-answers c =
+    let known : c.args.module_id.0 < length c.args.self.now.stored = search rules in
+    let parts = c.in_ok-parts-in-QualifiedId.ensures ∙ ap (map cow_str_bytes) c.deref.ensures.value in
+    let is : qualified_id (id_view c.in-QualifiedId.id.now) (remaining_parts c.in_ok-parts-in-QualifiedId.parts) ≡ reference_view c.args.dep.now =
+    ap (qualified_id (id_view c.in-QualifiedId.id.now)) parts ∙ sym (ap reference_view c.in-QualifiedId.is) in
+    IfOk-weaker c.resolve_id_dep-in-QualifiedId.result _ _ (λ entries view. (
+      known,
+      subst (λ (r : SymbolReference). IsDepAnswer c.args.self.now.rules c.args.self.now.graph (specifier_in c.args.self.now c.args.module_id) r
+          (map (resolved_dep_entry_view c.resolve_id_dep-in-QualifiedId.new.root) entries.items)) is view,
+    )) c.resolve_id_dep-in-QualifiedId.ensures.answers
+
+pub returns-in_ok-parts-in-QualifiedId-clause-listed : goal.returns-in_ok-parts-in-QualifiedId-clause-listed
+returns-in_ok-parts-in-QualifiedId-clause-listed c =
+    let parts = c.in_ok-parts-in-QualifiedId.ensures ∙ ap (map cow_str_bytes) c.deref.ensures.value in
+    let is : qualified_id (id_view c.in-QualifiedId.id.now) (remaining_parts c.in_ok-parts-in-QualifiedId.parts) ≡ reference_view c.args.dep.now =
+    ap (qualified_id (id_view c.in-QualifiedId.id.now)) parts ∙ sym (ap reference_view c.in-QualifiedId.is) in
+    IfOk-weaker c.resolve_id_dep-in-QualifiedId.result _ _ (λ entries view. view
+    ∙ ap (λ (r : SymbolReference). dep_entries_of c.args.self.now.rules c.args.self.now.graph
+    (specifier_in c.args.self.now c.args.module_id) r) is) c.resolve_id_dep-in-QualifiedId.ensures.listed
+
+pub returns-in_ok-parts-in-ImportType-clause-faults : goal.returns-in_ok-parts-in-ImportType-clause-faults
+returns-in_ok-parts-in-ImportType-clause-faults c =
+    let known : c.args.module_id.0 < length c.args.self.now.stored = search rules in
+    let m = specifier_in c.args.self.now c.args.module_id in
+    let texts = remaining_parts c.in_ok-parts-in-ImportType.parts in
+    let parts = c.in_ok-parts-in-ImportType.ensures ∙ ap (map cow_str_bytes) c.deref-in-ImportType.ensures.value in
+    let is : import_type c.in-ImportType.specifier_text.now texts ≡ reference_view c.args.dep.now =
+    ap (import_type c.in-ImportType.specifier_text.now) parts ∙ sym (ap reference_view c.in-ImportType.is) in
+    IfErr-weaker c.resolve_import_type_dep.result _ _ (λ fault refused.
+    inr (
+      known,
+      subst (λ (r : SymbolReference). IsDepRefused c.resolve_import_type_dep.new.root m r fault) is (dep_refused c.args.self.now
+          c.resolve_import_type_dep.new.root m c.in-ImportType.specifier_text.now texts fault c.resolve_import_type_dep.ensures.keeps.grown refused),
+    ))
+    c.resolve_import_type_dep.ensures.keeps.refused
+
+pub returns-then-is_none-clause-only : goal.returns-then-is_none-clause-only
+returns-then-is_none-clause-only c = chosen_once (routes_of_root c.args.self.now)
+
+pub returns-in_err-parts-in-Id-clause-only : goal.returns-in_err-parts-in-Id-clause-only
+returns-in_err-parts-in-Id-clause-only c = chosen_once (routes_of_root c.args.self.now)
+
+pub returns-in_err-parts-in-QualifiedId-clause-only : goal.returns-in_err-parts-in-QualifiedId-clause-only
+returns-in_err-parts-in-QualifiedId-clause-only c = chosen_once (routes_of_root c.args.self.now)
+
+pub returns-in_err-parts-in-ImportType-clause-only : goal.returns-in_err-parts-in-ImportType-clause-only
+returns-in_err-parts-in-ImportType-clause-only c = chosen_once (routes_of_root c.args.self.now)
+
+pub returns-in_ok-parts-in-Id-clause-only : goal.returns-in_ok-parts-in-Id-clause-only
+returns-in_ok-parts-in-Id-clause-only c = chosen_once (routes_of_root c.args.self.now)
+
+pub returns-in_ok-parts-in-QualifiedId-clause-only : goal.returns-in_ok-parts-in-QualifiedId-clause-only
+returns-in_ok-parts-in-QualifiedId-clause-only c = chosen_once (routes_of_root c.args.self.now)
+
+pub returns-in_ok-parts-in-ImportType-clause-only : goal.returns-in_ok-parts-in-ImportType-clause-only
+returns-in_ok-parts-in-ImportType-clause-only c = chosen_once (routes_of_root c.args.self.now)
+
+pub returns-in_ok-parts-in-Id-clause-stores : goal.returns-in_ok-parts-in-Id-clause-stores
+returns-in_ok-parts-in-Id-clause-stores c =
+    let old = c.args.self.now in
+    let m = specifier_in old c.args.module_id in
+    let is : id (id_view c.in-Id.id.now) ≡ reference_view c.args.dep.now = sym (ap reference_view c.in-Id.is) in
+    subst (λ (r : SymbolReference). StoresOnly old c.resolve_id_dep.new.root (IsNeededByReference old.graph m r)) is
+    (stores_wider c.resolve_id_dep.ensures.stores (λ v needed. needed))
+
+pub returns-in_ok-parts-in-QualifiedId-clause-stores : goal.returns-in_ok-parts-in-QualifiedId-clause-stores
+returns-in_ok-parts-in-QualifiedId-clause-stores c =
+    let old = c.args.self.now in
+    let m = specifier_in old c.args.module_id in
+    let parts = c.in_ok-parts-in-QualifiedId.ensures ∙ ap (map cow_str_bytes) c.deref.ensures.value in
+    let is : qualified_id (id_view c.in-QualifiedId.id.now) (remaining_parts c.in_ok-parts-in-QualifiedId.parts) ≡ reference_view c.args.dep.now =
+    ap (qualified_id (id_view c.in-QualifiedId.id.now)) parts ∙ sym (ap reference_view c.in-QualifiedId.is) in
+    subst (λ (r : SymbolReference). StoresOnly old c.resolve_id_dep-in-QualifiedId.new.root (IsNeededByReference old.graph m r)) is
+    (stores_wider c.resolve_id_dep-in-QualifiedId.ensures.stores (λ v needed. needed))
+
+pub returns-in_ok-parts-in-ImportType-clause-stores : goal.returns-in_ok-parts-in-ImportType-clause-stores
+returns-in_ok-parts-in-ImportType-clause-stores c =
+    let old = c.args.self.now in
+    let m = specifier_in old c.args.module_id in
+    let parts = c.in_ok-parts-in-ImportType.ensures ∙ ap (map cow_str_bytes) c.deref-in-ImportType.ensures.value in
+    let is : import_type c.in-ImportType.specifier_text.now (remaining_parts c.in_ok-parts-in-ImportType.parts) ≡ reference_view c.args.dep.now =
+    ap (import_type c.in-ImportType.specifier_text.now) parts ∙ sym (ap reference_view c.in-ImportType.is) in
+    subst (λ (r : SymbolReference). StoresOnly old c.resolve_import_type_dep.new.root (IsNeededByReference old.graph m r)) is
+    (stores_wider c.resolve_import_type_dep.ensures.stores (λ v needed. inr needed))

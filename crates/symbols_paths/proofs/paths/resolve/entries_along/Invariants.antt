@@ -1,5 +1,0 @@
-use Rattle.symbols_paths.proofs.DepEntries.{AreEntriesSo}
-use Rattle.symbols_paths.proofs.paths.resolve.entries_along.Given as goal
-
-abbrev pub invariant-loop-path : goal.invariant-loop-path
-invariant-loop-path l = AreEntriesSo l.entries.items l.path-iterator.rest.items l.fn.paths.items

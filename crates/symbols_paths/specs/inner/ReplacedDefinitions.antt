@@ -1,0 +1,36 @@
+-- Paths with their definitions replaced.
+use Rattle.std.specs.Prelude.{List, [], ◌∷◌, ◌++◌}
+use Rattle.symbols_paths.specs.PathTrees.{QualifiedNameParts, DefinitionView, definition, unresolved, PathTree, PathForest, leaf}
+use Rattle.symbols_paths.specs.PathTrees.{link, no_trees, more_trees, forest_of_tree, joined_forests, link_unless_empty}
+use Rattle.symbols_paths.specs.Derived.{link_head_with_parts}
+
+-- the definitions, from left to right
+abbrev mutual
+  pub definitions_of_tree : PathTree → List DefinitionView
+  definitions_of_tree (leaf (definition x)) = x ∷ []
+  definitions_of_tree (leaf (unresolved m)) = []
+  definitions_of_tree (link head next) = definitions_of_forest next
+
+  pub definitions_of_forest : PathForest → List DefinitionView
+  definitions_of_forest no_trees = []
+  definitions_of_forest (more_trees t f) = definitions_of_tree t ++ definitions_of_forest f
+
+abbrev pub first_forest : List PathForest → PathForest
+first_forest [] = no_trees
+first_forest (g ∷ gs) = g
+
+abbrev pub forests_after_first : List PathForest → List PathForest
+forests_after_first [] = []
+forests_after_first (g ∷ gs) = gs
+
+-- a tree or forest with its definitions replaced by the first of `gs`, from left to right, and what is left of `gs`; links get the parts
+-- `ps`
+abbrev mutual
+  pub rebuilt_tree : QualifiedNameParts → PathTree → List PathForest → PathForest × List PathForest
+  rebuilt_tree ps (leaf (definition x)) gs = (first_forest gs, forests_after_first gs)
+  rebuilt_tree ps (leaf (unresolved m)) gs = (forest_of_tree (leaf (unresolved m)), gs)
+  rebuilt_tree ps (link head next) gs = let r = rebuilt ps next gs in (link_unless_empty (link_head_with_parts head ps) r.0, r.1)
+
+  pub rebuilt : QualifiedNameParts → PathForest → List PathForest → PathForest × List PathForest
+  rebuilt ps no_trees gs = (no_trees, gs)
+  rebuilt ps (more_trees t f) gs = let r = rebuilt_tree ps t gs in let q = rebuilt ps f r.1 in (joined_forests r.0 q.0, q.1)

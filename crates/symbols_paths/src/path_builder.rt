@@ -1,0 +1,124 @@
+//! Definition paths while they are built.
+
+ghost use Rattle.std.specs.Prelude.{IfOk, ◌≡◌, ◌++◌, ◌∷◌, []};
+ghost use Rattle.std.specs.Option.{option_to_list};
+ghost use Rattle.symbols_root.specs.Roots.{RootView};
+ghost use Rattle.symbols_paths.specs.PathTrees.{forest_of_tree, leaf};
+ghost use Rattle.symbols_paths.specs.Views.{path_leaf_of_end, module_of_end, AreModulesStored};
+ghost use Rattle.symbols_paths.specs.inner.PathBuilders.{remaining_parts, link_heads_of_segment};
+ghost use Rattle.symbols_paths.specs.inner.PathBuilders.{link_heads_of_segments};
+ghost use Rattle.symbols_paths.specs.inner.PathBuilders.{link_heads_with_parts};
+ghost use Rattle.symbols_paths.specs.inner.PathBuilders.{forest_below_links, built_path};
+ghost use Rattle.symbols_paths.specs.inner.PathBuilders.{built_paths, built_paths_of_option};
+ghost use Rattle.symbols_paths.specs.inner.PathBuilders.{modules_of_segment, modules_of_segments};
+ghost use Rattle.symbols_paths.specs.inner.PathBuilders.{modules_of_builder};
+ghost use Rattle.symbols_paths.specs.inner.PathBuilders.{modules_of_builders};
+
+use crate::definition::DeclRef;
+use crate::definition_iter::DefinitionOrUnresolved;
+use crate::shared_parts::SharedParts;
+use std::alloc::{AllocError, Global};
+use symbols_graph::ids::UniqueSymbolId;
+
+/// A link of a path: its symbol, the declaration that refers to what is next, and the remaining
+/// parts if there are any.
+#[derive(Drop)]
+pub(crate) struct LinkStep {
+    pub(crate) symbol: UniqueSymbolId,
+    pub(crate) symbol_decl: DeclRef,
+    pub(crate) parts: Option<SharedParts>,
+}
+
+/// A step, or segments whose steps get these parts instead of their own.
+#[derive(Drop)]
+pub(crate) enum Segment {
+    LinkStep(LinkStep),
+    WithParts(SharedParts, Vec<Segment>),
+}
+
+/// A path while it is built: its segments, then one end or several branches. The segments are in
+/// reverse order, so that a new first one is a push. The branches are from left to right; the last
+/// is stored apart, so that there is always one.
+#[derive(Drop)]
+pub(crate) enum PathBuilder<'a> {
+    End(Vec<Segment>, DefinitionOrUnresolved<'a>),
+    Fork(Vec<Segment>, Vec<PathBuilder<'a>>, Box<PathBuilder<'a>>),
+}
+
+/// Returns the builder of an end alone.
+pub(crate) fn builder_of_end<'a>(alloc: Global, end: DefinitionOrUnresolved<'a>) -> PathBuilder<'a>
+    ensures view { (root : RootView)
+        → built_path root result ≡ forest_of_tree (leaf (path_leaf_of_end root end.entry)) }
+    ensures stored { (root : RootView) → AreModulesStored root (module_of_end end.entry ∷ [])
+        → AreModulesStored root (modules_of_builder result) }
+{
+    PathBuilder::End(Vec::new(alloc), end)
+}
+
+/// Adds a segment in front of a builder.
+pub(crate) fn push_segment<'a>(
+    builder: PathBuilder<'a>,
+    segment: Segment,
+) -> Result<PathBuilder<'a>, AllocError>
+    ensures view { IfOk result (λ longer. (root : RootView) → built_path root longer
+        ≡ forest_below_links (link_heads_of_segment root segment) (built_path root builder.entry)) }
+    ensures stored { IfOk result (λ longer. (root : RootView)
+        → AreModulesStored root (modules_of_segment segment)
+        → AreModulesStored root (modules_of_builder builder.entry)
+        → AreModulesStored root (modules_of_builder longer)) }
+{
+    match builder {
+        PathBuilder::End(segments, end) => {
+            let mut segments = segments;
+            segments.push(segment)?;
+            Ok(PathBuilder::End(segments, end))
+        }
+        PathBuilder::Fork(segments, branches, last) => {
+            let mut segments = segments;
+            segments.push(segment)?;
+            Ok(PathBuilder::Fork(segments, branches, last))
+        }
+    }
+}
+
+/// Joins builders into one. Returns `None` if there are none.
+pub(crate) fn join_builders<'a>(
+    alloc: Global,
+    builders: Vec<PathBuilder<'a>>,
+) -> Result<Option<PathBuilder<'a>>, AllocError>
+    ensures view { IfOk result (λ builder. (root : RootView)
+        → built_paths_of_option root builder ≡ built_paths root builders.entry.items) }
+    ensures stored { IfOk result (λ builder. (root : RootView)
+        → AreModulesStored root (modules_of_builders builders.entry.items)
+        → AreModulesStored root (modules_of_builders (option_to_list builder))) }
+{
+    let mut builders = builders;
+    let Some(last) = builders.pop() else {
+        return Ok(None);
+    };
+    if builders.is_empty() {
+        return Ok(Some(last));
+    }
+    let last = Box::new(alloc, last)?;
+    Ok(Some(PathBuilder::Fork(Vec::new(alloc), builders, last)))
+}
+
+/// Adds segments in front of a builder. Their steps get these parts instead of their own.
+pub(crate) fn push_with_parts<'a>(
+    segments: Vec<Segment>,
+    parts: &SharedParts,
+    builder: PathBuilder<'a>,
+) -> Result<PathBuilder<'a>, AllocError>
+    ensures view { IfOk result (λ longer. (root : RootView) → built_path root longer
+        ≡ forest_below_links (link_heads_with_parts (remaining_parts parts.now)
+        (link_heads_of_segments root segments.items)) (built_path root builder.entry)) }
+    ensures stored { IfOk result (λ longer. (root : RootView)
+        → AreModulesStored root (modules_of_segments segments.items)
+        → AreModulesStored root (modules_of_builder builder.entry)
+        → AreModulesStored root (modules_of_builder longer)) }
+{
+    if segments.is_empty() {
+        return Ok(builder);
+    }
+    push_segment(builder, Segment::WithParts(parts.same()?, segments))
+}

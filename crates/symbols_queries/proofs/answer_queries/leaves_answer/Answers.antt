@@ -1,0 +1,66 @@
+use Rattle.std.proofs.Common.{map, refl, sym, ap, subst, ◌∙◌, rules}
+use Rattle.std.specs.Prelude.{All, Contains}
+use Rattle.symbols_root.specs.Roots.{specifier_in}
+use Rattle.symbols_paths.specs.PathTrees.{PathForest, leaves_of_forest}
+use Rattle.symbols_paths.specs.Views.{remaining_ends}
+use Rattle.symbols_answers.specs.Questions.{query_leaves}
+use Rattle.symbols_answers.specs.Answers.{answer_leaves}
+use Rattle.symbols_answers.specs.Stored.{module_of_leaf}
+use Rattle.symbols_queries.specs.AnswerViews.{path_end_view}
+use Rattle.symbols_queries.proofs.QueriesAnswered.{memory_refused, paths_given, paths_answered, paths_refused, paths_enough}
+use Rattle.symbols_queries.proofs.PathModules.{ends_there}
+use Rattle.symbols_paths.specs.laws.Storing.{stores_wider}
+use Rattle.symbols_queries.proofs.answer_queries.leaves_answer.Goals as goal
+
+pub returns-in-Err-clause-keeps : goal.returns-in-Err-clause-keeps
+returns-in-Err-clause-keeps c =
+    let s = c.args.symbol in
+    record {
+      grown = c.in-Err.ensures.grown;
+      refused = paths_refused (query_leaves s) s (λ (paths : PathForest). answer_leaves (leaves_of_forest paths)) (λ rules graph specifier. refl)
+          (λ rules graph specifier given is. is) (λ graph specifier v is. is) (λ is. is) c.args.root.now c.go_to_definitions_or_unresolveds.new.self
+          c.args.module_id c.in-Err.fault c.in-Err.ensures.grown c.requires c.in-Err.ensures.faults;
+      enough = λ wide. paths_enough c.args.root.now c.go_to_definitions_or_unresolveds.new.self c.args.module_id c.args.symbol c.in-Err.fault c.requires
+          c.in-Err.ensures.faults (λ has. c.in-Err.ensures.enough (c.requires, has) wide);
+    }
+
+pub returns-in_err-path_ends_by_specifier-in-Ok-clause-keeps : goal.returns-in_err-path_ends_by_specifier-in-Ok-clause-keeps
+returns-in_err-path_ends_by_specifier-in-Ok-clause-keeps c =
+    let s = c.args.symbol in
+    let has = paths_answered (query_leaves s) s (λ (paths : PathForest). answer_leaves (leaves_of_forest paths)) (λ rules graph specifier. refl)
+    (λ rules graph specifier given is. is) (λ graph specifier v is. is) (λ is. is) c.args.root.now c.args.module_id c.in-Ok.ensures.known.1 in
+    record {
+      grown = c.in-Ok.ensures.grown;
+      refused = memory_refused c.from_residual.result c.args.root.now c.go_to_definitions_or_unresolveds.new.self
+          (specifier_in c.args.root.now c.args.module_id) (query_leaves c.args.symbol) has c.from_residual.ensures.1;
+      enough = search rules;
+    }
+
+pub returns-in_ok-path_ends_by_specifier-in-Ok-clause-given : goal.returns-in_ok-path_ends_by_specifier-in-Ok-clause-given
+returns-in_ok-path_ends_by_specifier-in-Ok-clause-given c =
+    let s = c.args.symbol in
+    paths_given (query_leaves s) s (λ (paths : PathForest). answer_leaves (leaves_of_forest paths)) (λ rules graph specifier. refl)
+    (λ rules graph specifier given is. is)
+    (λ graph specifier v is. is) (λ is. is) c.args.root.now c.go_to_definitions_or_unresolveds.new.self c.args.module_id
+    (answer_leaves (map path_end_view c.in_ok-path_ends_by_specifier-in-Ok.field-0.items)) c.in-Ok.ensures.answers.0 c.in-Ok.ensures.grown c.requires
+    c.in-Ok.ensures.known.1
+    c.in-Ok.ensures.answers.1 (ap answer_leaves (c.in_ok-path_ends_by_specifier-in-Ok.ensures ∙ c.in-Ok.ensures.answers.2))
+    (ap answer_leaves (c.in_ok-path_ends_by_specifier-in-Ok.ensures ∙ c.in-Ok.ensures.listed))
+    (subst (λ named_form. All (Contains c.go_to_definitions_or_unresolveds.new.self.stored) (map module_of_leaf named_form))
+    (sym c.in_ok-path_ends_by_specifier-in-Ok.ensures)
+    (ends_there c.go_to_definitions_or_unresolveds.new.self (remaining_ends c.in-Ok.ends) c.in-Ok.ensures.stored))
+
+pub path_ends_by_specifier-requires : goal.path_ends_by_specifier-requires
+path_ends_by_specifier-requires c = c.in-Ok.ensures.stored
+
+pub returns-in-Err-clause-stores : goal.returns-in-Err-clause-stores
+returns-in-Err-clause-stores c =
+    stores_wider c.in-Err.ensures.stores (λ v needed. needed)
+
+pub returns-in_err-path_ends_by_specifier-in-Ok-clause-stores : goal.returns-in_err-path_ends_by_specifier-in-Ok-clause-stores
+returns-in_err-path_ends_by_specifier-in-Ok-clause-stores c =
+    stores_wider c.in-Ok.ensures.stores (λ v needed. needed)
+
+pub returns-in_ok-path_ends_by_specifier-in-Ok-clause-stores : goal.returns-in_ok-path_ends_by_specifier-in-Ok-clause-stores
+returns-in_ok-path_ends_by_specifier-in-Ok-clause-stores c =
+    stores_wider c.in-Ok.ensures.stores (λ v needed. needed)

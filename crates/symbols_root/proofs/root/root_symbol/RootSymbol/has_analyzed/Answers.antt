@@ -1,8 +1,0 @@
-use Rattle.std.proofs.Common.{ap, ◌∙◌}
-use Rattle.symbols_root.specs.Specifiers.{is_among}
-use Rattle.symbols_root.specs.Roots.{RootView}
-use Rattle.symbols_root.proofs.Storing.{lookup_among}
-use Rattle.symbols_root.proofs.root.root_symbol.RootSymbol.has_analyzed.Goals as goal
-
-pub returns : goal.returns
-returns c = c.contains_key.ensures ∙ (lookup_among c.self.inside.modules.entries c.args.specifier.now ∙ ap (λ (r : RootView). is_among r.stored c.args.specifier.now) c.self.view_is)

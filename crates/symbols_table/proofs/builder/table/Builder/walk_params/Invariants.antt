@@ -1,8 +1,0 @@
-use Rattle.std.proofs.Common.{take}
-use Rattle.symbols_table.specs.PlacedEvents.{events_of_each}
-use Rattle.symbols_table.specs.MemberEvents.{param_at}
-use Rattle.symbols_table.proofs.Walks.{IsWalked}
-use Rattle.symbols_table.proofs.builder.table.Builder.walk_params.Given as goal
-
-abbrev pub invariant-loop-n : goal.invariant-loop-n
-invariant-loop-n l = IsWalked l.fn.self l.self (events_of_each (param_at l.node.tree.now) (take l.n-index l.params)) l.holder

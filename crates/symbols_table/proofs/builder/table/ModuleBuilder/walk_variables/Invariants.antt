@@ -1,0 +1,9 @@
+use Rattle.std.proofs.Common.{take}
+use Rattle.symbols_table.specs.EventsByPosition.{events_of_each}
+use Rattle.symbols_table.specs.DeclarationEvents.{declarator_events_at}
+use Rattle.symbols_table.specs.inner.VariablesViews.{variable_statement_view}
+use Rattle.symbols_table.proofs.Walks.{IsWalked}
+use Rattle.symbols_table.proofs.builder.table.ModuleBuilder.walk_variables.Given as goal
+
+abbrev pub invariant-loop-n : goal.invariant-loop-n
+invariant-loop-n l = IsWalked l.fn.self l.self (events_of_each (declarator_events_at (variable_statement_view l.variables)) (take l.n-index l.n-items)) l.holder

@@ -1,6 +1,0 @@
-use Rattle.std.proofs.Common.{◌≡◌, length, map, take}
-use Rattle.symbols_tree.proofs.ModuleMaps.{entry_read, entry_of}
-use Rattle.symbols_tree.proofs.check.tables.keyed_modules.Given as goal
-
-abbrev pub invariant-loop-raw : goal.invariant-loop-raw
-invariant-loop-raw l = map entry_read l.keyed.entries ≡ take (length l.yielded) (map entry_of l.fn.modules.items)

@@ -1,0 +1,6 @@
+use Rattle.symq_reader.specs.GraphText.{json_of_bytes}
+use Rattle.symq_core.proofs.FastPathLines.{queried_fast}
+use Rattle.symq_core.proofs.fast_path.fast_path_query.Goals as goal
+
+pub returns : goal.returns
+returns c = queried_fast (json_of_bytes c.args.line.now) c.in_ok-list.list c.query_of_list.result c.in_ok-list.ensures c.query_of_list.ensures

@@ -1,5 +1,0 @@
-use Rattle.std.proofs.Common.{sym}
-use Rattle.symq_core.proofs.program.stop.tree_line.Goals as goal
-
-pub returns : goal.returns
-returns c = rw (sym c.in_ok-rest.ensures) c.format.ensures.ok

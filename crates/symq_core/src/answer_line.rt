@@ -1,0 +1,170 @@
+//! Answers a query line as JSON.
+
+ghost use Rattle.std.specs.Prelude.{◌≡◌, ◌++◌, option_map, string_bytes, IfOk};
+ghost use Rattle.std.specs.Option.{option_and_then};
+ghost use Rattle.symbols_root.specs.Growing.{HasGrown};
+ghost use Rattle.symbols_root.specs.Roots.{widest_limits};
+ghost use Rattle.symbols_answers.specs.Answers.{answer_symbol, answer_name};
+ghost use Rattle.symbols_answers.specs.QueryAnswers.{query_answer};
+ghost use Rattle.symbols_queries.specs.AnswerViews.{answer_view};
+ghost use Rattle.symbols_queries.specs.Queries.{query_view};
+ghost use Rattle.symq_reader.specs.GraphText.{json_of_bytes};
+ghost use Rattle.symq_reader.specs.JsonData.{value_data};
+ghost use Rattle.symq_core.specs.Queries.{query_of_data};
+ghost use Rattle.symq_core.specs.AnswerData.{answer_data, answer_or_fault_data, query_result_data};
+ghost use Rattle.symq_core.specs.AnswerTexts.{answer_text};
+ghost use Rattle.symq_core.specs.inner.JsonWriting.{AppendsValueTokensIfOk};
+
+use crate::fast_path::fast_path_query;
+use crate::query::read_query;
+use crate::write_exports::write_exports;
+use crate::write_json::{write_list, write_null, write_number, write_text};
+use crate::write_paths::write_paths;
+use json::{Scratch, Value, Writer};
+use std::alloc::{AllocError, Global};
+use symbols_graph::ids::SymbolId;
+use symbols_graph::tree::Id;
+use symbols_queries::{Answer, AnswerQueries, Query};
+use symbols_root::RootSymbol;
+use symbols_table::info::SymbolsFault;
+use symq_reader::read_value;
+
+/// Writes the symbol that a name refers to, or null.
+fn write_symbol(out: &mut Writer, symbol: Option<SymbolId>) -> Result<(), AllocError>
+    ensures { AppendsValueTokensIfOk result out.old out.new (answer_data (answer_symbol symbol)) }
+{
+    match symbol {
+        Some(symbol) => write_number(out, "symbol", u64::from(symbol.number())),
+        None => write_null(out, "symbol"),
+    }
+}
+
+/// Writes the fully qualified name of a symbol, or null.
+fn write_name(out: &mut Writer, name: &Option<String>) -> Result<(), AllocError>
+    ensures { AppendsValueTokensIfOk result out.old out.new
+        (answer_data (answer_name (option_map string_bytes name.now))) }
+{
+    match name {
+        Some(name) => write_text(out, "name", name.as_str()),
+        None => write_null(out, "name"),
+    }
+}
+
+/// Writes an answer as JSON; null if the specifier resolves to no module.
+fn write_answer(out: &mut Writer, answer: &Answer<'_>) -> Result<(), AllocError>
+    ensures { AppendsValueTokensIfOk result out.old out.new (answer_data (answer_view answer.now)) }
+{
+    match answer {
+        Answer::NoModule => out.null(),
+        Answer::Module(specifier) => write_text(out, "module", specifier),
+        Answer::Exports(named) => write_exports(out, named),
+        Answer::Names(names) => write_list(out, "names", names),
+        Answer::Symbol(symbol) => write_symbol(out, *symbol),
+        Answer::Name(name) => write_name(out, name),
+        Answer::Deps(deps) => write_list(out, "deps", deps),
+        Answer::Paths(paths) => write_paths(out, paths),
+        Answer::Definitions(definitions) => write_list(out, "definitions", definitions),
+        Answer::Leaves(ends) => write_list(out, "leaves", ends),
+        Answer::Resolve(entries) => write_list(out, "entries", entries),
+    }
+}
+
+/// Writes the answer to a query. The limits of the root are so wide that no checked graph exceeds
+/// them. It writes a fault if the module has no such symbol.
+fn write_query_answer(
+    out: &mut Writer,
+    root: &mut RootSymbol<'_>,
+    query: &Query<'_>,
+) -> Result<(), AllocError>
+    requires { root.old.limits ≡ widest_limits }
+    ensures grown { HasGrown root.old root.new }
+    ensures value { AppendsValueTokensIfOk result out.old out.new
+        (answer_or_fault_data (query_answer root.old.rules root.old.graph (query_view query.now))) }
+{
+    match root.answer(query) {
+        Ok(answer) => write_answer(out, &answer),
+        Err(SymbolsFault::UnknownSymbol) => write_text(out, "fault", "unknown symbol"),
+        Err(SymbolsFault::OutOfMemory) => Err(AllocError),
+        Err(_) => unreachable!(),
+    }
+}
+
+/// Reads a query from a JSON value and writes its answer. It writes the fault 'bad query' if the
+/// value is no query. The name of a queried reference is stored in `retained`.
+fn write_value_answer<'r>(
+    alloc: Global,
+    out: &mut Writer,
+    root: &mut RootSymbol<'_>,
+    value: &Value<'r>,
+    retained: &'r mut Option<Id>,
+) -> Result<(), AllocError>
+    requires { root.old.limits ≡ widest_limits }
+    ensures grown { HasGrown root.old root.new }
+    ensures value { AppendsValueTokensIfOk result out.old out.new
+        (query_result_data root.old.rules root.old.graph (query_of_data (value_data value.now))) }
+{
+    match read_query(alloc, value, retained)? {
+        Some(query) => write_query_answer(out, root, &query),
+        None => write_text(out, "fault", "bad query"),
+    }
+}
+
+/// Writes the answer to a line by parsing it into a JSON value. It writes the fault 'bad query' if
+/// the line is no JSON or no query.
+fn write_parsed_line_answer(
+    alloc: Global,
+    scratch: &mut Scratch,
+    out: &mut Writer,
+    root: &mut RootSymbol<'_>,
+    line: &[u8],
+) -> Result<(), AllocError>
+    requires { root.old.limits ≡ widest_limits }
+    ensures grown { HasGrown root.old root.new }
+    ensures value { AppendsValueTokensIfOk result out.old out.new (query_result_data root.old.rules
+        root.old.graph (option_and_then query_of_data (json_of_bytes line.now))) }
+{
+    let mut retained = None;
+    let value = read_value(alloc, line, scratch)?;
+    match &value {
+        Some(value) => write_value_answer(alloc, out, root, value, &mut retained),
+        None => write_text(out, "fault", "bad query"),
+    }
+}
+
+/// Writes the answer to a line. It parses a JSON value only if the line isn't on the fast path.
+fn write_line_answer(
+    alloc: Global,
+    scratch: &mut Scratch,
+    out: &mut Writer,
+    root: &mut RootSymbol<'_>,
+    line: &[u8],
+) -> Result<(), AllocError>
+    requires { root.old.limits ≡ widest_limits }
+    ensures grown { HasGrown root.old root.new }
+    ensures value { AppendsValueTokensIfOk result out.old out.new (query_result_data root.old.rules
+        root.old.graph (option_and_then query_of_data (json_of_bytes line.now))) }
+{
+    match fast_path_query(line) {
+        Some(fast) => write_query_answer(out, root, &fast),
+        None => write_parsed_line_answer(alloc, scratch, out, root, line),
+    }
+}
+
+/// Appends the answer to a line to the bytes, without a line end. It fails only if an allocation
+/// failed.
+pub(crate) fn answer(
+    alloc: Global,
+    scratch: &mut Scratch,
+    root: &mut RootSymbol<'_>,
+    line: &[u8],
+    bytes: Vec<u8>,
+) -> Result<Vec<u8>, AllocError>
+    requires { root.old.limits ≡ widest_limits }
+    ensures grown { HasGrown root.old root.new }
+    ensures text { IfOk result
+        (λ text. text.items ≡ bytes.items ++ answer_text root.old.rules root.old.graph line.now) }
+{
+    let mut out = Writer::new(bytes);
+    write_line_answer(alloc, scratch, &mut out, root, line)?;
+    Ok(out.into_inner())
+}

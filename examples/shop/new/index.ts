@@ -1,0 +1,3 @@
+export { total } from "./cart";
+export type { Price } from "./price";
+export type { Item } from "./item";

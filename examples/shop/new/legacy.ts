@@ -1,0 +1,3 @@
+import { total } from "./cart";
+
+export const sum = total;

@@ -1,0 +1,6 @@
+import type { Price } from "./cart";
+
+export interface Item {
+  name: string;
+  price: Price;
+}

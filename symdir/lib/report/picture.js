@@ -1,0 +1,45 @@
+// The picture of re-exports for the page, by Graphviz. Its boxes lead to the names that their files define.
+import { Failure } from '../failure.js';
+import { pictureOf } from '../commands/web.js';
+import { Drawing, LEGEND } from '../web/draw.js';
+import { gather } from '../web/gather.js';
+import { escaped } from './escape.js';
+
+/** @typedef {import('../cli.js').Run} Run */
+/** @typedef {import('../folder/folder.js').Folder} Folder */
+
+/** Elements and attributes that Graphviz writes. Whatever else stands there is left out. */
+const ELEMENTS = /^(svg|g|polygon|path|polyline|ellipse|text|title|a)$/;
+const ATTRIBUTES = /^(id|class|transform|fill|stroke|stroke-width|stroke-dasharray|points|d|cx|cy|rx|ry|x|y|text-anchor|font-family|font-size|font-weight|width|height|viewBox|xlink:href|xlink:title)$/;
+
+/** @param {string} text attributes as Graphviz writes them @returns {string} */
+function attributesOf(text) {
+  return [...text.matchAll(/\s([\w:-]+)="([^"]*)"/g)].filter(([, name, value]) => ATTRIBUTES.test(name) && (name !== 'xlink:href' || value.startsWith('#')))
+    .map(([, name, value]) => ` ${name.replace('xlink:href', 'href').replace('xlink:title', 'data-tip')}="${value.replaceAll('<', '&#60;')}"`).join('');
+}
+
+/** @param {string} svg as Graphviz writes it @returns {string} for HTML: elements and attributes that are known, and text */
+export function inlined(svg) {
+  const text = svg.slice(svg.indexOf('<svg')).replace(/<!--[^]*?-->/g, '');
+  return text.replace(/<(\/?)([\w:-]+)((?:\s+[\w:-]+="[^"]*")*)\s*(\/?)>|</g, (whole, close, name, attributes = '', isEmpty = '') => {
+    if (name === undefined) return '&#60;';
+    if (!ELEMENTS.test(name)) return '';
+    return close ? `</${name}>` : `<${name}${attributesOf(attributes)}${isEmpty ? '/' : ''}>`;
+  });
+}
+
+/** @param {Run} run @param {Folder} folder @returns {Promise<string>} a section of the page; without Graphviz it says that it lacks */
+export async function pictureHtml({ warn }, folder) {
+  const drawing = new Drawing(folder, await gather(folder), (below) => `#${new URLSearchParams({ file: below })}`);
+  const head = '<section class="picture"><h2>Re-exports</h2>';
+  try {
+    const svg = inlined(pictureOf(drawing.text(), 'svg').toString());
+    const [arrows, boxes] = LEGEND.map(escaped);
+    return `${head}<p>${arrows} ${boxes} A click on a box lists the names that it defines.</p><p><button id="fit" type="button" aria-pressed="false">Fit to width</button></p>
+<div class="frame" id="picture" tabindex="0" role="region" aria-label="Picture of re-exports">${svg}</div></section>`;
+  } catch (error) {
+    if (!(error instanceof Failure)) throw error;
+    warn(`the page has no picture: ${error.message.replace(', or use -o web.dot', '')}`);
+    return `${head}<p>Graphviz wasn't there when this page was made, and so it has no picture.</p></section>`;
+  }
+}

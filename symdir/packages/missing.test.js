@@ -1,0 +1,42 @@
+// Holds `missing` to what TypeScript's language service says of imports, on packages of which some files and names are taken away.
+import assert from 'node:assert/strict';
+import { readFileSync, rmSync, writeFileSync } from 'node:fs';
+import path from 'node:path';
+import test from 'node:test';
+
+import { answer } from '../tests/helper.js';
+import { lackingBy } from '../tests/definitions.js';
+import { PACKAGES, sourcesOf } from './sources.js';
+import { languageOf } from './taken.js';
+
+/** @param {string} folder @param {string[]} names of its files takes away every 20th file, and of others what every 7th exports first */
+function spoil(folder, names) {
+  names.forEach((name, i) => {
+    const file = path.join(folder, name);
+    if (i % 20 === 10) rmSync(file);
+    else if (i % 7 === 3) writeFileSync(file, readFileSync(file, 'utf8').replace(/^export (?=(declare |abstract |async )*(const|function|class|interface|type|enum) )/m, ''));
+  });
+}
+
+for (const it of PACKAGES) {
+  test(`${it.name}: ${it.place}`, (t) => {
+    const folder = sourcesOf(it);
+    const count = (/** @type {boolean} */ isSpoilt) => {
+      const language = languageOf(folder, it, { checkJs: true });
+      const wanted = lackingBy(language);
+      const out = answer(['missing', folder]);
+      const by = (/** @type {string[]} */ ...what) => new Map(out.missing.filter((/** @type {any} */ one) => what.includes(one.what)).map((/** @type {any} */ one) => [`${one.file}:${one.line}`, one.text]));
+      const lines = (/** @type {Map<string, string>} */ places) => new Map([...places].map(([place, text]) => [place.replace(/:\d+$/, ''), text]));
+      const outside = new Set(out.external.map((/** @type {string} */ one) => one.replace(/^npm:/, '')));
+      const modules = [...lines(wanted.modules)].filter(([, text]) => !outside.has(text));
+      assert.deepEqual([...by('file', 'package').keys()].sort(), modules.map(([place]) => place).sort());
+      const exports = [...lines(wanted.exports).keys()].sort();
+      assert.deepEqual([...by('name').keys()].sort(), exports);
+      assert.equal(isSpoilt, modules.length > 0);
+      return `${modules.length} modules, ${exports.length} exports`;
+    };
+    const whole = count(false);
+    spoil(folder, languageOf(folder, it).files.map((one) => path.relative(folder, one)));
+    t.diagnostic(`whole: ${whole}; spoilt: ${count(true)}`);
+  });
+}

@@ -1,0 +1,156 @@
+import assert from 'node:assert/strict';
+import { spawnSync } from 'node:child_process';
+import { mkdirSync, writeFileSync } from 'node:fs';
+import path from 'node:path';
+import test from 'node:test';
+
+import { answer, folderOf, symdir } from './helper.js';
+import { parametersOf } from '../lib/surface/compare.js';
+import { oneLine } from '../lib/surface/signature.js';
+
+/** @param {string | Record<string, string>} before @param {string | Record<string, string>} now texts of index.ts, or files @returns {string[]} */
+function diff(before, now) {
+  const [old, fresh] = [before, now].map((it) => folderOf(typeof it === 'string' ? { 'index.ts': it } : it));
+  const { advice, changes } = answer(['diff', old, fresh]);
+  const highest = ['major', 'minor', 'patch'].find((it) => changes.some((/** @type {any} */ one) => one.advice === it));
+  assert.equal(advice, highest ?? null);
+  return changes.map((/** @type {any} */ it) => `${it.advice} ${it.what} ${it.name}`);
+}
+
+test('names that came, went, moved or are something else', () => {
+  assert.deepEqual(diff('export const a = 1, b = 2;', 'export const b = 2, c = 3;'), ['major removed a', 'minor added c']);
+  assert.deepEqual(diff({ 'index.ts': 'export * from "./a";', 'a.ts': 'export class A {}' }, { 'index.ts': 'export * from "./b";', 'b.ts': 'export class A {}' }), ['patch moved A']);
+  assert.deepEqual(diff('export class A {}', 'export interface A {}'), ['major kind A']);
+  assert.deepEqual(diff('export interface A {}', 'export class A {}'), ['minor kind A']);
+  assert.deepEqual(diff('export interface A {}', 'export type A = {};'), ['major kind A']);
+  assert.deepEqual(diff('export const a: () => void;', 'export let a: () => void;'), ['patch kind a']);
+  assert.deepEqual(diff('export class A {}', 'export class A {}\nexport namespace A { export const b = 1 }'), ['minor kind A', 'minor added A.b']);
+  assert.deepEqual(diff('export const a = 1;', 'export const a = 1;'), []);
+});
+
+test('names that became types alone, by each word that does so', () => {
+  const a = 'export class A {}\nexport default A;\n';
+  const index = { 'index.ts': 'export { A } from "./a";', 'a.ts': a };
+  for (const text of ['export type { A } from "./a";', 'export { type A } from "./a";', 'import type { A } from "./a";\nexport { A };', 'import { type A } from "./a";\nexport { A };',
+    'import type B from "./a";\nexport { B as A };', 'export * from "./b";', 'export { B as A } from "./c";']) {
+    const files = { 'index.ts': text, 'a.ts': a, 'b.ts': 'export type { A } from "./a";', 'c.ts': 'import { A } from "./a";\nexport type { A as B };' };
+    assert.deepEqual(diff(index, files), ['major type-only A'], text);
+    assert.deepEqual(diff(files, index), ['minor type-only A'], text);
+  }
+  assert.deepEqual(diff(index, { 'index.ts': 'import { A } from "./a";\nexport { A };', 'a.ts': a }), []);
+});
+
+test('members: of classes, interfaces, namespaces and enums, but for what is private', () => {
+  assert.deepEqual(diff('export class A { a = 1; static b() {} private c = 1; #d = 1; protected e = 1; }', 'export class A { f = 1; private g = 1; }'),
+    ['major removed A#a', 'major removed A#e', 'minor added A#f', 'major removed A.b']);
+  assert.deepEqual(diff('export class A {}', 'export abstract class A { abstract a(): void; }'), ['major added A#a']);
+  assert.deepEqual(diff('export interface I { a: 1 }', 'export interface I { b: 1; c?: 1; d(): void; readonly e?: 1 }'),
+    ['major removed I#a', 'major added I#b', 'minor added I#c', 'major added I#d', 'minor added I#e']);
+  assert.deepEqual(diff('export namespace N { export const a = 1; const b = 1; }', 'export namespace N { const a = 1; export namespace M { export const c = 1 } }'), ['minor added N.M', 'major removed N.a']);
+  assert.deepEqual(diff('export enum E { a, "b c" = 2 }', 'export enum E { a = 1, d }'), ['major signature E.a', 'major removed E.b c', 'minor added E.d']);
+  assert.deepEqual(diff('export class A { get a() { return 1; } set a(x) {} }', 'export class A { get a() { return 1; } }'), ['major kind A#a']);
+  assert.deepEqual(diff('export class A { a = 1 }', 'export class A { get a() { return 1; } set a(x) {} }'), ['patch kind A#a']);
+  assert.deepEqual(diff('export class A { static a(): 1; a(): 2 }', 'export class A { a(): 2 }'), ['major removed A.a']);
+  assert.deepEqual(diff({ 'index.ts': 'export * as n from "./n";', 'n.ts': 'export * as m from "./index";\nexport const a = 1;' },
+    { 'index.ts': 'import * as n from "./n";\nexport { n };', 'n.ts': 'export * as m from "./index";\nexport const b = 1;' }), ['major removed n.a', 'minor added n.b']);
+  assert.deepEqual(diff('class B { x = 1 }\nexport { B as A };', 'class C { y = 1 }\nexport { C as A };'), ['major removed A#x', 'minor added A#y']);
+});
+
+test('signatures, as they are written', () => {
+  const of = (/** @type {string} */ before, /** @type {string} */ now) => diff(before, now).join();
+  assert.equal(of('export function f(a: number): void {}', 'export function f(a: number, b?: X, c = 1, ...d: X[]): void {}'), 'minor signature f');
+  assert.equal(of('export function f(a: number): void {}', 'export function f(a: number, b: X): void {}'), 'major signature f');
+  assert.equal(of('export function f(a: number): void {}', 'export function f(it: number): void { return; }'), 'patch signature f');
+  assert.equal(of('export function f(a: number): void {}', 'export function f(a: string): void {}'), 'major signature f');
+  assert.equal(of('export function f(a: number): void {}', 'export function f(a: number): string {}'), 'major signature f');
+  assert.equal(of('export function f(a: { b: 1 , c?: [X , Y] }) {}', 'export async function f( // comment\n a: { b: 1, c?: [X, Y] },\n) {}'), '');
+  assert.equal(of('export function f(a: 1): 1;', 'export function f(a: 1): 1;\nexport function f(a: 2): 2;\nexport function f(a: any): any { return a; }'), 'minor signature f');
+  assert.equal(of('export function f(a: 1): 1;\nexport function f(a: 2): 2;\nexport function f(a: any) {}', 'export function f(a: 1): 1;\nexport function f(a: 3): 2;\nexport function f(a: unknown) {}'), 'major signature f');
+  assert.equal(of('export const f = <T>(a: T): T => a;', 'export const f = <T>(a: T, b?: T): T => { return a; };'), 'minor signature f');
+  assert.equal(of('export const a: "x, y" = 1;', 'export const a: "x,y" = 1;'), 'major signature a');
+  assert.equal(of('export const a = 1;', 'export const a: number = 1;'), 'patch signature a');
+  assert.equal(of('export type A = 1 | 2;', 'export type A<T> = 1 | 2;'), 'major signature A');
+  assert.equal(of('export class A extends B<1> implements C {}', 'export class A extends B<2> implements C {}'), 'major signature A');
+  assert.equal(of('export interface A extends B {}', 'export interface A extends B, C {}'), 'major signature A');
+  assert.equal(of('export class A { constructor(a: 1) {} }', 'export class A { constructor(a: 1, b?: 2) {} }'), 'minor signature A constructor');
+  assert.equal(of('export class A { readonly a?: 1; b(): 1 { } }', 'export class A { a?: 1; b(): 2 { } }'), 'major signature A#a,major signature A#b');
+  assert.equal(of('export interface A { a: 1; [b: string]: 2; (c: 3): 4; new (d: 5): 6 }', 'export interface A { a?: 1; [b: string]: 3; (c: 4): 4; new (d: 6): 6 }'),
+    'major signature A call,major signature A index,major signature A new,major signature A#a');
+  assert.equal(of('export class A { static a: 1; async b(x: 1) {} protected c: 1; d = (x: 1) => 2 }', 'export class A { a: 1; b(x: 1) {} protected c: 1; d = (x: 2) => 2 }'),
+    'minor added A#a,major signature A#d,major removed A.a');
+});
+
+test('a value that can\'t be called or constructed any more, though it is a value still', () => {
+  const before = 'export function a() {}\nexport function b() {}\nexport function c(): void {}\nexport class d {}\nexport class e {}\nexport function f() {}\n';
+  const now = 'export class a {}\nexport enum b {}\nexport const c: () => void;\nexport enum d {}\nexport interface e {}\nexport declare const e: { new (): e };\nexport class f {}\nexport function f() {}\n';
+  assert.deepEqual(diff(before, now), ['major kind a', 'major kind b', 'patch kind c', 'major kind d', 'minor kind e', 'minor kind f']);
+});
+
+test('overloads that were added or are in another order, and what is an intersection', () => {
+  const written = (/** @type {string[]} */ all) => all.map((it, i) => `export declare function f${String.fromCharCode(97 + i)}${it.split('; ').join(`;\nexport declare function f${String.fromCharCode(97 + i)}`)};`).join('\n');
+  const types = ['B & C', 'B & (C)', 'B & ((c: C) => D)', 'B & { a: 1 }', 'B & ({ [c: string]: C })'];
+  const wider = ['(): C', '<T>(a: T)', '({ a }: C)', '(a?: C): B & D', '(...a: C)', '(a, b)'];
+  const [narrow, added] = [types.map((it) => `(a: A): ${it}`), wider.map((it) => `(a: A & B): B & C; ${it}`)];
+  const before = [...types.map(() => '(a: A): B'), ...wider.map(() => '(a: A & B): B & C'), '(a: 1): 1; (a: 2): 2'];
+  const now = [...narrow, ...added, '(a: 2): 2; (a: 1): 1'];
+  const rest = ['export type T = A & B;\nexport declare const c: A;\nexport declare class K { static m(a: A): B }\n',
+    'export type T = A & B & C;\nexport declare const c: A & B;\nexport declare class K { static m(a: A): B; static m(b: B): A }\n'];
+  const wanted = ['major signature fl', 'major signature T', 'major signature c', 'minor signature K.m',
+    ...types.map((_, i) => `major signature f${'abcde'[i]}`), ...wider.map((_, i) => `minor signature f${'fghijk'[i]}`)];
+  assert.deepEqual(diff(`${rest[0]}${written(before)}`, `${rest[1]}${written(now)}`).sort(), wanted.sort());
+});
+
+test('texts of signatures', () => {
+  assert.equal(oneLine(' ( a : "//  x" , // y\n b: [ 1, ], /* z */ c = `/* ${1}  */`, ) '), '(a: "//  x", b: [1], c = `/* ${1}  */`)');
+  assert.deepEqual(parametersOf('<T extends { a: (b: 1, c) => 2 }>(a: [1, 2], b: (c: 1, d: 2) => "x,)", e = {f: 1, g}): (h, i) => 1'), {
+    before: '<T extends { a: (b: 1, c) => 2 }>', params: ['a: [1, 2]', 'b: (c: 1, d: 2) => "x,)"', 'e = {f: 1, g}'], behind: ': (h, i) => 1' });
+  assert.deepEqual(parametersOf('()'), { before: '', params: [], behind: '' });
+  assert.equal(parametersOf(': number'), null);
+});
+
+const VERSION = 'export function f(a: number): void {}\nexport const gone = 1;\n';
+
+test('snapshots, git revisions and folders go together', () => {
+  const folder = folderOf({ 'lib/index.ts': VERSION, 'lib/package.json': '{}' });
+  const git = (/** @type {string[]} */ ...words) => assert.equal(spawnSync('git', ['-C', folder, '-c', 'user.name=a', '-c', 'user.email=a@b', ...words]).status, 0, words.join(' '));
+  git('init', '-q');
+  git('add', '.');
+  git('commit', '-q', '-m', 'one');
+  git('tag', 'v1');
+  const at = path.join(folder, 'lib');
+  const file = path.join(folder, 'names.txt');
+  assert.equal(symdir(['api', at, '--save', file]).status, 0);
+  writeFileSync(path.join(at, 'index.ts'), 'export function f(a: number, b?: number): void {}\n');
+  const wanted = ['minor signature f', 'major removed gone'];
+  for (const old of ['v1', 'HEAD:lib', 'v1:./lib/', file]) {
+    const cwd = old === 'v1' ? at : folder;
+    const { stdout, status, stderr } = symdir(['diff', old, at, '--json'], { cwd });
+    assert.deepEqual([status, stderr], [1, ''], old);
+    assert.deepEqual(JSON.parse(stdout).changes.map((/** @type {any} */ it) => `${it.advice} ${it.what} ${it.name}`), wanted, old);
+  }
+  assert.deepEqual(symdir(['diff', 'v1:lib', file], { cwd: folder }), { status: 0, stdout: 'the 2 public names and their members are the same\n', stderr: '' });
+  const failed = (/** @type {string[]} */ ...words) => symdir(['diff', ...words], { cwd: folder });
+  assert.deepEqual(failed('v2', at), { status: 2, stdout: '', stderr: 'symdir: no such directory, snapshot or git revision: v2\n' });
+  assert.deepEqual(failed('v1:none', at), { status: 3, stdout: '', stderr: 'symdir: git archive v1: fatal: pathspec \'none\' did not match any files\n' });
+  assert.equal(failed(at).stderr, 'symdir: diff takes OLD and NEW: directories, snapshots or git revisions, as in `symdir diff v1.0.0 .`\n');
+  assert.equal(failed(at, at, at).stderr.includes('diff takes OLD and NEW, not'), true);
+});
+
+test('one entry that moved is the same entry', () => {
+  const files = { 'package.json': '{"types":"a.ts"}', 'a.ts': 'export class A {}', 'b.ts': 'export class A {}' };
+  assert.deepEqual(diff(files, { ...files, 'package.json': '{"types":"b.ts"}' }), ['patch moved A']);
+});
+
+test('what people read', () => {
+  const [old, fresh] = ['export function f(a: number): void {}\nexport const gone = 1;', 'export function f(a: number, b?: 1): void {}\nexport class A {}'].map((it) => folderOf({ 'index.ts': it }));
+  assert.deepEqual(symdir(['diff', old, fresh]), { status: 1, stderr: '', stdout: `minor  +  index.ts: A     class index.ts
+         existing uses still work
+minor  ~  index.ts: f     signature: (a: number): void  ->  (a: number, b?: 1): void
+         the added parameters are optional
+major  -  index.ts: gone  const index.ts
+         existing uses break
+major: 1 removed, 1 added, 1 changed
+` });
+  mkdirSync(path.join(old, 'empty'));
+  assert.equal(symdir(['diff', path.join(old, 'empty'), fresh]).status, 3);
+});

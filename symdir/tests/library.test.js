@@ -1,0 +1,230 @@
+// The command as a library.
+import assert from 'node:assert/strict';
+import { spawnSync } from 'node:child_process';
+import { existsSync, readFileSync, readdirSync, writeFileSync } from 'node:fs';
+import path from 'node:path';
+import test from 'node:test';
+import { pathToFileURL } from 'node:url';
+
+import * as library from '../lib/library/index.js';
+import { findSymq } from '../lib/program.js';
+import { findTypeScript } from '../lib/typescript.js';
+import { PACKAGE, consumer, sameAsCommands } from './commands.js';
+import { folderOf, program, symdir } from './helper.js';
+
+/** @typedef {import('./commands.js').Described} Described */
+
+// what is described is what is there
+/** @type {(directory: string | URL, options?: import('../types/index.js').Options) => Promise<Described>} */
+const openFolder = library.openFolder;
+/** @type {typeof import('../types/index.js').SymdirError} */
+const SymdirError = library.SymdirError;
+
+const TOP = path.join(PACKAGE, '..');
+const SHOP = path.join(TOP, 'examples', 'shop', 'new');
+const MADE = {
+  'index.ts': `export * from "./a";
+export * from "./b";
+export * from "./gone";
+export { lost } from "./a";
+import type { Hidden } from "./c";
+export function f(it: Hidden): void { late(); }
+import { late } from "./c";
+export * from "npm:far";
+`,
+  'a.ts': 'export const x = 1;\nimport "./b";\n',
+  'b.ts': 'export const x = 2;\nexport const y = () => import("./c");\nimport "./a";\n',
+  'c.ts': 'export interface Hidden { a: number }\nexport function late() {}\nexport const never = 1;\n',
+  'bad.ts': 'export const = ;\n',
+  'global.d.ts': 'declare module "aside" { export const z: number }\n',
+};
+
+test('its objects are what the commands print as JSON', async () => {
+  const made = folderOf(MADE);
+  for (const [directory, spot] of /** @type {const} */ ([[made, { file: 'c.ts', line: 1 }], [SHOP, { file: 'item.ts', line: 4 }]])) {
+    const folder = await openFolder(directory);
+    await sameAsCommands(folder, directory, [], spot);
+    await folder.close();
+  }
+  const strict = await openFolder(pathToFileURL(made), { strict: true, entry: ['index.ts', 'global.d.ts'], skip: [/^bad/] });
+  await sameAsCommands(strict, made, ['--strict', '--entry', 'index.ts', '--entry', 'global.d.ts', '--skip', '^bad'], { file: 'index.ts', line: 5 });
+  assert.deepEqual((await strict.exports('index.ts')).shared.map((it) => it.name), ['x']);
+  const common = folderOf({ 'index.js': 'module.exports = { a: 1 };\n', 'other.js': 'import "./index.js";\n' });
+  const unlisted = await openFolder(common, { entry: ['index.js'] });
+  await sameAsCommands(unlisted, common, ['--entry', 'index.js'], { file: 'other.js', line: 1 });
+  assert.deepEqual((await unlisted.exports('index.js')).unlisted, ['is CommonJS']);
+  await Promise.all([strict.close(), unlisted.close()]);
+});
+
+test('the modules, and what can\'t be parsed', async () => {
+  const folder = await openFolder(folderOf(MADE));
+  assert.deepEqual([folder.entries, folder.modules], [['index.ts'], ['a.ts', 'b.ts', 'bad.ts', 'c.ts', 'global.d.ts', 'index.ts']]);
+  assert.deepEqual(folder.faults.map(({ file, line, column }) => [file, line, column]), [['bad.ts', 1, 14]]);
+  await folder.close();
+});
+
+test('calls at once are answered by one process, which ends when the directory is closed', async () => {
+  const log = path.join(folderOf({}), 'log');
+  const symq = program({}, 'symq', `#!/bin/sh\necho $$ >> ${log}\nexec ${findSymq(undefined)} "$@"\n`);
+  const folder = await openFolder(SHOP, { symq, cache: false });
+  const [names, unused, leaks, again] = await Promise.all([folder.names(), folder.unused(), folder.leaks(), folder.names()]);
+  assert.deepEqual([names.length, unused.exports.length, leaks.length, again], [3, 1, 0, names]);
+  const pids = readFileSync(log, 'utf8').trim().split('\n').map(Number);
+  assert.equal(pids.length, 1);
+  assert.ok(process.kill(pids[0], 0));
+  await Promise.all([folder.close(), folder.close()]);
+  assert.throws(() => process.kill(pids[0], 0), { code: 'ESRCH' });
+});
+
+test('what is under way when the directory is closed fails, and so does each later call', async () => {
+  const symq = program({}, 'symq', '#!/bin/sh\nread line\necho \'{"module":"a"}\'\nread line\nsleep 600\n');
+  const folder = await openFolder(SHOP, { symq, cache: false });
+  const waiting = assert.rejects(folder.names(), { name: 'SymdirError', kind: 'closed', message: `${SHOP} is closed` });
+  await folder.close();
+  await waiting;
+  await assert.rejects(folder.cycles(), { kind: 'closed' });
+});
+
+test('each error has its kind', async () => {
+  const kindOf = async (/** @type {() => Promise<any>} */ work) => {
+    const error = await work().then(() => assert.fail('no error'), (it) => it);
+    assert.ok(error instanceof SymdirError && error instanceof Error, String(error));
+    return error.kind;
+  };
+  const open = (/** @type {any} */ directory, /** @type {any} */ options = {}) => kindOf(() => openFolder(directory, options));
+  const unreadable = folderOf({ 'index.ts': 'export const n = 1;\n' });
+  const ended = program({}, 'symq', '#!/bin/sh\nexit 9\n');
+  for (const it of [() => open(undefined), () => open('/none'), () => open(path.join(SHOP, 'item.ts')), () => open(SHOP, null), () => open(SHOP, { entry: ['none.ts'] }),
+    () => open(SHOP, { entries: [] }), () => open(SHOP, { skip: ['a'] })]) assert.equal(await it(), 'argument');
+  for (const symq of ['/none/symq', 'no-such-program']) assert.equal(await open(SHOP, { symq }), 'setup');
+  assert.equal(await open(folderOf({ 'a.txt': '' })), 'source');
+  assert.equal(await open(SHOP, { symq: ended }), 'engine');
+  assert.equal(await open(SHOP, { symq: unreadable, cache: false }), 'setup');
+  const folder = await openFolder(folderOf(MADE), { bodies: false });
+  const spots = [{ file: 'none.ts', line: 1 }, { file: 'a.ts', line: 99 }, { file: 'a.ts', line: 0 }, { file: 'a.ts', line: 1.5 }, { file: 'a.ts' }, { file: 'a.ts', line: 1, at: 1 }, null];
+  for (const it of /** @type {any[]} */ (spots)) {
+    assert.equal(await kindOf(() => folder.where(it)), 'argument');
+    assert.equal(await kindOf(() => folder.uses(it)), 'argument');
+  }
+  for (const work of [() => folder.exports('none.ts'), () => folder.unused(), () => folder.cycles()]) assert.equal(await kindOf(work), 'argument');
+  assert.equal(await kindOf(() => folder.where({ file: 'bad.ts', line: 1 })), 'source');
+  assert.equal((await folder.names()).length, 4);
+  const shop = await openFolder(SHOP);
+  assert.equal(await kindOf(() => shop.unused(/** @type {any} */ ({ tests: true }))), 'argument');
+  await Promise.all([folder.close(), shop.close()]);
+});
+
+/** @param {string} text of a module @param {string[]} [words] @returns {{ status: number | null, stdout: string, stderr: string }} of a process of its own, which imports the package by its name */
+function run(text, words = []) {
+  const folder = consumer({ 'it.mjs': text });
+  const { status, stdout, stderr } = spawnSync(process.execPath, [path.join(folder, 'it.mjs'), ...words], { cwd: TOP, encoding: 'utf8', timeout: 60_000 });
+  return { status, stdout, stderr };
+}
+
+test('it writes nothing and exits nowhere, and a process ends by itself when its directories are closed', () => {
+  const text = `import v8 from 'node:v8';
+v8.setFlagsFromString = (it) => console.log('V8 is told', it);
+const { openFolder } = await import('symdir');
+const [, , made, shop] = process.argv;
+process.exit = () => console.log('exit is called');
+const kinds = [];
+for (const [directory, options] of [['/none', {}], [made, { symq: '/none/symq' }], [made, { entry: ['none.ts'] }], [made, { symq: '/bin/false' }]]) {
+  await openFolder(directory, options).catch((error) => kinds.push(error.kind));
+}
+const folder = await openFolder(made, { cache: false });
+await folder.where({ file: 'bad.ts', line: 1 }).catch((error) => kinds.push(error.kind));
+const [a, b] = await Promise.all([folder, openFolder(shop)]);
+console.log(kinds.join(), (await a.names()).length, (await b.names()).length);
+if (Symbol.dispose) b[Symbol.dispose](); else await b.close();
+if (Symbol.asyncDispose) await a[Symbol.asyncDispose](); else await a.close();
+await b.names().catch((error) => console.log(error.kind));
+`;
+  assert.deepEqual(run(text, [folderOf(MADE), SHOP]), { status: 0, stdout: 'argument,setup,argument,engine,source 4 3\nclosed\n', stderr: '' });
+});
+
+test('a host that listens to signals decides about them, and temporary files go with its end', () => {
+  const text = `import { openFolder } from 'symdir';
+const folder = await openFolder(process.argv[2], { cache: false });
+let heard = 0;
+const listener = () => heard++;
+process.on('SIGINT', listener);
+process.kill(process.pid, 'SIGINT');
+await new Promise((resolve) => setTimeout(resolve, 100));
+console.log(heard, (await folder.names()).length);
+process.off('SIGINT', listener);
+process.kill(process.pid, 'SIGINT');
+setTimeout(() => console.log('went on'), 5000);
+`;
+  const temporary = folderOf({});
+  const folder = consumer({ 'it.mjs': text });
+  const options = { cwd: TOP, encoding: /** @type {const} */ ('utf8'), env: { ...process.env, TMPDIR: temporary } };
+  const { signal, stdout, stderr } = spawnSync(process.execPath, [path.join(folder, 'it.mjs'), SHOP], options);
+  assert.deepEqual([signal, stdout, stderr], ['SIGINT', '1 3\n', '']);
+  assert.deepEqual(readdirSync(temporary), []);
+});
+
+const CONFIG = { compilerOptions: { strict: true, noEmit: true, target: 'es2022', module: 'nodenext', moduleResolution: 'nodenext', skipLibCheck: false, types: [] }, include: ['*.ts'] };
+const USER = `import { openFolder, SymdirError, type ErrorKind, type ExportedName, type Folder, type Leak } from "symdir";
+
+export async function report(directory: string | URL): Promise<string[]> {
+  const folder: Folder = await openFolder(directory, { entry: ["a.ts"], skip: [/x/], strict: true, progress: (text) => void text.length });
+  try {
+    const names: ExportedName[] = await folder.names();
+    const leaks: Leak[] = await folder.leaks();
+    const files: string[] = (await folder.unused({ production: true })).files;
+    const [{ ways: [{ defined }] }] = await folder.where({ file: "a.ts", line: 1, column: 2 });
+    const opens: number[] = (await folder.cycles()).cycles.map((it) => it.cut.opens);
+    const kind: string = defined?.kind ?? "";
+    return [...names.map((it) => it.defined[0]?.file ?? it.name), ...leaks.flatMap((it) => it.neededBy), ...files, ...opens.map(String), kind];
+  } catch (error) {
+    const why: ErrorKind | undefined = error instanceof SymdirError ? error.kind : undefined;
+    return [why ?? ""];
+  } finally {
+    await folder[Symbol.asyncDispose]();
+    folder[Symbol.dispose]();
+  }
+}
+`;
+const WRONG = `import { openFolder, SymdirError } from "symdir";
+const folder = await openFolder("a");
+// @ts-expect-error
+await openFolder(1);
+// @ts-expect-error
+await openFolder("a", { entries: [] });
+// @ts-expect-error
+await openFolder("a", { skip: ["x"] });
+// @ts-expect-error
+await folder.where({ file: "a.ts" });
+// @ts-expect-error
+(await folder.names())[0].module;
+// @ts-expect-error
+(await folder.missing())[0].what === "none";
+// @ts-expect-error
+new SymdirError("a", "none");
+// @ts-expect-error
+folder.entries = [];
+export {};
+`;
+
+test('a consumer\'s types', () => {
+  const tsc = path.join(path.dirname(findTypeScript(PACKAGE).file), 'tsc.js');
+  const folder = consumer({ 'user.ts': USER, 'wrong.ts': WRONG, 'package.json': '{ "type": "module" }', 'tsconfig.json': JSON.stringify(CONFIG) });
+  const compiled = () => spawnSync(process.execPath, [tsc, '-p', '.'], { cwd: folder, encoding: 'utf8' });
+  const { status, stdout } = compiled();
+  assert.deepEqual([status, stdout], [0, '']);
+  writeFileSync(path.join(folder, 'wrong.ts'), WRONG.replaceAll('// @ts-expect-error\n', '\n'));
+  assert.equal(compiled().stdout.match(/^wrong\.ts\(/gm)?.length, 8);
+});
+
+test('symdir/README.md: the example prints what it says', () => {
+  const [, example] = /```js\n([\s\S]*?)```/.exec(readFileSync(path.join(PACKAGE, 'README.md'), 'utf8')) ?? [];
+  assert.ok(example?.includes('openFolder'));
+  const wanted = [...example.matchAll(/\/\/ (.*)$/gm)].map((it) => `${it[1]}\n`).join('');
+  assert.deepEqual(run(example), { status: 0, stdout: wanted, stderr: '' });
+});
+
+test('what the package has is what it names', () => {
+  const { exports, files, bin } = JSON.parse(readFileSync(path.join(PACKAGE, 'package.json'), 'utf8'));
+  for (const it of [exports['.'].types, exports['.'].default, bin.symdir, ...files]) assert.ok(existsSync(path.join(PACKAGE, it)), it);
+  assert.equal(symdir(['--version']).stdout, `symdir ${JSON.parse(run('import it from "symdir/package.json" with { type: "json" };\nconsole.log(JSON.stringify(it.version));\n').stdout)}\n`);
+});

@@ -1,0 +1,149 @@
+// The page of `api --html`: its search by itself, and what stands in its text.
+import assert from 'node:assert/strict';
+import { createHash } from 'node:crypto';
+import { readFileSync } from 'node:fs';
+import path from 'node:path';
+import test from 'node:test';
+import { Script } from 'node:vm';
+
+import { docHtml } from '../lib/report/doc-html.js';
+import { hashOf, queryOf, search } from '../lib/report/page/search.js';
+import { inlined } from '../lib/report/picture.js';
+import { folderOf, program, symdir } from './helper.js';
+import { EXPORTED, FILES } from './hostile.js';
+
+const ROWS = [
+  { name: 'Widget', kind: 'class+namespace', entry: 'index.ts', files: ['src/a.ts'], members: ['Widget#attach', 'Widget.IOptions#layout', 'Widget constructor'] },
+  { name: 'TabBarWidget', kind: 'class', entry: 'index.ts', files: ['src/b/c.ts'], members: [] },
+  { name: 'widgetOf', kind: 'function', entry: 'more.ts', files: ['src/a.ts', 'src/d.ts'], members: [] },
+  { name: 'getElement', kind: 'function', entry: 'more.ts', files: ['x.ts'], members: [] },
+  { name: 'a.b', kind: 'const', entry: 'more.ts', files: [''], members: [] },
+];
+
+/** @param {string} text @param {Partial<import('../lib/report/page/search.js').Query>} [filters] @returns {string[]} names with the members by which they are found */
+function found(text, filters = {}) {
+  const hits = search(ROWS, { text, kind: '', entry: '', file: '', ...filters });
+  return hits.map(({ index, members }) => [ROWS[index].name, ...members.map((it) => ROWS[index].members[it])].join(' '));
+}
+
+test('names are found by all of them, by their beginning, words, initials and parts, in this order', () => {
+  assert.deepEqual(found('Widget'), ['Widget', 'widgetOf', 'TabBarWidget']);
+  assert.deepEqual(found(' widgetof '), ['widgetOf']);
+  assert.deepEqual(found('idge'), ['Widget', 'TabBarWidget', 'widgetOf']);
+  assert.deepEqual(found('tbw'), ['TabBarWidget']);
+  assert.deepEqual(found('gE'), ['getElement', 'Widget', 'TabBarWidget', 'widgetOf']);
+  assert.deepEqual(found('.b'), ['a.b']);
+  assert.deepEqual(found('none'), []);
+  assert.deepEqual(found(''), ROWS.map((it) => it.name));
+});
+
+test('names are found by their members, by a part of these or with what they are members of', () => {
+  assert.deepEqual(found('attach'), ['Widget Widget#attach']);
+  assert.deepEqual(found('layout'), ['Widget Widget.IOptions#layout']);
+  assert.deepEqual(found('widget.att'), ['Widget Widget#attach']);
+  assert.deepEqual(found('Widget#att'), ['Widget Widget#attach']);
+  assert.deepEqual(found('construct'), ['Widget Widget constructor']);
+});
+
+test('filters by kind, entry, file and directory', () => {
+  assert.deepEqual(found('', { kind: 'class' }), ['Widget', 'TabBarWidget']);
+  assert.deepEqual(found('', { kind: 'namespace' }), ['Widget']);
+  assert.deepEqual(found('widget', { entry: 'more.ts' }), ['widgetOf']);
+  assert.deepEqual(found('', { file: 'src/a.ts' }), ['Widget', 'widgetOf']);
+  assert.deepEqual(found('', { file: 'src/' }), ['Widget', 'TabBarWidget', 'widgetOf']);
+  assert.deepEqual(found('', { file: 'src/b/', kind: 'function' }), []);
+  assert.deepEqual(found('', { file: '/' }).length, 5);
+});
+
+test('a search is kept in the address', () => {
+  const query = { text: 'a b&c=#%', kind: 'class', entry: 'x/y.ts', file: 'ø/' };
+  assert.deepEqual(queryOf(hashOf(query)), query);
+  assert.equal(hashOf({ text: ' ', kind: '', entry: '', file: '' }), '');
+  assert.deepEqual(queryOf(''), { text: '', kind: '', entry: '', file: '' });
+});
+
+const TAGS = new Set(('html head meta title style body header h1 h2 h3 p code form label input div select option button output kbd main section ul li details summary span pre dl dt dd strong '
+  + 'svg g a polygon path polyline ellipse text script').split(' '));
+const ATTRIBUTES = /^(lang|charset|name|content|http-equiv|class|id|role|type|autocomplete|spellcheck|autofocus|for|value|hidden|tabindex|aria-[a-z]+|data-(name|kind|entry|files|tip)|href|width|height|viewbox|transform|fill|stroke|stroke-width|stroke-dasharray|points|d|cx|cy|rx|ry|x|y|text-anchor|font-family|font-size|font-weight)$/;
+
+/** @param {string} html @returns {{ tag: string, attributes: Record<string, string> }[]} its elements, as far as they are what the page is made of; the content of style and script is left out */
+function elementsOf(html) {
+  const all = [];
+  const rest = html.replace(/^<!doctype html>/, '').replace(/(<style>)[^]*?(<\/style>)/, '$1$2').replace(/(<script type="module">)[^]*?(<\/script>)/, '$1$2');
+  for (const [, text] of rest.matchAll(/<([^>]*)>/g)) {
+    const [, tag, list] = /** @type {RegExpExecArray} */ (/^\/?([a-z0-9]+)((?:\s+[\w:-]+(?:="[^"<]*")?)*)\s*\/?$/.exec(text) ?? assert.fail(text));
+    const attributes = Object.fromEntries([...list.matchAll(/([\w:-]+)(?:="([^"]*)")?/g)].map(([, name, value]) => [name, value ?? '']));
+    all.push({ tag, attributes });
+  }
+  assert.doesNotMatch(rest.replace(/<[^>]*>/g, ''), /[<>]/);
+  return all;
+}
+
+test('the page has the elements and attributes that it is made of alone, whatever names and comments say', () => {
+  const { status, stdout, stderr } = symdir(['api', folderOf(FILES), '--html']);
+  assert.deepEqual([status, stderr], [1, '']);
+  for (const { tag, attributes } of elementsOf(stdout)) {
+    assert.ok(TAGS.has(tag), tag);
+    for (const [name, value] of Object.entries(attributes)) {
+      assert.ok(ATTRIBUTES.test(name.toLowerCase()), `${tag} ${name}`);
+      if (name === 'href') assert.match(value, /^#/);
+    }
+  }
+  assert.equal(stdout.match(/<script/g)?.length, 1);
+  const decoded = stdout.replace(/&#(\d+);/g, (_, code) => String.fromCharCode(Number(code)));
+  assert.ok(decoded.includes(`<code class="name">${EXPORTED}</code>`));
+});
+
+test('the page needs no network, and its policy allows its own script and style alone', () => {
+  const { stdout } = symdir(['api', folderOf(FILES), '--html']);
+  const [, policy] = /http-equiv="Content-Security-Policy" content="([^"]*)"/.exec(stdout) ?? assert.fail();
+  const hash = (/** @type {RegExp} */ part) => `'sha256-${createHash('sha256').update(/** @type {RegExpExecArray} */ (part.exec(stdout))[1]).digest('base64')}'`;
+  assert.deepEqual(policy.split('; '), ["default-src 'none'", "base-uri 'none'", "form-action 'none'", `style-src ${hash(/<style>([^]*?)<\/style>/)}`, `script-src ${hash(/<script type="module">([^]*?)<\/script>/)}`]);
+  const script = /<script type="module">([^]*?)<\/script>/.exec(stdout)?.[1] ?? '';
+  const functions = (/** @type {string} */ text) => [...text.matchAll(/^function (\w+)/gm)].map(([, name]) => name);
+  const modules = ['search.js', 'page.js'].map((it) => readFileSync(new URL(`../lib/report/page/${it}`, import.meta.url), 'utf8').replace(/^export /gm, ''));
+  assert.deepEqual(functions(script), modules.flatMap(functions));
+  assert.ok(new Script(`(function () {${script}})`));
+  // elements have no attribute that loads something, as the test above holds them to
+  assert.doesNotMatch(/<style>([^]*?)<\/style>/.exec(stdout)?.[1] ?? '', /@import|url\(/i);
+  assert.doesNotMatch(script, /\b(fetch|XMLHttpRequest|import)\b|innerHTML/);
+});
+
+test('the page has no path of the machine it was made on, and is the same each time', () => {
+  const folder = folderOf({ 'index.ts': 'export * from "./a";\nexport * from "./gone";\n', 'a.ts': '/** Of a. */\nexport const a = 1;\n' });
+  const first = symdir(['api', folder, '--html']).stdout;
+  assert.ok(!first.includes(path.dirname(folder)));
+  assert.equal(symdir(['api', folder, '--html']).stdout, first);
+  assert.match(first, /<svg /);
+  assert.match(first, /href="#file=a\.ts"/);
+  assert.match(first, /<p>Of a\.<\/p>/);
+  assert.match(first, /<h2>1 finding<\/h2>/);
+});
+
+test('without Graphviz the page says that its picture lacks', () => {
+  const dot = program({}, 'dot', '#!/bin/sh\nread line\necho "Error: no fonts" >&2\nexit 1\n');
+  const { status, stdout, stderr } = symdir(['api', folderOf({ 'index.ts': 'export const a = 1;\n' }), '--html'], { env: { PATH: `${path.dirname(dot)}:${process.env.PATH}` } });
+  assert.deepEqual([status, stderr], [0, 'symdir: the page has no picture: Graphviz exited with status 1: Error: no fonts\n']);
+  assert.match(stdout, /has no picture/);
+  assert.doesNotMatch(stdout, /<svg/);
+});
+
+test('of a picture what isn\'t known is left out', () => {
+  const svg = '<?xml version="1.0"?><svg width="1pt" onload="x()"><script>a</script><g id="n"><!-- <b> --><a xlink:href="javascript:x()" xlink:title="t&lt;"><text x="1">a &lt; b</text></a><a xlink:href="#file=x"><image href="y"/></a> < </g></svg>';
+  assert.equal(inlined(svg), '<svg width="1pt">a<g id="n"><a data-tip="t&lt;"><text x="1">a &lt; b</text></a><a href="#file=x"></a> &#60; </g></svg>');
+});
+
+test('doc comments as HTML', () => {
+  assert.equal(docHtml(''), '');
+  assert.equal(docHtml('One `<b>`\ntwo & {@link C}.\n\nThree:\n- a\n- b\n  c'), '<div class="doc"><p>One <code>&#60;b&#62;</code> two &#38; <code>C</code>.</p><p>Three:</p><ul><li>a</li><li>b c</li></ul></div>');
+  assert.equal(docHtml('@param a - The *a*.\n@example\nf();\n@deprecated'), '<div class="doc"><dl><dt>@param <code>a</code></dt><dd><p>The *a*.</p></dd><dt>@example</dt><dd><pre><code>f();</code></pre></dd><dt>@deprecated</dt><dd></dd></dl></div>');
+  assert.equal(docHtml('#### Notes\nText\n```ts\n@x <y>\n```\nend'), '<div class="doc"><p><strong>Notes</strong></p><p>Text</p><pre><code>@x &#60;y&#62;</code></pre><p>end</p></div>');
+  assert.equal(docHtml('```\nopen'), '<div class="doc"><pre><code>open</code></pre></div>');
+});
+
+test('the page says why names aren\'t listed', () => {
+  const folder = folderOf({ 'index.ts': 'export * from "./bad";\nexport * from "./c.js";\nexport const n = 1;\n', 'bad.ts': 'export const = ;\n', 'c.js': 'module.exports = 1;\n' });
+  const { stdout } = symdir(['api', folder, '--entry', 'index.ts', '--entry', 'c.js', '--html']);
+  assert.match(stdout, /<li>index\.ts:1:1: export \* from &#34;\.\/bad&#34; isn&#39;t analyzed, and its names are public too<\/li>/);
+  assert.match(stdout, /<li>c\.js is CommonJS: its names aren&#39;t known<\/li>/);
+});

@@ -1,0 +1,235 @@
+// Reports for CI: Markdown, SARIF, workflow commands, and files that they are written to.
+import assert from 'node:assert/strict';
+import { readFileSync } from 'node:fs';
+import path from 'node:path';
+import test from 'node:test';
+
+import { code, prose, table } from '../lib/report/markdown.js';
+import { RULES } from '../lib/report/rules.js';
+import { answer, folderOf, symdir } from './helper.js';
+import { FILE, FILES, LEFT, NAME } from './hostile.js';
+
+const COMMANDS = ['api', 'leaks', 'missing', 'unused', 'cycles'];
+const FAULTY = {
+  'package.json': '{ "exports": "./index.ts",\n "dependencies": { "far": "1" } }\n',
+  'index.ts': 'export * from "./gone";\nexport { lost } from "./g";\nexport { C } from "./b";\n',
+  'b.ts': 'import { d } from "./d";\ninterface Hidden {}\nexport class C { x: Hidden = d; }\nexport const alone = 1;\n',
+  'd.ts': 'import { C } from "./b";\nexport const d = new C();\n',
+  'g.ts': 'export {};\n',
+  'e.ts': 'let;\nconst = 1;\n',
+};
+/** What each command has to find there, by its rule and place. */
+const WANTED = /** @type {Record<string, string[]>} */ ({
+  api: ['api/unresolved index.ts:1:1', 'api/unresolved index.ts:2:10', 'files/syntax e.ts:2:7'],
+  leaks: ['files/syntax e.ts:2:7', 'leaks/not-exported b.ts:2:11'],
+  missing: ['files/syntax e.ts:2:7', 'missing/file index.ts:1:1', 'missing/name index.ts:2:10'],
+  unused: ['files/syntax e.ts:2:7', 'unused/dependency package.json:2:20', 'unused/export b.ts:4:14', 'unused/file e.ts:1:1'],
+  cycles: ['cycles/cycle b.ts:1:1', 'files/syntax e.ts:2:7'],
+});
+
+/** @param {string} stdout @returns {any[]} the results of a log that has one run */
+function resultsOf(stdout) {
+  const log = JSON.parse(stdout);
+  checkSarif(log);
+  return log.runs[0].results;
+}
+
+/** What SARIF 2.1.0 requires and allows of the objects that are written, by the schema: required properties, then others. */
+const OBJECTS = /** @type {Record<string, [string[], string[]]>} */ ({
+  log: [['version', 'runs'], ['$schema']],
+  run: [['tool'], ['columnKind', 'invocations', 'results']],
+  tool: [['driver'], []],
+  toolComponent: [['name'], ['version', 'rules']],
+  reportingDescriptor: [['id'], ['shortDescription', 'defaultConfiguration']],
+  invocation: [['executionSuccessful'], ['exitCode', 'toolExecutionNotifications']],
+  notification: [['message'], ['level']],
+  result: [['message'], ['ruleId', 'ruleIndex', 'level', 'locations', 'partialFingerprints']],
+});
+
+/** @param {string} kind @param {any} it */
+function checkObject(kind, it) {
+  const [required, others] = OBJECTS[kind];
+  for (const name of required) assert.ok(Object.hasOwn(it, name), `${kind} lacks ${name}`);
+  for (const name of Object.keys(it)) assert.ok(required.includes(name) || others.includes(name), `${kind} has ${name}`);
+}
+
+/** @param {any} result @param {any[]} rules */
+function checkResult(result, rules) {
+  checkObject('result', result);
+  assert.ok(['none', 'note', 'warning', 'error'].includes(result.level));
+  assert.equal(typeof result.message.text, 'string');
+  assert.equal(rules[result.ruleIndex].id, result.ruleId);
+  const [{ physicalLocation: { artifactLocation: { uri }, region } }] = result.locations;
+  // the URI is one, relative or absolute, with nothing that has to be escaped
+  assert.match(uri, /^[\w.~!$&'()*+;=@:/%-]+$/);
+  assert.doesNotMatch(uri, /%(?![\dA-F]{2})/);
+  for (const it of [region.startLine, region.startColumn]) assert.ok(Number.isInteger(it) && it >= 1);
+  assert.ok(Object.values(result.partialFingerprints).every((it) => typeof it === 'string'));
+}
+
+/** @param {any} log */
+function checkSarif(log) {
+  checkObject('log', log);
+  assert.equal(log.version, '2.1.0');
+  assert.equal(new URL(log.$schema).protocol, 'https:');
+  const [run] = log.runs;
+  checkObject('run', run);
+  checkObject('tool', run.tool);
+  checkObject('toolComponent', run.tool.driver);
+  assert.ok(['utf16CodeUnits', 'unicodeCodePoints'].includes(run.columnKind));
+  for (const it of run.invocations) {
+    checkObject('invocation', it);
+    assert.equal(typeof it.executionSuccessful, 'boolean');
+    it.toolExecutionNotifications.forEach((/** @type {any} */ one) => checkObject('notification', one));
+  }
+  for (const it of run.tool.driver.rules) checkObject('reportingDescriptor', it);
+  assert.equal(new Set(run.tool.driver.rules.map((/** @type {any} */ it) => it.id)).size, run.tool.driver.rules.length);
+  for (const it of run.results) checkResult(it, run.tool.driver.rules);
+  assert.equal(new Set(run.results.map((/** @type {any} */ it) => it.partialFingerprints['symdir/v1'])).size, run.results.length);
+}
+
+/** @param {string} text @returns {{ command: string, properties: Record<string, string>, message: string }[]} workflow commands, as GitHub's runner reads them */
+function commandsIn(text) {
+  const plain = (/** @type {string} */ it) => it.replaceAll('%0D', '\r').replaceAll('%0A', '\n').replaceAll('%3A', ':').replaceAll('%2C', ',').replaceAll('%25', '%');
+  return text.trimEnd().split('\n').filter((it) => it !== '').map((line) => {
+    const [, command, list, message] = /** @type {RegExpExecArray} */ (/^::(error|warning|notice) ([^:]*)::(.*)$/.exec(line) ?? assert.fail(line));
+    const properties = Object.fromEntries(list.split(',').map((it) => [it.slice(0, it.indexOf('=')), plain(it.slice(it.indexOf('=') + 1))]));
+    return { command, properties, message: message.replaceAll('%0D', '\r').replaceAll('%0A', '\n').replaceAll('%25', '%') };
+  });
+}
+
+test('each command reports the same findings in each format, and ends with 1', () => {
+  const folder = folderOf(FAULTY);
+  for (const name of COMMANDS) {
+    const run = (/** @type {string} */ format) => {
+      const { status, stdout } = symdir([name, '.', format], { cwd: folder });
+      assert.equal(status, 1, `${name} ${format}`);
+      return stdout;
+    };
+    const results = resultsOf(run('--sarif'));
+    const places = results.map(({ ruleId, locations: [{ physicalLocation: { artifactLocation: { uri }, region } }] }) => `${ruleId} ${uri}:${region.startLine}:${region.startColumn}`);
+    assert.deepEqual(places.sort(), WANTED[name], name);
+    const commands = commandsIn(run('--annotations')).map(({ properties: { file, line, col, title } }) => `${title.replace('symdir ', '')} ${file}:${line}:${col}`);
+    assert.deepEqual(commands.sort(), WANTED[name], name);
+    const markdown = run('--markdown');
+    for (const it of WANTED[name]) assert.ok(markdown.includes(`\`${it.split(' ')[1]}\``), `${it} in ${markdown}`);
+  }
+});
+
+test('diff and api --check report changes at what changed, or at the entry', () => {
+  const old = { 'index.ts': 'export * from "./a";\n', 'a.ts': 'export const a = 1;\nexport class C { m(): void {} n(): void {} }\n' };
+  const now = { 'index.ts': 'export * from "./a";\n', 'a.ts': 'export class C {\n  m(x: 1): void {} }\nexport const b = 1;\n' };
+  const [before, after] = [folderOf(old), folderOf(now)];
+  const wanted = ['diff/major a.ts:2:3', 'diff/major index.ts:1:1', 'diff/major index.ts:1:1', 'diff/minor a.ts:3:14'];
+  const file = path.join(folderOf({}), 'api.txt');
+  symdir(['api', before, '--save', file]);
+  for (const words of [['diff', before, after], ['diff', before, '.'], ['diff', file, '.'], ['api', '.', '--check', file]]) {
+    const { status, stdout } = symdir([...words, '--annotations'], { cwd: after });
+    assert.equal(status, 1);
+    assert.deepEqual(commandsIn(stdout).map(({ properties: { file: it, line, col, title } }) => `${title.replace('symdir ', '')} ${it}:${line}:${col}`).sort(), wanted);
+    assert.equal(resultsOf(symdir([...words, '--sarif'], { cwd: after }).stdout).length, 4);
+    assert.match(symdir([...words, '--markdown'], { cwd: after }).stdout, /^\*\*major: 2 removed, 1 added, 1 changed.*\*\*\n\n\| version \| name \| change \| reason \|\n/);
+  }
+  assert.deepEqual(symdir(['diff', before, before, '--markdown']), { status: 0, stdout: '**the 2 public names and their members are the same**\n', stderr: '' });
+});
+
+test('paths are relative to the current directory, and absolute elsewhere', () => {
+  const folder = folderOf({ 'sub/index.ts': 'export * from "./gone";\n', 'other/x': '' });
+  const file = (/** @type {string} */ cwd) => commandsIn(symdir(['missing', path.join(folder, 'sub'), '--annotations'], { cwd })[/** @type {const} */ ('stdout')])[0].properties.file;
+  assert.equal(file(folder), 'sub/index.ts');
+  assert.equal(file(path.join(folder, 'other')), path.join(folder, 'sub/index.ts'));
+  const [{ locations }] = resultsOf(symdir(['missing', path.join(folder, 'sub'), '--sarif'], { cwd: path.join(folder, 'other') }).stdout);
+  assert.equal(locations[0].physicalLocation.artifactLocation.uri, new URL(`file://${folder}/sub/index.ts`).href);
+});
+
+test('nothing found: reports without findings, and the status 0', () => {
+  const folder = folderOf({ 'index.ts': 'export const a = 1;\n' });
+  for (const name of COMMANDS) {
+    assert.deepEqual(symdir([name, folder, '--annotations']), { status: 0, stdout: '', stderr: '' });
+    const { status, stdout } = symdir([name, folder, '--sarif']);
+    assert.deepEqual([status, resultsOf(stdout)], [0, []]);
+    assert.equal(symdir([name, folder, '--markdown']).status, 0);
+  }
+});
+
+test('hostile names, paths and comments: workflow commands and SARIF keep each finding whole', () => {
+  const folder = folderOf(FILES);
+  const found = answer(['missing', folder]).missing;
+  assert.deepEqual(found.map((/** @type {any} */ it) => it.text), [`./gone/${NAME}`]);
+  for (const [name, wanted] of /** @type {[string, string][]} */ ([['missing', 'index.ts'], ['leaks', FILE], ['unused', LEFT]])) {
+    const { stdout } = symdir([name, '.', '--annotations'], { cwd: folder });
+    const commands = commandsIn(stdout);
+    const results = resultsOf(symdir([name, '.', '--sarif'], { cwd: folder }).stdout);
+    assert.equal(commands.length, results.length);
+    assert.deepEqual(commands.map(({ properties }) => properties.file), [wanted]);
+    assert.deepEqual(results.map(({ message }) => message.text), commands.map(({ message }) => message));
+    assert.deepEqual(results.map((it) => decodeURIComponent(it.locations[0].physicalLocation.artifactLocation.uri)), commands.map(({ properties }) => properties.file));
+  }
+  assert.equal(commandsIn(symdir(['missing', '.', '--annotations'], { cwd: folder }).stdout)[0].message, `export * "./gone/${NAME}" resolves to no file`);
+});
+
+test('hostile names, paths and comments: Markdown has the rows and cells of a table, and no element but code', () => {
+  const folder = folderOf(FILES);
+  for (const words of [['api', folder], ['leaks', folder], ['missing', folder], ['unused', folder], ['diff', folderOf({ 'index.ts': 'export const a = 1;\n' }), folder]]) {
+    const { stdout } = symdir([...words, '--markdown']);
+    const lines = stdout.split('\n');
+    const rows = lines.filter((it) => it.startsWith('| '));
+    const cells = rows.map((it) => it.replace(/`[^`|]*`/g, 'code').split('|').length);
+    assert.ok(rows.length > 2 && cells.every((it) => it === cells[0]), words[0]);
+    const text = stdout.replace(/`[^`\n]*`/g, '').replace(/<\/?code>/g, '');
+    assert.doesNotMatch(text, /<|@(?!&#8203;)|\]\(|\u202e/);
+  }
+});
+
+test('code and text in Markdown', () => {
+  assert.equal(code('a<b> & *c*'), '`a<b> & *c*`');
+  assert.equal(code('a|b`c\\_'), '<code>a&#124;b&#96;c&#92;&#95;</code>');
+  assert.equal(code(' a\n\t b\u2028'), '`a b`');
+  assert.equal(code(''), '');
+  assert.equal(prose('*a* `b|` @c #1 <d> www.e'), '&#42;a&#42; <code>b&#124;</code> @&#8203;c &#35;&#8203;1 &#60;d&#62; www&#46;e');
+});
+
+/** So many rows are too long for a comment. */
+const COUNT = 300;
+
+test('a long table is cut where a comment of GitHub ends, and says so', () => {
+  const text = Array.from({ length: COUNT }, (_, i) => `/** The number ${i}${' of many'.repeat(25)}. */\nexport const name${i} = ${i};\n`).join('');
+  const folder = folderOf({ 'index.ts': text });
+  const { stdout } = symdir(['api', folder, '--markdown']);
+  assert.ok(stdout.length < 65_536);
+  const [, rest] = /** @type {RegExpExecArray} */ (/\n\nand (\d+) more \(`--all` lists them\)\n$/.exec(stdout));
+  assert.equal(stdout.split('\n').filter((it) => it.startsWith('| `name')).length + Number(rest), COUNT);
+  assert.equal(symdir(['api', folder, '--markdown', '--all']).stdout.split('\n').filter((it) => it.startsWith('| `name')).length, COUNT);
+  assert.deepEqual(table(['a'], [['b'], ['c']], true, 0), ['| a |', '| --- |', '| b |', '| c |']);
+});
+
+test('--out writes the report, and says how many findings it has', () => {
+  const folder = folderOf(FAULTY);
+  for (const format of ['--json', '--markdown', '--sarif', '--html']) {
+    const file = path.join(folderOf({}), 'report');
+    const plain = symdir(['api', folder, format]);
+    assert.deepEqual(symdir(['api', folder, format, '-o', file]), { status: 1, stdout: `${file}: 3 findings\n`, stderr: plain.stderr });
+    assert.equal(readFileSync(file, 'utf8'), plain.stdout);
+  }
+  assert.deepEqual(symdir(['api', folder, '--json', '-o', '/none/report']).status, 3);
+});
+
+test('formats can\'t be combined, nor with what writes something else', () => {
+  const folder = folderOf({ 'index.ts': '' });
+  const said = (/** @type {string[]} */ ...words) => {
+    const { status, stdout, stderr } = symdir(words);
+    assert.deepEqual([status, stdout], [2, '']);
+    return stderr;
+  };
+  assert.equal(said('api', folder, '--json', '--sarif'), 'symdir: --json and --sarif can\'t be combined\n');
+  assert.equal(said('api', folder, '--html', '--check', 'x'), 'symdir: --check and --html can\'t be combined\n');
+  assert.equal(said('api', folder, '--save', 'x', '--markdown'), 'symdir: --save and --markdown can\'t be combined\n');
+  assert.equal(said('leaks', folder, '--annotations', '-o', 'x'), 'symdir: --annotations and --out can\'t be combined\n');
+  assert.equal(said('leaks', folder, '-o', 'x'), 'symdir: --out needs --json, --markdown, --sarif or, for api, --html\n');
+  assert.match(said('leaks', folder, '--html'), /^symdir: Unknown option '--html'/);
+  assert.match(said('where', folder, 'index.ts:1', '--sarif'), /^symdir: Unknown option '--sarif'/);
+});
+
+test('each rule has a level and a text', () => {
+  for (const [id, { level, text }] of Object.entries(RULES)) assert.ok(/^[a-z]+\/[a-z-]+$/.test(id) && ['error', 'warning', 'note'].includes(level) && text.length > 10);
+});

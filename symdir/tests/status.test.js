@@ -1,0 +1,74 @@
+// What a run ends with, and what it says on the way.
+import assert from 'node:assert/strict';
+import { symlinkSync } from 'node:fs';
+import path from 'node:path';
+import test from 'node:test';
+
+import { folderOf, program, symdir } from './helper.js';
+
+const TEXT = 'export const n = 1;\n';
+
+test('api ends with 1 where it prints a finding, and with 0 where names come from what isn\'t read', () => {
+  const status = (/** @type {Record<string, string>} */ files, /** @type {string[]} */ ...words) => symdir(['api', folderOf(files), ...words]).status;
+  for (const words of [[], ['--json']]) {
+    assert.equal(status({ 'index.ts': TEXT }, ...words), 0);
+    assert.equal(status({ 'index.ts': 'export * from "npm:far";\nexport { a } from "npm:far";\n' }, ...words), 0);
+    assert.equal(status({ 'index.ts': 'export * from "./gone";\n' }, ...words), 1);
+    assert.equal(status({ 'index.ts': 'export { a } from "./gone";\n' }, ...words), 1);
+    assert.equal(status({ 'index.ts': 'export { a } from "./b";\n', 'b.ts': TEXT }, ...words), 1);
+  }
+});
+
+test('a configuration file that can\'t be parsed is told with its place, and is a finding', () => {
+  const said = (/** @type {string} */ name, /** @type {string} */ text, /** @type {string[]} */ ...words) => {
+    const { status, stderr } = symdir([...words, folderOf({ 'index.ts': TEXT, [name]: text })]);
+    assert.equal(status, 1, name);
+    return stderr;
+  };
+  // a colon lacks before the second string, a comma before the second key, a value before the brace
+  assert.match(said('package.json', '{ "name": "a",\n  "types" "index.ts" }\n', 'api'), /^symdir: package\.json:2:11: .+\n$/);
+  assert.match(said('deno.json', '{ "name": "a" "exports": "./index.ts" }\n', 'leaks'), /^symdir: deno\.json:1:15: .+\n$/);
+  assert.match(said('tsconfig.json', '{\n  // a comment\n  "compilerOptions": }\n', 'graph'), /^symdir: tsconfig\.json:3:22: .+\n$/);
+  const { status, stdout, stderr } = symdir(['missing', folderOf({ 'index.ts': TEXT, 'package.json': '{ "name" }' })]);
+  assert.deepEqual([status, stderr], [1, '']);
+  assert.match(stdout, /^files with a syntax error, not analyzed: 1\n {2}.+ {2}package\.json:1:10\n/);
+});
+
+test('a configuration file with comments and commas at the ends is none with a fault', () => {
+  const text = '{ // a comment\n  "compilerOptions": { "paths": {}, }, /* another */\n}\n';
+  assert.deepEqual(symdir(['api', folderOf({ 'index.ts': TEXT, 'tsconfig.json': text })]).stderr, '');
+});
+
+test('a file that can\'t be read is told once, however many import it', () => {
+  const folder = folderOf({ 'index.ts': 'export * from "./a";\nimport "./b";\n', 'b.ts': 'import "./a";\n' });
+  // it is there, and a read of it fails for whoever reads
+  symlinkSync('/proc/self/mem', path.join(folder, 'a.ts'));
+  const { status, stdout, stderr } = symdir(['api', folder]);
+  assert.deepEqual([status, stderr], [1, 'symdir: a.ts: can\'t be read (EIO)\n']);
+  assert.match(stdout, /index\.ts:1:1: export \* from "\.\/a": a\.ts isn't analyzed, /);
+  const missing = symdir(['missing', folder]);
+  assert.match(missing.stdout, /^unreadable files: 1\n {2}EIO {2}a\.ts:1:1\n/);
+});
+
+test('a configuration file that can\'t be read is told once', () => {
+  const folder = folderOf({ 'index.ts': TEXT });
+  symlinkSync('/proc/self/mem', path.join(folder, 'package.json'));
+  const { status, stderr } = symdir(['api', folder]);
+  assert.deepEqual([status, stderr], [1, 'symdir: package.json: can\'t be read (EIO)\n']);
+});
+
+test('a configuration file of an installed package isn\'t told', () => {
+  const files = { 'index.ts': 'export { a } from "p";\n', 'node_modules/p/package.json': '{ "types" }', 'node_modules/p/index.d.ts': 'export const a: 1;\n' };
+  for (const words of [[], ['--packages']]) assert.deepEqual([symdir(['api', folderOf(files), ...words]).status, symdir(['api', folderOf(files), ...words]).stderr], [0, '']);
+  // one of the folder with a fault counts for nothing, and of a tsconfig.json what TypeScript makes of it does
+  const found = symdir(['api', folderOf({ 'index.ts': TEXT, 'b.ts': TEXT, 'package.json': '{ "main": "b.ts", }, }' })]);
+  assert.match(found.stdout, /^index\.ts: 1 public name/);
+});
+
+test('--verbose tells every five seconds how far it is, and nothing else does', () => {
+  const slow = program({}, 'symq', '#!/bin/sh\nread line\nsleep 6\nexit 9\n');
+  const folder = folderOf({ 'index.ts': TEXT });
+  const run = (/** @type {string[]} */ ...words) => symdir(['api', folder, '--symq', slow, ...words]);
+  assert.match(run('--verbose').stderr, /^symdir: waiting for symq: 1 query, \d+ s\nsymdir: symq exited with status 9\n$/);
+  assert.equal(run().stderr, 'symdir: symq exited with status 9\n');
+});

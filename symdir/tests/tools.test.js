@@ -1,0 +1,80 @@
+// What the repository's own commands say where something lacks that they need.
+import assert from 'node:assert/strict';
+import { spawnSync } from 'node:child_process';
+import { cpSync, readFileSync } from 'node:fs';
+import path from 'node:path';
+import test from 'node:test';
+import { fileURLToPath } from 'node:url';
+
+import { folderOf, program } from './helper.js';
+
+const TOP = fileURLToPath(new URL('../../', import.meta.url));
+
+/** @param {string} command @param {string[]} words @param {string} [cwd] */
+function run(command, words, cwd = TOP) {
+  const { status, stdout, stderr } = spawnSync(command, words, { cwd, encoding: 'utf8', env: { ...process.env, GIT_CEILING_DIRECTORIES: path.dirname(cwd) } });
+  return { status, stdout, stderr };
+}
+
+test('the gate without a repository, and large graphs without the program, end in one line', () => {
+  const copy = folderOf({});
+  for (const it of ['tools', 'crates.txt']) cpSync(path.join(TOP, it), path.join(copy, it), { recursive: true });
+  assert.deepEqual(run('python3', ['tools/gate.py'], copy), {
+    status: 1, stdout: '', stderr: 'the gate needs git and a clone of the repository: which wrong bodies are due goes by the number of commits\n' });
+  assert.deepEqual(run('python3', ['tools/run_plain.py', '/none/symq']), {
+    status: 1, stdout: '', stderr: 'no program /none/symq: `make symq` builds it\n' });
+});
+
+test('what can\'t be installed is told with what kept the lists of packages from being updated', () => {
+  const bin = path.dirname(program({}, 'apt-get', '#!/bin/sh\n[ "$1" = update ] && { echo "E: Could not get lock"; exit 100; }\necho "E: Unable to locate package $4"; exit 100\n'));
+  const { status, stderr } = spawnSync('python3', ['-c', 'import set_up; set_up.install(["a"])'], {
+    cwd: path.join(TOP, 'tools'), encoding: 'utf8', env: { ...process.env, PATH: `${bin}:${process.env.PATH}` } });
+  assert.deepEqual([status, stderr], [1, 'installing a\nE: Could not get lock\nE: Unable to locate package a\n\n']);
+});
+
+test('bench/sources.mjs says how it is called', () => {
+  const usage = 'usage: node bench/sources.mjs [--rounds N] [--symq FILE] [--environment as-is] FOLDER..\n';
+  assert.deepEqual(run(process.execPath, ['bench/sources.mjs', '--help']), { status: 0, stdout: usage, stderr: '' });
+  assert.deepEqual(run(process.execPath, ['bench/sources.mjs', '--none']), { status: 2, stdout: '', stderr: `sources.mjs: Unknown option '--none'\n${usage}` });
+  assert.deepEqual(run(process.execPath, ['bench/sources.mjs', '/none']), { status: 2, stdout: '', stderr: `sources.mjs: no directory /none\n${usage}` });
+});
+
+test('bench/huge.mjs says how it is called', () => {
+  const usage = 'usage: node bench/huge.mjs [--megabytes N] [--rounds N] [--kinds KIND,..] [--command]\n';
+  const said = (/** @type {string[]} */ ...words) => run(process.execPath, ['bench/huge.mjs', ...words]);
+  assert.deepEqual(said('--help'), { status: 0, stdout: usage, stderr: '' });
+  assert.deepEqual(said('--none'), { status: 2, stdout: '', stderr: `huge.mjs: Unknown option '--none'\n${usage}` });
+  assert.deepEqual(said('--kinds', 'x'), { status: 2, stdout: '', stderr: `huge.mjs: no kind x: there are docs, imports, classes, object, interface, namespace, mixed\n${usage}` });
+  assert.deepEqual(said('--rounds', '0'), { status: 2, stdout: '', stderr: `huge.mjs: --megabytes and --rounds are numbers from 1\n${usage}` });
+  assert.match(said('--megabytes', '0.01', '--rounds', '1', '--kinds', 'docs,object').stdout, /^docs +parser [\d.]+ s, converted [\d.]+ s \([\d.]+\); load [\d.]+\nobject .*\n$/);
+});
+
+/** @param {string} text of a program in Python, among the tools @param {Record<string, string>} [env] */
+function python(text, env = {}) {
+  const { status, stdout, stderr } = spawnSync('python3', ['-c', `import sys\nsys.path.insert(0, 'tools')\n${text}`], { cwd: TOP, encoding: 'utf8', env: { ...process.env, ...env } });
+  return { status, stdout, stderr };
+}
+
+test('what lacks is installed, after an update of the lists where that fails first', () => {
+  const log = path.join(folderOf({}), 'log');
+  const stub = program({}, 'apt-get', `#!/bin/sh\necho "$@" >> '${log}'\n[ "$1" = update ] || grep -q '^update' '${log}'\n`);
+  const install = (/** @type {string} */ more) => python(`import set_up\nset_up.may_install = lambda: True\n${more}`, { PATH: `${path.dirname(stub)}:${process.env.PATH}` });
+  assert.deepEqual(install("set_up.ensure_directories([('/none/b', 'b'), ('/', 'there'), ('/none/a', 'a'), ('/none/c', 'b')])"), { status: 0, stdout: '', stderr: 'installing a, b\n' });
+  const words = 'install -y --no-install-recommends a b';
+  assert.equal(readFileSync(log, 'utf8'), `${words}\nupdate\n${words}\n`);
+  assert.deepEqual(python("import set_up\nset_up.may_install = lambda: False\nset_up.ensure_directories([('/none/a', 'a')])"), { status: 1, stdout: '', stderr: 'packages of Debian are needed: install a\n' });
+});
+
+test('packages are compared with the TypeScript that is installed, and with the newest where it is there', () => {
+  const run = (/** @type {string} */ newest) => python(`import contextlib, run_symdir as r
+r.ensure_directories = lambda rows: print(len(rows) > 24)
+r.installed_typescript, r.newest_typescript = lambda: 'old', lambda: ${newest}
+r.with_typescript = lambda it: contextlib.nullcontext()
+r.version_of = lambda it: it
+r.run_tests = lambda files, environment: (len(files), 0)
+print(r.run_over_packages('symq'))`);
+  const { stdout } = run("'new'");
+  const count = Number(/^TypeScript old: (\d+) passed, 0 failed$/m.exec(stdout)?.[1]);
+  assert.equal(stdout, `True\nTypeScript old: ${count} passed, 0 failed\nTypeScript new: ${count} passed, 0 failed\n[${2 * count}, 0]\n`);
+  assert.equal(run('None').stdout, `True\nTypeScript of Debian's newest suite can't be had here: compared with the one that is installed alone\nTypeScript old: ${count} passed, 0 failed\n[${count}, 0]\n`);
+});

@@ -1,0 +1,123 @@
+import assert from 'node:assert/strict';
+import path from 'node:path';
+import test from 'node:test';
+
+import { answer, folderOf, symdir } from './helper.js';
+import { Language, ts } from './language.js';
+import { referencesTo } from './wanted.js';
+
+const FILES = {
+  'shapes.ts': `export interface Shape { sides: number }
+export class Shape { static make(): Shape { return new Shape(); } }
+export const unit = 1;
+export default function draw(it: Shape) { return [it, unit, draw]; }
+namespace inner { export type Size = typeof unit; export class Deep {} }
+export import sizes = inner;
+enum Axis { x, y }
+export { Axis as Direction, Axis };
+let again: inner.Deep | sizes.Deep = new inner.Deep();
+export = 1;
+`.replace('export = 1;\n', ''),
+  'passing.ts': 'export * from "./shapes";\nexport { Shape as Form, default as paint } from "./shapes";\nexport * as shapes from "./shapes";\n',
+  'index.ts': `import draw, { Shape as S, unit, Direction } from "./shapes";
+import * as all from "./passing";
+import type { Form } from "./passing";
+import { paint, sizes, shapes } from "./passing";
+import { type Axis } from "./shapes";
+export { unit as one };
+export { Axis as A } from "./shapes";
+export default S;
+const { unit: uno, Shape } = all;
+let f: Form | all.Form | import("./passing").Form | typeof all.unit = new all.Shape();
+let deep: sizes.Deep | all.sizes.Deep | shapes.Shape;
+class Box extends all["Shape"] implements S { made = S.make(); }
+export function run(unit: S, { one = all.unit }) {
+  const s: S = draw(unit), t = all.unit;
+  return { unit, s, t, paint, x: Direction.x, f(S: number) { return S; } };
+}
+const object = { unit, [unit]: unit };
+let axis: Axis;
+let far: import("./passing").sizes.Deep | import("./passing").shapes.Shape;
+`,
+  'more.ts': 'import Made, { one, A } from "./index";\nlet m: Made = new Made(), o = one, a = A.x;\n',
+};
+const NAMES = Object.keys(FILES);
+const folder = folderOf(FILES);
+const language = new Language(folder, NAMES);
+
+/** @param {string} spot @param {string[]} words @returns {string[]} places of what leads there by a name */
+function ours(spot, ...words) {
+  const [found] = answer(['uses', folder, spot, ...words]);
+  return found.uses.filter((/** @type {any} */ it) => it.how !== 'export *').map((/** @type {any} */ it) => `${it.file}:${it.line}:${it.column}`).sort();
+}
+
+for (const spot of ['shapes.ts:1:18', 'shapes.ts:3:14', 'shapes.ts:4:25', 'shapes.ts:5:64', 'shapes.ts:7:6']) {
+  test(`what leads to ${spot} is what TypeScript's references are, with bodies and without`, () => {
+    const [file, line, column] = spot.split(':');
+    const all = referencesTo(language, path.join(folder, file), Number(line), Number(column));
+    assert.ok(all.length > 1);
+    assert.deepEqual(ours(spot, '--bodies'), all.map((it) => it.place));
+    assert.deepEqual(ours(spot), all.filter((it) => !it.isInBody).map((it) => it.place));
+  });
+}
+
+test('what leads to a module with `export =` is what TypeScript\'s references are: each import of it', () => {
+  const files = {
+    'old.ts': 'namespace Old { export interface Options { a: 1 } export function run(it: Options) {} }\nexport = Old;\n',
+    'index.ts': 'import old = require("./old");\nimport same from "./old";\nexport { old, same };\nlet it: old.Options;\n',
+  };
+  const made = folderOf(files);
+  const service = new Language(made, Object.keys(files), { module: ts.ModuleKind.CommonJS });
+  for (const [line, column] of [[1, 11], [1, 34]]) {
+    const wanted = referencesTo(service, path.join(made, 'old.ts'), line, column).map((it) => it.place);
+    const [{ uses }] = answer(['uses', made, `old.ts:${line}:${column}`, '--bodies']);
+    assert.deepEqual(uses.map((/** @type {any} */ it) => `${it.file}:${it.line}:${it.column}`).sort(), wanted);
+    assert.equal(wanted.includes('index.ts:1:8'), column === 11);
+  }
+  const { stdout } = symdir(['uses', made, 'old.ts:1', 'Old']);
+  assert.match(stdout, /^ {2}index\.ts:1:8 +import +import old = require/m);
+});
+
+test('from each place that leads there, by an alias too', () => {
+  const places = ours('shapes.ts:3:14', '--bodies');
+  for (const spot of ['index.ts:1:29', 'index.ts:6:10', 'more.ts:1:16', 'more.ts:2:31', 'index.ts:10:65']) assert.deepEqual(ours(spot, '--bodies'), places, spot);
+});
+
+test('statements `export *` that pass it on, and how each use stands', () => {
+  const [{ name, defined, uses }] = answer(['uses', folder, 'shapes.ts:2', 'Shape']);
+  assert.deepEqual([name, defined], ['Shape', [{ kind: 'interface', file: 'shapes.ts', line: 1, column: 18 }, { kind: 'class', file: 'shapes.ts', line: 2, column: 14 }]]);
+  const how = Object.fromEntries(uses.map((/** @type {any} */ it) => [`${it.file}:${it.line}:${it.column}`, [it.how, it.isType]]));
+  assert.deepEqual([how['passing.ts:1:1'], how['passing.ts:2:10'], how['index.ts:1:16']], [['export *', false], ['re-export', false], ['import', false]]);
+  assert.deepEqual([how['index.ts:3:15'], how['index.ts:10:46'], how['index.ts:10:79'], how['index.ts:8:16']],
+    [['import', true], ['import type', true], ['reference', false], ['reference', false]]);
+  const exported = answer(['uses', folder, 'shapes.ts:7', 'Axis'])[0].uses;
+  assert.deepEqual(exported.slice(-2).map((/** @type {any} */ it) => [it.line, it.column, it.how]), [[8, 10, 'export'], [8, 29, 'export']]);
+});
+
+test('an import is for types alone where no body needs it, if bodies are read', () => {
+  const files = { 'index.ts': 'import { a, b } from "./a";\nlet c: b;\nexport function f() { return a; }\n', 'a.ts': 'export const a = 1; export class b {}\n' };
+  const isType = (/** @type {string} */ name, /** @type {string[]} */ ...words) => answer(['uses', folderOf(files), 'a.ts:1', name, ...words])[0].uses[0].isType;
+  assert.deepEqual([isType('a'), isType('a', '--bodies'), isType('b'), isType('b', '--bodies')], [false, false, false, true]);
+});
+
+test('a local name, and a name that nothing uses', () => {
+  const files = { 'index.ts': 'export function f(a: number) {\n  const b = a;\n  return b + b;\n}\n' };
+  const at = (/** @type {string} */ spot) => answer(['uses', folderOf(files), spot]).map((/** @type {any} */ it) => [it.name, it.defined.map((/** @type {any} */ one) => one.column), it.uses.map((/** @type {any} */ one) => `${one.line}:${one.column}`)]);
+  assert.deepEqual(at('index.ts:2:9'), [['b', [9], ['3:10', '3:14']]]);
+  assert.deepEqual(at('index.ts:1:19'), [['a', [19], ['2:13']]]);
+  assert.deepEqual(at('index.ts:1:17'), [['f', [17], []]]);
+  assert.equal(symdir(['uses', folderOf(files), 'index.ts:1:17']).status, 1);
+});
+
+test('what people read', () => {
+  const small = folderOf({ 'index.ts': 'export * from "./a";\nimport { a } from "./a";\nexport function f() { return a; }\n', 'a.ts': 'export const a = 1;\n' });
+  assert.deepEqual(symdir(['uses', small, 'a.ts:1']), { status: 0, stderr: '', stdout: `a  const  a.ts:1:14: 2 uses in 1 file
+  index.ts:1:1   export *  export * from "./a";
+  index.ts:2:10  import    import { a } from "./a";
+  function bodies aren't searched: --bodies searches them
+` });
+  assert.deepEqual(symdir(['uses', small, 'index.ts:3', 'a', '--bodies']).stdout.split('\n').slice(3), ['  index.ts:3:30  reference  export function f() { return a; }', '']);
+  assert.deepEqual(symdir(['uses', small, 'a.ts:1:1']), { status: 1, stdout: 'no name of a variable or a type at a.ts:1:1\n', stderr: '' });
+  assert.deepEqual(symdir(['uses', small, 'a.ts:1', 'b']), { status: 1, stdout: 'no name b at a.ts:1\n', stderr: '' });
+  assert.deepEqual(symdir(['uses', small, 'a.ts']), { status: 2, stdout: '', stderr: 'symdir: uses takes FILE:LINE or FILE:LINE:COLUMN, as `symdir uses . src/a.ts:3:14`\n' });
+});
