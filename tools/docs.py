@@ -9,7 +9,7 @@ The checks of the documents, which are all files *.md:
 
     a sentence has at most 35 words; a cell of a table, an item of a list and a heading end one; a list of names in code is one word
     a relative link, and a path in code such as `tools/docs.py`, names a file, and `#part` a heading
-    README.md, docs/, the pages of symdir and the README.md of bench and evidence have at most 2,900 lines together
+    all documents have at most 2,900 lines together
     docs/ARCHITECTURE.md has at most 250 lines
     docs/DEFINITIONS.md has at most 60 notions, and each definition that it names exists
     each clause and each mutant that docs/PROVED.md names exists, and the trusted definitions have as many lines as it says
@@ -22,7 +22,6 @@ command that of examples/shapes.
 A line for each fault; the last line is 'N passed, M failed'.
 """
 import argparse
-import glob
 import os
 import re
 import subprocess
@@ -35,7 +34,6 @@ from wrong.clauses import ensures, has_law, words_of_clause
 from wrong.crates import Crate, libraries_of
 
 TOP = os.path.dirname(os.path.dirname(os.path.abspath(__file__)))
-COUNTED = ('README.md', 'docs/*.md', 'bench/README.md', 'evidence/README.md', 'symdir/*.md')
 WORDS, LINES, MAP_LINES, NOTIONS = 35, 2900, 250, 60
 # documents with a length limit of their own
 MAP, GLOSSARY, PROMISES = 'docs/ARCHITECTURE.md', 'docs/DEFINITIONS.md', 'docs/PROVED.md'
@@ -232,8 +230,7 @@ def text_checks(top):
     for name, text in documents.items():
         yield '%s: sentences over %d words' % (name, WORDS), long_sentences(text), []
         yield '%s: links' % name, broken_links(top, name, text), []
-    counted = [it for pattern in COUNTED for it in sorted(glob.glob(os.path.join(top, pattern)))]
-    total = sum(lines_in(read(it)) for it in counted)
+    total = sum(map(lines_in, documents.values()))
     yield 'lines of all documents', total, min(total, LINES)
     if MAP in documents:
         yield 'lines of ' + MAP, lines_in(documents[MAP]), min(lines_in(documents[MAP]), MAP_LINES)

@@ -126,6 +126,7 @@ strict answer of {}: ["y"]
 answer of a graph that symdir wrote: ["name","a"]
 ```
 ''',
+    'evidence/crate/README.md': '# A program\n\nShort.\n',
     'symdir/bin/symdir.js': '''const [command, , , file] = process.argv.slice(2);
 if (command === 'graph') require('fs').writeFileSync(file, 'a graph that symdir wrote');
 else console.log('one name');
@@ -158,6 +159,7 @@ CHANGES = [
     ('a link from docs', MAP, ('../README.md', 'README.md'), ['docs/ARCHITECTURE.md: links']),
     ('too long a map', MAP, ('Short.', 'Short.\n' * 250), ['lines of docs/ARCHITECTURE.md']),
     ('too many lines', README, ('See [', 'Short.\n' * 2900 + 'See ['), ['lines of all documents']),
+    ('too many lines of a page below', 'evidence/crate/README.md', ('Short.', 'Short.\n' * 2900), ['lines of all documents']),
     ('too many notions', docs.GLOSSARY, ('| **name** |', '| **name** | |\n' * 60 + '| **name** |'), ['notions of docs/DEFINITIONS.md']),
     ('no such definition', docs.GLOSSARY, ('Names called', 'Names told'), ['docs/DEFINITIONS.md: definitions']),
     ('no such file of definitions', docs.GLOSSARY, ('Names called', 'Name called'), ['docs/DEFINITIONS.md: definitions']),
