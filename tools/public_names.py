@@ -6,22 +6,22 @@
     python3 tools/public_names.py --write [FOLDER]  makes its tables from the sources, and compares
     python3 tools/public_names.py --move [FOLDER]   moves rows that say 'not there yet' to the locations of their names
 
-docs/PUBLIC.md says what a row is. All but its beginning and its part 'Left out' is generated, in the order of modules: for each item a row with its
-fields or variants and the first sentence of its comment, one with its methods and one with its traits. A row is wrong
+docs/PUBLIC.md says what a row is. All but its beginning and its part 'Left out' is generated, in the order of modules: for each item a row with these
+entries, and with the first sentence of its comment: itself with its fields or variants, its numbered fields, its methods, its traits. An entry is wrong
 
-    if it names a location without such a public item, part or trait
-    if it says 'not there yet' or 'left out', and the name exists
-    if it says 'left out', and docs/DIFFERENCES.md doesn't have the name
-    if another row has the same name, or its line can't be read
+    if its row has a location without such a public item, part or trait
+    if its row says 'not there yet' or 'left out', and the name exists
+    if its row says 'left out', and docs/DIFFERENCES.md doesn't have the name
+    if the page has it twice
 
-and a public name of a library lacks a row if no row names it at one of its locations. Libraries are the crates of
-crates.txt that have src/lib.rt, except for those whose names end in `_test_support`, which only tests use. Public is what a user can write: `pub` items that are reachable by `pub mod`
-and `pub use` from the crate's root, their `pub` fields and methods, variants, the items of a trait, and traits that are
-implemented by hand. Items for contracts alone aren't public: `ghost` parts, and the trait `Model`.
+and a row is wrong if it can't be read or has entries of several items. A public name of a library lacks a row if no row names it at one of its locations.
+Libraries are the crates of crates.txt that have src/lib.rt, except for those whose names end in `_test_support`, which only tests use. Public is what a
+user can write: `pub` items that are reachable by `pub mod` and `pub use` from the crate's root, their `pub` fields and methods, variants, the items of a
+trait, and traits that are implemented by hand. Items for contracts alone aren't public: `ghost` parts, and the trait `Model`.
 
 The page also has to be as it is generated. The sources are read in the layout of `rt fmt`, and unsupported forms fail too: `pub use` of all names, or of
-one that doesn't exist, a module within a file, two items of one name in a crate. Each wrong row has a line, and each name
-without a row has the row that it needs; the last line is 'N passed, M failed'.
+one that doesn't exist, a module within a file, two items of one name in a crate. Each fault has a line, and each name without a row has the row that it
+needs; the last line is 'N passed, M failed'.
 """
 import os
 import re
@@ -39,7 +39,7 @@ OF_TESTS = '_test_support'
 TREES = 'deno_symbols::tree'
 
 LINK = re.compile(r'\[([^]]*)\]\([^)]*\)')
-ROW = re.compile(r'\| `([^`]+)` \| ([^|]+?) \|.*')
+ROW = re.compile(r'\| (`[^`]+`(?:, `[^`]+`)*) \| ([^|]+?) \|.*')
 ITEM = re.compile(r'pub (?:const |unsafe )*(struct|enum|trait|fn|type|const|static) (\w+)')
 MODULE = re.compile(r'(pub )?(?:pub\([a-z]+\) )?mod (\w+);')
 USE = re.compile(r'pub use (.*);', re.S)
@@ -80,8 +80,8 @@ class Module:
 
 
 @dataclass(frozen=True)
-class Row:
-    """A row of the table: a type or function, some of its parts, or its traits."""
+class Entry:
+    """An entry of a row, with the row's line and location: a type or function, some of its parts, or its traits."""
 
     line: int
     name: str
@@ -268,65 +268,80 @@ class Sources:
         return [item for item, places in self.places.items() if any(name == other for _, other in places)]
 
 
-def row_of(number, name, place):
-    """Returns the row of a name and a location; None if the name doesn't have the form."""
+def entry_of(number, name, place):
+    """Returns the entry of a name and a location; None if the name doesn't have the form."""
     if trait := re.fullmatch(r'(\w+): (\w.*)', name):
-        return Row(number, name, place, trait[1], whole=False, traits=tuple(re.split(r', (?=\w)(?![^<]*>)', trait[2])))
+        return Entry(number, name, place, trait[1], whole=False, traits=tuple(re.split(r', (?=\w)(?![^<]*>)', trait[2])))
     if methods := re.fullmatch(r'(\w+)::\{(.*)\}', name):
-        return Row(number, name, place, methods[1], whole=False, parts=tuple('::' + it for it in split_list(methods[2])))
+        return Entry(number, name, place, methods[1], whole=False, parts=tuple('::' + it for it in split_list(methods[2])))
     if part := re.fullmatch(r'(\w+)((?:::|\.)\w+)', name):
-        return Row(number, name, place, part[1], whole=False, parts=(part[2],))
+        return Entry(number, name, place, part[1], whole=False, parts=(part[2],))
     if group := re.fullmatch(r'(\w+) \{ (.*) \}', name):
         words = [re.match(r'(\w+)(?: \{ (.*) \})?', word) for word in split_list(group[2])]
         fields = tuple((word[1], set(split_list(word[2]))) for word in words if word[2])
         parts = tuple(('::' if word[1][0].isupper() else '.') + word[1] for word in words)
-        return Row(number, name, place, group[1], parts=parts, fields=fields)
-    return Row(number, name, place, name) if re.fullmatch(r'\w+', name) else None
+        return Entry(number, name, place, group[1], parts=parts, fields=fields)
+    return Entry(number, name, place, name) if re.fullmatch(r'\w+', name) else None
 
 
-def rows_of(text):
-    """Returns the rows of the table, by the numbers of their lines, and the lines that look like rows and are none."""
-    rows, odd = [], []
+def entries_of(text):
+    """Returns the entries of the rows, by the numbers of their lines, and the lines that look like rows and are none."""
+    entries, odd = [], []
     for number, line in enumerate(text.split('\n'), 1):
         found = ROW.fullmatch(line)
-        row = found and row_of(number, found[1], LINK.sub(r'\1', found[2]).strip('`'))
-        if row:
-            rows.append(row)
-        elif line.startswith('| `'):
+        place = LINK.sub(r'\1', found[2]).strip('`') if found else ''
+        own = [entry_of(number, name, place) for name in re.findall('`([^`]+)`', found[1])] if found else []
+        entries += filter(None, own)
+        if line.startswith('| `') and (None in own or len({it.base for it in own if it}) != 1):
             odd.append('line %d is no row: %s' % (number, line))
-    return rows, odd
+    return entries, odd
 
 
-def lacking(row, item):
-    """Returns what a row names that the item doesn't have."""
-    if row.traits:
-        return [it for it in row.traits if it not in item.traits | item.derived]
-    wrong = [name for name, fields in row.fields if name in item.fields and set(item.fields[name]) != fields]
-    lacks = [part.lstrip(':.') for part in row.parts if part not in item.parts]
+def lacking(entry, item):
+    """Returns what an entry names that the item doesn't have."""
+    if entry.traits:
+        return [it for it in entry.traits if it not in item.traits | item.derived]
+    wrong = [name for name, fields in entry.fields if name in item.fields and set(item.fields[name]) != fields]
+    lacks = [part.lstrip(':.') for part in entry.parts if part not in item.parts]
     return lacks + ['%s with these fields' % name for name in wrong]
 
 
-def fault_of(row, sources, differences):
-    """Returns what is wrong with a row, if anything."""
-    if row.place not in (NOT_YET, LEFT_OUT):
-        items = sources.items_at(row.place, row.base)
-        lacks = lacking(row, items[0]) if items else [row.base]
-        return '%s has no public %s' % (row.place, ', '.join(lacks)) if lacks else ''
-    items = [item for item in sources.items_of(row.base) if row.whole or not lacking(row, item)]
-    if items:
-        return 'is there: | `%s` | `%s` |' % (row.name, sources.places[items[0]][-1][0])
-    if row.place == LEFT_OUT and '`%s`' % row.name not in differences:
-        return 'is left out, and docs/DIFFERENCES.md has no `%s`' % row.name
+def cell_of(names):
+    return ', '.join('`%s`' % it for it in names)
+
+
+def row_of(names, place):
+    """Returns the first two cells of a row: the names of an item, and its location."""
+    return '| %s | `%s` |' % (cell_of(names), place)
+
+
+def found_at(entry, sources):
+    """Returns a location of what an entry names; '' if the sources don't have it."""
+    items = [item for item in sources.items_of(entry.base) if entry.whole or not lacking(entry, item)]
+    return sources.places[items[0]][-1][0] if items else ''
+
+
+def fault_of(entry, sources, differences):
+    """Returns what is wrong with an entry, if anything."""
+    if entry.place not in (NOT_YET, LEFT_OUT):
+        items = sources.items_at(entry.place, entry.base)
+        lacks = lacking(entry, items[0]) if items else [entry.base]
+        return '%s has no public %s' % (entry.place, ', '.join(lacks)) if lacks else ''
+    place = found_at(entry, sources)
+    if place:
+        return 'is there: ' + row_of([entry.name], place)
+    if entry.place == LEFT_OUT and '`%s`' % entry.name not in differences:
+        return 'is left out, and docs/DIFFERENCES.md has no `%s`' % entry.name
     return ''
 
 
-def names_without(item, place, rows):
-    """Returns the names of an item that no row has, as the rows would have them."""
-    own = [row for row in rows if row.base == place[1]]
-    covered = {part for row in own for part in row.parts}
-    missing = [] if any(row.whole for row in own) else [place[1]]
+def names_without(item, place, entries):
+    """Returns the names of an item that no entry has, as the entries would have them."""
+    own = [entry for entry in entries if entry.base == place[1]]
+    covered = {part for entry in own for part in entry.parts}
+    missing = [] if any(entry.whole for entry in own) else [place[1]]
     missing += [place[1] + part for part in sorted(item.parts - covered)]
-    return missing + ['%s: %s' % (place[1], it) for it in sorted(item.traits - {it for row in own for it in row.traits})]
+    return missing + ['%s: %s' % (place[1], it) for it in sorted(item.traits - {it for entry in own for it in entry.traits})]
 
 
 def all_names(item):
@@ -334,23 +349,23 @@ def all_names(item):
 
 
 def check(folder):
-    """Returns how many rows and names are right, and a line for each that isn't."""
+    """Returns how many entries and names are right, and a line for each that isn't."""
     sources, text = Sources(folder), read(os.path.join(folder, 'docs', 'PUBLIC.md'))
     differences = read(os.path.join(folder, 'docs', 'DIFFERENCES.md'))
-    rows, faults = rows_of(text)
+    entries, faults = entries_of(text)
     faults += ['not read: ' + line for line in sources.unread]
     passed, seen = 0, set()
-    for row in rows:
-        fault = 'stands twice' if row.name in seen else fault_of(row, sources, differences)
-        seen.add(row.name)
+    for entry in entries:
+        fault = 'stands twice' if entry.name in seen else fault_of(entry, sources, differences)
+        seen.add(entry.name)
         passed += not fault
-        faults += ['line %d: %s %s' % (row.line, row.name, fault)] if fault else []
+        faults += ['line %d: %s %s' % (entry.line, entry.name, fault)] if fault else []
     for item, places in sources.places.items():
-        own = [row for row in rows if (row.place, row.base) in places]
-        own += [row for row in rows if row.place in (NOT_YET, LEFT_OUT) and row.base == places[-1][1]]
+        own = [entry for entry in entries if (entry.place, entry.base) in places]
+        own += [entry for entry in entries if entry.place in (NOT_YET, LEFT_OUT) and entry.base == places[-1][1]]
         missing = names_without(item, places[-1], own)
         passed += all_names(item) - len(missing)
-        faults += ['no row: | `%s` | `%s` |' % (name, places[-1][0]) for name in missing]
+        faults += ['no row: ' + row_of([name], places[-1][0]) for name in missing]
     return passed, faults
 
 
@@ -368,15 +383,15 @@ def with_fields(item, part, place):
     return part.lstrip(':.') + (' { %s }' % ', '.join(fields) if fields else '')
 
 
-def rows_for(item, place, name):
-    """Returns the rows of an item at its location: itself with its fields or variants, numbered fields, methods, traits."""
+def row_for(item, place, name):
+    """Returns the row of an item at its location: itself with its fields or variants, numbered fields, methods, traits."""
     held = [it for it in item.order if it[0] == '.' and not it[1:].isdigit() or it.startswith('::') and it[2:3].isupper()]
     methods = [it[2:] for it in item.order if it.startswith('::') and not it[2:3].isupper()]
     names = [name + (' { %s }' % ', '.join(with_fields(item, it, place) for it in held) if held else '')]
     names += [name + it for it in item.order if it[0] == '.' and it[1:].isdigit()]
     names += ['%s::{%s}' % (name, ', '.join(methods))] if methods else []
     names += ['%s: %s' % (name, ', '.join(sorted(item.traits)))] if item.traits else []
-    return ['| `%s` | `%s` | %s |' % (it, place, '' if n else item.about) for n, it in enumerate(names)]
+    return '%s %s |' % (row_of(names, place), item.about)
 
 
 def made(folder, text):
@@ -384,7 +399,7 @@ def made(folder, text):
     sources, parts = Sources(folder), {}
     for item, places in sources.places.items():
         place, name = places[-1]
-        parts.setdefault(place, []).extend(rows_for(item, place, name))
+        parts.setdefault(place, []).append(row_for(item, place, name))
     head = text[: text.index('\n## ') + 1]
     end = text[text.index(END) :] if END in text else ''
     rows = [it for _, own in sorted(parts.items()) for it in own]
@@ -392,13 +407,17 @@ def made(folder, text):
 
 
 def move(folder):
-    """Moves the rows that say 'not there yet' to the locations of their names."""
+    """Moves the entries of rows that say 'not there yet' to the locations of their names; the others of these rows stay."""
     sources, path = Sources(folder), os.path.join(folder, 'docs', 'PUBLIC.md')
-    lines = read(path).split('\n')
-    for row in rows_of('\n'.join(lines))[0]:
-        fault = fault_of(row, sources, '')
-        if row.place == NOT_YET and fault.startswith('is there: '):
-            lines[row.line - 1] = fault[len('is there: ') :]
+    lines, moved = read(path).split('\n'), {}
+    for entry in entries_of('\n'.join(lines))[0]:
+        if entry.place == NOT_YET:
+            moved.setdefault(entry.line, {}).setdefault(found_at(entry, sources) or NOT_YET, []).append(entry.name)
+    for number, names in moved.items():
+        line = lines[number - 1]
+        others = line[ROW.fullmatch(line).end(1) :]
+        rows = ['| ' + cell_of(own) + others if place == NOT_YET else row_of(own, place) for place, own in names.items()]
+        lines[number - 1] = '\n'.join(rows)
     write(path, '\n'.join(lines))
 
 

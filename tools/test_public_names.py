@@ -116,11 +116,7 @@ pub type Numbers = [Number; 5];
 
 | name | stands in |
 |---|---|
-| `Made { first }` | `low` |
-| `Made::kind` | `low` |
-| `Made: From<Vec<T>>` | `low` |
-| `Made: From<&str>` | `low` |
-| `Made: Copy` | `low` |
+| `Made { first }`, `Made::kind`, `Made: From<Vec<T>>`, `Made: From<&str>`, `Made: Copy` | `low` |
 | `Made::later` | not there yet |
 | `Made::gone` | [left out](DIFFERENCES.md) |
 | `Later { one, Two }` | not there yet |
@@ -128,8 +124,7 @@ pub type Numbers = [Number; 5];
 | `Number` | `low::shown` |
 | `Number.0` | `high::shown` |
 | `Kind { Plain, Of, With { left, right } }` | `high::shown` |
-| `Device` | `low::shown` |
-| `Device::read` | `low::shown` |
+| `Device`, `Device::read` | `low::shown` |
 | `LIMIT` | `low::shown` |
 | `Numbers` | `low::shown` | five of them |
 ''',
@@ -141,8 +136,11 @@ DEEP, SHOWN, TABLE = 'crates/low/src/hidden/deep.rt', 'crates/low/src/shown.rt',
 CHANGES = [
     ('a method that is not there', TABLE, ('`Made::kind`', '`Made::sort`'),
      ['Made::sort low has no public sort', 'no row: | `Made::kind` | `low` |']),
-    ('a method of a private module', TABLE, ('`Made::kind` | `low`', '`Made::kind` | `low::hidden::deep`'),
+    ('a method of a private module', TABLE, ('| `Made { first }`, `Made::kind`', '| `Made::kind` | `low::hidden::deep` |\n| `Made { first }`'),
      ['Made::kind low::hidden::deep has no public Made', 'no row: | `Made::kind` | `low` |']),
+    ('a row of a private module', TABLE, ('`Device::read` | `low::shown`', '`Device::read` | `low::hidden`'),
+     ['Device low::hidden has no public Device', 'Device::read low::hidden has no public Device',
+      'no row: | `Device` | `high::shown` |', 'no row: | `Device::read` | `high::shown` |']),
     ('a field for a method', TABLE, ('`Made::kind`', '`Made.kind`'),
      ['Made.kind low has no public kind', 'no row: | `Made::kind` | `low` |']),
     ('a private method', DEEP, ('pub fn kind', 'fn kind'), ['Made::kind low has no public kind']),
@@ -185,8 +183,16 @@ CHANGES = [
      ['Made::gone is left out, and docs/DIFFERENCES.md has no `Made::gone`']),
     ('a name that has two rows', TABLE, ('| `made`', '| `LIMIT` | not there yet |\n| `made`'),
      ['LIMIT is there: | `LIMIT` | `high::shown` |', 'LIMIT stands twice']),
+    ('a name that its row has twice', TABLE, ('`Made::kind`', '`Made::kind`, `Made::kind`'), ['Made::kind stands twice']),
+    ('a method that its row lacks', TABLE, ('`Made::kind`, ', ''), ['no row: | `Made::kind` | `low` |']),
+    ('a trait that its row lacks', TABLE, ('`Made: From<Vec<T>>`, ', ''), ['no row: | `Made: From<Vec<T>>` | `low` |']),
+    ('a row without its item', TABLE, ('`Device`, ', ''), ['no row: | `Device` | `high::shown` |']),
+    ('a row of two items', TABLE, ('| `LIMIT` | `low::shown` |\n| `Numbers`', '| `LIMIT`, `Numbers`'),
+     ['is no row: | `LIMIT`, `Numbers` | `low::shown` | five of them |']),
     ('a line that is no row', TABLE, ('`Device::read`', '`Device::read()`'),
-     ['is no row: | `Device::read()` | `low::shown` |', 'no row: | `Device::read` | `high::shown` |']),
+     ['is no row: | `Device`, `Device::read()` | `low::shown` |', 'no row: | `Device::read` | `high::shown` |']),
+    ('a row without a comma', TABLE, ('`Device`, ', '`Device` '),
+     ['is no row: | `Device` `Device::read` | `low::shown` |', 'no row: | `Device` | `high::shown` |', 'no row: | `Device::read` | `high::shown` |']),
     ('what is passed on without names', 'crates/high/src/lib.rt', ('mod view;', 'mod view;\n\npub use view::*;'),
      ['not read: high: pub use view::*;']),
     ('what is passed on from nowhere', 'crates/low/src/lib.rt', ('make as made', 'absent'),
@@ -216,10 +222,14 @@ def lines_of(file='', change=('', '')):
     return passed, [re.sub(r'^line \d+:? ', '', line) for line in faults]
 
 
-def moved(change):
-    """Returns the lines of the table that differ after names were added and rows were moved."""
+LATER = '| `Made::later` | not there yet |'
+
+
+def moved(change, row=LATER):
+    """Returns the lines of the table that differ after names were added and rows were moved; `row` is there in place of `LATER`."""
     with tempfile.TemporaryDirectory() as folder:
         laid(folder, DEEP, change)
+        write(os.path.join(folder, TABLE), FILES[TABLE].replace(LATER, row))
         public_names.move(folder)
         after = read(os.path.join(folder, TABLE)).split('\n')
         faults = public_names.check(folder)[1]
@@ -228,11 +238,10 @@ def moved(change):
 
 PAGE = '# Names\n\nAll of them.\n\n## Old\n\n## Left out\n\n| `Made::gone` | [left out](DIFFERENCES.md) |\n'
 # the rows of a module in a generated page
-MADE = """| `Made { first }` | `low` |  |
-| `Made::{kind}` | `low` |  |
-| `Made: From<&str>, From<Vec<T>>` | `low` |  |
+MADE = """| `Made { first }`, `Made::{kind}`, `Made: From<&str>, From<Vec<T>>` | `low` |  |
 | `made` | `low` |  |
 """
+OF_ITEM = MADE.split('\n')[0]
 
 
 def of_made(file='', change=('', '')):
@@ -253,17 +262,17 @@ def made_tests():
     yield 'it begins as it did', page.startswith('# Names\n\nAll of them.\n\n## Names\n\n| name |'), True
     yield 'it has the rows of a module', MADE in page, True
     yield 'it ends as it did', page.endswith(PAGE[PAGE.index('## Left') :]), True
-    yield 'an item has the first sentence of its comment', '| `Number` | `high::shown` | A number. |' in page, True
+    yield 'an item has the first sentence of its comment', '| `Number`, `Number.0` | `high::shown` | A number. |' in page, True
     yield 'a variant has its fields', '| `Kind { Plain, Of, With { left, right } }` | `high::shown` |' in page, True
     told_of = of_made(DEEP, ('    fn own', '    pub fn own'))[2]
-    yield 'a method that came', told_of, ['no row: | `Made::own` | `low` |', 'isn\'t made so: | `Made::{kind}` | `low` |  |',
-                                          'is made so: | `Made::{kind, own}` | `low` |  |']
+    yield 'a method that came', told_of, ['no row: | `Made::own` | `low` |', 'isn\'t made so: ' + OF_ITEM,
+                                          'is made so: ' + OF_ITEM.replace('{kind}', '{kind, own}')]
     told_of = of_made(DEEP, ('pub fn kind', 'fn kind'))[2]
     yield 'a method that is gone', [re.sub(r'^line \d+: ', '', it) for it in told_of], [
-        'Made::{kind} low has no public kind', 'isn\'t made so: | `Made::{kind}` | `low` |  |']
+        'Made::{kind} low has no public kind', 'isn\'t made so: ' + OF_ITEM, 'is made so: ' + OF_ITEM.replace('`Made::{kind}`, ', '')]
     told_of = of_made(SHOWN, ('/// A number.', '/// No number. Or one.'))[2]
-    yield 'another comment', told_of, ['isn\'t made so: | `Number` | `high::shown` | A number. |',
-                                       'is made so: | `Number` | `high::shown` | No number. |']
+    yield 'another comment', told_of, ['isn\'t made so: | `Number`, `Number.0` | `high::shown` | A number. |',
+                                       'is made so: | `Number`, `Number.0` | `high::shown` | No number. |']
 
 
 def tests():
@@ -271,7 +280,12 @@ def tests():
     yield 'nothing is wrong without a change', lines_of(), (32, [])
     for name, file, change, want in CHANGES:
         yield name, sorted(lines_of(file, change)[1]), sorted(want)
-    yield 'a row is moved', moved(('    fn own', '    pub fn later')), (['| `Made::later` | `low` |'], [])
+    came, two = ('    fn own', '    pub fn later'), '| `Made::later`, `Made::latest` | [not there yet](NEXT.md) | soon |'
+    yield 'a row is moved', moved(came), (['| `Made::later` | `low` |'], [])
+    yield 'an entry of a row is moved', moved(came, two), (['| `Made::later` | `low` |', '| `Made::latest` | [not there yet](NEXT.md) | soon |'], [])
+    both = ('    fn own', '    pub fn later(&self) {}\n\n    pub fn latest')
+    yield 'entries are moved together', moved(both, two), (['| `Made::later`, `Made::latest` | `low` |'], [])
+    yield 'a row whose names are not there is not moved', moved(('    fn own', '    fn later'), two), ([two], [])
     yield from made_tests()
     yield 'a left out row is not moved', moved(('    fn own', '    pub fn gone'))[0], []
 
