@@ -1,0 +1,122 @@
+-- The computed chain is the types chain, and there is only one.
+use Rattle.std.proofs.Common.{◌≡◌, ℕ, zero, suc, ◌+◌, ◌≤◌, Bool, true, false, List, [], ◌∷◌, ◌++◌, length}
+use Rattle.std.proofs.Common.{Option, None, Some, refl, sym, ap, subst, ◌∙◌, arith, append_assoc, append-nil}
+use Rattle.std.specs.Prelude.{if◌then◌else◌}
+use Rattle.std.specs.List.{IsDistinct}
+use Rattle.std.specs.Str.{bytes_eq}
+use Rattle.std.proofs.lemmas.List.{length_push}
+use Rattle.std.proofs.lemmas.Map.Keys.{IsDistinct-push}
+use Rattle.std.proofs.lemmas.Option.{same_Some}
+use Rattle.symbols_ast.specs.Graph.{GraphView, ModuleView, module_after_redirect, content_types_dependency}
+use Rattle.symbols_graph.specs.GraphFaults.{module_specifiers}
+use Rattle.symbols_root.specs.Specifiers.{module_with_specifier, contains_specifier}
+use Rattle.symbols_root.specs.TypesChains.{types_module, types_chain_from, types_chain, AreTypesModulesFrom, IsTypesChain, IsOnlyTypesChain}
+use Rattle.symbols_locality.proofs.Among.{laws, nothing_once, AreIn, none_in, one_more_in, no_more, not_before, looked_up_under, types_under}
+
+module _ (graph : GraphView) where
+  -- ---- one step of the chain
+
+  pub from_none : (n : ℕ) (before : List (List ℕ)) → types_chain_from graph n before None ≡ []
+  unfolding types_chain_from
+  from_none zero before = refl
+  from_none (suc n) before = refl
+
+  pub from_old : (n : ℕ) (before : List (List ℕ)) (m : ModuleView) → contains_specifier before m.specifier ≡ true
+      → types_chain_from graph n before (Some m) ≡ []
+  unfolding types_chain_from
+  from_old zero before m is = refl
+  from_old (suc n) before m is = ap (λ b. if b then [] else m ∷ types_chain_from graph n (before ++ m.specifier ∷ []) (types_module graph m)) is
+
+  pub from_new : (n : ℕ) (before : List (List ℕ)) (m : ModuleView) → contains_specifier before m.specifier ≡ false
+      → types_chain_from graph (suc n) before (Some m) ≡ m ∷ types_chain_from graph n (before ++ m.specifier ∷ []) (types_module graph m)
+  unfolding types_chain_from
+  from_new n before m is = ap (λ b. if b then [] else m ∷ types_chain_from graph n (before ++ m.specifier ∷ []) (types_module graph m)) is
+
+  -- a new module of the graph is one of the modules not counted before
+  pub room : (before : List (List ℕ)) (m : ModuleView) → IsDistinct bytes_eq before → AreIn graph before → module_with_specifier graph m.specifier ≡ Some m
+      → contains_specifier before m.specifier ≡ false → length before + 1 ≤ length graph.modules
+  room before m once inside under new =
+      let more = no_more graph (before ++ m.specifier ∷ []) (IsDistinct-push laws before m.specifier once new) (one_more_in graph before m inside under) in
+      omega (arith, more, length_push before m.specifier)
+
+  -- ---- each is the types module of the one before, and they are different
+
+  pub linked : (n : ℕ) (before : List (List ℕ)) (found : Option ModuleView) → AreTypesModulesFrom graph found (types_chain_from graph n before found)
+  unfolding types_chain_from
+  linked zero before found = tt
+  linked (suc n) before None = tt
+  linked (suc n) before (Some m) = by (contains_specifier before m.specifier) (linked n (before ++ m.specifier ∷ []) (types_module graph m))
+    where
+      by : (b : Bool) → AreTypesModulesFrom graph (types_module graph m) (types_chain_from graph n (before ++ m.specifier ∷ []) (types_module graph m))
+          → AreTypesModulesFrom graph (Some m) (if b then [] else m ∷ types_chain_from graph n (before ++ m.specifier ∷ []) (types_module graph m))
+      by true remaining = tt
+      by false remaining = (refl, remaining)
+
+  pub once_each : (n : ℕ) (before : List (List ℕ)) (found : Option ModuleView) → IsDistinct bytes_eq before
+      → IsDistinct bytes_eq (before ++ module_specifiers (types_chain_from graph n before found))
+  unfolding types_chain_from
+  once_each zero before found once = subst (IsDistinct bytes_eq) (sym (append-nil before)) once
+  once_each (suc n) before None once = subst (IsDistinct bytes_eq) (sym (append-nil before)) once
+  once_each (suc n) before (Some m) once = by (contains_specifier before m.specifier) refl (once_each n (before ++ m.specifier ∷ []) (types_module graph m))
+    where
+      by : (b : Bool) → contains_specifier before m.specifier ≡ b
+          → (IsDistinct bytes_eq (before ++ m.specifier ∷ []) → IsDistinct bytes_eq ((before ++ m.specifier ∷ [])
+          ++ module_specifiers (types_chain_from graph n (before ++ m.specifier ∷ []) (types_module graph m))))
+          → IsDistinct bytes_eq
+          (before ++ module_specifiers (if b then [] else m ∷ types_chain_from graph n (before ++ m.specifier ∷ []) (types_module graph m)))
+      by true is remaining = subst (IsDistinct bytes_eq) (sym (append-nil before)) once
+      by false is remaining = rw append_assoc at (remaining (IsDistinct-push laws before m.specifier once is))
+
+  -- ---- no such list is longer
+
+  pub longest_from : (n : ℕ) (before : List (List ℕ)) (found : Option ModuleView) (other : List ModuleView) → length graph.modules ≤ n + length before
+      → IsDistinct bytes_eq before → AreIn graph before
+      → ((m : ModuleView) → found ≡ Some m → module_with_specifier graph m.specifier ≡ Some m) → AreTypesModulesFrom graph found other
+      → IsDistinct bytes_eq (before ++ module_specifiers other) → length other ≤ length (types_chain_from graph n before found)
+  longest_from n before found [] enough once inside there are distinct = omega arith
+  longest_from zero before found (m ∷ remaining) enough once inside there are distinct =
+      let r = room before m once inside (there m are.0) (not_before before (module_specifiers remaining) m.specifier distinct) in
+      absurd (omega (arith, r, enough))
+  longest_from (suc n) before found (m ∷ remaining) enough once inside there are distinct =
+      let new = not_before before (module_specifiers remaining) m.specifier distinct in
+      let push = IsDistinct-push laws before m.specifier once new in
+      let more = longest_from n (before ++ m.specifier ∷ []) (types_module graph m) remaining (omega (arith, enough, length_push before m.specifier)) push
+      (one_more_in graph before m inside (there m are.0))
+      (types_under graph (content_types_dependency m.content)) are.1
+      (subst (IsDistinct bytes_eq) (sym (append_assoc before (m.specifier ∷ []) (module_specifiers remaining))) distinct) in
+      rw (are.0, from_new n before m new) (omega (arith, more))
+
+  -- ---- the types chain
+
+  pub is_chain : (specifier : List ℕ) → IsTypesChain graph specifier (types_chain graph specifier)
+  is_chain specifier = record {
+    follows = record {
+      in_order = linked (length graph.modules) [] (module_after_redirect graph specifier);
+      once = once_each (length graph.modules) [] (module_after_redirect graph specifier) nothing_once;
+    };
+    longest = λ other follows. longest_from (length graph.modules) [] (module_after_redirect graph specifier) other (omega arith) nothing_once (none_in graph)
+        (looked_up_under graph specifier) follows.in_order follows.once;
+  }
+
+  same_linked : (found : Option ModuleView) (a b : List ModuleView) → AreTypesModulesFrom graph found a → AreTypesModulesFrom graph found b
+      → length a ≡ length b → a ≡ b
+  same_linked found [] [] one other long = refl
+  same_linked found [] (y ∷ b) one other long = absurd (omega (arith, long))
+  same_linked found (x ∷ a) [] one other long = absurd (omega (arith, long))
+  same_linked found (x ∷ a) (y ∷ b) one other long =
+      let head : x ≡ y = same_Some x y (sym one.0 ∙ other.0) in
+      let remaining : a ≡ b = same_linked (types_module graph x) a b one.1 (subst (λ m. AreTypesModulesFrom graph (types_module graph m) b) (sym head)
+      other.1) (omega (arith, long)) in
+      cc
+
+  pub only_chain : (specifier : List ℕ) → IsOnlyTypesChain graph specifier (types_chain graph specifier)
+  only_chain specifier =
+      let computed = is_chain specifier in
+      record {
+        is_chain = computed;
+        only = λ other is.
+            let up = computed.longest other is.follows in
+            let down = is.longest (types_chain graph specifier) computed.follows in
+            same_linked (module_after_redirect graph specifier) other (types_chain graph specifier) is.follows.in_order computed.follows.in_order
+            (omega (arith, up, down));
+      }

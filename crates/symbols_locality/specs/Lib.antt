@@ -1,0 +1,4 @@
+pub mod Seen
+pub mod QueryReach
+pub mod ChangedModule
+pub mod ClosedPart
