@@ -8,7 +8,8 @@
                                                      looks at the page of `api --html` in Chromium
 
 If TypeScript, Graphviz, the packages or the types of Node are missing, and this is root on Debian, they are installed, the types
-and the newest TypeScript in symdir/node_modules. The last line is 'N passed, M failed'.
+and the newest TypeScript in symdir/node_modules. What failed is named in lines that begin with 'FAILED' at the end, and the last line
+is 'N passed, M failed'.
 """
 import json
 import os
@@ -101,18 +102,34 @@ def said_within(words, seconds, **how):
         return started.communicate()[0] + f'\nended after {seconds} seconds', 1
 
 
+# a test in a report in TAP that failed: its name, and what the report says of it
+FAILURE = re.compile(r'^( *)not ok \d+ - ([^\n]*)\n\1  ---\n(.*?)^\1  \.\.\.$', re.M | re.S)
+# of what a report says of one test so many characters are printed
+LONGEST = 4000
+
+
+def failures(said):
+    """Prints what a report in TAP says of tests that failed. Returns a line for each of them."""
+    lines = []
+    for _, name, words in FAILURE.findall(said):
+        if name.endswith(' # TODO'):
+            continue
+        place = re.search(r"^ *location: '(.*)'$", words, re.M)
+        print('%s\n%s' % (name, words[:LONGEST]))
+        lines.append('%s, %s' % (name, os.path.relpath(place[1], ROOT)) if place else name)
+    return lines
+
+
 def run_tests(files, environment):
-    """Returns how many passed and failed."""
+    """Returns how many tests passed, and a line for each that failed. Without any, another status than 0 and a report without an end are failures."""
     said, status = said_within(['node', '--test', '--test-reporter=tap', *files], SECONDS, cwd=PACKAGE, env=environment)
-    counts = {word: int(found[1]) for word in ('pass', 'fail', 'cancelled')
-              for found in [re.search(rf'^# {word} (\d+)$', said, re.M)] if found}
-    passed, failed = counts.get('pass', 0), counts.get('fail', 0) + counts.get('cancelled', 0)
     for name, reason in re.findall(r'^\s*ok \d+ - (.*?) # SKIP ?(.*)$', said, re.M):
         print(f'skipped, neither passed nor failed: {name}: {reason}')
-    if status != 0 or failed or not passed:
-        print('\n'.join(line for line in said.splitlines() if not re.match(r'\s*(ok|duration_ms|---|\.\.\.)', line))[-8000:])
-        failed = max(failed, 1)
-    return passed, failed
+    passed, failed = re.search(r'^# pass ([1-9]\d*)$', said, re.M), failures(said)
+    if not passed or (status != 0 and not failed):
+        print(said[-LONGEST:])
+        failed.append('node --test: the status %s, and %s' % (status, 'no test failed' if passed else 'no test passed'))
+    return int(passed[1]) if passed else 0, failed
 
 
 def version_of(typescript):
@@ -121,29 +138,31 @@ def version_of(typescript):
 
 
 def run_over_packages(symq):
-    """Compares with each TypeScript that can be had. Returns how many tests passed and failed."""
+    """Compares with each TypeScript that can be had. Returns how many tests passed, and a line for each that failed."""
     folder = os.path.join(PACKAGE, 'packages')
     with open(os.path.join(folder, 'packages.json'), encoding='utf-8') as file:
         ensure_directories([(row['directory'], row['package']) for row in json.load(file)])
     newest = newest_typescript()
     if newest is None:
         print("TypeScript of Debian's newest suite can't be had here: compared with the one that is installed alone")
-    counts = []
+    passed, failed = 0, []
     for typescript in filter(None, [installed_typescript(), newest]):
         with with_typescript(typescript), tempfile.TemporaryDirectory() as cache:
-            counts.append(run_tests(tests_in(folder), environment(symq, cache)))
-        print('TypeScript %s: %d passed, %d failed' % (version_of(typescript), *counts[-1]))
-    return [sum(it) for it in zip(*counts)]
+            right, wrong = run_tests(tests_in(folder), environment(symq, cache))
+        version = version_of(typescript)
+        print('TypeScript %s: %d passed, %d failed' % (version, right, len(wrong)))
+        passed, failed = passed + right, failed + [f'TypeScript {version}: {it}' for it in wrong]
+    return passed, failed
 
 
 def run_all(symq, can_check):
-    """Checks the types and runs the tests. Returns how many passed and failed."""
+    """Checks the types and runs the tests. Returns how many passed, and a line for each that failed."""
     with with_typescript(installed_typescript()) as typescript, tempfile.TemporaryDirectory() as cache:
         is_right = can_check and check_types(typescript)
-        if not is_right:
-            print('the types of symdir are not right' if can_check else 'the types of Node are not there: install @types/node in symdir')
         passed, failed = run_tests(tests_in(os.path.join(PACKAGE, 'tests')), environment(symq, cache))
-    return passed + is_right, failed + (not is_right)
+    if is_right:
+        return passed + 1, failed
+    return passed, failed + ['the types of symdir' if can_check else 'the types of Node are not there: install @types/node in symdir']
 
 
 def tests_in(folder):
@@ -160,7 +179,9 @@ def main():
     symq = runner.programs(named[:1], missing='no program %s')[0]
     can_check = set_up()
     passed, failed = run_over_packages(symq) if '--packages' in words else run_all(symq, can_check)
-    return runner.counts(passed, failed)
+    for line in failed:
+        print('FAILED: ' + line)
+    return runner.counts(passed, len(failed))
 
 
 if __name__ == '__main__':

@@ -71,10 +71,34 @@ r.ensure_directories = lambda rows: print(len(rows) > 24)
 r.installed_typescript, r.newest_typescript = lambda: 'old', lambda: ${newest}
 r.with_typescript = lambda it: contextlib.nullcontext()
 r.version_of = lambda it: it
-r.run_tests = lambda files, environment: (len(files), 0)
+r.run_tests = lambda files, environment: (len(files), [])
 print(r.run_over_packages('symq'))`);
   const { stdout } = run("'new'");
   const count = Number(/^TypeScript old: (\d+) passed, 0 failed$/m.exec(stdout)?.[1]);
-  assert.equal(stdout, `True\nTypeScript old: ${count} passed, 0 failed\nTypeScript new: ${count} passed, 0 failed\n[${2 * count}, 0]\n`);
-  assert.equal(run('None').stdout, `True\nTypeScript of Debian's newest suite can't be had here: compared with the one that is installed alone\nTypeScript old: ${count} passed, 0 failed\n[${count}, 0]\n`);
+  assert.equal(stdout, `True\nTypeScript old: ${count} passed, 0 failed\nTypeScript new: ${count} passed, 0 failed\n(${2 * count}, [])\n`);
+  assert.equal(run('None').stdout, `True\nTypeScript of Debian's newest suite can't be had here: compared with the one that is installed alone\nTypeScript old: ${count} passed, 0 failed\n(${count}, [])\n`);
+});
+
+test('tests that fail are named in the last lines, with what is said of them before', () => {
+  const right = "import test from 'node:test';\ntest('right', () => {});\ntest('aside', { skip: 'not here' }, () => {});\ntest('later', { todo: true }, () => { throw new Error('to do'); });\n";
+  const files = {
+    'a.test.js': `${right}test('wrong # 1', () => { throw new Error('that is why'); });\ntest('whole', async (it) => { await it.test('part', () => assert.fail()); });\n`,
+    'b.test.js': "import test from 'node:test';\ntest('waits', () => new Promise(() => {}));\n", 'c.test.js': 'process.exit(7);\n', 'right.test.js': right, 'package.json': '{ "type": "module" }',
+  };
+  const folder = folderOf(files);
+  const run = (/** @type {string[]} */ ...names) => python(`import contextlib, os, run_symdir as r
+r.ROOT, r.runner.programs, r.set_up, r.check_types = '${folder}', lambda *_, **__: ['symq'], lambda: ${names.length > 1 ? 'True' : 'False'}, lambda _: False
+r.with_typescript, r.installed_typescript, r.tests_in = lambda it: contextlib.nullcontext(it), lambda: 'none', lambda _: ${JSON.stringify(names.map((it) => path.join(folder, it)))}
+os.environ.pop('NODE_TEST_CONTEXT', None)
+print(r.main())`);
+  const all = run('a.test.js', 'b.test.js', 'c.test.js').stdout.split('\n');
+  const [end, status, nothing] = all.splice(-3);
+  assert.deepEqual([end, status, nothing], ['1 passed, 6 failed', '1', '']);
+  const last = all.slice(all.findIndex((it) => it.includes('FAILED')));
+  assert.deepEqual(last.map((it) => it.replace(/:\d+:\d+$/, '')), ['FAILED: wrong \\# 1, a.test.js', 'FAILED: part, a.test.js', 'FAILED: whole, a.test.js', 'FAILED: waits, b.test.js',
+    `FAILED: ${path.join(folder, 'c.test.js')}, c.test.js`, 'FAILED: the types of symdir']);
+  assert.ok(all.includes('skipped, neither passed nor failed: aside: not here'));
+  assert.ok(all.findIndex((it) => it.includes('that is why')) > all.indexOf('wrong \\# 1'));
+  assert.match(run('right.test.js').stdout, /^FAILED: the types of Node are not there: .*\n1 passed, 1 failed\n1\n$/m);
+  assert.match(run('none.test.js').stdout, /^FAILED: node --test: the status 1, and no test passed\nFAILED: the types of Node .*\n0 passed, 2 failed\n1\n$/m);
 });

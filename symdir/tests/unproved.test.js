@@ -35,10 +35,17 @@ test('the first run builds, and later ones take what is kept, by strict rules to
   assert.deepEqual(readFileSync(path.join(env.XDG_CACHE_HOME, 'symdir', kept)), readFileSync(findSymq(undefined)));
 });
 
+/** @param {Record<string, string | undefined>} env @returns {Record<string, string | undefined>} it without what `make test` adds, below which `make` prints directories too */
+function withoutMake(env) {
+  return Object.fromEntries(Object.entries(env).filter(([name]) => !/^(GNU)?MAKE|^MFLAGS$/.test(name)));
+}
+
 test('the first block of README.md can be run as it stands', () => {
   const [, command, wanted] = /** @type {RegExpExecArray} */ (/```console\n\$ (make run .*)\n([^]*?)```/.exec(readFileSync(path.join(TOP, 'README.md'), 'utf8')));
   const [name, ...words] = command.split(' ');
-  const { status, stdout, stderr } = spawnSync(name, words, { cwd: TOP, encoding: 'utf8', env: { ...process.env, ...environment(RUNS) } });
+  // these tests may run below another make
+  const env = withoutMake({ ...process.env, MAKELEVEL: '1', MAKEFLAGS: ' -j2 --jobserver-auth=3,4', MFLAGS: '-j2', ...environment(RUNS) });
+  const { status, stdout, stderr } = spawnSync(name, words, { cwd: TOP, encoding: 'utf8', env });
   assert.deepEqual([status, stdout], [0, wanted], stderr);
   assert.ok(stderr.startsWith(BUILDING), stderr);
 });
