@@ -9,6 +9,8 @@ import { fileURLToPath } from 'node:url';
 export const BIN = fileURLToPath(new URL('../bin/symdir.js', import.meta.url));
 /** After which a run that goes on is ended, and told. */
 const SECONDS = 300;
+/** After which one that waits for what has to come ends, in seconds. */
+const WAITED = 100;
 /** @type {string[]} */
 const made = [];
 after(() => made.forEach((it) => rmSync(it, { recursive: true, force: true })));
@@ -37,6 +39,21 @@ export function answer(words) {
   const { status, stdout, stderr } = symdir([...words, '--json']);
   if (status === null || status > 1) throw new Error(`status ${status}: ${stderr}`);
   return JSON.parse(stdout);
+}
+
+/** @param {string} typescript the file of one @param {string} go @returns {Record<string, string>} a package with TypeScript that parses huge.ts when the file `go` is there, and tells if it never comes */
+export function waitingTypeScript(typescript, go) {
+  const text = `const { existsSync } = require('node:fs');
+const ts = require(${JSON.stringify(typescript)});
+const wait = () => {
+  for (let i = 0; !existsSync(${JSON.stringify(go)}); i++) {
+    if (i === ${WAITED} * 100) throw new Error('nothing went on meanwhile');
+    Atomics.wait(new Int32Array(new SharedArrayBuffer(4)), 0, 0, 10);
+  }
+};
+module.exports = { ...ts, createSourceFile: (name, ...more) => (name.endsWith('huge.ts') && wait(), ts.createSourceFile(name, ...more)) };
+`;
+  return { 'package.json': '{ "name": "typescript", "version": "6.99.0" }', 'lib/typescript.js': text };
 }
 
 /** @param {Record<string, string>} files @param {string} name @param {string} text of a program @returns {string} its path */

@@ -63,19 +63,21 @@ test('what is old goes: files of thirty days, parts of an hour, graphs that othe
   const env = { XDG_CACHE_HOME: folderOf({}) };
   const folder = folderOf({ 'a.ts': 'export const a = 1;\n' });
   symdir(['api', folder], { env });
+  // the next run's clock stands still
+  const now = Math.floor(Date.now() / 1000);
+  const still = path.join(folderOf({ 'still.cjs': `Date.now = () => ${now * 1000};\n` }), 'still.cjs');
   const [trees] = keptIn(env.XDG_CACHE_HOME, '.trees');
   const base = trees.slice(0, -'.trees'.length);
   const put = (/** @type {string} */ name, /** @type {number} */ seconds) => {
     const file = path.join(path.dirname(trees), name);
     writeFileSync(file, '');
-    const then = Date.now() / 1000 - seconds;
-    utimesSync(file, then, then);
+    utimesSync(file, now - seconds, now - seconds);
   };
   const day = 24 * 3600;
-  for (const [name, seconds] of /** @type {[string, number][]} */ ([['old', 31 * day], ['new', 29 * day], ['x.123', 3700], ['y.123', 3500], ['x.1a', 3700],
-    [`${path.basename(base)}.other.graph`, 70], [`${path.basename(base)}.more.graph`, 50], ['elsewhere.other.graph', 70]])) put(name, seconds);
+  for (const [name, seconds] of /** @type {[string, number][]} */ ([['old', 30 * day + 1], ['new', 30 * day], ['x.123', 3601], ['y.123', 3600], ['x.1a', 3601],
+    [`${path.basename(base)}.other.graph`, 61], [`${path.basename(base)}.more.graph`, 60], ['elsewhere.other.graph', 61]])) put(name, seconds);
   writeFileSync(path.join(folder, 'a.ts'), 'export const b = 1;\n');
-  assert.equal(symdir(['api', folder], { env }).status, 0);
+  assert.equal(symdir(['api', folder], { env: { ...env, NODE_OPTIONS: `--require ${still}` } }).status, 0);
   const left = readdirSync(path.dirname(trees)).map((it) => it.replace(path.basename(base), 'own'));
   assert.deepEqual(left.filter((it) => !/^(own\.[^.]{20,}\.graph|own\.trees|parser.*|symq-.*)$/.test(it)).sort(), ['elsewhere.other.graph', 'new', 'own.more.graph', 'x.1a', 'y.123']);
 });

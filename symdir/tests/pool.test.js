@@ -1,5 +1,6 @@
 import assert from 'node:assert/strict';
 import { spawnSync } from 'node:child_process';
+import { writeFileSync } from 'node:fs';
 import path from 'node:path';
 import test from 'node:test';
 
@@ -7,7 +8,7 @@ import { Pool } from '../lib/folder/pool.js';
 import { queueOf, take } from '../lib/folder/queue.js';
 import { ts } from '../lib/tree/typescript.js';
 import { findTypeScript } from '../lib/typescript.js';
-import { BIN, folderOf } from './helper.js';
+import { BIN, folderOf, waitingTypeScript } from './helper.js';
 
 const COUNT = 40;
 const HOW = { typescript: findTypeScript(process.cwd()).file, bodies: false, ambient: false };
@@ -48,41 +49,55 @@ test('several threads tell of each file what one does', async () => {
   assert.deepEqual(others, alone);
 });
 
-/** @param {number} bytes at least @returns {string} of declarations */
-function longText(bytes) {
-  /** @type {string[]} */
-  const parts = [];
-  for (let i = 0, size = 0; size < bytes; size += parts[i++].length) {
-    parts.push(`export interface I${i} extends Base${i % 7} {\n  readonly id: string;\n  map(key: string, value: Record<string, I${i >> 1}>): Promise<I${i}>;\n}\n`);
-  }
-  return parts.join('');
-}
+/** Is parsed in a thread of its own for its length. */
+const HUGE = `export const a = 1; //${'.'.repeat(2_000_000)}\n`;
 
 test('while a huge file is parsed timers go on, and a smaller one beside it is parsed too', async () => {
-  const folder = folderOf({ 'huge.ts': longText(2_000_000), 'small.ts': 'export const a = 1;\n' });
-  const pool = new Pool(HOW);
-  let ticks = 0;
-  const timer = setInterval(() => ticks++, 10);
-  const before = performance.now();
-  const found = await told((done) => pool.parse(['huge', 'small'].map((it) => ({ file: path.join(folder, `${it}.ts`), specifier: `file:///${it}.ts` })), done));
-  const took = performance.now() - before;
+  const go = path.join(folderOf({}), 'go');
+  const folder = folderOf({ 'huge.ts': HUGE, 'small.ts': 'export const a = 1;\n', ...waitingTypeScript(HOW.typescript, go) });
+  const pool = new Pool({ ...HOW, typescript: path.join(folder, 'lib/typescript.js') });
+  /** @type {string[]} */
+  const found = [];
+  // the huge file is done once the timer has run and the small file is
+  const timer = setInterval(() => found.length === 1 && writeFileSync(go, ''), 10);
+  await pool.parse(['huge', 'small'].map((it) => ({ file: path.join(folder, `${it}.ts`), specifier: `file:///${it}.ts` })), (file, made, error) => {
+    found.push(`${path.basename(file)} ${made ? 'parsed' : error}`);
+  });
   clearInterval(timer);
   await pool.close();
-  assert.deepEqual(found.map((it) => it.split(' {')[0]), ['huge.ts', 'small.ts']);
-  assert.ok(ticks > took / 100, `${ticks} ticks in ${took} ms`);
+  assert.deepEqual(found, ['small.ts parsed', 'huge.ts parsed']);
 });
 
+/** Runs the words that follow the first one on a terminal, and makes the file that the first one names when the terminal has shown two times. */
+const ON_TERMINAL = `
+import os, pty, re, sys
+process, terminal = pty.fork()
+if process == 0:
+    os.execv(sys.argv[2], sys.argv[2:])
+said, part = b'', b' '
+while part:
+    try:
+        part = os.read(terminal, 65536)
+    except OSError:
+        part = b''
+    said += part
+    if len(set(re.findall(rb'parsed 0 of 1 file, (\\d+) s', said))) > 1:
+        open(sys.argv[1], 'w').close()
+sys.stdout.buffer.write(said)
+sys.exit(os.waitstatus_to_exitcode(os.waitpid(process, 0)[1]))
+`;
+
 test('a terminal shows how far it is while one huge file is parsed', () => {
-  const folder = folderOf({ 'huge.ts': longText(5_000_000) });
+  const go = path.join(folderOf({}), 'go');
+  const packed = Object.entries(waitingTypeScript(HOW.typescript, go)).map(([name, text]) => [`node_modules/typescript/${name}`, text]);
+  const folder = folderOf({ 'huge.ts': HUGE, ...Object.fromEntries(packed) });
   const words = [process.execPath, BIN, 'graph', folder, '-o', '/dev/null', '--no-cache'];
-  const run = `import pty, sys; sys.exit(pty.spawn(${JSON.stringify(words)}) >> 8)`;
-  const { status, stdout, error } = spawnSync('python3', ['-c', run], { encoding: 'utf8', maxBuffer: 1 << 26 });
+  const { status, stdout, error } = spawnSync('python3', ['-c', ON_TERMINAL, go, ...words], { encoding: 'utf8', maxBuffer: 1 << 26 });
   assert.equal(error, undefined);
   assert.equal(status, 0, stdout);
-  const seconds = [...stdout.matchAll(/parsed 0 of 1 file, (\d+) s/g)].map((it) => Number(it[1]));
-  assert.ok(seconds.length > 1, stdout);
+  const seconds = [...stdout.matchAll(/\r\x1b\[Kparsed 0 of 1 file, (\d+) s/g)].map((it) => Number(it[1]));
   assert.deepEqual(seconds, [...seconds].sort((a, b) => a - b));
-  assert.ok(seconds[0] >= 1);
+  assert.ok(seconds[0] >= 1 && seconds[seconds.length - 1] > seconds[0], stdout);
 });
 
 test('a thread that ends is told', async () => {

@@ -1,10 +1,12 @@
 // What a run ends with, and what it says on the way.
 import assert from 'node:assert/strict';
-import { symlinkSync } from 'node:fs';
+import { spawn } from 'node:child_process';
+import { once } from 'node:events';
+import { symlinkSync, writeFileSync } from 'node:fs';
 import path from 'node:path';
 import test from 'node:test';
 
-import { folderOf, program, symdir } from './helper.js';
+import { BIN, folderOf, program, symdir } from './helper.js';
 
 const TEXT = 'export const n = 1;\n';
 
@@ -65,10 +67,21 @@ test('a configuration file of an installed package isn\'t told', () => {
   assert.match(found.stdout, /^index\.ts: 1 public name/);
 });
 
-test('--verbose tells every five seconds how far it is, and nothing else does', () => {
-  const slow = program({}, 'symq', '#!/bin/sh\nread line\nsleep 6\nexit 9\n');
+test('--verbose tells every five seconds how far it is, and nothing else does', async () => {
   const folder = folderOf({ 'index.ts': TEXT });
-  const run = (/** @type {string[]} */ ...words) => symdir(['api', folder, '--symq', slow, ...words]);
-  assert.match(run('--verbose').stderr, /^symdir: waiting for symq: 1 query, \d+ s\nsymdir: symq exited with status 9\n$/);
-  assert.equal(run().stderr, 'symdir: symq exited with status 9\n');
+  const go = path.join(folderOf({}), 'go');
+  const waits = program({}, 'symq', `#!/bin/sh\nread line\nwhile [ ! -e '${go}' ]; do sleep 0.1; done\nexit 9\n`);
+  const run = spawn(process.execPath, [BIN, 'api', folder, '--symq', waits, '--verbose']);
+  let said = '';
+  run.stderr.on('data', (it) => {
+    said += it;
+    // it ends when two lines have come
+    if (said.split('\n').length > 2) writeFileSync(go, '');
+  });
+  await once(run, 'close');
+  assert.match(said, /^(symdir: waiting for symq: 1 query, \d+ s\n){2,}symdir: symq exited with status 9\n$/);
+  const seconds = [...said.matchAll(/(\d+) s$/gm)].map((it) => Number(it[1]));
+  assert.ok(seconds.every((it, i) => it >= 5 * (i + 1)), said);
+  const slow = program({}, 'symq', '#!/bin/sh\nread line\nsleep 6\nexit 9\n');
+  assert.equal(symdir(['api', folder, '--symq', slow]).stderr, 'symdir: symq exited with status 9\n');
 });

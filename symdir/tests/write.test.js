@@ -29,7 +29,9 @@ test('a graph goes whole through a pipe whose reader is slow', () => {
   const folder = folderOf(LARGE);
   const file = path.join(folderOf({}), 'g.json');
   assert.equal(symdir(['graph', folder, '-o', file]).status, 0);
-  const { stdout, stderr } = shell(`($symdir graph '${folder}'; echo "status $?" >&2) | (sleep 1; cat)`);
+  const dropped = path.join(folderOf({}), 'said');
+  // the reader stops behind the first byte, so that the pipe is full before it goes on
+  const { stdout, stderr } = shell(`($symdir graph '${folder}'; echo "status $?" >&2) | (dd bs=1 count=1 2> '${dropped}'; sleep 1; cat)`);
   assert.equal(stderr, 'status 0\n');
   assert.equal(stdout, readFileSync(file, 'utf8'));
   assert.ok(stdout.length > 200_000);
