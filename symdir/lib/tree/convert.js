@@ -109,7 +109,11 @@ function items(c, add) {
   const isAmbient = c.options.ambient && c.options.declaration && exportsAll(c.file);
   if (!c.options.ambient && c.options.declaration && exportsAll(c.file)) c.implicit = list.flatMap(declaredNames);
   for (const it of list) if (ts.isExportDeclaration(it) && !it.moduleSpecifier) specify(c, it);
-  c.exporting(isAmbient, () => list.forEach((it) => [item(c, it, isAmbient)].flat().forEach(add)));
+  c.exporting(isAmbient, () => list.forEach((it) => {
+    const made = item(c, it, isAmbient);
+    if (Array.isArray(made)) made.forEach(add);
+    else add(made);
+  }));
 }
 
 /** @param {Converter} c @param {Record<string, import('./node.js').Field>} [fields] @returns {TreeNode} */

@@ -45,9 +45,11 @@ function isLetter(unit) {
   return unit > 64 && unit < 123 && (unit < 91 || unit > 94) && unit !== 96;
 }
 
-/** @param {(TreeNode | null | undefined | false | '')[]} nodes @returns {TreeNode[]} those that there are */
+/** @param {(TreeNode | null | undefined | false | '')[]} nodes of which the others are taken out @returns {TreeNode[]} those that there are */
 function there(nodes) {
-  for (let i = 0; i < nodes.length; i++) if (!nodes[i]) return /** @type {TreeNode[]} */ (nodes.filter(Boolean));
+  let count = 0;
+  for (let i = 0; i < nodes.length; i++) if (nodes[i]) nodes[count++] = nodes[i];
+  nodes.length = count;
   return /** @type {TreeNode[]} */ (nodes);
 }
 
@@ -302,7 +304,8 @@ export function hasModifier(node, kind) {
 export function decoratorsOf(node) {
   const older = /** @type {{ decorators?: readonly import('typescript').Decorator[] }} */ (/** @type {unknown} */ (node)).decorators;
   if (older?.length) return [...older];
-  return modifiersOf(node).filter(ts.isDecorator);
+  const all = modifiersOf(node);
+  return all.length === 0 ? [] : all.filter(ts.isDecorator);
 }
 
 export { K, ts };

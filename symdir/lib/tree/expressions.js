@@ -3,7 +3,7 @@ import { K, ts } from './converter.js';
 import { textOf } from './scopes.js';
 import { bigint, key, number, plainName, privateName, string } from './names.js';
 import { assignedName, parameters, targetParts } from './patterns.js';
-import { annotation, skipSpace, type, typeArguments } from './types.js';
+import { annotationOf, skipSpace, type, typeArguments } from './types.js';
 import { arrow, body, classParts, functionExpression, functionNode } from './functions.js';
 import { hoistFunction } from './scopes.js';
 
@@ -43,12 +43,16 @@ function call(c, node) {
 
 /** @param {Converter} c @param {import('typescript').ObjectLiteralExpression} node */
 function object(c, node) {
-  return c.other(node, node.properties.flatMap((it) => objectProperty(c, it)));
+  const parts = [];
+  for (const it of node.properties) {
+    if (ts.isPropertyAssignment(it)) parts.push(key(c, it.name), expression(c, it.initializer));
+    else parts.push(...objectProperty(c, it));
+  }
+  return c.other(node, parts);
 }
 
-/** @param {Converter} c @param {import('typescript').ObjectLiteralElementLike} it @returns {TreeNode[]} */
+/** @param {Converter} c @param {Exclude<import('typescript').ObjectLiteralElementLike, import('typescript').PropertyAssignment>} it @returns {TreeNode[]} */
 function objectProperty(c, it) {
-  if (ts.isPropertyAssignment(it)) return [key(c, it.name), expression(c, it.initializer)];
   if (ts.isShorthandPropertyAssignment(it)) {
     const value = it.objectAssignmentInitializer;
     return value ? [c.ident(it.name), expression(c, value)] : [c.ident(it.name)];
@@ -57,7 +61,7 @@ function objectProperty(c, it) {
   if (ts.isMethodDeclaration(it)) return [c.other(it, [key(c, it.name), functionNode(c, it, c.start(it), it.end)])];
   return [c.within((scope) => hoistFunction(it, scope), () => c.other(it, [
     key(c, it.name),
-    ...(ts.isSetAccessor(it) ? parameters(c, it.parameters) : [c.typed(true, () => annotation(c, it.type))]),
+    ...(ts.isSetAccessor(it) ? parameters(c, it.parameters) : [annotationOf(c, it.type)]),
     it.body && body(c, it.body),
   ]))];
 }
@@ -153,8 +157,9 @@ function unary(c, node) {
 
 /** @param {Converter} c @param {import('typescript').ArrayLiteralExpression | import('typescript').CommaListExpression} node */
 function list(c, node) {
-  const parts = node.elements.filter((it) => it.kind !== K.OmittedExpression);
-  return c.other(node, parts.map((it) => expression(c, ts.isSpreadElement(it) ? it.expression : it)));
+  const parts = [];
+  for (const it of node.elements) if (it.kind !== K.OmittedExpression) parts.push(expression(c, ts.isSpreadElement(it) ? it.expression : it));
+  return c.other(node, parts);
 }
 
 /** @type {Record<number, (c: Converter, node: any) => TreeNode>} */

@@ -3,7 +3,7 @@ import { K, decoratorsOf, hasModifier, modifiersOf, ts } from './converter.js';
 import { hoistBody, hoistFunction, hoistTypeParameters, textOf } from './scopes.js';
 import { key } from './names.js';
 import { parameter, parameters } from './patterns.js';
-import { annotation, element, heritage, typeArguments, typeParameters } from './types.js';
+import { annotationOf, element, heritage, typeArguments, typeParametersOf } from './types.js';
 import { expression } from './expressions.js';
 import { statements } from './statements.js';
 import { referencesIn } from './references.js';
@@ -25,9 +25,9 @@ export function body(c, node) {
  */
 export function functionNode(c, node, start, end) {
   return c.within((scope) => hoistFunction(node, scope), () => c.at('Function', start, end, {
-    type_params: c.typed(true, () => typeParameters(c, node.typeParameters)),
+    type_params: typeParametersOf(c, node.typeParameters),
     params: parameters(c, node.parameters),
-    return_type: c.typed(true, () => annotation(c, node.type)),
+    return_type: annotationOf(c, node.type),
     body: node.body ? body(c, /** @type {import('typescript').Block} */ (node.body)) : null,
   }));
 }
@@ -46,9 +46,9 @@ export function functionExpression(c, node) {
 export function arrow(c, node) {
   const block = ts.isBlock(node.body);
   return c.typed(false, () => c.within((scope) => hoistFunction(node, scope), () => c.node('Arrow', node, {
-    type_params: c.typed(true, () => typeParameters(c, node.typeParameters)),
+    type_params: typeParametersOf(c, node.typeParameters),
     params: parameters(c, node.parameters),
-    return_type: c.typed(true, () => annotation(c, node.type)),
+    return_type: annotationOf(c, node.type),
     is_block: block,
     body: ts.isBlock(node.body) ? body(c, node.body) : expression(c, node.body),
   })));
@@ -103,7 +103,7 @@ export function classParts(c, node, start, end) {
     if (ts.isClassExpression(node) && node.name) scope.add(textOf(node.name));
   }, () => {
     const ident = node.name ? c.ident(node.name, false) : null;
-    const type_params = c.typed(true, () => typeParameters(c, node.typeParameters));
+    const type_params = typeParametersOf(c, node.typeParameters);
     const above = heritageOf(c, node);
     const members = node.members.flatMap((it) => memberWithDecorators(c, it));
     return { ident, class: c.at('Class', start, end, { type_params, ...above, body: [...first, ...members] }) };
@@ -149,10 +149,10 @@ const ACCESSOR_KEYWORD = /** @type {Record<string, any>} */ (K).AccessorKeyword 
 
 /** @param {Converter} c @param {import('typescript').PropertyDeclaration} m */
 function propertyNode(c, m) {
-  const marked = modifiersOf(m).some((it) => c.marks?.accessor.has(c.start(it)));
+  const marked = c.marks !== null && modifiersOf(m).some((it) => c.marks?.accessor.has(c.start(it)));
   const isAccessor = marked || hasModifier(m, ACCESSOR_KEYWORD);
   const name = key(c, m.name);
-  const type_ann = c.typed(true, () => annotation(c, m.type));
+  const type_ann = annotationOf(c, m.type);
   const value = m.initializer ? expression(c, m.initializer) : null;
   if (name.kind === 'PrivateName' && !isAccessor) return c.other(m, [name, type_ann, value]);
   const access = accessibility(m);
@@ -183,5 +183,9 @@ function staticBlock(c, member) {
 /** @param {Converter} c @param {import('typescript').ClassElement} member */
 function classMember(c, member) {
   const make = MEMBERS[member.kind];
-  return c.typed(false, () => (make ? make(c, member) : c.other(member, [])));
+  const before = c.inType;
+  c.inType = false;
+  const made = make ? make(c, member) : c.other(member, []);
+  c.inType = before;
+  return made;
 }

@@ -159,7 +159,9 @@ function exported(c, it) {
 
 /** @param {Converter} c @param {TreeNode} made has with its `export` the kind and the name that were noted last */
 function declaresAgain(c, made) {
-  c.declarations.push(made.start, made.end, ...c.declarations.slice(-3));
+  const all = c.declarations;
+  const { length } = all;
+  all.push(made.start, made.end, all[length - 3], all[length - 2], all[length - 1]);
 }
 
 /** @type {Record<number, (c: Converter, it: any) => TreeNode | TreeNode[]>} */

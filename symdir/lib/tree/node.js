@@ -28,8 +28,8 @@ export class TreeNode {
 
   /** @param {[string, number] | TreeNode | TreeNode[]} value of a field */
   measure(value) {
-    if (value instanceof TreeNode) this.hold(value);
-    else if (typeof value[0] === 'object') for (const it of value) this.hold(/** @type {TreeNode} */ (it));
+    if (!Array.isArray(value)) this.hold(value);
+    else if (typeof value[0] === 'object') for (let i = 0; i < value.length; i++) this.hold(/** @type {TreeNode} */ (value[i]));
   }
 
   /** @param {TreeNode} node */
@@ -101,7 +101,8 @@ export function numbered(root, first = 0, above = 0) {
 export function nodesText(nodes) {
   const writer = new TreeWriter();
   for (const it of nodes) writer.node(it);
-  return `[${Buffer.concat(writer.pieces())}]`;
+  // each has a comma before it
+  return `[${Buffer.concat(writer.pieces()).subarray(1)}]`;
 }
 
 /** The text of a tree that is made item by item. */

@@ -1,16 +1,11 @@
 // What binds names, and what stands on the left of an assignment.
 import { K, ts } from './converter.js';
 import { key } from './names.js';
-import { annotation } from './types.js';
+import { annotationOf } from './types.js';
 import { expression } from './expressions.js';
 
 /** @typedef {import('./converter.js').Converter} Converter */
 /** @typedef {import('./node.js').TreeNode} TreeNode */
-
-/** @param {Converter} c @param {import('typescript').TypeNode | undefined} type */
-function typeAfter(c, type) {
-  return type ? c.typed(true, () => annotation(c, type)) : null;
-}
 
 /**
  * @param {Converter} c
@@ -19,7 +14,7 @@ function typeAfter(c, type) {
  * @returns {TreeNode}
  */
 export function binding(c, name, type) {
-  const type_ann = typeAfter(c, type);
+  const type_ann = annotationOf(c, type);
   if (ts.isIdentifier(name)) return c.node('BindingIdent', name, { sym: c.symbolName(name, false), type_ann });
   const end = type ? type.end : name.end;
   if (ts.isObjectBindingPattern(name)) {
@@ -46,7 +41,7 @@ function property(c, it) {
 /** @param {Converter} c @param {import('typescript').ParameterDeclaration} it @param {boolean} [isSignature] @returns {TreeNode} */
 export function parameter(c, it, isSignature = false) {
   if (it.dotDotDotToken) {
-    return c.at('RestPat', c.start(it.dotDotDotToken), it.end, { arg: binding(c, it.name), type_ann: typeAfter(c, it.type) });
+    return c.at('RestPat', c.start(it.dotDotDotToken), it.end, { arg: binding(c, it.name), type_ann: annotationOf(c, it.type) });
   }
   const left = binding(c, it.name, it.type);
   const value = it.initializer;

@@ -136,7 +136,8 @@ function isClosed(node) {
  */
 export function hoistVars(node, scope) {
   if (PLAIN_STATEMENTS.has(node.kind) || isClosed(node)) return;
-  if (ts.isVariableDeclarationList(node)) {
+  if (ts.isVariableStatement(node)) hoistVars(node.declarationList, scope);
+  else if (ts.isVariableDeclarationList(node)) {
     if (!isBlockScoped(node)) bindList(node, scope);
   } else if (ts.isBlock(node) || isStatement(node) || HOLDS_STATEMENTS.has(node.kind)) {
     ts.forEachChild(node, (it) => hoistVars(it, scope));

@@ -3,7 +3,7 @@ import { K, hasModifier, ts } from './converter.js';
 import { bindList, bindNames, boundIdentifiers, declaredNames, hoist, hoistBody, hoistTypeParameters, isBlockScoped, textOf } from './scopes.js';
 import { moduleName, string } from './names.js';
 import { binding, target } from './patterns.js';
-import { element, heritage, type, typeParameters } from './types.js';
+import { element, heritage, type, typeParametersOf } from './types.js';
 import { classParts, functionNode } from './functions.js';
 import { expression } from './expressions.js';
 import { item } from './items.js';
@@ -38,7 +38,7 @@ export function interfaceNode(c, it, start) {
   const id = c.ident(it.name, true);
   return c.within((scope) => hoistTypeParameters(it, scope), () => c.at('TsInterfaceDecl', start, it.end, {
     id,
-    type_params: c.typed(true, () => typeParameters(c, it.typeParameters)),
+    type_params: typeParametersOf(c, it.typeParameters),
     extends: c.typed(true, () => (it.heritageClauses ?? []).flatMap((clause) => clause.types.map((above) => heritage(c, above)))),
     body: it.members.map((member) => element(c, member)),
   }));
@@ -48,7 +48,7 @@ export function interfaceNode(c, it, start) {
 function alias(c, it, start) {
   const id = c.ident(it.name, true);
   return c.within((scope) => hoistTypeParameters(it, scope), () => c.at('TsTypeAliasDecl', start, it.end, {
-    id, type_params: c.typed(true, () => typeParameters(c, it.typeParameters)), type_ann: type(c, it.type),
+    id, type_params: typeParametersOf(c, it.typeParameters), type_ann: type(c, it.type),
   }));
 }
 
@@ -92,6 +92,7 @@ function exportsWithoutWord({ flags, statements }) {
 
 /** @param {Converter} c @param {import('typescript').ModuleBlock} block notes what its `export { .. }` name, where it has any */
 function noteBlock(c, { flags, statements }) {
+  if (!statements.some(ts.isExportDeclaration)) return;
   const exported = statements.flatMap((it) => (
     ts.isExportDeclaration(it) && it.exportClause && ts.isNamedExports(it.exportClause) ? it.exportClause.elements.map(({ name }) => moduleName(c, name)) : []));
   if (exported.length === 0) return;

@@ -19,6 +19,21 @@ export function annotation(c, node) {
   return c.at('TsTypeAnn', start, node.end, { ty: type(c, node) });
 }
 
+/** @param {Converter} c @param {import('typescript').TypeNode | undefined} node of what is no type itself */
+export function annotationOf(c, node) {
+  if (!node) return null;
+  const before = c.inType;
+  c.inType = true;
+  const made = annotation(c, node);
+  c.inType = before;
+  return made;
+}
+
+/** @param {Converter} c @param {import('typescript').NodeArray<import('typescript').TypeParameterDeclaration> | undefined} list of what is no type itself */
+export function typeParametersOf(c, list) {
+  return list ? c.typed(true, () => typeParameters(c, list)) : null;
+}
+
 /** @param {Converter} c @param {import('typescript').NodeArray<import('typescript').Node>} list @returns {[number, number]} with its brackets */
 function bracketed(c, list) {
   return [list.pos - 1, skipSpace(c, list.end) + 1];
@@ -115,6 +130,7 @@ function predicate(c, node) {
 
 /** @param {Converter} c @param {import('typescript').Node} node any other type @returns {TreeNode} with the types in it */
 function plain(c, node) {
+  if (node.kind <= K.LastToken) return c.type(node, []);
   /** @type {TreeNode[]} */
   const parts = [];
   ts.forEachChild(node, (it) => void (ts.isTypeNode(it) && parts.push(type(c, it))));
