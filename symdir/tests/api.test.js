@@ -82,6 +82,7 @@ test('entries: what package.json says', () => {
   assert.deepEqual(entries({ 'package.json': '{"exports":{".":{"types":"./t.d.ts"},"./sub":"./s.ts","./x.json":"./x.json","./*":"./*.ts"}}', 't.d.ts': text, 's.ts': text }), ['t.d.ts', 's.ts']);
   assert.deepEqual(entries({ 'package.json': '{"main":"./dist/index.js"}', 'src/index.ts': text, 'src/b.ts': text }), ['src/index.ts']);
   assert.deepEqual(entries({ 'package.json': '{"module":"m.mjs","main":"n.cjs"}', 'm.mjs': text, 'n.cjs': text }), ['m.mjs']);
+  assert.deepEqual(entries({ 'package.json': '{"exports":{"require":"./dist/a.js"},"types":"types/t.d.ts"}', 'dist/a.js': text, 'types/t.d.ts': text, 'src/index.ts': text }), ['types/t.d.ts']);
   assert.deepEqual(entries({ 'deno.json': '{"exports":{".":"./mod.ts","./b":"./b.ts"}}', 'mod.ts': text, 'b.ts': text }), ['mod.ts', 'b.ts']);
   assert.deepEqual(entries({ 'deno.json': '{"exports":"./b.ts"}', 'mod.ts': text, 'b.ts': text }), ['b.ts']);
 });

@@ -14,8 +14,7 @@ export const TEST = /(^|\/)(tests?|__tests__|specs?|examples?|scripts?|benchmark
 
 /** @param {Sources} sources @param {string} file @returns {string | null} the specifier of the module; of JavaScript, of that with its types */
 function moduleAt(sources, file) {
-  const module = sources.modules.get(sources.specifierOf(file));
-  return module ? module.specifier : null;
+  return sources.modules.get(sources.specifierOf(file))?.specifier ?? sources.typesOf({ file });
 }
 
 /** @param {Sources} sources @param {string} word as it is given, relative to the folder or to where the command runs */

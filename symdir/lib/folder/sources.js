@@ -258,7 +258,7 @@ export class Sources {
     return (module && this.typesOf(module)) ?? specifier;
   }
 
-  /** @param {Module} module of JavaScript @returns {string | null} the specifier of the module with its types */
+  /** @param {{ file: string }} module of JavaScript, which needn't be read @returns {string | null} the specifier of the module with its types */
   typesOf({ file }) {
     if (!isJavaScript(file)) return null;
     const beside = sourcesOf(file).find((it) => /\.d\.[mc]?ts$/.test(it) && this.modules.has(this.specifierOf(it)));
