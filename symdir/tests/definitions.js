@@ -58,21 +58,54 @@ export function isWithoutSymbol(language, node) {
   return symbol !== undefined && (targetOf(language, symbol).flags & (ts.SymbolFlags.TypeParameter | ts.SymbolFlags.EnumMember)) !== 0;
 }
 
-/** What the checker says of an import: no such module, which may be no module; no such export, by several of its texts. */
-const NO_MODULE = new Set([2307, 2306, 2792, 7016]);
+/** What the checker says of an import: no such module; a file that is no module; no such export, by several of its texts. */
+const NO_MODULE = new Set([2307, 2792, 7016]);
+const NO_MODULE_BUT_FILE = 2306;
 const NO_EXPORT = new Set([2305, 2459, 2460, 2614, 2724, 1192, 2613]);
 
-/** @param {Language} language @returns {{ modules: Map<string, string>, exports: Map<string, string> }} by place the text of each import of a module that isn't there, and the name of each export */
+/** @param {SourceFile} file @param {number} at @returns {{ statement: Node, text: Node, names: Node[] } | null} the statement there, the module that it names, and each name that it takes */
+function importAt(file, at) {
+  const it = file.statements.find((one) => one.pos <= at && at < one.end);
+  if (!it || !(ts.isImportDeclaration(it) || ts.isExportDeclaration(it)) || !it.moduleSpecifier) return null;
+  const bindings = ts.isExportDeclaration(it) ? it.exportClause : it.importClause?.namedBindings;
+  const listed = bindings && (ts.isNamedImports(bindings) || ts.isNamedExports(bindings)) ? bindings.elements.map((one) => one.propertyName ?? one.name) : [];
+  const own = ts.isImportDeclaration(it) && it.importClause?.name ? [it.importClause.name] : [];
+  return { statement: it, text: it.moduleSpecifier, names: [...own, ...listed] };
+}
+
+/** @param {Language} language @param {SourceFile} file @param {Set<SourceFile>} [met] @returns {boolean} whether an `export *` resolves to no file in it, or in what it leads to */
+function hasOpenStar(language, file, met = new Set()) {
+  if (met.has(file)) return false;
+  met.add(file);
+  return file.statements.some((it) => {
+    if (!ts.isExportDeclaration(it) || it.exportClause || !it.moduleSpecifier) return false;
+    const to = language.moduleOf(file, it.moduleSpecifier);
+    return to === undefined || hasOpenStar(language, to, met);
+  });
+}
+
+/** @typedef {Map<string, string>} Lacking by place a text or a name */
+
+/**
+ * @param {Language} language
+ * @returns {{ modules: Lacking, exports: Lacking, open: Lacking }} the text of each import of a module that isn't there, at its statement; the name of each export that isn't there;
+ *   and of each that isn't there as far as can be known, since an `export *` on the way resolves to no file
+ */
 export function lackingBy(language) {
-  const [modules, exports] = [new Map(), new Map()];
+  const [modules, exports, open] = [new Map(), new Map(), new Map()];
   for (const file of language.sources()) {
     for (const { code, start = 0, length = 0 } of language.service.getSemanticDiagnostics(file.fileName)) {
       const text = file.text.slice(start, start + length);
-      if (NO_MODULE.has(code)) modules.set(language.place(file, start), text.slice(1, -1));
-      if (NO_EXPORT.has(code)) exports.set(language.place(file, start), text);
+      const of = importAt(file, start);
+      if (NO_MODULE.has(code)) modules.set(language.place(file, of ? of.statement.getStart() : start), text.slice(1, -1));
+      // each file is a module here: one that exports nothing lacks each name
+      if (code === NO_MODULE_BUT_FILE) for (const it of of?.names ?? []) exports.set(language.place(file, it.getStart()), it.getText());
+      if (!NO_EXPORT.has(code)) continue;
+      const to = of ? language.moduleOf(file, of.text) : undefined;
+      (to && hasOpenStar(language, to) ? open : exports).set(language.place(file, start), text);
     }
   }
-  return { modules, exports };
+  return { modules, exports, open };
 }
 
 /** @typedef {{ file: SourceFile, name: string }} Owner a module whose own text exports the name */

@@ -1,7 +1,9 @@
 import assert from 'node:assert/strict';
 import test from 'node:test';
 
+import { lackingBy } from './definitions.js';
 import { answer, folderOf, symdir } from './helper.js';
+import { Language } from './language.js';
 
 /** @param {Record<string, string>} files @param {string[]} words @returns {string[]} */
 function missing(files, ...words) {
@@ -40,6 +42,24 @@ test('imported names that aren\'t there', () => {
 test('a name that comes along `export *` is there; `default` doesn\'t come along it', () => {
   const files = { 'index.ts': 'import { a } from "./m";\nimport d from "./m";\n', 'm.ts': 'export * from "./n";\n', 'n.ts': 'export const a = 1;\nexport default 1;\n' };
   assert.deepEqual(missing(files), ['name index.ts:2:8 m.ts default']);
+});
+
+test('a name is reported where it is lacking first, and not where that leads by a re-export', () => {
+  const files = {
+    'index.ts': 'import { gone } from "./m";\nimport { two } from "./r";\nexport { gone, two };\n', 'r.ts': 'export { one as two } from "./m";\n',
+    'm.ts': 'export * from "./n";\n', 'n.ts': 'export const a = 1;\n', 'z.ts': 'import { gone, two } from "./index";\nimport { one } from "./m";\n',
+  };
+  const wanted = lackingBy(new Language(folderOf(files), Object.keys(files)));
+  assert.deepEqual([...wanted.exports], [['index.ts:1:10', 'gone'], ['r.ts:1:10', 'one'], ['z.ts:2:10', 'one']]);
+  assert.deepEqual(missing(files), [...wanted.exports].map(([place, name]) => `name ${place} m.ts ${name}`));
+});
+
+test('a name that a package lacks in its own files is reported where this directory imports it', () => {
+  const files = {
+    'index.ts': 'export { one } from "p";\n', 'node_modules/p/package.json': '{ "types": "p.d.ts" }',
+    'node_modules/p/p.d.ts': 'export { one } from "./q";\n', 'node_modules/p/q.d.ts': 'export declare const two: 2;\n',
+  };
+  assert.deepEqual(missing(files, '--packages'), ['name index.ts:1:10 node_modules/p/q.d.ts one']);
 });
 
 test('nothing is said of names that may come from what isn\'t read, or that no `export` tells', () => {

@@ -48,19 +48,23 @@ function unresolvedImports(folder) {
 }
 
 /**
- * The names that are imported, or exported from elsewhere, and that aren't there. Of a name that may be there all the same nothing is said.
+ * Finds imported and re-exported names that no module exports. Each is reported where the module that is named lacks it: what leads there
+ * by a re-export of this directory isn't reported again. Of a name that may be there all the same nothing is said.
  * @param {Folder} folder
  * @returns {Promise<Finding[]>}
  */
 async function missingExports(folder) {
+  const { sources } = folder;
   const asked = references(folder).flatMap(({ specifier, reference }) => {
-    const to = folder.sources.resolutions.get(specifier)?.get(reference.text);
-    if (to === undefined || !folder.sources.modules.has(to)) return [];
-    return reference.names.filter(([name]) => name !== '*').map(([name, , , start]) => ({ specifier, text: reference.text, name, start }));
+    const to = sources.resolutions.get(specifier)?.get(reference.text);
+    if (to === undefined || !sources.modules.has(to)) return [];
+    return reference.names.filter(([name]) => name !== '*').map(([name, , , start]) => ({ specifier, to: sources.typed(to), text: reference.text, name, start }));
   });
   const paths = await folder.resolve(asked.map((it) => [it.specifier, ['import', it.text, [it.name]]]));
   const found = paths.flatMap((entries, i) => missingIn(folder, endsOf(entries)).map((lack) => ({ ...asked[i], lack })));
-  return found.map(({ specifier, start, lack }) => ({
+  const isDirect = (/** @type {typeof found[0]} */ { to, lack }) => to === lack.module;
+  const direct = new Set(found.filter(isDirect).map(({ lack }) => `${lack.name} ${lack.module}`));
+  return found.filter((it) => isDirect(it) || !direct.has(`${it.lack.name} ${it.lack.module}`)).map(({ specifier, start, lack }) => ({
     what: 'name', ...folder.place(specifier, start), text: lack.name, how: folder.short(lack.module) }));
 }
 
