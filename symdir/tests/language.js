@@ -105,6 +105,8 @@ export class Language {
 /** @param {Node} node @returns {boolean} whether it is declared there; `{ a }` of a pattern refers to a property, too */
 function isDeclared(node) {
   const { parent } = node;
+  // of a default export without a name
+  if (node.kind === ts.SyntaxKind.DefaultKeyword) return true;
   if (/** @type {any} */ (parent).name !== node) return false;
   if (ts.isBindingElement(parent)) return parent.propertyName !== undefined || !ts.isObjectBindingPattern(parent.parent);
   return ts.isVariableDeclaration(parent) || ts.isParameter(parent) || ts.isFunctionLike(parent) || ts.isClassLike(parent) || ts.isInterfaceDeclaration(parent)

@@ -1,5 +1,6 @@
 // `symdir uses`: each import, re-export and reference that leads to a declaration.
 import { columns, counted, placeText } from '../output.js';
+import { isDefinition } from '../folder/folder.js';
 import { Places } from '../folder/text.js';
 import { nodesText } from '../tree/node.js';
 import { definitionsOf } from '../uses/ends.js';
@@ -26,13 +27,30 @@ import { hitsAt, hitsOf, moduleOf, pathsOf, spotOf, treeOf } from './where.js';
 /** @typedef {{ name: string, definitions: Definition[], hit: Hit }} Target */
 
 /**
+ * Finds the default export that is declared at a place, which may have no name there: its place is where `api` has it, or `default`.
+ * @param {Folder} folder @param {Module} module @param {import('./where.js').Spot} spot
+ * @returns {Promise<Target[]>} at most one
+ */
+async function defaultAt(folder, { specifier }, spot) {
+  const [{ exports }] = await folder.exports([specifier]);
+  const row = exports.find((it) => it.name === 'default' && it.module === specifier);
+  const [leaves] = row ? await folder.leaves([[specifier, row.symbol]]) : [[]];
+  const places = folder.placesOf(specifier);
+  const [before] = /^\s*export\s+(?=default\b)/.exec(places.bytes.toString('utf8', ...(places.line(spot.line) ?? [0, 0]))) ?? [''];
+  const isAt = (/** @type {Place} */ { line, column }) => line === spot.line && (spot.column === null || spot.column === column || (before !== '' && spot.column === before.length + 1));
+  const definitions = leaves.filter(isDefinition).filter((it) => it.module === specifier && isAt(folder.defined(it)));
+  return definitions.length > 0 ? [{ name: 'default', definitions, hit: { start: 0, end: 0, name: 'default', reference: [] } }] : [];
+}
+
+/**
  * What is asked of: of several names at the place those that are declared there, else each; of names for the same declarations the first.
- * @param {Folder} folder @param {Module} module @param {Hit[]} hits @param {import('./where.js').Spot} spot
+ * @param {Folder} folder @param {Module} module @param {Hit[]} hits @param {import('./where.js').Spot} spot @param {string | undefined} name
  * @returns {Promise<Target[]>}
  */
-async function targetsOf(folder, module, hits, spot) {
+async function targetsOf(folder, module, hits, spot, name) {
   const answers = await pathsOf(folder, module.specifier, hits);
-  const all = hits.map((hit, i) => ({ name: hit.name, hit, definitions: definitionsOf(answers[i]) }));
+  const named = hits.map((hit, i) => ({ name: hit.name, hit, definitions: definitionsOf(answers[i]) }));
+  const all = [...named, ...(name === undefined || name === 'default' ? await defaultAt(folder, module, spot) : [])];
   const isDeclared = (/** @type {Definition} */ it) => it.module === module.specifier && folder.defined(it).line === spot.line;
   const declared = all.filter((it) => it.definitions.some(isDeclared));
   const some = declared.length > 0 ? declared : all.filter((it) => it.definitions.length > 0 || isLocal(it.hit));
@@ -85,7 +103,7 @@ export async function findUses(folder, spot, name) {
   const module = moduleOf(folder, spot.file);
   const made = await treeOf(module, spot.file);
   const hits = hitsAt(hitsOf(made), spot, new Places(made.text), name);
-  const targets = await targetsOf(folder, module, hits, spot);
+  const targets = await targetsOf(folder, module, hits, spot, name);
   if (targets.length === 0) return { all: [], isName: hits.length > 0 };
   const finder = new Finder(folder, targets.map((it) => it.definitions));
   const found = await finder.find();
