@@ -29,13 +29,20 @@ function ours(out) {
     ends: it.unresolved.map((/** @type {any} */ end) => end.what) }]));
 }
 
-/** @param {string} folder @param {string[]} entries @returns {Map<string, string[]>} the places of each name, by entry and name */
+/** @typedef {{ places: Map<string, string[]>, comments: Set<string> }} Wanted the places of each name, by entry and name, and which of them comments declare */
+
+/** @param {string} folder @param {string[]} entries @returns {Wanted} */
 function theirs(folder, entries) {
   const files = entries.map((it) => path.join(folder, it));
   const { stdout, status, stderr } = spawnSync(process.execPath, [CHECKER, ...files], { encoding: 'utf8', maxBuffer: 1 << 28, env: { ...process.env, BASE: path.dirname(folder) } });
   assert.equal(status, 0, stderr);
-  return new Map(stdout.trim().split('\n').map((it) => JSON.parse(it)).flatMap(({ file, names }) => Object.entries(names).map(([name, places]) => [
-    `${path.relative(folder, file)} ${name}`, places.map((/** @type {any} */ [at, line, column]) => `${path.relative(folder, at)}:${line}:${column}`).sort()])));
+  const rows = stdout.trim().split('\n').map((it) => JSON.parse(it));
+  const key = (/** @type {string} */ file, /** @type {string} */ name) => `${path.relative(folder, file)} ${name}`;
+  return {
+    places: new Map(rows.flatMap(({ file, names }) => Object.entries(names).map(([name, places]) => [
+      key(file, name), places.map((/** @type {any} */ [at, line, column]) => `${path.relative(folder, at)}:${line}:${column}`).sort()]))),
+    comments: new Set(rows.flatMap(({ file, comments }) => comments.map((/** @type {string} */ it) => key(file, it)))),
+  };
 }
 
 /** @param {string[]} a @param {string[]} b @returns {boolean} */
@@ -49,13 +56,15 @@ function isSame(a, b) {
  * @param {any} out of `symdir api`
  * @param {string} key entry and name
  * @param {Found | undefined} mine
- * @param {string[] | undefined} wanted
+ * @param {Wanted} all of TypeScript
  * @returns {string | null} null where it doesn't; what isn't listed begins with `!`
  */
-function difference(folder, out, key, mine, wanted) {
+function difference(folder, out, key, mine, { places, comments }) {
   const [entry, name] = key.split(' ');
+  const wanted = places.get(key);
   if (!wanted) return name === 'default' && /^\s*export\s*=/m.test(readFileSync(path.join(folder, entry), 'utf8')) ? 'default behind export =' : '! ours alone';
   if (!mine && out.open.some((/** @type {any} */ it) => it.entry === entry && it.external !== null)) return 'from a module that isn\'t read';
+  if (!mine && comments.has(key)) return 'declared by comments of JavaScript';
   if (!mine) return name === 'prototype' ? 'prototype of a class behind export =' : '! TypeScript\'s alone';
   if (isSame(mine.places, wanted)) return null;
   const isOutside = wanted.every((it) => it.startsWith('../') || /(^|\/)node_modules\//.test(it));
@@ -72,8 +81,8 @@ for (const { package: name, directory, words = [] } of PACKAGES) {
     assert.ok(mine.size > 0);
     /** @type {Map<string, string[]>} */
     const classes = new Map();
-    for (const key of new Set([...mine.keys(), ...wanted.keys()])) {
-      const found = difference(folder, out, key, mine.get(key), wanted.get(key));
+    for (const key of new Set([...mine.keys(), ...wanted.places.keys()])) {
+      const found = difference(folder, out, key, mine.get(key), wanted);
       if (found !== null) classes.set(found, [...(classes.get(found) ?? []), key]);
     }
     const told = [...classes].map(([it, keys]) => `${it}: ${keys.length}`);

@@ -1,5 +1,6 @@
 // What TypeScript's own checker says that modules export: a process of its own, since it takes memory.
-//   node checker.js FILE..    a line of JSON for each file: { file, names: { name: [[file, line, column] of each declaration's name] } }
+//   node checker.js FILE..    a line of JSON for each file: { file, names: { name: [[file, line, column] of each declaration's name] }, comments: [name] }
+// where comments are the names that only comments of JavaScript declare, by `@typedef` and the like.
 import { createRequire } from 'node:module';
 import path from 'node:path';
 
@@ -23,12 +24,18 @@ function placeOf(declaration) {
   return [file.fileName, line + 1, character + 1];
 }
 
+/** @param {import('typescript').Symbol} symbol @returns {boolean} whether tags of comments alone declare it */
+function isInComment({ declarations = [] }) {
+  return declarations.length > 0 && declarations.every((it) => ts.isJSDocTypedefTag(it) || ts.isJSDocCallbackTag(it) || ts.isJSDocEnumTag(it));
+}
+
 for (const file of files) {
   const source = program.getSourceFile(file);
   const symbol = source && checker.getSymbolAtLocation(source);
-  const names = Object.fromEntries((symbol ? checker.getExportsOfModule(symbol) : []).map((it) => {
+  const all = symbol ? checker.getExportsOfModule(symbol) : [];
+  const names = Object.fromEntries(all.map((it) => {
     const target = it.flags & ts.SymbolFlags.Alias ? checker.getAliasedSymbol(it) : it;
     return [it.name, (target.declarations ?? []).map(placeOf)];
   }));
-  process.stdout.write(`${JSON.stringify({ file, names })}\n`);
+  process.stdout.write(`${JSON.stringify({ file, names, comments: all.filter(isInComment).map((it) => it.name) })}\n`);
 }
