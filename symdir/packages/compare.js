@@ -1,98 +1,41 @@
 // Writes symdir/COMPARED.md: what symdir finds in ten packages of Debian beside TypeScript and Rollup.
 //
-//     node symdir/packages/compare.js [--unproved]           compares all packages and writes the page
-//     node symdir/packages/compare.js [--unproved] NAME..    compares these, and prints each row and each difference as JSON
-//     node symdir/packages/compare.js --page FILE..          writes the page from what was printed
+//     node symdir/packages/compare.js            compares all packages and writes the page
+//     node symdir/packages/compare.js --check    compares them with the page, all but times and versions; status 1 if it differs
+//     node symdir/packages/compare.js NAME..     compares these, and prints what the page says of each
 //
-// A difference that no reason below explains ends it with 1. Times are those of all processors, by the shell's `times`. With --unproved
-// an unverified build of symq answers, and the page says so.
+// --rows FILE stores each row when it is found, and takes those that are there: so a run that was ended is resumed. With --unproved an
+// unverified build of symq answers, and the page says so. A difference that no reason explains is printed, and the status is 1. Times are
+// those of all processors, by the shell's `times`.
 import { spawnSync } from 'node:child_process';
-import { existsSync, mkdtempSync, readFileSync, realpathSync, rmSync, writeFileSync } from 'node:fs';
-import { createRequire } from 'node:module';
+import { appendFileSync, existsSync, mkdtempSync, readFileSync, realpathSync, rmSync, writeFileSync } from 'node:fs';
 import os from 'node:os';
 import path from 'node:path';
 import { fileURLToPath } from 'node:url';
 
-import { openFolder } from '../lib/library/index.js';
 import { unprovedSymq } from '../lib/program.js';
 import { ts } from '../tests/language.js';
-import { languageOf, takeInto } from './taken.js';
+import { COMPARED, ROLLUP } from './compared.js';
+import { takeInto } from './taken.js';
 
-/** @typedef {import('./taken.js').Package & { rollup?: string }} Compared with the module that Rollup begins at */
-/** @typedef {{ names: string[], missing: string[], files: string[], exports: string[], cycles: string[][] }} Lists of what is found, sorted */
+/** @typedef {import('./compared.js').Compared} Compared */
+/** @typedef {import('./finding.js').Lists} Lists */
+/** @typedef {import('./finding.js').Mine} Mine */
+/** @typedef {import('./finding.js').Theirs} Theirs */
 
 const HERE = fileURLToPath(import.meta.url);
-const PAGE = path.join(path.dirname(HERE), '..', 'COMPARED.md');
-const ROLLUP = '/usr/share/nodejs/rollup/dist/rollup.js';
+const FINDING = path.join(path.dirname(HERE), 'finding.js');
+export const PAGE = path.join(path.dirname(HERE), '..', 'COMPARED.md');
+/** After which a process that finds is ended. */
+const SECONDS = 900;
+/** What is compared, in the order of the page. */
+const LISTS = /** @type {const} */ (['names', 'missing', 'leaks', 'files', 'exports', 'uses', 'cycles']);
 
-const declarations = (/** @type {string} */ it) => /\.d\.ts$|^package\.json$/.test(it);
-const sourceScripts = (/** @type {string} */ it) => /^(package\.json|src\/.*\.js)$/.test(it);
-
-/** @type {Compared[]} */
-export const COMPARED = [
-  { name: 'node-lumino', place: '/usr/share/nodejs/@lumino', isTaken: (it) => /^(?!example-)[^/]+\/(package\.json|src\/.*\.ts)$/.test(it), paths: { '@lumino/*': ['./*/src/index.ts'] } },
-  { name: 'node-graphql', place: '/usr/share/nodejs/graphql', isTaken: (it) => /^(?!NotSupported).*\.d\.ts$|^package\.json$/.test(it) },
-  { name: 'node-undici', place: '/usr/share/nodejs/undici-types', isTaken: declarations },
-  { name: 'node-ajv', place: '/usr/share/nodejs/ajv', isTaken: declarations },
-  { name: 'node-globby', place: '/usr/share/nodejs/fast-glob', isTaken: declarations },
-  { name: 'node-yjs', place: '/usr/share/nodejs/yjs', isTaken: sourceScripts, rollup: 'src/index.js' },
-  { name: 'node-lib0', place: '/usr/share/nodejs/lib0', isTaken: (it) => /^[^/]+\.js$|^package\.json$/.test(it), rollup: 'index.js' },
-  { name: 'node-d3-interpolate', place: '/usr/share/nodejs/d3-interpolate', isTaken: sourceScripts, rollup: 'src/index.js' },
-  { name: 'node-d3-transition', place: '/usr/share/nodejs/d3-transition', isTaken: sourceScripts, rollup: 'src/index.js' },
-  { name: 'node-d3-shape', place: '/usr/share/nodejs/d3-shape', isTaken: sourceScripts, rollup: 'src/index.js' },
-];
-
-/** @param {string[]} list @returns {string[]} */
-const sorted = (list) => [...new Set(list)].sort();
-
-/** @param {string} directory @returns {Promise<Lists & { entries: string[], external: string[] }>} what symdir finds */
-async function bySymdir(directory) {
-  const folder = await openFolder(directory, { cache: false });
-  const [names, missing, unused, { cycles }] = await Promise.all([folder.names(), folder.missing(), folder.unused(), folder.cycles()]);
-  await folder.close();
-  return {
-    entries: folder.entries, external: [],
-    names: sorted(names.map((it) => `${it.entry} ${it.name}`)),
-    missing: sorted(missing.map((it) => `${it.file}:${it.line} ${it.text}`)),
-    files: unused.files, exports: sorted(unused.exports.map((it) => `${it.file} ${it.name}`)),
-    cycles: cycles.map((it) => it.modules),
-  };
-}
-
-/** @param {string} directory @param {Compared} of @param {string[]} entries @returns {Promise<Lists>} what TypeScript's checker and its language service say */
-async function byTypeScript(directory, of, entries) {
-  const [{ lackingBy }, { circlesBy, edgesBy, unusedBy }] = await Promise.all([import('../tests/definitions.js'), import('../tests/wanted.js')]);
-  const language = languageOf(directory, of, { checkJs: true });
-  const { modules, exports } = lackingBy(language);
-  const { files, exports: unused } = unusedBy(language, entries, entries);
-  const line = (/** @type {[string, string]} */ [place, text]) => `${place.replace(/:\d+$/, '')} ${text}`;
-  const shown = language.sources().filter((it) => entries.includes(language.short(it.fileName)));
-  return {
-    names: sorted(shown.flatMap((it) => language.exports(it).map((one) => `${language.short(it.fileName)} ${one.name}`))),
-    missing: sorted([...modules, ...exports].map(line)), files, exports: unused,
-    cycles: circlesBy(edgesBy(language, true), null).map((it) => it.modules),
-  };
-}
-
-/** @param {string} directory @param {Compared} of @returns {Promise<{ cycles: string[][], missing: string[] }>} what Rollup warns of */
-async function byRollup(directory, { rollup: entry = '' }) {
-  const { rollup } = createRequire(import.meta.url)(ROLLUP);
-  /** @type {any[]} */
-  const said = [];
-  const bundle = await rollup({ input: path.join(directory, entry), external: (/** @type {string} */ it) => !/^[./]/.test(it), onwarn: (/** @type {any} */ it) => said.push(it) });
-  await bundle.generate({ format: 'es' });
-  const short = (/** @type {string} */ it) => path.relative(directory, it);
-  return {
-    cycles: said.filter((it) => it.code === 'CIRCULAR_DEPENDENCY').map((it) => sorted(it.ids.map(short))),
-    missing: sorted(said.filter((it) => ['MISSING_EXPORT', 'UNRESOLVED_IMPORT'].includes(it.code)).map((it) => `${short(it.id ?? it.loc?.file ?? '')}:${it.loc?.line} ${it.binding ?? it.source ?? ''}`)),
-  };
-}
-
-/** @param {string} part @param {string[]} words @returns {{ found: any, seconds: number }} by a process of its own */
-function measured(part, words) {
-  const { status, stdout, stderr } = spawnSync('sh', ['-c', '"$@"; status=$?; times >&2; exit $status', 'sh', process.execPath, HERE, '--part', part, ...words], {
-    encoding: 'utf8', maxBuffer: 1 << 28 });
-  if (status !== 0) throw new Error(`${part} ${words[0]}: ${stderr}`);
+/** @param {string} who @param {string[]} words @returns {{ found: any, seconds: number }} by a process of its own */
+function measured(who, words) {
+  const { status, stdout, stderr, error } = spawnSync('sh', ['-c', '"$@"; status=$?; times >&2; exit $status', 'sh', process.execPath, FINDING, who, ...words], {
+    encoding: 'utf8', maxBuffer: 1 << 28, timeout: SECONDS * 1000 });
+  if (error || status !== 0) throw new Error(`${who} ${words[0]}: ${error?.message ?? stderr}`);
   const [user, system] = /** @type {string} */ (stderr.trim().split('\n').pop()).split(' ').map((it) => {
     const [minutes, seconds] = it.replace('s', '').split('m').map(Number);
     return minutes * 60 + seconds;
@@ -100,17 +43,18 @@ function measured(part, words) {
   return { found: JSON.parse(stdout), seconds: user + system };
 }
 
-/** @typedef {{ list: keyof Lists, who: 'symdir' | 'TypeScript' | 'Rollup', what: string, directory: string }} Difference what one alone finds */
+/** @typedef {{ list: typeof LISTS[number], who: 'symdir' | 'TypeScript' | 'Rollup', what: string }} Difference what one alone finds */
+/** @typedef {{ directory: string, comments: string[] }} About a package */
 
-/** @type {{ text: string, holds: (it: Difference) => boolean }[]} in the order of the page */
+/** @type {{ text: string, holds: (it: Difference, about: About) => boolean }[]} in the order of the page */
 const REASONS = [
-  { text: 'TypeScript looks for packages in `node_modules` alone, and none is installed next to the sources. For symdir what package.json names is external, and so are modules of Node.',
+  { text: 'TypeScript looks for packages in `node_modules` alone, and none is installed next to the sources. For symdir what package.json names is external.',
     holds: ({ list, who, what }) => list === 'missing' && who === 'TypeScript' && !/ [./]/.test(what) },
-  { text: 'TypeScript counts a `@typedef` in a comment of JavaScript as an export.',
-    holds: ({ list, who, what, directory }) => list === 'names' && who === 'TypeScript' && isTypedef(directory, what) },
+  { text: 'TypeScript takes a `@typedef` in a comment of JavaScript for an export. By Deno\'s rules comments declare nothing.',
+    holds: ({ list, who, what }, { comments }) => list === 'names' && who === 'TypeScript' && comments.includes(what) },
   { text: 'symdir lists `default` of a module with `export =`, as Deno does. TypeScript has it under `esModuleInterop`.',
-    holds: ({ list, who, what, directory }) => list === 'names' && who === 'symdir' && isEquals(directory, what) },
-  { text: 'Rollup warns once for each cycle that it meets on its way from the entry. symdir lists groups, each with a shortest cycle; each cycle of Rollup\'s is in one.',
+    holds: ({ list, who, what }, { directory }) => list === 'names' && who === 'symdir' && isEquals(directory, what) },
+  { text: 'Rollup warns of each cycle that it meets on its way from the entry. symdir lists groups of modules; each cycle of Rollup\'s is in one.',
     holds: ({ list, who }) => list === 'cycles' && who === 'Rollup' },
 ];
 
@@ -120,22 +64,30 @@ function isEquals(directory, what) {
   return name === 'default' && /^\s*export\s*=/m.test(readFileSync(path.join(directory, entry), 'utf8'));
 }
 
-/** @param {string} directory @param {string} what an entry and a name @returns {boolean} whether a comment declares the name */
-function isTypedef(directory, what) {
-  const [entry, name] = what.split(' ');
-  return /\.[mc]?js$/.test(entry) && new RegExp(`@(typedef|callback)[^@]*\\b${name}\\b`).test(readFileSync(path.join(directory, entry), 'utf8'));
-}
-
-/** @param {Lists} mine @param {Lists} theirs @param {string} directory @returns {Difference[]} */
-function differences(mine, theirs, directory) {
-  return /** @type {(keyof Lists)[]} */ (['names', 'missing', 'files', 'exports', 'cycles']).flatMap((list) => {
-    const [a, b] = [mine, theirs].map((it) => /** @type {unknown[]} */ (it[list]).map(String));
-    return [...a.filter((it) => !b.includes(it)).map((what) => ({ list, who: /** @type {const} */ ('symdir'), what, directory })),
-      ...b.filter((it) => !a.includes(it)).map((what) => ({ list, who: /** @type {const} */ ('TypeScript'), what, directory }))];
+/** @param {Lists} mine @param {Lists} theirs @returns {Difference[]} */
+function differences(mine, theirs) {
+  return LISTS.flatMap((list) => {
+    const [a, b] = [mine, theirs].map((it) => it[list].map(String));
+    return [...a.filter((it) => !b.includes(it)).map((what) => ({ list, who: /** @type {const} */ ('symdir'), what })),
+      ...b.filter((it) => !a.includes(it)).map((what) => ({ list, who: /** @type {const} */ ('TypeScript'), what }))];
   });
 }
 
-/** @param {Compared} of @returns {{ row: string[], open: Difference[] }} of the table, and what no reason explains */
+/** @param {Mine} mine @param {{ cycles: string[][], missing: string[] }} peer @returns {Difference[]} a cycle of Rollup's that is in no group, and a group that it doesn't meet, are symdir's alone */
+function peerDifferences(mine, peer) {
+  const isIn = (/** @type {string[]} */ cycle, /** @type {string[]} */ group) => cycle.every((it) => group.includes(it));
+  const cycles = peer.cycles.map((cycle) => ({
+    list: /** @type {const} */ ('cycles'), who: mine.cycles.some((it) => isIn(cycle, it)) ? /** @type {const} */ ('Rollup') : /** @type {const} */ ('symdir'), what: `Rollup: ${cycle}` }));
+  const unmet = mine.cycles.filter((group) => !peer.cycles.some((it) => isIn(it, group))).map((it) => ({
+    list: /** @type {const} */ ('cycles'), who: /** @type {const} */ ('symdir'), what: `not Rollup: ${it}` }));
+  const missing = peer.missing.filter((it) => !mine.missing.includes(it)).map((what) => ({
+    list: /** @type {const} */ ('missing'), who: /** @type {const} */ ('symdir'), what: `Rollup: ${what}` }));
+  return [...cycles, ...unmet, ...missing];
+}
+
+/** @typedef {{ name: string, row: string[], open: Difference[] }} Row of the table, and what no reason explains */
+
+/** @param {Compared} of @returns {Row} */
 function compared(of) {
   const directory = realpathSync(mkdtempSync(path.join(os.tmpdir(), 'symdir-compared-')));
   try {
@@ -146,78 +98,81 @@ function compared(of) {
   }
 }
 
-/** @param {string} directory @param {Compared} of @returns {{ row: string[], open: Difference[] }} */
+/** @param {string} directory @param {Compared} of @returns {Row} */
 function comparedIn(directory, of) {
-  const mine = measured('symdir', [directory]);
-  const theirs = measured('typescript', [directory, of.name, ...mine.found.entries]);
+  const { found: mine, seconds: ours } = measured('symdir', [directory, of.name]);
+  const { found: theirs, seconds } = measured('typescript', [directory, of.name, JSON.stringify({ entries: mine.entries, spots: mine.spots })]);
   const peer = of.rollup && existsSync(ROLLUP) ? measured('rollup', [directory, of.name]) : null;
-  const all = differences(mine.found, theirs.found, directory);
-  const within = (/** @type {string[]} */ cycle) => mine.found.cycles.some((/** @type {string[]} */ group) => cycle.every((it) => group.includes(it)));
-  for (const cycle of peer?.found.cycles ?? []) all.push({ list: 'cycles', who: within(cycle) ? 'Rollup' : 'symdir', what: `Rollup: ${cycle}`, directory });
-  for (const what of peer?.found.missing ?? []) if (!mine.found.missing.includes(what)) all.push({ list: 'missing', who: 'symdir', what: `Rollup: ${what}`, directory });
-  const numbers = all.map((it) => REASONS.findIndex((reason) => reason.holds(it)));
+  const all = [...differences(mine, theirs), ...(peer ? peerDifferences(mine, peer.found) : [])];
+  const numbers = all.map((it) => REASONS.findIndex((reason) => reason.holds(it, { directory, comments: theirs.comments })));
   const notes = (/** @type {string} */ list) => [...new Set(numbers.filter((it, i) => it >= 0 && all[i].list === list))].sort().map((it) => ` (${it + 1})`).join('');
-  const pair = (/** @type {keyof Lists} */ list) => `${mine.found[list].length}; ${theirs.found[list].length}`;
-  const cycles = `${pair('cycles')}${peer ? `; ${peer.found.cycles.length}` : ''}`;
-  const row = [nameOf(of.place), pair('names') + notes('names'), pair('missing') + notes('missing'), pair('files'), pair('exports') + notes('exports'),
-    cycles + notes('cycles'), `${mine.seconds.toFixed(1)}; ${theirs.seconds.toFixed(1)}${peer ? `; ${peer.seconds.toFixed(1)}` : ''}`];
-  return { row, open: all.filter((_, i) => numbers[i] < 0) };
+  const cells = LISTS.map((list) => {
+    const third = list === 'cycles' && peer ? `; ${peer.found.cycles.length}` : '';
+    return `${mine[list].length}; ${theirs[list].length}${third}${notes(list)}`;
+  });
+  const times = [ours, seconds, ...(peer ? [peer.seconds] : [])].map((it) => it.toFixed(1)).join('; ');
+  return { name: of.name, row: [path.relative('/usr/share/nodejs', of.place), ...cells, `${theirs.locals}`, times], open: all.filter((_, i) => numbers[i] < 0) };
 }
 
+const UNPROVED = ', by an unverified build of `symq`';
+
 /** @param {string[][]} rows @param {boolean} isUnproved @returns {string} the page */
-function pageOf(rows, isUnproved) {
+export function pageOf(rows, isUnproved) {
   const { version } = JSON.parse(readFileSync(path.join(path.dirname(ROLLUP), '..', 'package.json'), 'utf8'));
   const table = rows.map((it) => `| ${it.join(' | ')} |`).join('\n');
   return `# Compared on ${rows.length} packages
 
-\`node symdir/packages/compare.js\` writes this page. Each package of Debian is taken without what is built of it. A cell has the count of symdir and then that of
-TypeScript ${ts.version}: its checker lists names and missing imports, its language service finds references, and what it emits has the cycles. A third count is that
-of Rollup ${version}. Seconds are those of all processors for the row, without caches${isUnproved ? ', by an unverified build of `symq`, with other work on the machine' : ''}.
+\`node symdir/packages/compare.js\` writes this page, and \`--check\` compares with it. Each package of Debian is taken without what is built of it. A cell has the
+count of symdir and then that of TypeScript ${ts.version}. Its checker lists names, missing imports and leaks. Its language service finds references, for exports that
+nothing uses and for the uses of ten public names. What it emits has the cycles. A third count is that of Rollup ${version}. Unused locals are found by TypeScript
+alone: symdir looks at what modules export. Seconds are those of all processors for the row, without caches${isUnproved ? UNPROVED : ''}.
 
-| package | public names | missing | unreachable files | unused exports | cycles | seconds |
-|---|---|---|---|---|---|---|
+| package | public names | missing | leaks | unreachable files | unused exports | uses | cycles | unused locals | seconds |
+|---|---|---|---|---|---|---|---|---|---|
 ${table}
 
-All else is the same, item by item. Where a number stands behind the counts, some items differ:
+All else is the same, item by item. Where a number stands in brackets, some items differ:
 
 ${REASONS.map((it, i) => `${i + 1}. ${it.text}`).join('\n')}
+
+Of tools that list unused exports or import cycles Debian has neither madge nor knip, depcheck or dependency-cruiser. Rollup warns of cycles and missing exports.
 `;
 }
 
-/** @param {string[]} files of lines that were printed @returns {string[][]} the rows, in the order of the packages */
-function rowsIn(files) {
-  const rows = files.flatMap((it) => readFileSync(it, 'utf8').split('\n').filter((line) => line.startsWith('[')).map((line) => JSON.parse(line)));
-  return COMPARED.flatMap(({ place }) => rows.filter(([name]) => name === nameOf(place)).slice(-1));
+/** @param {string} page @returns {string} without what differs from run to run: times, versions, and whether symq is proved */
+export function stable(page) {
+  return page.replace(/^(\|.*\|) [\d.; ]+ \|$/gm, '$1').replace(/\d+\.\d+\.\d+/g, 'VERSION').replace(UNPROVED, '').replace(/\s+/g, ' ');
 }
 
-/** @param {string} place @returns {string} as the page has it */
-function nameOf(place) {
-  return path.relative('/usr/share/nodejs', place);
-}
-
-/** @param {string[]} words of what one process finds @returns {Promise<number>} the status */
-async function part([what, directory, name, ...entries]) {
-  const of = /** @type {Compared} */ (COMPARED.find((it) => it.name === name));
-  const found = what === 'symdir' ? await bySymdir(directory) : what === 'rollup' ? await byRollup(directory, of) : await byTypeScript(directory, of, entries);
-  process.stdout.write(JSON.stringify(found));
-  return 0;
+/** @param {Compared[]} packages @param {string | undefined} file of rows @returns {Row[]} */
+function rowsOf(packages, file) {
+  const lines = file !== undefined && existsSync(file) ? readFileSync(file, 'utf8').split('\n').filter((it) => it !== '') : [];
+  const known = new Map(lines.map((it) => /** @type {Row} */ (JSON.parse(it))).map((it) => [it.name, it]));
+  return packages.map((of) => {
+    const found = known.get(of.name) ?? compared(of);
+    if (file !== undefined && !known.has(of.name)) appendFileSync(file, `${JSON.stringify(found)}\n`);
+    return found;
+  });
 }
 
 /** @param {string[]} words @returns {Promise<number>} the status */
 async function main(words) {
-  if (words[0] === '--part') return part(words.slice(1));
-  const isUnproved = words[0] === '--unproved';
+  const at = words.indexOf('--rows');
+  const [, file] = at < 0 ? [] : words.splice(at, 2);
+  const isUnproved = words.includes('--unproved');
   if (isUnproved) process.env.SYMQ = await unprovedSymq();
-  const names = words.slice(isUnproved ? 1 : 0);
-  if (names[0] === '--page') {
-    writeFileSync(PAGE, pageOf(rowsIn(names.slice(1)), isUnproved));
-    return 0;
+  const names = words.filter((it) => !it.startsWith('--'));
+  const rows = rowsOf(names.length > 0 ? COMPARED.filter((it) => names.includes(it.name)) : COMPARED, file);
+  const open = rows.flatMap((it) => it.open.map((one) => ({ package: it.name, ...one })));
+  for (const it of open) console.log(JSON.stringify(it));
+  const page = pageOf(rows.map((it) => it.row), isUnproved);
+  if (words.includes('--check')) {
+    const isSame = names.length === 0 && stable(readFileSync(PAGE, 'utf8')) === stable(page);
+    if (!isSame) console.log(`${PAGE} differs from what is found:\n${page}`);
+    return isSame && open.length === 0 ? 0 : 1;
   }
-  const all = (names.length > 0 ? COMPARED.filter((it) => names.includes(it.name)) : COMPARED).map(compared);
-  const open = all.flatMap((it) => it.open);
-  if (names.length === 0) writeFileSync(PAGE, pageOf(all.map((it) => it.row), isUnproved));
-  else for (const { row } of all) console.log(JSON.stringify(row));
-  for (const it of open) console.log(it);
+  if (names.length === 0 && open.length === 0) writeFileSync(PAGE, page);
+  else for (const { row } of rows) console.log(row.join(' | '));
   return open.length > 0 ? 1 : 0;
 }
 

@@ -109,7 +109,7 @@ function isReferred(language, file, symbol) {
 }
 
 /** @param {import('typescript').Symbol} symbol @returns {boolean} whether a comment of JavaScript declares it */
-function isInComment({ declarations = [] }) {
+export function isInComment({ declarations = [] }) {
   return declarations.length > 0 && declarations.every((it) => ts.isJSDocTypedefTag(it) || ts.isJSDocCallbackTag(it) || ts.isJSDocEnumTag(it));
 }
 
