@@ -104,6 +104,9 @@ ${reports('leaks', 'examples/shop/new --entry cart.ts')}
 ${ASKING}`,
   missing: `symdir missing DIR: unresolved imports and \`export *\`, imports of missing exports, syntax errors
 
+A missing export is reported where a module is named that lacks it, and not where that leads by
+a re-export. An unresolved \`export *\` is reported alone: which names it gives isn't known.
+
   symdir missing examples/shapes
 
   --all                doesn't truncate lists
@@ -142,7 +145,8 @@ ${reports('unused', 'examples/shop/new')}
 ${ASKING}`,
   uses: `symdir uses DIR FILE:LINE[:COLUMN] [NAME]: find references: imports, re-exports and other uses
 
-Without a column the names that the line declares are looked up, or else all names in it.
+Without a column the names that the line declares are looked up, or else all names in it. A
+default export without a name is called \`default\`.
 
   symdir uses examples/shop/new item.ts:4 Item
 

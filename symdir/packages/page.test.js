@@ -93,6 +93,11 @@ test('at each width and in each scheme: nothing is wider than the page, and text
     await browser.open(file, look);
     await browser.type('graphqlsch');
     await browser.press('Enter');
+    assert.equal(await browser.evaluate(FOCUSED), 'GraphQLSchema');
+    assert.deepEqual(await browser.evaluate(`(() => {
+      const { top, bottom, left, right } = document.activeElement.getBoundingClientRect();
+      return [document.activeElement.parentElement.open, top >= 0 && top < innerHeight && bottom > 0, left >= 0 && right <= innerWidth];
+    })()`), [true, true, true], `${look.width}`);
     const { wide, window, back, colors } = await browser.evaluate(`({
       wide: document.documentElement.scrollWidth, window: innerWidth, back: getComputedStyle(document.body).backgroundColor,
       colors: [...document.querySelectorAll("h1, .about, label, output, #keys, summary .name, summary .signature, .place, .kind, .doc p, dt, dd, button")].map((it) => [it.className || it.tagName, getComputedStyle(it).color]) })`);

@@ -11,7 +11,7 @@ import { Language } from '../tests/language.js';
 /** @typedef {{ name: string, place: string, isTaken: (file: string) => boolean, paths?: Record<string, string[]> }} Package */
 
 /** @param {string} name of Debian's package @param {string} place */
-function putInPlace(name, place) {
+export function putInPlace(name, place) {
   if (existsSync(place)) return;
   const { status, stderr } = spawnSync('apt-get', ['install', '-y', '--no-install-recommends', name], { encoding: 'utf8' });
   assert.equal(status, 0, stderr);

@@ -6,6 +6,7 @@ import path from 'node:path';
 import test from 'node:test';
 import { fileURLToPath } from 'node:url';
 
+import { findSymq } from '../lib/program.js';
 import { folderOf, program } from './helper.js';
 
 const TOP = fileURLToPath(new URL('../../', import.meta.url));
@@ -37,6 +38,20 @@ test('bench/sources.mjs says how it is called', () => {
   assert.deepEqual(run(process.execPath, ['bench/sources.mjs', '--help']), { status: 0, stdout: usage, stderr: '' });
   assert.deepEqual(run(process.execPath, ['bench/sources.mjs', '--none']), { status: 2, stdout: '', stderr: `sources.mjs: Unknown option '--none'\n${usage}` });
   assert.deepEqual(run(process.execPath, ['bench/sources.mjs', '/none']), { status: 2, stdout: '', stderr: `sources.mjs: no directory /none\n${usage}` });
+});
+
+test('bench/commands.mjs says how it is called', () => {
+  const usage = 'usage: node bench/commands.mjs [--rounds N] [--symq FILE] [--typescript DIR] [--commands NAME,..] FOLDER..\n';
+  const said = (/** @type {string[]} */ ...words) => run(process.execPath, ['bench/commands.mjs', ...words]);
+  const wrong = (/** @type {string} */ text) => ({ status: 2, stdout: '', stderr: `commands.mjs: ${text}\n${usage}` });
+  assert.deepEqual(said('--help'), { status: 0, stdout: usage, stderr: '' });
+  assert.deepEqual(said('--none'), wrong("Unknown option '--none'"));
+  assert.deepEqual(said('/none'), wrong('no directory /none'));
+  assert.deepEqual(said('--commands', 'x', TOP), wrong('no command x; there are api, api --html, leaks, missing, where, uses, unused, cycles, web, diff'));
+  const { status, stdout } = said('--rounds', '1', '--commands', 'api,uses', '--symq', findSymq(undefined), path.join(TOP, 'examples/shop/new'));
+  assert.equal(status, 0);
+  assert.match(stdout, /^new api: service clock .+\n {2}cold .+\n {2}cached .+\n {2}symdir 3, service 3\nnew uses: .+\n.+\n.+\n {2}symdir 5, service 5\n\n/);
+  assert.match(stdout, /\n\| command \| new \|\n\|---\|---\|\n\| `api` \| [\d.]+; [\d.]+ \|\n\| `uses` \| [\d.]+; [\d.]+ \|\n$/);
 });
 
 test('bench/huge.mjs says how it is called', () => {

@@ -1,0 +1,154 @@
+// Times each command of symdir beside TypeScript's language service doing the same.
+//
+//   node bench/commands.mjs [--rounds N] [--symq FILE] [--typescript DIR] [--commands NAME,..] FOLDER..
+//
+// In each round three processes run one after the other: the service; the command without cached trees, but with TypeScript's compiled
+// form, which any earlier run caches; and the command with the trees and the graph of the run before. Both take the TypeScript in DIR, or
+// the newest that is installed, and read the modules of TypeScript below the directory. Both write what they find to a pipe.
+// It prints the least times of the rounds, their ratios to the service's, on the clock and of the processors, and how much each found. The
+// last lines are a table: ratios on the clock, cold and cached.
+import { spawnSync } from 'node:child_process';
+import { existsSync, mkdtempSync, readFileSync, readdirSync, rmSync } from 'node:fs';
+import os from 'node:os';
+import path from 'node:path';
+import { fileURLToPath } from 'node:url';
+import { parseArgs } from 'node:util';
+
+const SELF = fileURLToPath(import.meta.url);
+const SYMDIR = fileURLToPath(new URL('../symdir/bin/symdir.js', import.meta.url));
+const SERVICE = fileURLToPath(new URL('./service.mjs', import.meta.url));
+const USAGE = 'usage: node bench/commands.mjs [--rounds N] [--symq FILE] [--typescript DIR] [--commands NAME,..] FOLDER..';
+const SCRIPTS = ['--skip', '\\.[mc]?jsx?$'];
+
+/** @typedef {{ entries: string[], spot: string }} Asked what the service is told of a directory: its entries, and the place of a public name */
+/** @typedef {{ clock: number, processors: number }} Time */
+
+/** @type {Record<string, (folder: string, asked: Asked) => string[]>} the words of each command */
+const COMMANDS = {
+  api: (folder) => ['api', folder, '--json'],
+  'api --html': (folder) => ['api', folder, '--html'],
+  leaks: (folder) => ['leaks', folder, '--json'],
+  missing: (folder) => ['missing', folder, '--json'],
+  where: (folder, { spot }) => ['where', folder, spot, '--json'],
+  uses: (folder, { spot }) => ['uses', folder, spot, '--bodies', '--json'],
+  unused: (folder) => ['unused', folder, '--json'],
+  cycles: (folder) => ['cycles', folder, '--json'],
+  web: (folder) => ['web', folder, '--json'],
+  diff: (folder) => ['diff', folder, folder, '--json'],
+};
+
+/** @returns {number} the processor time in seconds of all ended child processes */
+function processors() {
+  if (!existsSync('/proc/self/stat')) return NaN;
+  const [user, system] = readFileSync('/proc/self/stat', 'utf8').split(') ')[1].split(' ').slice(13, 15);
+  return (Number(user) + Number(system)) / 100;
+}
+
+/** @param {string[]} words of Node @param {string} cache @returns {{ time: Time, stdout: string }} */
+function timed(words, cache) {
+  const { NODE_EXTRA_CA_CERTS: _, ...plain } = process.env;
+  const PATH = values.typescript ? `${path.join(String(values.typescript), 'bin')}${path.delimiter}${process.env.PATH}` : process.env.PATH;
+  const [began, before] = [performance.now(), processors()];
+  const { status, signal, stdout, stderr } = spawnSync(process.execPath, words, {
+    encoding: 'utf8', maxBuffer: 1 << 28, env: { ...plain, PATH, SYMQ: String(values.symq), XDG_CACHE_HOME: cache } });
+  const time = { clock: (performance.now() - began) / 1000, processors: processors() - before };
+  if (status === null || status > 1) throw new Error(`${words.join(' ')}: status ${status}, signal ${signal}: ${stderr}`);
+  return { time, stdout };
+}
+
+/** @param {string} folder @param {string} cache @returns {Asked} */
+function askedOf(folder, cache) {
+  const { entries, names } = JSON.parse(timed([SYMDIR, 'api', folder, '--json', ...SCRIPTS], cache).stdout);
+  const all = names.flatMap((/** @type {any} */ it) => it.defined.filter((/** @type {any} */ one) => !one.by && it.name !== 'default'));
+  const { file, line, column } = all[Math.floor(all.length / 2)];
+  return { entries, spot: `${file}:${line}:${column}` };
+}
+
+/** @param {string} name @param {string} stdout of a command @returns {number} how much it found */
+function countOf(name, stdout) {
+  if (name === 'api --html') return stdout.split('<li class="row').length - 1;
+  const out = JSON.parse(stdout);
+  if (name === 'where') return out.flatMap((/** @type {any} */ it) => it.ways.filter((/** @type {any} */ one) => one.defined)).length;
+  if (name === 'uses') return out.flatMap((/** @type {any} */ it) => it.uses.filter((/** @type {any} */ one) => one.how !== 'export *')).length;
+  return (/** @type {Record<string, any[]>} */ ({ api: out.names, leaks: out.leaks, missing: out.missing, unused: out.exports, cycles: out.cycles, web: out.edges, diff: out.changes }))[name].length;
+}
+
+/** @param {Time[]} times @returns {Time} the least of each */
+function least(times) {
+  return { clock: Math.min(...times.map((it) => it.clock)), processors: Math.min(...times.map((it) => it.processors)) };
+}
+
+/** @param {Time} time @param {Time} [other] @returns {string} with its ratio to the other */
+function timeText(time, other) {
+  const text = (/** @type {'clock' | 'processors'} */ it) => `${time[it].toFixed(2)} s${other ? ` (${(time[it] / other[it]).toFixed(2)})` : ''}`;
+  return `clock ${text('clock')}, processors ${text('processors')}`;
+}
+
+/** @param {string} folder a cache, whose trees and graphs are removed */
+function forgetTrees(folder) {
+  for (const it of readdirSync(folder)) if (/\.(trees|graph)$/.test(it)) rmSync(path.join(folder, it));
+}
+
+/** @param {string} folder @param {string} name of a command @param {Asked} asked @param {string} cache @returns {string} the cell of the table */
+function compare(folder, name, asked, cache) {
+  /** @type {Record<'service' | 'cold' | 'cached', Time[]>} */
+  const runs = { service: [], cold: [], cached: [] };
+  const words = [SYMDIR, ...COMMANDS[name](folder, asked), ...SCRIPTS];
+  const counts = new Set();
+  for (let i = 0; i < Number(values.rounds); i++) {
+    const service = timed([SERVICE, name, folder, JSON.stringify(asked)], cache);
+    runs.service.push(service.time);
+    forgetTrees(path.join(cache, 'symdir'));
+    for (const sort of /** @type {const} */ (['cold', 'cached'])) {
+      const { time, stdout } = timed(words, cache);
+      runs[sort].push(time);
+      counts.add(`symdir ${countOf(name, stdout)}, service ${service.stdout.trim()}`);
+    }
+  }
+  const [service, cold, cached] = [runs.service, runs.cold, runs.cached].map(least);
+  console.log(`${path.basename(folder)} ${name}: service ${timeText(service)}\n  cold    ${timeText(cold, service)}\n  cached  ${timeText(cached, service)}\n  ${[...counts].join('; ')}`);
+  return `${(cold.clock / service.clock).toFixed(2)}; ${(cached.clock / service.clock).toFixed(2)}`;
+}
+
+/** @param {string[]} folders @param {string[]} names of commands */
+function compareAll(folders, names) {
+  const cache = mkdtempSync(path.join(os.tmpdir(), 'commands-'));
+  const cells = new Map(names.map((it) => [it, /** @type {string[]} */ ([])]));
+  for (const folder of folders) {
+    const asked = askedOf(folder, cache);
+    for (const name of names) cells.get(name)?.push(compare(folder, name, asked, cache));
+  }
+  rmSync(cache, { recursive: true });
+  console.log(`\n| command | ${folders.map((it) => path.basename(it)).join(' | ')} |\n|---|${folders.map(() => '---|').join('')}`);
+  for (const [name, row] of cells) console.log(`| \`${name}\` | ${row.join(' | ')} |`);
+}
+
+/** @param {string} text what is wrong with the arguments @returns {never} */
+function usageError(text) {
+  console.error(`${path.basename(SELF)}: ${text}\n${USAGE}`);
+  process.exit(2);
+}
+
+function argumentsOf() {
+  try {
+    return parseArgs({ allowPositionals: true, options: {
+      rounds: { type: 'string', default: '3' }, symq: { type: 'string', default: fileURLToPath(new URL('../crates/symq/out/symq', import.meta.url)) },
+      typescript: { type: 'string' }, commands: { type: 'string', default: Object.keys(COMMANDS).join() }, help: { type: 'boolean', short: 'h' } } });
+  } catch (error) {
+    return usageError(/** @type {Error} */ (error).message.split('. To specify')[0]);
+  }
+}
+
+const { values, positionals } = argumentsOf();
+if (values.help) {
+  console.log(USAGE);
+  process.exit(0);
+}
+const names = String(values.commands).split(',');
+if (!(Number(values.rounds) >= 1)) usageError('--rounds is a number from 1');
+for (const it of names) if (!Object.hasOwn(COMMANDS, it)) usageError(`no command ${it}; there are ${Object.keys(COMMANDS).join(', ')}`);
+if (positionals.length === 0) usageError('which directories?');
+for (const it of positionals) if (!existsSync(it)) usageError(`no directory ${it}`);
+if (values.typescript && !existsSync(path.join(String(values.typescript), 'bin', 'tsc'))) usageError(`no TypeScript in ${values.typescript}`);
+if (!existsSync(String(values.symq))) usageError(`no program ${values.symq}: \`make symq\` builds it, --symq FILE names it`);
+compareAll(positionals.map((it) => path.resolve(it)), names);
