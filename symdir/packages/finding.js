@@ -1,5 +1,6 @@
 // What symdir, TypeScript and Rollup find in a directory, as lists that compare.js holds against each other. Each is found by a process of
 // its own, so that its time can be measured: node finding.js WHO DIRECTORY PACKAGE [JSON of what symdir found]
+import { readFileSync } from 'node:fs';
 import { createRequire } from 'node:module';
 import path from 'node:path';
 
@@ -31,11 +32,18 @@ function spotOf(spot) {
   return { file, line: Number(line), column: Number(column) };
 }
 
+/** @param {string} directory @param {{ kind: string, file: string, line: number, column: number }} it a definition @returns {string} where its name stands; of a value without a name `default` */
+function namePlaceOf(directory, it) {
+  if (it.kind !== 'default') return placeOf(it);
+  const line = readFileSync(path.join(directory, it.file), 'utf8').split('\n')[it.line - 1];
+  return placeOf({ ...it, column: line.indexOf('default', it.column - 1) + 1 });
+}
+
 /** @param {string} directory @returns {Promise<Mine>} */
 async function bySymdir(directory) {
   const folder = await openFolder(directory, { cache: false });
   const [names, missing, leaks, unused, { cycles }] = await Promise.all([folder.names(), folder.missing(), folder.leaks(), folder.unused(), folder.cycles()]);
-  const all = sorted(names.flatMap((it) => it.defined.filter((one) => !one.by && it.name !== 'default').map(placeOf)));
+  const all = sorted(names.flatMap((it) => it.defined.filter((one) => !one.by).map((one) => namePlaceOf(directory, one))));
   const spots = all.filter((_, i) => i % Math.ceil(all.length / SPOTS) === 0);
   const uses = [];
   for (const spot of spots) {

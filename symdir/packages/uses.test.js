@@ -3,6 +3,7 @@ import assert from 'node:assert/strict';
 import test from 'node:test';
 
 import { answer } from '../tests/helper.js';
+import { ts } from '../tests/language.js';
 import { placeOf, referencesTo } from '../tests/wanted.js';
 import { PACKAGES, sourcesOf } from './sources.js';
 import { languageOf } from './taken.js';
@@ -16,7 +17,9 @@ for (const it of PACKAGES) {
     const language = languageOf(folder, it);
     const all = language.sources().flatMap((file) => language.ownExports(file).flatMap((symbol) => {
       const at = placeOf(file, symbol);
-      return at === null || symbol.name === 'default' ? [] : [{ file, at, name: symbol.name }];
+      // a `default` that stands for another name has no place of its own
+      const isOther = symbol.name === 'default' && (symbol.flags & ts.SymbolFlags.Alias) !== 0;
+      return at === null || isOther ? [] : [{ file, at, name: symbol.name }];
     }));
     const some = all.filter((_, i) => i % Math.ceil(all.length / WANTED) === 0);
     let count = 0;

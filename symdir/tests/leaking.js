@@ -34,6 +34,7 @@ function referredIn(declaration) {
     if (isValue(node) || isPrivate(node) || node.kind >= ts.SyntaxKind.FirstJSDocNode && node.kind <= ts.SyntaxKind.LastJSDocNode) return;
     if (ts.isTypeReferenceNode(node)) found.push(node.typeName);
     if (ts.isTypeQueryNode(node)) found.push(node.exprName);
+    if (ts.isImportTypeNode(node) && node.qualifier) found.push(node.qualifier);
     if ((ts.isExpressionWithTypeArguments(node) || ts.isComputedPropertyName(node)) && isDotted(node.expression)) found.push(node.expression);
     ts.forEachChild(node, visit);
   };
@@ -70,7 +71,13 @@ export function leaksBy(language, entries) {
       }
     }
   }
-  return [...leaking].flatMap((it) => placeOf(language, it) ?? []).sort();
+  return [...leaking].filter((it) => !isWithin(it, leaking)).flatMap((it) => placeOf(language, it) ?? []).sort();
+}
+
+/** @param {Symbol} symbol @param {Set<Symbol>} others @returns {boolean} whether one of them holds it, as a namespace does */
+function isWithin(symbol, others) {
+  const { parent } = /** @type {{ parent?: Symbol }} */ (/** @type {unknown} */ (symbol));
+  return parent !== undefined && (others.has(parent) || isWithin(parent, others));
 }
 
 /** @param {Symbol} symbol @param {Set<Symbol>} shown @returns {boolean} whether it is none that users reach by what holds it: an enum's member, say */

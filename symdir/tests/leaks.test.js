@@ -2,6 +2,8 @@ import assert from 'node:assert/strict';
 import test from 'node:test';
 
 import { answer, folderOf, symdir } from './helper.js';
+import { Language } from './language.js';
+import { leaksBy } from './leaking.js';
 
 const FILES = {
   'index.ts': 'export * from "./shapes.ts";\n',
@@ -51,6 +53,34 @@ test('a type that another entry exports is no leak, and neither is one of a pack
     'package.json': '{"exports":{".":"./a.ts","./b":"./b.ts"},"dependencies":{"far":"1"}}',
     'a.ts': 'import { B } from "./b.ts";\nimport { Far } from "far";\nexport declare const a: B | Far;\n', 'b.ts': 'export interface B {}\n' });
   assert.deepEqual(answer(['leaks', folder]).leaks, []);
+});
+
+test('of a value that is exported as `default` the types count that are written in it, as by TypeScript', () => {
+  const files = {
+    'index.ts': 'export { default as a } from "./a";\nexport { default as b } from "./b";\nexport { default as c } from "./c";\nexport { default } from "./d";\n',
+    'a.ts': 'function make(x: number) { return x; }\nconst one = 1;\nexport default make(one);\n',
+    'b.ts': 'interface Shown {}\nclass Made implements Shown {}\nexport default new Made() as Shown;\n',
+    'c.ts': 'interface Taken {}\nnamespace Inner { export interface Deep {} }\nconst value = 1;\nexport default (it: Taken, more: Inner.Deep, last: typeof value) => it;\n',
+    'd.ts': 'interface Own {}\nexport default function (it: Own) {}\n',
+  };
+  const folder = folderOf(files);
+  const wanted = leaksBy(new Language(folder, Object.keys(files)), ['index.ts']);
+  assert.deepEqual(wanted, ['b.ts:1:11', 'c.ts:1:11', 'c.ts:2:36', 'c.ts:3:7', 'd.ts:1:11']);
+  const { leaks } = answer(['leaks', folder]);
+  assert.deepEqual(leaks.map((/** @type {any} */ it) => `${it.file}:${it.line}:${it.column}`).sort(), wanted);
+});
+
+test('an import type counts, and a type within another that leaks doesn\'t, as by TypeScript', () => {
+  const files = {
+    'index.ts': 'import B from "./b";\nexport declare const all: { f: typeof import("./a").f; d: import("./d").Deep.Inner; b: B; options: B.Options };\n',
+    'a.ts': 'export declare function f(): void;\n', 'd.ts': 'export namespace Deep { export interface Inner {} }\n',
+    'b.ts': 'export default B;\ndeclare class B {}\ndeclare namespace B { export interface Options {} }\n',
+  };
+  const folder = folderOf(files);
+  const wanted = leaksBy(new Language(folder, Object.keys(files)), ['index.ts']);
+  assert.deepEqual(wanted, ['a.ts:1:25', 'b.ts:2:15', 'd.ts:1:42']);
+  const { leaks } = answer(['leaks', folder]);
+  assert.deepEqual(leaks.map((/** @type {any} */ it) => `${it.file}:${it.line}:${it.column}`).sort(), wanted);
 });
 
 test('what is private needs no type, by each way to say so', () => {

@@ -103,19 +103,19 @@ test('an import is for types alone where no body needs it, if bodies are read', 
 test('a default export without a name is found where `api` has it, and at `default`, as by TypeScript', () => {
   const files = {
     'f.ts': 'export default function (a: number) { return a; }\n', 'c.ts': '  export default class { it = 1 }\n', 'e.ts': 'export default [1];\n',
-    'index.ts': 'import f, { default as g } from "./f";\nimport C from "./c";\nimport e from "./e";\nexport { default as again } from "./f";\nexport const all = [f(1), g, e, new C()];\n',
+    'index.ts': 'import f, { default as g } from "./f";\nimport C from "./c";\nimport e from "./e";\nexport { default as again } from "./f";\nexport const all = [f(1), g, e, new C()];\nexport let t: typeof import("./f").default, c: import("./c").default;\n',
   };
   const made = folderOf(files);
   const service = new Language(made, Object.keys(files));
   for (const [file, column] of /** @type {[string, number][]} */ ([['f.ts', 8], ['c.ts', 10], ['e.ts', 8]])) {
     const wanted = referencesTo(service, path.join(made, file), 1, column).map((it) => it.place);
-    assert.ok(wanted.length > 1);
+    assert.deepEqual(wanted.filter((it) => it.startsWith('index.ts:6:')), { 'f.ts': ['index.ts:6:36'], 'c.ts': ['index.ts:6:62'] }[file] ?? []);
     const [{ name, defined: [{ column: at }], uses }] = answer(['uses', made, `${file}:1:${column}`, '--bodies']);
     assert.deepEqual([name, uses.map((/** @type {any} */ it) => `${it.file}:${it.line}:${it.column}`).sort()], ['default', wanted]);
     for (const words of [[`${file}:1:${at}`], [`${file}:1`, 'default'], [`${file}:1`]]) assert.deepEqual(answer(['uses', made, ...words, '--bodies'])[0].uses, uses, words.join(' '));
   }
   assert.deepEqual(answer(['uses', made, 'f.ts:1:26'])[0].name, 'a');
-  assert.equal(symdir(['uses', made, 'index.ts:1', 'default']).stdout.split('\n')[0], 'default  function  f.ts:1:16: 5 uses in 1 file');
+  assert.equal(symdir(['uses', made, 'index.ts:1', 'default']).stdout.split('\n')[0], 'default  function  f.ts:1:16: 6 uses in 1 file');
 });
 
 test('a local name, and a name that nothing uses', () => {

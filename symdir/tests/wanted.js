@@ -137,6 +137,28 @@ export function unusedBy(language, entries, roots) {
   return { files: sources.map((it) => language.short(it.fileName)).filter((it) => !reached.has(it)).sort(), exports: exports.sort() };
 }
 
+/** @param {Language} language @param {Symbol | undefined} symbol @returns {{ file: SourceFile, start: number, node: Node }[]} each `default` behind an import type that the checker resolves to it: the service doesn't look for these */
+function defaultsOf(language, symbol) {
+  const { checker } = language;
+  const target = (/** @type {Symbol | undefined} */ it) => (it && it.flags & ts.SymbolFlags.Alias ? checker.getAliasedSymbol(it) : it);
+  /** @type {{ file: SourceFile, start: number, node: Node }[]} */
+  const found = [];
+  for (const file of language.sources()) {
+    forEachNode(file, (it) => {
+      if (!ts.isIdentifier(it) || it.text !== 'default' || !isFirst(it)) return;
+      if (symbol && target(checker.getSymbolAtLocation(it)) === target(symbol)) found.push({ file, start: it.getStart(), node: it });
+    });
+  }
+  return found;
+}
+
+/** @param {Node} node @returns {boolean} whether it is the first name behind an import type */
+function isFirst(node) {
+  const { parent } = node;
+  if (ts.isQualifiedName(parent)) return parent.left === node && isFirst(parent);
+  return ts.isImportTypeNode(parent) && parent.qualifier === node;
+}
+
 /**
  * What refers to a name there. The service tells a class from a namespace of types that is merged with it, and so each declaration is asked of.
  * @param {Language} language
@@ -148,11 +170,17 @@ export function referencesTo(language, name, line, column) {
   const file = /** @type {SourceFile} */ (language.program.getSourceFile(name));
   const at = file.getPositionOfLineAndCharacter(line - 1, column - 1);
   const node = nodeAt(file, at);
-  const declarations = (node && language.checker.getSymbolAtLocation(node)?.declarations) ?? [];
-  const names = declarations.flatMap((it) => ts.getNameOfDeclaration(it) ?? []);
-  const found = [{ file, at }, ...names.map((it) => ({ file: it.getSourceFile(), at: it.getStart() }))].flatMap((it) => language.references(it.file.fileName, it.at));
+  const symbol = node ? symbolOf(language, node) : undefined;
+  const names = (symbol?.declarations ?? []).flatMap((it) => ts.getNameOfDeclaration(it) ?? []);
+  const asked = [{ file, at }, ...names.map((it) => ({ file: it.getSourceFile(), at: it.getStart() }))];
+  const found = [...asked.flatMap((it) => language.references(it.file.fileName, it.at)), ...defaultsOf(language, symbol)];
   const all = new Map(found.map((it) => [language.place(it.file, it.start), isInBody(it.node)]));
   return [...all].map(([place, isIn]) => ({ place, isInBody: isIn })).sort((a, b) => (a.place < b.place ? -1 : 1));
+}
+
+/** @param {Language} language @param {Node} node @returns {Symbol | undefined} what it names; of `default` what is exported by it */
+function symbolOf({ checker }, node) {
+  return node.kind === ts.SyntaxKind.DefaultKeyword ? /** @type {any} */ (node.parent).symbol : checker.getSymbolAtLocation(node);
 }
 
 /** @typedef {Map<string, Set<string>>} Links to which files each leads */

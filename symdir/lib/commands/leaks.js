@@ -4,6 +4,7 @@ import { Names } from '../folder/names.js';
 import { endsOf } from '../folder/settle.js';
 import { columns, counted, placeText, wrapped } from '../output.js';
 import { leakFinding } from '../report/findings.js';
+import { Tree } from '../uses/tree.js';
 
 /** @typedef {import('../folder/folder.js').Folder} Folder */
 /** @typedef {import('../folder/folder.js').Definition} Definition */
@@ -28,7 +29,7 @@ function readable(name) {
     .replace(/\["([\p{ID_Start}$_][\p{ID_Continue}$]*)"\]/gu, '.$1');
 }
 
-/** @typedef {{ module: string, symbol: number, name: string }} Shown */
+/** @typedef {{ module: string, symbol: number, name: string, value?: Definition }} Shown with where it is defined, if that is a value without a name */
 
 /** @param {Folder} folder @returns {Promise<Shown[]>} the public symbols: the entries, what they export, what defines that, and the same of each module that is exported as a whole */
 async function publicSymbols(folder) {
@@ -38,7 +39,8 @@ async function publicSymbols(folder) {
     const exports = (await folder.exports(open)).flatMap((it) => it.exports);
     const leaves = await folder.leaves(exports.map((it) => [it.module, it.symbol]));
     found.push(...open.map((module) => ({ module, symbol: 0, name: folder.short(module) })));
-    found.push(...exports.flatMap((it, i) => [it, ...leaves[i].filter(isDefinition)].map(({ module, symbol }) => ({ module, symbol, name: it.name }))));
+    found.push(...exports.flatMap((it, i) => [it, ...leaves[i].filter(isDefinition)].map((one) => ({
+      module: one.module, symbol: one.symbol, name: it.name, value: 'start' in one && folder.declaration(one)?.kind === 'default' ? one : undefined }))));
     const whole = leaves.flat().filter((it) => isDefinition(it) && it.symbol === 0).map((it) => it.module);
     open = [...new Set(whole)].filter((it) => !met.has(it));
     open.forEach((it) => met.add(it));
@@ -88,15 +90,32 @@ function nameOf(names, { at, as }) {
 }
 
 /**
+ * Finds the types that are written in a value which is exported as `default`. All else that it refers to is no part of a type that is written.
+ * @param {Folder} folder @param {Definition} value
+ * @returns {Set<string>} the references to types
+ */
+function writtenIn(folder, { module, start, end }) {
+  const found = folder.sources.modules.get(module);
+  const tree = found ? Tree.of(found) : null;
+  const inside = tree?.names().filter((it) => tree.nodes[it].range[0] >= start && tree.nodes[it].range[1] <= end) ?? [];
+  const types = inside.flatMap((it) => tree?.lookups(it) ?? []).filter((it) => it.isType);
+  return new Set(types.map(({ name, scope, parts }) => JSON.stringify(parts.length > 0 ? ['qualified', name, scope, parts] : ['id', name, scope])));
+}
+
+/**
  * What the declarations of the symbols need that isn't among them.
  * @param {Folder} folder
  * @param {Shown[]} all
+ * @param {Definition[]} values that are exported as `default`
  * @returns {Promise<Map<string, Need>>} by symbol and module
  */
-async function needed(folder, all) {
+async function needed(folder, all, values) {
   const shown = new Set(all.map((it) => `${it.symbol} ${it.module}`));
   const answers = await folder.ask(all.map((it) => ['deps', it.module, it.symbol, 'types']));
-  const asked = answers.flatMap((answer, i) => (answer?.deps ?? []).flat().map((/** @type {any} */ [reference]) => ({ of: all[i], reference })));
+  const written = new Map(values.map((it) => [`${it.symbol} ${it.module}`, writtenIn(folder, it)]));
+  const isWritten = (/** @type {Shown} */ of, /** @type {any[]} */ reference) => reference[0] === 'import' || (written.get(`${of.symbol} ${of.module}`)?.has(JSON.stringify(reference)) ?? true);
+  const asked = answers.flatMap((answer, i) => (answer?.deps ?? []).flat().map((/** @type {any} */ [reference]) => ({ of: all[i], reference })))
+    .filter(({ of, reference }) => isWritten(of, reference));
   const paths = await folder.resolve(asked.map((it) => [it.of.module, it.reference]));
   /** @type {Map<string, Need>} */
   const found = new Map();
@@ -118,7 +137,8 @@ export async function findLeaks(folder) {
   const shown = await publicSymbols(folder);
   const names = new Names(folder);
   await names.read(shown.map((it) => it.module));
-  const found = [...(await needed(folder, await withMembers(folder, names, shown))).values()];
+  const values = shown.flatMap((it) => it.value ?? []);
+  const found = [...(await needed(folder, await withMembers(folder, names, shown), values)).values()];
   const modules = [...new Set(found.map((it) => it.at.module))];
   await names.read(modules);
   const exported = await ownExports(folder, modules);
