@@ -123,19 +123,16 @@ export function pageOf(rows, isUnproved) {
   return `# Compared on ${rows.length} packages
 
 \`node symdir/packages/compare.js\` writes this page, and \`--check\` compares with it. Each package of Debian is taken without what is built of it. A cell has the
-count of symdir and then that of TypeScript ${ts.version}. Its checker lists names, missing imports and leaks. Its language service finds references, for exports that
-nothing uses and for the uses of ten public names. What it emits has the cycles. A third count is that of Rollup ${version}. Unused locals are found by TypeScript
-alone: symdir looks at what modules export. Seconds are those of all processors for the row, without caches${isUnproved ? UNPROVED : ''}.
+count of symdir and then that of TypeScript ${ts.version}. Exports that nothing uses, and the uses of ten public names, are those of its language service. Cycles are
+those of what it emits, and all else is what its checker says. A third count is that of Rollup ${version}. Debian has no madge, knip, depcheck or dependency-cruiser.
+Unused locals are found by \`tsc\` alone: symdir looks at what modules export. Seconds are those of all processors for the row, without caches${isUnproved ? UNPROVED : ''}.
 
 | package | public names | missing | leaks | unreachable files | unused exports | uses | cycles | unused locals | seconds |
 |---|---|---|---|---|---|---|---|---|---|
 ${table}
 
 All else is the same, item by item. Where a number stands in brackets, some items differ:
-
 ${REASONS.map((it, i) => `${i + 1}. ${it.text}`).join('\n')}
-
-Of tools that list unused exports or import cycles Debian has neither madge nor knip, depcheck or dependency-cruiser. Rollup warns of cycles and missing exports.
 `;
 }
 
