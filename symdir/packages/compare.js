@@ -54,6 +54,8 @@ const REASONS = [
     holds: ({ list, who, what }, { comments }) => list === 'names' && who === 'TypeScript' && comments.includes(what) },
   { text: 'symdir lists `default` of a module with `export =`, as Deno does. TypeScript has it under `esModuleInterop`.',
     holds: ({ list, who, what }, { directory }) => list === 'names' && who === 'symdir' && isEquals(directory, what) },
+  { text: 'What `scripts` of package.json run is reached for symdir. TypeScript begins at the entries alone.',
+    holds: ({ list, who, what }, { directory }) => list === 'files' && who === 'TypeScript' && isRun(directory, what) },
   { text: 'Rollup warns of each cycle that it meets on its way from the entry. symdir lists groups of modules; each cycle of Rollup\'s is in one.',
     holds: ({ list, who }) => list === 'cycles' && who === 'Rollup' },
 ];
@@ -62,6 +64,12 @@ const REASONS = [
 function isEquals(directory, what) {
   const [entry, name] = what.split(' ');
   return name === 'default' && /^\s*export\s*=/m.test(readFileSync(path.join(directory, entry), 'utf8'));
+}
+
+/** @param {string} directory @param {string} file @returns {boolean} whether a script of package.json names it */
+function isRun(directory, file) {
+  const { scripts = {} } = JSON.parse(readFileSync(path.join(directory, 'package.json'), 'utf8'));
+  return Object.values(scripts).some((it) => String(it).split(/\s+/).some((word) => path.normalize(word) === file));
 }
 
 /** @param {Lists} mine @param {Lists} theirs @returns {Difference[]} */

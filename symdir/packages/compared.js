@@ -15,7 +15,7 @@ export const COMPARED = [
   { name: 'node-ajv', place: '/usr/share/nodejs/ajv', isTaken: declarations },
   { name: 'node-globby', place: '/usr/share/nodejs/fast-glob', isTaken: declarations },
   { name: 'node-yjs', place: '/usr/share/nodejs/yjs', isTaken: sourceScripts, rollup: 'src/index.js' },
-  { name: 'node-lib0', place: '/usr/share/nodejs/lib0', isTaken: (it) => /^[^/]+\.js$|^package\.json$/.test(it), rollup: 'index.js' },
+  { name: 'node-lib0', place: '/usr/share/nodejs/lib0', isTaken: (it) => /^(prng\/)?[^/]+\.js$|^package\.json$/.test(it), rollup: 'index.js' },
   { name: 'node-d3-interpolate', place: '/usr/share/nodejs/d3-interpolate', isTaken: sourceScripts, rollup: 'src/index.js' },
   { name: 'node-d3-transition', place: '/usr/share/nodejs/d3-transition', isTaken: sourceScripts, rollup: 'src/index.js' },
   { name: 'node-d3-shape', place: '/usr/share/nodejs/d3-shape', isTaken: sourceScripts, rollup: 'src/index.js' },
