@@ -123,9 +123,10 @@ function comparedIn(directory, of) {
 }
 
 const UNPROVED = ', by an unverified build of `symq`';
+const BUSY = ', beside other work';
 
-/** @param {string[][]} rows @param {boolean} isUnproved @returns {string} the page */
-export function pageOf(rows, isUnproved) {
+/** @param {string[][]} rows @param {{ isUnproved?: boolean, isBusy?: boolean }} how they were found @returns {string} the page */
+export function pageOf(rows, { isUnproved = false, isBusy = false }) {
   const { version } = JSON.parse(readFileSync(path.join(path.dirname(ROLLUP), '..', 'package.json'), 'utf8'));
   const table = rows.map((it) => `| ${it.join(' | ')} |`).join('\n');
   return `# Compared on ${rows.length} packages
@@ -133,7 +134,7 @@ export function pageOf(rows, isUnproved) {
 \`node symdir/packages/compare.js\` writes this page, and \`--check\` compares with it. Each package of Debian is taken without what is built of it. A cell has the
 count of symdir and then that of TypeScript ${ts.version}. Exports that nothing uses, and the uses of ten public names, are those of its language service. Cycles are
 those of what it emits, and all else is what its checker says. A third count is that of Rollup ${version}. Debian has no madge, knip, depcheck or dependency-cruiser.
-Unused locals are found by \`tsc\` alone: symdir looks at what modules export. Seconds are those of all processors for the row, without caches${isUnproved ? UNPROVED : ''}.
+Unused locals are found by \`tsc\` alone: symdir looks at what modules export. Seconds are those of all processors for the row, without caches${isUnproved ? UNPROVED : ''}${isBusy ? BUSY : ''}.
 
 | package | public names | missing | leaks | unreachable files | unused exports | uses | cycles | unused locals | seconds |
 |---|---|---|---|---|---|---|---|---|---|
@@ -144,9 +145,9 @@ ${REASONS.map((it, i) => `${i + 1}. ${it.text}`).join('\n')}
 `;
 }
 
-/** @param {string} page @returns {string} without what differs from run to run: times, versions, and whether symq is proved */
+/** @param {string} page @returns {string} without what differs from run to run: times, versions, whether symq is proved, and what else runs */
 export function stable(page) {
-  return page.replace(/^(\|.*\|) [\d.; ]+ \|$/gm, '$1').replace(/\d+\.\d+\.\d+/g, 'VERSION').replace(UNPROVED, '').replace(/\s+/g, ' ');
+  return page.replace(/^(\|.*\|) [\d.; ]+ \|$/gm, '$1').replace(/\d+\.\d+\.\d+/g, 'VERSION').replace(UNPROVED, '').replace(BUSY, '').replace(/\s+/g, ' ');
 }
 
 /** @param {Compared[]} packages @param {string | undefined} file of rows @returns {Row[]} */
@@ -170,7 +171,7 @@ async function main(words) {
   const rows = rowsOf(names.length > 0 ? COMPARED.filter((it) => names.includes(it.name)) : COMPARED, file);
   const open = rows.flatMap((it) => it.open.map((one) => ({ package: it.name, ...one })));
   for (const it of open) console.log(JSON.stringify(it));
-  const page = pageOf(rows.map((it) => it.row), isUnproved);
+  const page = pageOf(rows.map((it) => it.row), { isUnproved, isBusy: os.loadavg()[0] > os.availableParallelism() });
   if (words.includes('--check')) {
     const isSame = names.length === 0 && stable(readFileSync(PAGE, 'utf8')) === stable(page);
     if (!isSame) console.log(`${PAGE} differs from what is found:\n${page}`);

@@ -33,10 +33,10 @@ test('the page is what the script finds', (t) => {
 });
 
 test('a count, a note, a package and a sentence that differ are found, and a time or a version isn\'t', () => {
-  const page = stable(pageOf([row({})], false));
-  assert.equal(stable(pageOf([row({ 9: '7.7; 0.1; 22.0' })], true)), page);
-  assert.equal(stable(pageOf([row({})], false).replace(/TypeScript \d+\.\d+\.\d+/, 'TypeScript 9.9.9')), page);
-  for (const other of [{ 0: 'q' }, { 1: '3; 4' }, { 2: '0; 2' }, { 7: '1; 1; 3 (4)' }, { 8: '6' }]) assert.notEqual(stable(pageOf([row(other)], false)), page);
-  assert.notEqual(stable(pageOf([row({}), row({ 0: 'q' })], false)), page);
-  assert.notEqual(stable(pageOf([row({})], false).replace('alone', '')), page);
+  const page = stable(pageOf([row({})], {}));
+  assert.equal(stable(pageOf([row({ 9: '7.7; 0.1; 22.0' })], { isUnproved: true, isBusy: true })), page);
+  assert.equal(stable(pageOf([row({})], {}).replace(/TypeScript \d+\.\d+\.\d+/, 'TypeScript 9.9.9')), page);
+  for (const other of [{ 0: 'q' }, { 1: '3; 4' }, { 2: '0; 2' }, { 7: '1; 1; 3 (4)' }, { 8: '6' }]) assert.notEqual(stable(pageOf([row(other)], {})), page);
+  assert.notEqual(stable(pageOf([row({}), row({ 0: 'q' })], {})), page);
+  assert.notEqual(stable(pageOf([row({})], {}).replace('alone', '')), page);
 });
