@@ -65,6 +65,7 @@ test('words for each fault', () => {
   assert.deepEqual(words({ modules: [{ kind: 'esm' }] }), ['module 0 of the list: "specifier" has to be there, a text', 'module 0 of the list: "text" has to be there, a text']);
   assert.deepEqual(tree({ kind: 'Ident', range: [0, 1] }), ['module m, node 0 (Ident): "sym" has to be there']);
   assert.deepEqual(tree({ kind: 'Idnt', range: [0, 1] }), ['module m, node 0 (Idnt): there is no kind "Idnt"']);
+  for (const kind of [undefined, null, 1]) assert.deepEqual(tree(program, { kind, range: [0, 0] }), ['module m, node 1: "kind" has to be there, a text']);
   assert.deepEqual(tree({ ...program, body: [1] }, { kind: 'Ident', range: [0, 2], sym: ['a', 1] }), ['module m, node 0 (Program): "body" takes an Item, and node 1 is of the kind Ident']);
   assert.deepEqual(tree({ ...program, body: [4] }), ['module m, node 0 (Program): "body" names node 4, and there are 1']);
   assert.deepEqual(tree({ ...program, range: [0, 1] }), ['module m, node 0 (Program): the range [0, 1] cuts a character: ranges count bytes of UTF-8, and 1 is within one']);

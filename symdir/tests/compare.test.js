@@ -76,6 +76,8 @@ test('a changed signature, by each of its rules', () => {
   assert.equal(changed('', ': 1', 'const'), 'patch: its type is written out, and was inferred, which isn\'t compared');
   assert.equal(changed(': 1', '', 'const'), 'patch: its type is no more written out, but inferred, which isn\'t compared');
   assert.equal(changed('(a: 1): 1', '(a: 1): 1 & (a: 2): 2'), 'minor: an overload was added');
+  assert.equal(changed('(a: 1): 1', '(a: 1): 1 & (a: A & B): 2'), 'minor: an overload was added');
+  assert.equal(changed('(a: { b: A & B }): 1', '(a: { b: A & B }): 1 & (a: C<A & B>): 2'), 'minor: an overload was added');
   assert.equal(changed('(a: 1): 1 & (a: 2): 2', '(a: 2): 2'), 'major: its types changed');
   assert.equal(changed('(a: 1): 1', '(b: 1): 1'), 'patch: parameters were renamed');
   assert.equal(changed('(a: 1): 1', '(): 1'), 'major: its types changed');

@@ -182,6 +182,14 @@ test('declarations of a declaration file without exports are exported where that
   assert.deepEqual(nodesOf('a.d.ts', text, { ...languageOf('a.d.ts'), ...PLAIN }).implicit, ['b', 'C']);
 });
 
+test('each character of a string stands in the tree, control characters and quotes too', () => {
+  const raw = [...Array.from({ length: 0x180 }, (_, i) => String.fromCharCode(i)).filter((it) => !/["\\\n\r]/.test(it)), '\uffff', '😀'];
+  const escaped = ['"', '\\', '\n', '\r', '\t', '\u001f'].map((it) => [it, JSON.stringify(it).slice(1, -1)]);
+  for (const [it, written] of [...raw.map((one) => [one, one]), ...escaped]) {
+    assert.deepEqual(nodes(`import "a${written}b";`).map((one) => one.src), [undefined, `a${it}b`], written);
+  }
+});
+
 test('a long chain of operators and a deep nest keep within the depth', () => {
   const list = nodes(`const a = ${Array.from({ length: 5000 }, () => '1').join(' + ')};`);
   assert.equal(list.filter((/** @type {any} */ it) => it.kind === 'Num').length, 5000);

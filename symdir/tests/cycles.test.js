@@ -41,6 +41,21 @@ test('cycles are those of the imports that TypeScript emits, and those of all im
   assert.deepEqual(whole.map((it) => it.modules.join(' ')), ['index.ts lazy.ts', 'k1.ts k2.ts', 'p1.ts p2.ts', 'solo.ts t1.ts t2.ts']);
 });
 
+test('a shortest cycle through types has a link that isn\'t there when modules load, though others are shorter', () => {
+  const files = {
+    'a.ts': 'import { b } from "./b";\nexport type A = 1;\nexport const a = () => b;\n', 'b.ts': 'import { a } from "./a";\nimport { c } from "./c";\nexport const b = () => [a, c];\n',
+    'c.ts': 'import type { A } from "./a";\nexport const c: A = 1;\n',
+  };
+  const folder = folderOf(files);
+  const language = new Language(folder, Object.keys(files));
+  const { cycles, deferred } = answer(['cycles', folder]);
+  assert.deepEqual(told(cycles), circlesBy(edgesBy(language, true), null));
+  const wanted = circlesBy(edgesBy(language, false), edgesBy(language, true));
+  assert.deepEqual(wanted.map((it) => [it.modules.join(' '), it.length]), [['a.ts b.ts c.ts', 3]]);
+  assert.deepEqual(told(deferred), wanted);
+  assert.deepEqual(deferred[0].shortest.map((/** @type {any} */ it) => it.from).sort(), ['a.ts', 'b.ts', 'c.ts']);
+});
+
 test('with verbatimModuleSyntax an import stays unless `type` stands before all of it', () => {
   const files = {
     'package.json': '{}', 'index.ts': 'import "./a";\nimport "./c";\nimport "./e";\n',

@@ -3,7 +3,7 @@ import { readFileSync } from 'node:fs';
 import path from 'node:path';
 import test from 'node:test';
 
-import { folderOf, symdir } from './helper.js';
+import { answer, folderOf, symdir } from './helper.js';
 
 /** @param {Record<string, string | Buffer>} files @param {string[]} words @returns {any} the graph on standard output */
 function graph(files, ...words) {
@@ -48,6 +48,9 @@ test('-o writes a file and says what it has', () => {
   const file = path.join(folder, 'g.json');
   assert.deepEqual(symdir(['graph', folder, '-o', file]), { status: 0, stdout: `${file}: 1 module, 1 external module, 1 resolution\n`, stderr: '' });
   assert.equal(JSON.parse(readFileSync(file, 'utf8')).modules.length, 2);
+  // each text of each module is one resolution, however often it stands there; one that leads nowhere is none
+  const more = folderOf({ 'a.ts': 'import "node:fs"; import "./b"; export * from "./b"; import "node:path"; import "./none";', 'b.ts': 'import "./a";' });
+  assert.equal(symdir(['graph', more, '-o', file]).stdout, `${file}: 2 modules, 2 external modules, 4 resolutions\n`);
 });
 
 test('a syntax error is told in one line, and the graph has the rest', () => {
@@ -65,6 +68,14 @@ test('a text that is nested too deep for the parser is told, and the others are 
   assert.equal(status, 1);
   assert.match(stderr, /^symdir: b\.ts:1:1: it is nested too deep for the parser\n$/);
   assert.equal(JSON.parse(stdout).modules.length, 2);
+});
+
+test('a tree that is more than 4,096 deep is told, and the others are there and answered', () => {
+  const folder = folderOf({ 'a.ts': 'export const a = 1;', 'b.ts': `declare namespace ${'b.'.repeat(4200)}b {}\n` });
+  const { status, stdout, stderr } = symdir(['graph', folder]);
+  assert.deepEqual([status, stderr], [1, 'symdir: b.ts:1:1: it is nested more than 4,096 deep\n']);
+  assert.deepEqual(JSON.parse(stdout).modules.map((/** @type {any} */ it) => it.tree !== undefined), [true, false]);
+  assert.deepEqual(answer(['api', folder, '--entry', 'a.ts']).names.map((/** @type {any} */ it) => it.name), ['a']);
 });
 
 test('a text that is nested too deep for the stack of the first thread is parsed in another, and `where` says that it can\'t', () => {

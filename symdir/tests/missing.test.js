@@ -72,6 +72,14 @@ test('nothing is said of names that may come from what isn\'t read, or that no `
   assert.deepEqual(missing({ 'index.ts': 'import { b } from "./l";\n', 'l.ts': 'export * from "./m";\n', 'm.d.ts': 'import "./n";\ndeclare const b: number;\n', 'n.ts': '' }), []);
 });
 
+test('a name that is declared without `export` is lacking, but for a declaration file without `export {}`', () => {
+  const files = (/** @type {string} */ end) => ({ 'index.ts': 'import { a, b } from "./m";\n', [`m${end}`]: 'export declare const b: 1;\ndeclare const a: 1;\n' });
+  for (const words of [[], ['--no-ambient-exports']]) {
+    assert.deepEqual(missing(files('.ts'), ...words), ['name index.ts:1:10 m.ts a']);
+    assert.deepEqual(missing(files('.d.ts'), ...words), []);
+  }
+});
+
 test('syntax errors, and the status', () => {
   const folder = folderOf({ 'index.ts': 'import { a } from "./b";\n', 'b.ts': 'export const a = ;\n' });
   const { status, stdout } = symdir(['missing', folder]);

@@ -116,6 +116,12 @@ test('each command reports the same findings in each format, and ends with 1', (
   }
 });
 
+test('an unresolved name is placed in its own file, where the path of another ends alike', () => {
+  const files = { 'a/index.ts': 'export * from "../none";\n\n  export { x } from "./gone";\n', 'index.ts': '\nexport { x } from "./gone";\n  export { y } from "./m";\n', 'm.ts': '', 'a/m.ts': '' };
+  const { stdout } = symdir(['api', '.', '--entry', 'index.ts', '--annotations'], { cwd: folderOf(files) });
+  assert.deepEqual(commandsIn(stdout).map(({ properties: { file, line, col } }) => `${file}:${line}:${col}`).sort(), ['index.ts:2:1', 'index.ts:3:12']);
+});
+
 test('diff and api --check report changes at what changed, or at the entry', () => {
   const old = { 'index.ts': 'export * from "./a";\n', 'a.ts': 'export const a = 1;\nexport class C { m(): void {} n(): void {} }\n' };
   const now = { 'index.ts': 'export * from "./a";\n', 'a.ts': 'export class C {\n  m(x: 1): void {} }\nexport const b = 1;\n' };
@@ -187,6 +193,9 @@ test('code and text in Markdown', () => {
   assert.equal(code(' a\n\t b\u2028'), '`a b`');
   assert.equal(code(''), '');
   assert.equal(prose('*a* `b|` @c #1 <d> www.e'), '&#42;a&#42; <code>b&#124;</code> @&#8203;c &#35;&#8203;1 &#60;d&#62; www&#46;e');
+  // what Markdown of GitHub reads as more than itself stands as a reference: that tells its code, in decimal digits
+  for (const it of '\\`*_[]<>#|~&') assert.equal(prose(`a ${it}b`), `a &#${it.charCodeAt(0)};b`, it);
+  assert.equal(prose('~~a~~ ~b~'), '&#126;&#126;a&#126;&#126; &#126;b&#126;');
 });
 
 /** So many rows are too long for a comment. */
@@ -222,6 +231,10 @@ test('formats can\'t be combined, nor with what writes something else', () => {
     return stderr;
   };
   assert.equal(said('api', folder, '--json', '--sarif'), 'symdir: --json and --sarif can\'t be combined\n');
+  const formats = ['--json', '--markdown', '--html', '--sarif', '--annotations'];
+  formats.forEach((one, i) => formats.slice(i + 1).forEach((other) => {
+    assert.ok([[one, other], [other, one]].some((it) => said('api', folder, one, other) === `symdir: ${it.join(' and ')} can't be combined\n`), `${one} ${other}`);
+  }));
   assert.equal(said('api', folder, '--html', '--check', 'x'), 'symdir: --check and --html can\'t be combined\n');
   assert.equal(said('api', folder, '--save', 'x', '--markdown'), 'symdir: --save and --markdown can\'t be combined\n');
   assert.equal(said('leaks', folder, '--annotations', '-o', 'x'), 'symdir: --annotations and --out can\'t be combined\n');
@@ -232,4 +245,8 @@ test('formats can\'t be combined, nor with what writes something else', () => {
 
 test('each rule has a level and a text', () => {
   for (const [id, { level, text }] of Object.entries(RULES)) assert.ok(/^[a-z]+\/[a-z-]+$/.test(id) && ['error', 'warning', 'note'].includes(level) && text.length > 10);
+  const idsOf = (/** @type {string} */ wanted) => Object.keys(RULES).filter((it) => RULES[it].level === wanted).sort();
+  // what fails where it is used is an error, what only may be meant otherwise a warning, and what breaks nobody a note
+  assert.deepEqual(idsOf('error'), ['api/unresolved', 'diff/major', 'files/syntax', 'files/unreadable', 'missing/file', 'missing/name', 'missing/package']);
+  assert.deepEqual(idsOf('note'), ['diff/minor', 'diff/patch']);
 });

@@ -57,6 +57,7 @@ test('--production leaves tests out, and what they alone reach', () => {
 
 test('kinds and places, what the file uses itself, values that are used as types', () => {
   const out = answer(['unused', folderOf(FILES)]);
+  assert.deepEqual(out.entries, ['index.ts']);
   const of = (/** @type {string} */ name) => out.exports.find((/** @type {any} */ it) => it.name === name);
   assert.deepEqual(of('own'), { name: 'own', kind: 'function', file: 'sums.ts', line: 2, column: 17, inFile: false });
   assert.deepEqual(of('w'), { name: 'w', kind: 'const', file: 'barrel.ts', line: 2, column: 15, inFile: false });

@@ -39,6 +39,17 @@ test('the text for Graphviz: one box for modules of a folder with the same way i
   assert.equal(stdout.match(/color=red, fontcolor=red/g)?.length, 2);
 });
 
+test('a box has the names that its module defines, in lines of up to 34 characters', () => {
+  const { stdout } = symdir(['web', folderOf({ 'index.ts': 'export * from "./a";\nexport * from "./b";\n', 'a.ts': 'export const a1 = 1, a2 = 2;\n', 'b.ts': `export const ${['c', 'd', 'e'].map((it) => `${it.repeat(15)} = 1`).join(', ')};\n` })]);
+  const linesIn = (/** @type {string} */ title) => {
+    const [, rows] = /** @type {RegExpExecArray} */ (new RegExp(`<B>${title}</B>(.*?)</TABLE>`).exec(stdout) ?? assert.fail(stdout));
+    return [...rows.matchAll(/<FONT[^>]*>(.*?)<\/FONT>/g)].flatMap(([, it]) => it.split('<BR/>'));
+  };
+  assert.deepEqual([linesIn('index\\.ts'), linesIn('a\\.ts')], [[], ['a1, a2']]);
+  // two names of 15 characters and what stands between them are 32 characters, and a third doesn't fit
+  assert.deepEqual(linesIn('b\\.ts'), [`${'c'.repeat(15)}, ${'d'.repeat(15)}`, 'e'.repeat(15)]);
+});
+
 test('a picture', () => {
   const folder = folderOf(FILES);
   const file = path.join(folder, 'web.svg');

@@ -59,6 +59,18 @@ test('standard output that is a file, and ends in the middle of a write', () => 
   }
 });
 
+test('standard output that is a file, and ends in the middle of the last write', () => {
+  // ten modules pass on the same names, so that the answer, which is written at once, is longer than the limit and the graph isn't
+  const passing = Object.fromEntries(Array.from({ length: 10 }, (_, i) => [`entry${i}.ts`, 'export * from "./names.ts";\n']));
+  const names = Array.from({ length: 200 }, (_, i) => `export const name${i} = ${i};\n`).join('');
+  const [folder, out] = [folderOf({ ...passing, 'names.ts': names }), path.join(folderOf({}), 'out')];
+  const whole = symdir(['api', folder, '--json', '--no-cache']).stdout.length;
+  const graph = symdir(['graph', folder, '--no-cache']).stdout.length;
+  const limit = Math.ceil(graph / 512) + 1;
+  assert.ok(limit * 512 < whole, `${graph} ${whole}`);
+  assert.deepEqual(shell(`ulimit -f ${limit}; $symdir api '${folder}' --json --no-cache > '${out}'`), { status: 3, stdout: '', stderr: 'symdir: standard output can\'t be written (EFBIG)\n' });
+});
+
 test('a graph that can\'t be written leaves the one that is there, and nothing beside it', () => {
   const [folder, to] = [folderOf(LARGE), folderOf({ 'g.json': 'before' })];
   assert.deepEqual(shell(`ulimit -f 40; $symdir graph '${folder}' --no-cache -o '${to}/g.json'`), {
