@@ -162,7 +162,9 @@ test('absolute paths and file URLs', () => {
   const set = new Files(folder, []);
   const resolver = new Resolver(set, new Configs(set));
   assert.equal(resolver.resolve(`${folder}/a.ts`, `${folder}/b`)?.file, `${folder}/b.ts`);
-  assert.equal(resolver.resolve(`${folder}/a.ts`, `file://${folder}/b.ts`)?.file, `${folder}/b.ts`);
+  // a URL of a file has no host, or this machine's
+  for (const it of ['file://', 'file://localhost', 'file:']) assert.equal(resolver.resolve(`${folder}/a.ts`, `${it}${folder}/b.ts`)?.file, `${folder}/b.ts`, it);
+  assert.equal(resolver.resolve(`${folder}/a.ts`, `file:${folder}/none.ts`), null);
   assert.equal(resolver.resolve(`${folder}/a.ts`, ''), null);
 });
 

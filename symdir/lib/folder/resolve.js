@@ -67,7 +67,7 @@ export class Resolver {
 
   /** @param {string} from @param {string} folder @param {string} text behind the import map @returns {Target | null} */
   plain(from, folder, text) {
-    if (text.startsWith('file://')) return this.atUrl(from, text);
+    if (text.startsWith('file:')) return this.atUrl(from, text);
     if (SCHEME.test(text)) return { external: text };
     if (/^(\.{1,2}(\/|$)|\/)/.test(text)) return this.at(from, path.posix.resolve(folder, text) + (/(^|\/)\.{0,2}\/?$/.test(text) ? '/' : ''));
     if (text === '') return null;
