@@ -1,0 +1,63 @@
+// The JSON text of nodes, beside what `JSON.stringify` makes of them.
+import assert from 'node:assert/strict';
+import test from 'node:test';
+
+import { TreeNode, TreeText, nodesText, numbered } from '../lib/tree/node.js';
+import { TreeWriter } from '../lib/tree/treewriter.js';
+
+/** @typedef {import('../lib/tree/node.js').Field} Field */
+
+/** @param {Field} value @returns {unknown} as docs/GRAPH.md has it */
+function plain(value) {
+  if (value instanceof TreeNode) return value.number;
+  return Array.isArray(value) && value[0] instanceof TreeNode ? value.map((it) => /** @type {TreeNode} */ (it).number) : value;
+}
+
+/** @param {TreeNode} node numbered @returns {object} without fields that are empty */
+function described({ kind, start, end, fields }) {
+  const there = Object.entries(fields).filter(([, it]) => it !== null && it !== undefined && it !== false && !(Array.isArray(it) && it.length === 0));
+  return { kind, range: [start, end], ...Object.fromEntries(there.map(([key, it]) => [key, plain(it)])) };
+}
+
+/** @param {TreeNode[]} items @returns {{ text: string, wanted: string, pieces: Buffer[] }} of the program that has them */
+function written(items) {
+  const made = new TreeText();
+  for (const it of items) made.add(it);
+  const pieces = made.whole(new TreeNode('Program', 0, 1, {}));
+  const nodes = numbered(new TreeNode('Program', 0, 1, { body: items })) ?? [];
+  return { text: String(Buffer.concat(pieces)), wanted: JSON.stringify(nodes.map(described)), pieces };
+}
+
+test('numbers of any length', () => {
+  const borders = [0, 9, 10, 99, 100, 999, 1000, 1009, 9999, 10_000, 10_001, 100_000, 999_999, 1_000_000, 10_000_000, 99_990_009, 99_999_999, 100_000_000, 100_000_001, 2 ** 31 - 1, 2 ** 31,
+    2 ** 31 + 7, 2 ** 32, 99_999_999_999, 100_000_000_000, Number.MAX_SAFE_INTEGER];
+  const items = borders.map((it) => new TreeNode('Ident', it, it, { sym: ['a', it] }));
+  const { text, wanted } = written(items);
+  assert.equal(text, wanted);
+  assert.equal(nodesText(items), JSON.stringify(items.map(described)));
+});
+
+test('fields of each sort, in the order in which they come, and those that are empty', () => {
+  const leaf = () => new TreeNode('Str', 1, 2, { value: 'é"\\\n\u2028😀\u007f' });
+  /** @type {Record<string, Field>[]} */
+  const fields = [{ value: '', plain: true, left: leaf() }, { left: leaf(), plain: true, value: 'x' }, { left: null, right: undefined, plain: false, children: [] }, { children: [leaf(), leaf()], sym: ['b', 3] },
+    { plain: 12, sym: ['"', 0] }, {}];
+  const { text, wanted } = written(fields.map((it) => new TreeNode('Other', 3, 4, it)));
+  assert.equal(text, wanted);
+});
+
+test('a tree of several pieces, with a text that is longer than one, whose memory V8 doesn\'t count', () => {
+  const long = 'long '.repeat(300_000);
+  const items = Array.from({ length: 60_000 }, (_, i) => new TreeNode('ExprStmt', i, i + 9, { expr: i === 40_000 ? new TreeNode('Str', i, i, { value: long }) : new TreeNode('Ident', i, i, { sym: [`n${i}`, 1] }) }));
+  const { text, wanted, pieces } = written(items);
+  assert.equal(text.length, wanted.length);
+  assert.ok(text === wanted);
+  // the list of the items and the first piece are as those of any tree
+  const counted = pieces.filter((it) => it.buffer instanceof ArrayBuffer).reduce((sum, it) => sum + it.length, 0);
+  assert.ok(counted < 1_500_000 && text.length > 7_000_000, `${counted} of ${text.length}`);
+});
+
+test('nodes that none was written before are none', () => {
+  assert.equal(nodesText([]), '[]');
+  assert.equal(String(Buffer.concat(new TreeWriter().pieces())), '');
+});
