@@ -439,11 +439,11 @@ def tests_of_what_is_signed(folder):
         os.makedirs(os.path.dirname(os.path.join(folder, name)) or folder, exist_ok=True)
         copy(os.path.join(TOP, name), os.path.join(folder, name))
     stop = os.path.join(folder, 'crates/symq_core/src/exit_error.rt')
-    text, clause = read(stop), 'ensures { result ≡ status_of self.now }'
+    text, clause = read(stop), 'ensures { result ≡ exit_error_status self.now }'
     yield 'the clause stands there', text.count(clause), 1
     for name, other, want in (
         ('signed clauses have no fault', clause, []),
-        ('nor has one whose lines are broken otherwise', 'ensures { result\n            ≡ status_of self.now }', []),
+        ('nor has one whose lines are broken otherwise', 'ensures { result\n            ≡ exit_error_status self.now }', []),
         ('a clause that says nothing is none', 'ensures { Unit {0} }', ['symq_core::ExitError::status']),
         ('nor is one that is left out', '', ['symq_core::ExitError::status']),
     ):
