@@ -5,7 +5,9 @@ use crate::graph::SPECIFIERS;
 use crate::tables::print_stored;
 use anyhow::Result;
 use deno_symbols::check::{GraphModule, ModuleGraph};
-use deno_symbols::exports::{ModuleExports, ResolvedExportOrReExportAllPath, exports};
+use deno_symbols::exports::{
+    LookupCounter, ModuleExports, ResolvedExportOrReExportAllPath, exports,
+};
 use deno_symbols::ids::{ModuleId, SymbolId};
 use deno_symbols::paths::{Definition, DefinitionsIter, FindDefinitions};
 use deno_symbols::root::RootSymbol;
@@ -23,13 +25,14 @@ fn print_graph_module<R: Print>(rt: &R, module: &GraphModule) -> io::Result<()> 
 }
 
 fn print_graph<R: Print>(rt: &R, graph: &ModuleGraph) -> io::Result<()> {
+    let mut lookups = LookupCounter::new();
     for specifier in SPECIFIERS {
         if let Some(module) = graph.get(specifier) {
             print_graph_module(rt, module)?;
         }
         println!(rt;
             "  ./a of {specifier} is {:?}",
-            graph.resolve_dependency("./a", specifier)
+            graph.resolve_dependency("./a", specifier, &mut lookups)
         )?;
     }
     Ok(())

@@ -27,9 +27,9 @@ use crate::frame::Frame;
 use crate::module_exports::ModuleExports;
 use crate::name_filter::NameFilter;
 use crate::star_statements::{resolve_specifier, unresolved_star_of_trace};
-use crate::steps::LookupCounter;
 use indexmap::IndexSet;
 use std::alloc::AllocError;
+use symbols_graph::LookupCounter;
 use symbols_graph::ids::ModuleId;
 use symbols_root::RootSymbol;
 use symbols_root::laws::stored_modules_distinct;
@@ -101,17 +101,17 @@ fn walk_stars<'a>(
     root: &mut RootSymbol<'a>,
     module_id: ModuleId,
     name_filter: NameFilter<'_>,
-    steps: &mut LookupCounter,
+    counter: &mut LookupCounter,
 ) -> Result<ModuleExports<'a>, SymbolsFault>
     requires known { IsStored root.old module_id }
-    requires room { steps.old.count < 2 ^ 64 }
+    requires room { counter.old.count < 2 ^ 64 }
     ensures answers { IfOk result (λ answer. (lookups : ℕ)
-        × (steps.new.count ≡ steps.old.count + lookups)
+        × (counter.new.count ≡ counter.old.count + lookups)
         × IsExportWalkAnswer name_filter.entry root.old root.new module_id (resolved_export_views
         answer.resolved.entries) (resolved_shared_name_views answer.shared.items)
         (map unresolved_specifier_view answer.unresolved_specifiers.items) lookups) }
     ensures faults { IfErr result (λ fault. (lookups : ℕ)
-        × (steps.new.count ≡ steps.old.count + lookups)
+        × (counter.new.count ≡ counter.old.count + lookups)
         × IsExportWalkFault name_filter.entry root.old root.new module_id fault lookups) }
     ensures enough { WidestLimitsSuffice root.old result }
 {
@@ -128,7 +128,7 @@ fn walk_stars<'a>(
     'walk: while !collected.is_name_search_done(name_filter) {
         stored_modules_distinct(root);
         if let Some(frame) = unresolved_star_of_trace(root, here, next) {
-            match resolve_specifier(root, here, frame.specifier_text, steps) {
+            match resolve_specifier(root, here, frame.specifier_text, counter) {
                 Err(fault) => return Err(fault),
                 Ok(None) => {
                     collected.collect_unresolved(frame)?;
@@ -167,16 +167,16 @@ fn walk_exports<'a>(
     root: &mut RootSymbol<'a>,
     module_id: ModuleId,
     name_filter: NameFilter<'_>,
-    steps: &mut LookupCounter,
+    counter: &mut LookupCounter,
 ) -> Result<ModuleExports<'a>, SymbolsFault>
-    requires room { steps.old.count < 2 ^ 64 }
+    requires room { counter.old.count < 2 ^ 64 }
     ensures answers { IfOk result (λ answer. (lookups : ℕ)
-        × (steps.new.count ≡ steps.old.count + lookups)
+        × (counter.new.count ≡ counter.old.count + lookups)
         × IsExportWalkAnswer name_filter.entry root.old root.new module_id (resolved_export_views
         answer.resolved.entries) (resolved_shared_name_views answer.shared.items)
         (map unresolved_specifier_view answer.unresolved_specifiers.items) lookups) }
     ensures faults { IfErr result (λ fault. (lookups : ℕ)
-        × (steps.new.count ≡ steps.old.count + lookups)
+        × (counter.new.count ≡ counter.old.count + lookups)
         × IsExportWalkFault name_filter.entry root.old root.new module_id fault lookups) }
     ensures enough { IsStored root.old module_id → WidestLimitsSuffice root.old result }
 {
@@ -184,15 +184,15 @@ fn walk_exports<'a>(
         return Err(SymbolsFault::UnknownModule);
     }
     match unresolved_star_of_trace(root, module_id, 0) {
-        Some(_) => walk_stars(root, module_id, name_filter, steps),
+        Some(_) => walk_stars(root, module_id, name_filter, counter),
         None => Ok(collect_without_stars(root, module_id, name_filter)?),
     }
 }
 
 /// Returns the exports of a stored module: its local exports, and those other than `default` of the
 /// modules that its `export *` statements reach (as deno_graph). Of several exports of a name it
-/// takes the first in chain order. The steps grow by one for each `export *` statement of each
-/// reachable module (extension).
+/// takes the first in chain order. The count grows by one for each `export *` statement of each
+/// reachable module: so many resolutions are looked up (extension).
 ///
 /// # Errors
 ///
@@ -201,22 +201,22 @@ fn walk_exports<'a>(
 pub fn exports_counted<'a>(
     root: &mut RootSymbol<'a>,
     module_id: ModuleId,
-    steps: &mut LookupCounter,
+    counter: &mut LookupCounter,
 ) -> Result<ModuleExports<'a>, SymbolsFault>
-    requires room { steps.old.count < 2 ^ 64 }
+    requires room { counter.old.count < 2 ^ 64 }
     ensures answers { IfOk result (λ answer. (lookups : ℕ)
-        × (steps.new.count ≡ steps.old.count + lookups)
+        × (counter.new.count ≡ counter.old.count + lookups)
         × IsExportsAnswer root.old root.new module_id
         (resolved_export_views answer.resolved.entries) (resolved_shared_name_views
         answer.shared.items)
         (map unresolved_specifier_view answer.unresolved_specifiers.items) lookups) }
-    ensures faults { IfErr result (λ fault. (lookups : ℕ) × (steps.new.count
-        ≡ steps.old.count + lookups) × IsExportsFault root.old root.new module_id fault lookups) }
+    ensures faults { IfErr result (λ fault. (lookups : ℕ) × (counter.new.count
+        ≡ counter.old.count + lookups) × IsExportsFault root.old root.new module_id fault lookups) }
     ensures listed { (start : List ℕ) → AreExportListsCorrectAndUnique root.old.graph start }
     ensures grown { HasGrown root.old root.new }
     ensures enough { IsStored root.old module_id → WidestLimitsSuffice root.old result }
 {
-    walk_exports(root, module_id, NameFilter::AllNames, steps)
+    walk_exports(root, module_id, NameFilter::AllNames, counter)
 }
 
 /// Returns the exports of a stored module: its local exports, and those other than `default` of the
@@ -249,9 +249,10 @@ pub fn exports<'a>(
 /// Finds one export of a stored module by its name, without the others (extension). Returns `None`
 /// if and only if the module has no such export.
 ///
-/// The steps grow by one for each `export *` statement up to the last one of the export's chain, in
-/// chain order. Without such an export they grow by one for each statement of each reachable
-/// module. For `default` they don't grow, since no `export *` re-exports it.
+/// The count grows by one for each `export *` statement up to the last one of the export's chain, in
+/// chain order: so many resolutions are looked up. Without such an export it grows by one for each
+/// statement of each reachable module. For `default` it doesn't grow, since no `export *`
+/// re-exports it.
 ///
 /// # Errors
 ///
@@ -261,21 +262,21 @@ pub fn export_of_counted<'a>(
     root: &mut RootSymbol<'a>,
     module_id: ModuleId,
     name: &str,
-    steps: &mut LookupCounter,
+    counter: &mut LookupCounter,
 ) -> Result<Option<ResolvedExportOrReExportAllPath<'a>>, SymbolsFault>
-    requires room { steps.old.count < 2 ^ 64 }
+    requires room { counter.old.count < 2 ^ 64 }
     ensures answers { IfOk result (λ chain. (lookups : ℕ)
-        × (steps.new.count ≡ steps.old.count + lookups)
+        × (counter.new.count ≡ counter.old.count + lookups)
         × IsOneNameAnswer root.old root.new module_id name.now (option_to_list
         (option_map (resolved_chain_view name.now) chain)) lookups) }
     ensures faults { IfErr result (λ fault. (lookups : ℕ)
-        × (steps.new.count ≡ steps.old.count + lookups)
+        × (counter.new.count ≡ counter.old.count + lookups)
         × IsOneNameFault root.old root.new module_id name.now fault lookups) }
     ensures listed { (start : List ℕ) → AreExportListsCorrectAndUnique root.old.graph start }
     ensures grown { HasGrown root.old root.new }
     ensures enough { IsStored root.old module_id → WidestLimitsSuffice root.old result }
 {
-    let mut answer = walk_exports(root, module_id, NameFilter::OneName(name), steps)?;
+    let mut answer = walk_exports(root, module_id, NameFilter::OneName(name), counter)?;
     match answer.resolved.pop() {
         Some((_, chain)) => Ok(Some(chain)),
         None => Ok(None),

@@ -13,7 +13,6 @@ mod public_name;
 mod shadowed;
 mod shared_name;
 mod star_statements;
-mod steps;
 
 pub use export_chain::{
     ChainIter, ResolvedExport, ResolvedExportOrReExportAllPath, ResolvedReExportAllPath,
@@ -22,4 +21,4 @@ pub use export_walk::{export_of, export_of_counted, exports, exports_counted};
 pub use module_exports::{ModuleExports, UnresolvedSpecifier};
 pub use public_name::{PublicName, public_names};
 pub use shared_name::SharedName;
-pub use steps::LookupCounter;
+pub use symbols_graph::LookupCounter;

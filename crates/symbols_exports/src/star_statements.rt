@@ -14,7 +14,7 @@ ghost use Rattle.symbols_exports.specs.StarStatements.{star_specifiers, resolve_
 ghost use Rattle.symbols_exports.specs.StarStatements.{explicit_exports_of};
 
 use crate::frame::Frame;
-use crate::steps::LookupCounter;
+use symbols_graph::LookupCounter;
 use symbols_graph::ids::{ModuleId, SymbolId};
 use symbols_root::RootSymbol;
 use symbols_table::decl::Exports;
@@ -73,16 +73,16 @@ pub(crate) fn explicit_export(
 }
 
 /// Resolves a specifier in a stored module to a module, and stores that if it wasn't stored.
-/// Returns `None` if the specifier resolves to no module. The table of resolutions is queried once,
-/// which counts as one step. It fails if the module can't be stored. The root is unchanged then.
+/// Returns `None` if the specifier resolves to no module. The table of resolutions is looked up once,
+/// which the counter adds. It fails if the module can't be stored. The root is unchanged then.
 pub(crate) fn resolve_specifier(
     root: &mut RootSymbol<'_>,
     referrer: ModuleId,
     specifier_text: &str,
-    steps: &mut LookupCounter,
+    counter: &mut LookupCounter,
 ) -> Result<Option<ModuleId>, SymbolsFault>
     requires known { IsStored root.old referrer }
-    requires room { steps.old.count + 1 < 2 ^ 128 }
+    requires room { counter.old.count + 1 < 2 ^ 128 }
     ensures keeps { KeepsStored root.old root.new (IsStoringFault root.old (resolve_specifier root.old.graph
         (specifier_in root.old referrer) specifier_text.now)) result }
     ensures gives { IfOk result (λ id. option_map (maybe_specifier root.new) id
@@ -94,11 +94,13 @@ pub(crate) fn resolve_specifier(
     ensures there { OnOk result ((v : List ℕ) → resolve_specifier root.old.graph (specifier_in
         root.old referrer) specifier_text.now ≡ Some v
         → (m : ModuleView) × (module_with_specifier root.old.graph v ≡ Some m)) }
-    ensures counted { steps.new.count ≡ steps.old.count + 1 }
+    ensures counted { counter.new.count ≡ counter.old.count + 1 }
 {
     let specifier = root.specifier_from_id(referrer);
-    steps.tick();
-    match root.graph().resolve_dependency(specifier_text, specifier) {
+    match root
+        .graph()
+        .resolve_dependency(specifier_text, specifier, counter)
+    {
         Some(target) => root.module_from_specifier(target),
         None => Ok(None),
     }

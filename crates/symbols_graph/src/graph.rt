@@ -1,6 +1,6 @@
 //! The checked module graph.
 
-ghost use Rattle.std.specs.Prelude.{◌≡◌, ◌≢◌, ◌<◌, ℕ, length, string_bytes, IfErr, IfOk, List};
+ghost use Rattle.std.specs.Prelude.{◌≡◌, ◌≢◌, ◌<◌, ◌+◌, ◌^◌, ℕ, length, string_bytes, IfErr, IfOk, List};
 ghost use Rattle.std.specs.Prelude.{OnOk};
 ghost use Rattle.std.specs.Map.{lookup};
 ghost use Rattle.std.specs.Option.{option_copied};
@@ -11,6 +11,7 @@ ghost use Rattle.symbols_graph.specs.GraphFaults.{IsFaultlessGraph, IsFirstGraph
 
 use crate::graph_check::check;
 use crate::graph_maps::{Resolutions, keyed_modules, keyed_redirects, keyed_resolutions};
+use crate::lookup_counter::LookupCounter;
 use indexmap::IndexMap;
 use std::alloc::Global;
 use std::marker::Model;
@@ -106,10 +107,20 @@ impl ModuleGraph {
     }
 
     /// Resolves a specifier in a module to that of another module, by the raw graph's table. It is
-    /// `None` if the table has no entry. No redirect is applied to the referrer.
-    pub fn resolve_dependency(&self, specifier_text: &str, referrer: &str) -> Option<&str>
-        ensures { option_copied result ≡ resolved_dependency self.now referrer.now specifier_text.now }
+    /// `None` if the table has no entry. No redirect is applied to the referrer. The look-up is
+    /// counted.
+    pub fn resolve_dependency(
+        &self,
+        specifier_text: &str,
+        referrer: &str,
+        lookups: &mut LookupCounter,
+    ) -> Option<&str>
+        ensures resolved { option_copied result
+            ≡ resolved_dependency self.now referrer.now specifier_text.now }
+        ensures counted { lookups.old.count + 1 < 2 ^ 128
+            → lookups.new.count ≡ lookups.old.count + 1 }
     {
+        lookups.add_one();
         let table = self.resolutions.get(referrer)?;
         table.get(specifier_text).map(String::as_str)
     }

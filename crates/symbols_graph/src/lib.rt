@@ -10,11 +10,13 @@ mod duplicates;
 mod graph;
 mod graph_check;
 mod graph_maps;
+mod lookup_counter;
 mod node_shape;
 mod redirects;
 mod tree_check;
 
 pub use graph::ModuleGraph;
+pub use lookup_counter::LookupCounter;
 pub use symbols_ast::graph::{
     GraphFault, GraphModule, RawGraph, RawModule, RawModuleKind, RawResolution, TreeFault,
 };

@@ -3,8 +3,8 @@
 use std::alloc::{AllocError, Global};
 use symbols_graph::tree::{Item, Kind, Node, SourceRange, Tree};
 use symbols_graph::{
-    GraphFault, GraphModule, ModuleGraph, RawGraph, RawModule, RawModuleKind, RawResolution,
-    TreeFault,
+    GraphFault, GraphModule, LookupCounter, ModuleGraph, RawGraph, RawModule, RawModuleKind,
+    RawResolution, TreeFault,
 };
 use symbols_test_support::graphs::{resolution, text};
 use symbols_test_support::holds;
@@ -56,15 +56,20 @@ const QUERIED: [(&str, &str, &str, &str); 6] = [
 ];
 
 fn resolves(graph: &ModuleGraph) -> Checked {
+    let mut lookups = LookupCounter::new();
     for (referrer, queried, expected, name) in QUERIED {
         if graph
-            .resolve_dependency(queried, referrer)
+            .resolve_dependency(queried, referrer, &mut lookups)
             .unwrap_or("none")
             != expected
         {
             return Err(name);
         }
     }
+    holds!(
+        lookups.count() == QUERIED.len() as u128,
+        "each look-up is counted"
+    );
     Ok(())
 }
 

@@ -11,6 +11,7 @@ ghost use Rattle.symbols_paths.specs.NeededModules.{IsNeededModuleRefused, Store
 ghost use Rattle.symbols_paths.specs.inner.Needed.{StoresOnlyTarget};
 
 use symbols_exports::export_of;
+use symbols_graph::LookupCounter;
 use symbols_graph::ids::{ModuleId, UniqueSymbolId};
 use symbols_root::RootSymbol;
 use symbols_table::info::SymbolsFault;
@@ -32,7 +33,11 @@ pub(crate) fn resolve_specifier(
     ensures stores { StoresOnlyTarget root.old root.new referrer specifier_text.now }
 {
     let specifier = root.specifier_from_id(referrer);
-    match root.graph().resolve_dependency(specifier_text, specifier) {
+    let mut lookups = LookupCounter::new();
+    match root
+        .graph()
+        .resolve_dependency(specifier_text, specifier, &mut lookups)
+    {
         Some(target) => root.module_from_specifier(target),
         None => Ok(None),
     }

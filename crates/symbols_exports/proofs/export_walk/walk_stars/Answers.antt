@@ -41,17 +41,17 @@ one_more before was now lookups more counted = omega (arith, more, counted)
 pub returns-in_err-insert-clause-faults : goal.returns-in_err-insert-clause-faults
 returns-in_err-insert-clause-faults c =
     let known : c.args.module_id.0 < length c.args.root.now.stored = c.requires.known in
-    on_memory (Broken c.args.name_filter c.args.root.now c.args.module_id c.args.root.now c.args.steps.now.count c.args.steps.now.count) c.from_residual.result
+    on_memory (Broken c.args.name_filter c.args.root.now c.args.module_id c.args.root.now c.args.counter.now.count c.args.counter.now.count) c.from_residual.result
     c.from_residual.ensures.1
-    (broken_off c.args.name_filter c.args.root.now c.args.module_id c.args.root.now c.args.steps.now.count c.args.steps.now.count 0 OutOfMemory (omega arith)
+    (broken_off c.args.name_filter c.args.root.now c.args.module_id c.args.root.now c.args.counter.now.count c.args.counter.now.count 0 OutOfMemory (omega arith)
     (walking.begun_cut c.args.name_filter c.args.root.now c.args.module_id known))
 
 pub returns-in_err-collect_from_module-clause-faults : goal.returns-in_err-collect_from_module-clause-faults
 returns-in_err-collect_from_module-clause-faults c =
     let known : c.args.module_id.0 < length c.args.root.now.stored = c.requires.known in
-    on_memory (Broken c.args.name_filter c.args.root.now c.args.module_id c.args.root.now c.args.steps.now.count c.args.steps.now.count)
+    on_memory (Broken c.args.name_filter c.args.root.now c.args.module_id c.args.root.now c.args.counter.now.count c.args.counter.now.count)
     c.from_residual-in_err-collect_from_module.result c.from_residual-in_err-collect_from_module.ensures.1
-    (broken_off c.args.name_filter c.args.root.now c.args.module_id c.args.root.now c.args.steps.now.count c.args.steps.now.count 0 OutOfMemory (omega arith)
+    (broken_off c.args.name_filter c.args.root.now c.args.module_id c.args.root.now c.args.counter.now.count c.args.counter.now.count 0 OutOfMemory (omega arith)
     (walking.begun_cut c.args.name_filter c.args.root.now c.args.module_id known))
 
 pub walk-init : goal.walk-init
@@ -79,15 +79,15 @@ walk-init c =
 pub resolve_specifier-requires-clause-room : goal.resolve_specifier-requires-clause-room
 resolve_specifier-requires-clause-room c =
     let has_room = walking.room c.walk.invariant.2 c.unresolved_star_of_trace.ensures.few c.in-Some.frame.specifier_text c.in-Some.ensures.specifier_text
-    c.args.steps.now.count c.requires.room c.walk.invariant.3 in
-    let fits : c.walk.steps.count + 1 < 2 ^ 128 = omega (arith, has_room, c.walk.invariant.1) in
+    c.args.counter.now.count c.requires.room c.walk.invariant.3 in
+    let fits : c.walk.counter.count + 1 < 2 ^ 128 = omega (arith, has_room, c.walk.invariant.1) in
     fits
 
 pub returns-in-Err-clause-faults : goal.returns-in-Err-clause-faults
 returns-in-Err-clause-faults c =
     let walk = c.walk.invariant.2 in
-    broken_off c.args.name_filter c.args.root.now c.args.module_id c.resolve_specifier.new.root c.args.steps.now.count c.resolve_specifier.new.steps.count
-    (c.walk.invariant.0 + 1) c.in-Err.fault (one_more c.args.steps.now.count c.walk.steps.count c.resolve_specifier.new.steps.count c.walk.invariant.0
+    broken_off c.args.name_filter c.args.root.now c.args.module_id c.resolve_specifier.new.root c.args.counter.now.count c.resolve_specifier.new.counter.count
+    (c.walk.invariant.0 + 1) c.in-Err.fault (one_more c.args.counter.now.count c.walk.counter.count c.resolve_specifier.new.counter.count c.walk.invariant.0
     c.resolve_specifier.ensures.counted c.walk.invariant.1)
     (walking.looked_up_refused walk c.unresolved_star_of_trace.ensures.few c.in-Some.frame.specifier_text c.in-Some.ensures.specifier_text
     (sym c.is_name_search_done.ensures
@@ -95,11 +95,11 @@ returns-in-Err-clause-faults c =
 
 pub returns-in_err-collect_unresolved-in-Ok-None-clause-faults : goal.returns-in_err-collect_unresolved-in-Ok-None-clause-faults
 returns-in_err-collect_unresolved-in-Ok-None-clause-faults c =
-    on_memory (Broken c.args.name_filter c.args.root.now c.args.module_id c.resolve_specifier.new.root c.args.steps.now.count
-    c.resolve_specifier.new.steps.count) c.from_residual-in_err-collect_unresolved-in-Ok-None.result
+    on_memory (Broken c.args.name_filter c.args.root.now c.args.module_id c.resolve_specifier.new.root c.args.counter.now.count
+    c.resolve_specifier.new.counter.count) c.from_residual-in_err-collect_unresolved-in-Ok-None.result
     c.from_residual-in_err-collect_unresolved-in-Ok-None.ensures.1
-    (broken_off c.args.name_filter c.args.root.now c.args.module_id c.resolve_specifier.new.root c.args.steps.now.count c.resolve_specifier.new.steps.count
-    (c.walk.invariant.0 + 1) OutOfMemory (one_more c.args.steps.now.count c.walk.steps.count c.resolve_specifier.new.steps.count c.walk.invariant.0
+    (broken_off c.args.name_filter c.args.root.now c.args.module_id c.resolve_specifier.new.root c.args.counter.now.count c.resolve_specifier.new.counter.count
+    (c.walk.invariant.0 + 1) OutOfMemory (one_more c.args.counter.now.count c.walk.counter.count c.resolve_specifier.new.counter.count c.walk.invariant.0
     c.resolve_specifier.ensures.counted c.walk.invariant.1)
     (walking.unresolved_cut c.walk.invariant.2 c.unresolved_star_of_trace.ensures.few c.in-Some.frame.specifier_text c.in-Some.ensures.specifier_text
     c.resolve_specifier.new.root c.in-Ok-None.ensures.stored (subst (gives c.resolve_specifier.new.root c.walk.root c.walk.here
@@ -125,7 +125,7 @@ walk-preserved-in-Ok-None c =
     } = ap (λ (w : ExportWalkView). w.collected) c.in_ok-collect_unresolved-in-Ok-None.ensures
     ∙ (λ i. (with_unresolved (frame_view (this c.in-Some.frame c.walk.here c.walk.next c.in-Some.ensures.index i)) c.walk.collected).collected) in (
       c.walk.invariant.0 + 1,
-      (one_more c.args.steps.now.count c.walk.steps.count c.resolve_specifier.new.steps.count c.walk.invariant.0
+      (one_more c.args.counter.now.count c.walk.counter.count c.resolve_specifier.new.counter.count c.walk.invariant.0
           c.resolve_specifier.ensures.counted c.walk.invariant.1),
       subst (λ (t : CollectedView). IsWalking c.args.name_filter c.args.root.now c.args.module_id
           c.resolve_specifier.new.root c.walk.here (c.walk.next + 1) c.walk.stack.items c.walk.visited.keys t (c.walk.invariant.0 + 1)) (sym collected)
@@ -147,10 +147,10 @@ visit_module-requires c =
 
 pub returns-in_err-visit_module-in-Ok-Some-clause-faults : goal.returns-in_err-visit_module-in-Ok-Some-clause-faults
 returns-in_err-visit_module-in-Ok-Some-clause-faults c =
-    on_memory (Broken c.args.name_filter c.args.root.now c.args.module_id c.resolve_specifier.new.root c.args.steps.now.count
-    c.resolve_specifier.new.steps.count) c.from_residual-in_err-visit_module-in-Ok-Some.result c.from_residual-in_err-visit_module-in-Ok-Some.ensures.1
-    (broken_off c.args.name_filter c.args.root.now c.args.module_id c.resolve_specifier.new.root c.args.steps.now.count c.resolve_specifier.new.steps.count
-    (c.walk.invariant.0 + 1) OutOfMemory (one_more c.args.steps.now.count c.walk.steps.count c.resolve_specifier.new.steps.count c.walk.invariant.0
+    on_memory (Broken c.args.name_filter c.args.root.now c.args.module_id c.resolve_specifier.new.root c.args.counter.now.count
+    c.resolve_specifier.new.counter.count) c.from_residual-in_err-visit_module-in-Ok-Some.result c.from_residual-in_err-visit_module-in-Ok-Some.ensures.1
+    (broken_off c.args.name_filter c.args.root.now c.args.module_id c.resolve_specifier.new.root c.args.counter.now.count c.resolve_specifier.new.counter.count
+    (c.walk.invariant.0 + 1) OutOfMemory (one_more c.args.counter.now.count c.walk.counter.count c.resolve_specifier.new.counter.count c.walk.invariant.0
     c.resolve_specifier.ensures.counted c.walk.invariant.1)
     (walking.somewhere_cut c.walk.invariant.2 c.unresolved_star_of_trace.ensures.few c.in-Some.frame.specifier_text c.in-Some.ensures.specifier_text
     c.resolve_specifier.new.root c.in-Ok-Some.ensures.stored c.in-Ok-Some.target (subst (gives c.resolve_specifier.new.root c.walk.root c.walk.here
@@ -193,7 +193,7 @@ walk-preserved-then-branch c =
     ∙ module_explicit c.args.name_filter c.resolve_specifier.new.root (map frame_view
     (c.walk.stack.items ++ here ∷ [])) c.in-Ok-Some.target c.walk.collected keeps in (
       c.walk.invariant.0 + 1,
-      (one_more c.args.steps.now.count c.walk.steps.count c.resolve_specifier.new.steps.count c.walk.invariant.0
+      (one_more c.args.counter.now.count c.walk.counter.count c.resolve_specifier.new.counter.count c.walk.invariant.0
           c.resolve_specifier.ensures.counted c.walk.invariant.1),
       subst (λ (t : CollectedView). IsWalking c.args.name_filter c.args.root.now c.args.module_id
           c.resolve_specifier.new.root c.in-Ok-Some.target 0 c.visit_module.new.stack.items c.visit_module.new.visited.keys t (c.walk.invariant.0 + 1)) (sym
@@ -239,7 +239,7 @@ walk-preserved-else-branch c =
     c.walk.collected) c.walk.collected c.in_ok-visit_module-in-Ok-Some.ensures.collected c.if-branch.false in
     let collected : c.visit_module.new.collected.collected ≡ c.walk.collected.collected = ap (λ (w : ExportWalkView). w.collected) state in (
       c.walk.invariant.0 + 1,
-      (one_more c.args.steps.now.count c.walk.steps.count c.resolve_specifier.new.steps.count c.walk.invariant.0
+      (one_more c.args.counter.now.count c.walk.counter.count c.resolve_specifier.new.counter.count c.walk.invariant.0
           c.resolve_specifier.ensures.counted c.walk.invariant.1),
       subst (λ (t : CollectedView). IsWalking c.args.name_filter c.args.root.now c.args.module_id
           c.resolve_specifier.new.root c.walk.here (c.walk.next + 1) c.visit_module.new.stack.items c.visit_module.new.visited.keys t (c.walk.invariant.0 + 1))
@@ -305,8 +305,8 @@ refused name_filter old start root collected lookups before now counted is = bro
 pub returns-in_default-pop-clause-answers : goal.returns-in_default-pop-clause-answers
 returns-in_default-pop-clause-answers c =
     let walk = c.walk.invariant.2 in
-    given c.args.name_filter c.args.root.now c.args.module_id c.walk.root c.walk.collected.collected c.walk.invariant.0 c.args.steps.now.count
-    c.walk.steps.count c.in_ok-into_exports.field-0 c.walk.invariant.1 c.in_ok-into_exports.ensures.resolved c.in_ok-into_exports.ensures.shared
+    given c.args.name_filter c.args.root.now c.args.module_id c.walk.root c.walk.collected.collected c.walk.invariant.0 c.args.counter.now.count
+    c.walk.counter.count c.in_ok-into_exports.field-0 c.walk.invariant.1 c.in_ok-into_exports.ensures.resolved c.in_ok-into_exports.ensures.shared
     c.in_ok-into_exports.ensures.unresolved
     (walked_end c.args.name_filter walk (sym c.is_name_search_done.ensures ∙ c.walk-test.true) (nil_from_length c.walk.stack.items
     (omega (arith, c.in_default-pop.ensures.cases.0, c.walk.stack.ok.0)))
@@ -315,27 +315,27 @@ returns-in_default-pop-clause-answers c =
 pub returns-in_err-into_exports-clause-faults : goal.returns-in_err-into_exports-clause-faults
 returns-in_err-into_exports-clause-faults c =
     let walk = c.walk.invariant.2 in
-    on_memory (Broken c.args.name_filter c.args.root.now c.args.module_id c.walk.root c.args.steps.now.count c.walk.steps.count)
+    on_memory (Broken c.args.name_filter c.args.root.now c.args.module_id c.walk.root c.args.counter.now.count c.walk.counter.count)
     c.from_residual-in_err-into_exports.result c.from_residual-in_err-into_exports.ensures.1
-    (refused c.args.name_filter c.args.root.now c.args.module_id c.walk.root c.walk.collected.collected c.walk.invariant.0 c.args.steps.now.count
-    c.walk.steps.count c.walk.invariant.1
+    (refused c.args.name_filter c.args.root.now c.args.module_id c.walk.root c.walk.collected.collected c.walk.invariant.0 c.args.counter.now.count
+    c.walk.counter.count c.walk.invariant.1
     (walked_end c.args.name_filter walk (sym c.is_name_search_done.ensures ∙ c.walk-test.true) (nil_from_length c.walk.stack.items
     (omega (arith, c.in_default-pop.ensures.cases.0, c.walk.stack.ok.0)))
     (walking.ended_here walk c.unresolved_star_of_trace.ensures.few (sym c.in_default.ensures.specifier_text))))
 
 pub returns-clause-answers : goal.returns-clause-answers
 returns-clause-answers c =
-    given c.args.name_filter c.args.root.now c.args.module_id c.walk.root c.walk.collected.collected c.walk.invariant.0 c.args.steps.now.count
-    c.walk.steps.count c.in_ok-into_exports-2.field-0 c.walk.invariant.1 c.in_ok-into_exports-2.ensures.resolved c.in_ok-into_exports-2.ensures.shared
+    given c.args.name_filter c.args.root.now c.args.module_id c.walk.root c.walk.collected.collected c.walk.invariant.0 c.args.counter.now.count
+    c.walk.counter.count c.in_ok-into_exports-2.field-0 c.walk.invariant.1 c.in_ok-into_exports-2.ensures.resolved c.in_ok-into_exports-2.ensures.shared
     c.in_ok-into_exports-2.ensures.unresolved
     (walked_done c.args.name_filter c.walk.invariant.2 (sym c.is_name_search_done.ensures ∙ c.walk-test.false))
 
 pub returns-in_err-into_exports-2-clause-faults : goal.returns-in_err-into_exports-2-clause-faults
 returns-in_err-into_exports-2-clause-faults c =
-    on_memory (Broken c.args.name_filter c.args.root.now c.args.module_id c.walk.root c.args.steps.now.count c.walk.steps.count)
+    on_memory (Broken c.args.name_filter c.args.root.now c.args.module_id c.walk.root c.args.counter.now.count c.walk.counter.count)
     c.from_residual-in_err-into_exports-2.result c.from_residual-in_err-into_exports-2.ensures.1
-    (refused c.args.name_filter c.args.root.now c.args.module_id c.walk.root c.walk.collected.collected c.walk.invariant.0 c.args.steps.now.count
-    c.walk.steps.count c.walk.invariant.1
+    (refused c.args.name_filter c.args.root.now c.args.module_id c.walk.root c.walk.collected.collected c.walk.invariant.0 c.args.counter.now.count
+    c.walk.counter.count c.walk.invariant.1
     (walked_done c.args.name_filter c.walk.invariant.2 (sym c.is_name_search_done.ensures ∙ c.walk-test.false)))
 
 pub returns-in-Err-clause-enough : goal.returns-in-Err-clause-enough

@@ -8,6 +8,6 @@ pub returns-in-Some-clause-there : goal.returns-in-Some-clause-there
 returns-in-Some-clause-there c =
     let root = c.args.root.now in
     let resolved : resolved_dependency root.graph (specifier_in root c.args.referrer) c.args.specifier_text.now ≡ Some c.in-Some.target.now =
-    rw (c.graph.ensures, c.specifier_from_id-specifier.ensures) at (sym c.resolve_dependency.ensures ∙ ap option_copied c.in-Some.is) in
+    rw (c.graph.ensures, c.specifier_from_id-specifier.ensures) at (sym c.resolve_dependency.ensures.resolved ∙ ap option_copied c.in-Some.is) in
     target_there root.graph (specifier_in root c.args.referrer) c.args.specifier_text.now c.in-Some.target.now resolved c.module_from_specifier.result
     c.module_from_specifier.ensures.under

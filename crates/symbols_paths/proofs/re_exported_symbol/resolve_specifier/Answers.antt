@@ -14,7 +14,7 @@ returns-in-Some-clause-stores c =
     let new = c.module_from_specifier.new.self in
     let needed = resolved_module_specifier root.graph c.in-Some.target.now in
     let resolved : resolved_dependency root.graph (specifier_in root c.args.referrer) c.args.specifier_text.now ≡ Some c.in-Some.target.now =
-    rw (c.graph.ensures, c.specifier_from_id-specifier.ensures) at (sym c.resolve_dependency.ensures ∙ ap option_copied c.in-Some.is) in
+    rw (c.graph.ensures, c.specifier_from_id-specifier.ensures) at (sym c.resolve_dependency.ensures.resolved ∙ ap option_copied c.in-Some.is) in
     let found : resolve_specifier root.graph (specifier_in root c.args.referrer) c.args.specifier_text.now ≡ needed =
     ap (option_and_then (resolved_module_specifier root.graph)) resolved in
     subst (λ (target : Option (List ℕ)). StoresOnly root new (λ v. target ≡ Some v)) (sym found)
