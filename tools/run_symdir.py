@@ -120,9 +120,15 @@ def failures(said):
     return lines
 
 
+def concurrency():
+    """Returns the option of Node for a file of tests on each processor. Without it Node leaves one idle; before version 20.10 it has no such option."""
+    known = '--test-concurrency' in quiet(['node', '--help']).stdout
+    return ['--test-concurrency=%d' % len(os.sched_getaffinity(0))] if known else []
+
+
 def run_tests(files, environment):
     """Returns how many tests passed, and a line for each that failed. Without any, another status than 0 and a report without an end are failures."""
-    said, status = said_within(['node', '--test', '--test-reporter=tap', *files], SECONDS, cwd=PACKAGE, env=environment)
+    said, status = said_within(['node', '--test', '--test-reporter=tap', *concurrency(), *files], SECONDS, cwd=PACKAGE, env=environment)
     for name, reason in re.findall(r'^\s*ok \d+ - (.*?) # SKIP ?(.*)$', said, re.M):
         print(f'skipped, neither passed nor failed: {name}: {reason}')
     passed, failed = re.search(r'^# pass ([1-9]\d*)$', said, re.M), failures(said)
