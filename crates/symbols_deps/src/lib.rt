@@ -8,6 +8,7 @@ mod annotations;
 mod edge_table;
 mod known;
 pub mod laws;
+mod pattern_edges;
 mod references;
 mod resolve_deps;
 mod rules;
