@@ -112,6 +112,21 @@ def of_memory(program, case, **how):
     return program.row(case, is_wanted, REFUSED='memory', **how)
 
 
+def of_finished_answers(program, case, **how):
+    """Checks that at a failed allocation the answers to all lines before are written, each whole: as allocations fail later, each number of answers
+    comes up in turn."""
+    counts, answers = [], case.want.output.splitlines(True)
+
+    def is_wanted(_, got):
+        count = got.output.count(b'\n')
+        if got.status == 7:
+            counts.append(count)
+        return got == case.want or (got.status == 7 and got.output == b''.join(answers[:count]))
+    wrong = program.row(case, is_wanted, REFUSED='memory', **how)
+    in_turn = counts == sorted(counts) and sorted(set(counts)) == list(range(len(answers)))
+    return wrong or ([] if in_turn else ['answers written: %s' % counts])
+
+
 def of_file(program, case):
     return program.row(case, lambda _, got: got == NO_GRAPH, REFUSED='file')
 
@@ -154,6 +169,8 @@ def rows_of(program):
         found.append(('memory, ' + name, lambda case=stored(name): of_memory(program, case)))
         found.append(('memory from there on, ' + name, lambda case=stored(name): of_memory(program, case, REST=1)))
     case, few = stored(ALL_FORMS), stored(FEW_LINES)
+    found.append(('memory, finished answers', lambda: of_finished_answers(program, case)))
+    found.append(('memory from there on, finished answers', lambda: of_finished_answers(program, case, REST=1)))
     # a repeated list makes a graph that isn't read node by node
     other = case._replace(graph=b'{"modules":[],' + case.graph[1:])
     found.append(('memory, a graph of another form', lambda: of_memory(program, other)))

@@ -5,9 +5,10 @@ use Rattle.std.specs.Io.KnownBytes.{Appends, Consumes, IsAtEnd}
 use Rattle.std.proofs.KnownBytes.{Appends-trans}
 use Rattle.symq_core.specs.declared.fault.EngineFault.{EngineFault}
 use Rattle.symq_core.specs.declared.fault.EngineFault.TheVariants.{OutOfMemory, InputFailed, OutputFailed, InputTooLong}
-use Rattle.symq_core.specs.Lines.{split_at_newlines, all_but_last, last_or_empty, nonempty_line, terminated_lines, answer_lines, output_text_of}
-use Rattle.symq_core.specs.Serving.{AppendsPrefix, WritesOutputPrefix, IsServeFault}
-use Rattle.symq_core.specs.inner.Sessions.{split_with_partial_line, IsAnswerFault}
+use Rattle.symq_core.specs.Lines.{split_at_newlines, all_but_last, last_or_empty, nonempty_line, terminated_lines, input_lines, answer_lines}
+use Rattle.symq_core.specs.Lines.{output_text_of}
+use Rattle.symq_core.specs.Serving.{AppendsPrefix, WritesOutputPrefix, WritesFirstAnswers, IsServeFault}
+use Rattle.symq_core.specs.inner.Sessions.{split_with_partial_line, IsWrittenLinesFault, WritesPendingAndFirst}
 use Rattle.symq_core.proofs.Parts.{terminated_lines-append, last_part_of-append, answer_lines-append}
 use Rattle.symq_core.proofs.Beginnings.{begins_after, begins_longer}
 
@@ -98,16 +99,69 @@ read_within n None left read h le = tt
 read_within n (Some bytes) None read h le = absurd h
 read_within n (Some bytes) (Some ys) read h le = omega (arith, le, ap length h, length-append read ys)
 
--- a fault while a line is answered is a fault of serving
-pub fails_from : (answer : List ℕ → List ℕ) (fault : EngineFault) (old new : ℕ) (input left a c : Option (List ℕ)) → IsAnswerFault fault old new
-    → WritesOutputPrefix answer input a c → IsServeFault answer fault input left a c
-fails_from answer OutOfMemory old new input left a c h p = p
-fails_from answer OutputFailed old new input left a c h p = p
-fails_from answer InputFailed old new input left a c h p = absurd h
-fails_from answer InputTooLong old new input left a c h p = absurd h
+-- a fault while lines are answered is a fault of serving
+pub fails_from : (answer : List ℕ → List ℕ) (lines : List (List ℕ)) (fault : EngineFault) (waiting : List ℕ) (old new : ℕ)
+    (input left a b c : Option (List ℕ)) → IsWrittenLinesFault answer lines b c waiting old new fault
+    → (WritesPendingAndFirst answer lines b c waiting → WritesFirstAnswers answer input a c)
+    → (AppendsPrefix b c (waiting ++ answer_lines answer lines) → WritesOutputPrefix answer input a c)
+    → IsServeFault answer fault input left a c
+fails_from answer lines OutOfMemory waiting old new input left a b c h p q = p h.0
+fails_from answer lines OutputFailed waiting old new input left a b c h p q = q h.0
+fails_from answer lines InputFailed waiting old new input left a b c h p q = absurd h
+fails_from answer lines InputTooLong waiting old new input left a b c h p q = absurd h
 
-pub fails_if : {T : Type 0} (answer : List ℕ → List ℕ) (r : Result T EngineFault) (old new : ℕ) (input left a b c : Option (List ℕ)) (text : List ℕ)
-    → IfErr r (λ fault. IsAnswerFault fault old new × AppendsPrefix b c text) → (AppendsPrefix b c text → WritesOutputPrefix answer input a c)
+pub fails_if : {T : Type 0} (answer : List ℕ → List ℕ) (lines : List (List ℕ)) (r : Result T EngineFault) (waiting : List ℕ) (old new : ℕ)
+    (input left a b c : Option (List ℕ)) → IfErr r (IsWrittenLinesFault answer lines b c waiting old new)
+    → (WritesPendingAndFirst answer lines b c waiting → WritesFirstAnswers answer input a c)
+    → (AppendsPrefix b c (waiting ++ answer_lines answer lines) → WritesOutputPrefix answer input a c)
     → IfErr r (λ fault. IsServeFault answer fault input left a c)
-fails_if answer (Ok done) old new input left a b c text p q = tt
-fails_if answer (Err fault) old new input left a b c text p q = fails_from answer fault old new input left a c p.0 (q p.1)
+fails_if answer lines (Ok done) waiting old new input left a b c h p q = tt
+fails_if answer lines (Err fault) waiting old new input left a b c h p q = fails_from answer lines fault waiting old new input left a b c h p q
+
+-- the ended lines of what was read are the first lines of the input
+lines_begin : (read left : List ℕ) → (more : List (List ℕ)) × (input_lines (read ++ left) ≡ terminated_lines read ++ more)
+lines_begin read left =
+    let last = nonempty_line (last_or_empty (split_at_newlines (read ++ left))) in
+    let others = all_but_last (split_with_partial_line (last_or_empty (split_at_newlines read)) left) in
+    (others ++ last, ap (λ t. t ++ last) (terminated_lines-append read left) ∙ append_assoc (terminated_lines read) others last)
+
+-- the answers to the lines before, and to some first lines after them, are answers to first lines of the input
+first_after : (answer : List ℕ → List ℕ) (bytes : List ℕ) (a b c : Option (List ℕ)) (before lines more : List (List ℕ)) (waiting : List ℕ) → waiting ≡ []
+    → input_lines bytes ≡ (before ++ lines) ++ more → Appends a b (answer_lines answer before) → WritesPendingAndFirst answer lines b c waiting
+    → WritesFirstAnswers answer (Some bytes) a c
+first_after answer bytes a b c before lines more waiting none e p q =
+    let (first, later, parted, written) = q in (
+      before ++ first,
+      later ++ more,
+      e ∙ ap (λ t. (before ++ t) ++ more) parted ∙ ap (λ t. t ++ more) (sym (append_assoc before first later)) ∙ append_assoc (before ++ first) later more,
+      subst (Appends a c) (sym (answer_lines-append answer before first))
+          (Appends-trans a b c (answer_lines answer before) (answer_lines answer first) p
+          (subst (λ t. Appends b c (t ++ answer_lines answer first)) none written)),
+    )
+
+-- if a line of one more block fails, the answers to the lines before it are written
+pub block_first : (answer : List ℕ → List ℕ) (input left a b c : Option (List ℕ)) (read line waiting block : List ℕ) → Consumes input left (read ++ block)
+    → waiting ≡ [] → line ≡ last_or_empty (split_at_newlines read)
+    → Appends a b (answer_lines answer (terminated_lines read))
+    → WritesPendingAndFirst answer (all_but_last (split_with_partial_line line block)) b c waiting
+    → WritesFirstAnswers answer input a c
+block_first answer None left a b c read line waiting block h e f p q = tt
+block_first answer (Some bytes) None a b c read line waiting block h e f p q = absurd h
+block_first answer (Some bytes) (Some ys) a b c read line waiting block h e f p q =
+    let whole = lines_begin (read ++ block) ys in
+    let ended : terminated_lines (read ++ block) ≡ terminated_lines read ++ all_but_last (split_with_partial_line line block) =
+    terminated_lines-append read block ∙ ap (λ t. terminated_lines read ++ all_but_last (split_with_partial_line t block)) (sym f) in
+    first_after answer bytes a b c (terminated_lines read) (all_but_last (split_with_partial_line line block)) whole.0 waiting e
+    (ap input_lines h ∙ whole.1 ∙ ap (λ t. t ++ whole.0) ended) p q
+
+-- if the last line fails, the answers to the lines before it are written
+pub last_first : (answer : List ℕ → List ℕ) (input left a b c : Option (List ℕ)) (read line waiting : List ℕ) → Consumes input left read → IsAtEnd left
+    → waiting ≡ [] → line ≡ last_or_empty (split_at_newlines read)
+    → Appends a b (answer_lines answer (terminated_lines read)) → WritesPendingAndFirst answer (nonempty_line line) b c waiting
+    → WritesFirstAnswers answer input a c
+last_first answer None left a b c read line waiting h end e f p q = tt
+last_first answer (Some bytes) None a b c read line waiting h end e f p q = absurd h
+last_first answer (Some bytes) (Some ys) a b c read line waiting h end e f p q =
+    let all : bytes ≡ read = h ∙ ap (λ t. read ++ t) end ∙ append-nil read in
+    first_after answer bytes a b c (terminated_lines read) (nonempty_line line) [] waiting e
+    (ap input_lines all ∙ ap (λ t. terminated_lines read ++ nonempty_line t) (sym f) ∙ sym (append-nil (terminated_lines read ++ nonempty_line line))) p q

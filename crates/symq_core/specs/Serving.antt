@@ -2,7 +2,7 @@
 use Rattle.std.specs.Prelude.{◌≡◌, ℕ, ◌+◌, ◌≤◌, List, ◌++◌, length, Option, IfSome, Result, Ok, Err}
 use Rattle.std.specs.Io.KnownBytes.{Appends, Consumes}
 use Rattle.symq_core.specs.Devices.{COUNT_LIMIT}
-use Rattle.symq_core.specs.Lines.{terminated_lines, answer_lines, output_text_of}
+use Rattle.symq_core.specs.Lines.{terminated_lines, input_lines, answer_lines, output_text_of}
 use Rattle.symq_core.specs.declared.fault.EngineFault.{EngineFault}
 use Rattle.symq_core.specs.declared.fault.EngineFault.TheVariants.{OutOfMemory, InputFailed, OutputFailed, InputTooLong}
 
@@ -18,9 +18,14 @@ AnswersReadLines answer input left old new = (read : List ℕ) × Consumes input
 abbrev pub WritesOutputPrefix : (List ℕ → List ℕ) → Option (List ℕ) → Option (List ℕ) → Option (List ℕ) → Type 0
 WritesOutputPrefix answer input old new = IfSome input (λ bytes. AppendsPrefix old new (output_text_of answer bytes))
 
+-- the answers to some first lines were written, each whole
+abbrev pub WritesFirstAnswers : (List ℕ → List ℕ) → Option (List ℕ) → Option (List ℕ) → Option (List ℕ) → Type 0
+WritesFirstAnswers answer input old new = IfSome input (λ bytes. (first : List (List ℕ)) × (later : List (List ℕ)) × (input_lines bytes ≡ first ++ later)
+    × Appends old new (answer_lines answer first))
+
 -- what was written when serving failed with a fault
 abbrev pub IsServeFault : (List ℕ → List ℕ) → EngineFault → Option (List ℕ) → Option (List ℕ) → Option (List ℕ) → Option (List ℕ) → Type 0
-IsServeFault answer OutOfMemory input left old new = WritesOutputPrefix answer input old new
+IsServeFault answer OutOfMemory input left old new = WritesFirstAnswers answer input old new
 IsServeFault answer OutputFailed input left old new = WritesOutputPrefix answer input old new
 IsServeFault answer InputFailed input left old new = AnswersReadLines answer input left old new
 IsServeFault answer InputTooLong input left old new = AnswersReadLines answer input left old new × IfSome input (λ bytes. COUNT_LIMIT ≤ length bytes)

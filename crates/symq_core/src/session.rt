@@ -1,6 +1,7 @@
 //! A session: answers the lines of an input, block by block.
 
-ghost use Rattle.std.specs.Prelude.{◌≡◌, ◌+◌, ◌<◌, ◌++◌, ◌∷◌, [], OnOk, IfErr};
+ghost use Rattle.std.specs.Prelude.{◌≡◌, ◌+◌, ◌<◌, ◌++◌, ◌∷◌, [], ℕ, List, Option};
+ghost use Rattle.std.specs.Prelude.{OnOk, OnErr, IfErr};
 ghost use Rattle.std.specs.Io.KnownBytes.{Appends};
 ghost use Rattle.symbols_root.specs.Growing.{HasGrown};
 ghost use Rattle.symbols_root.specs.Roots.{widest_limits};
@@ -9,8 +10,8 @@ ghost use Rattle.symq_core.specs.Devices.{COUNT_LIMIT};
 ghost use Rattle.symq_core.specs.Lines.{line_end, all_but_last, last_or_empty, nonempty_line};
 ghost use Rattle.symq_core.specs.Lines.{answer_lines};
 ghost use Rattle.symq_core.specs.Serving.{AppendsPrefix};
-ghost use Rattle.symq_core.specs.inner.Sessions.{SendsText, IsAnswerFault, split_with_partial_line};
-ghost use Rattle.symq_core.specs.inner.Sessions.{line_answer};
+ghost use Rattle.symq_core.specs.inner.Sessions.{SendsText, IsLinesFault, IsWrittenLinesFault};
+ghost use Rattle.symq_core.specs.inner.Sessions.{line_answer, split_with_partial_line};
 
 use crate::answer_line::answer;
 use crate::device::Output;
@@ -43,8 +44,8 @@ pub(crate) struct Session<'g> {
     ghost widest: { root.limits ≡ widest_limits },
 }
 
-/// Appends the answer to a line and a line end to the pending answers. The buffer `text` is cleared
-/// and reused.
+/// Appends the answer to a line and a line end to the pending answers. If it fails, they are as they
+/// were. The buffer `text` is cleared and reused.
 fn add_answer(
     alloc: Global,
     scratch: &mut Scratch,
@@ -57,12 +58,13 @@ fn add_answer(
     ensures grown { HasGrown root.old root.new }
     ensures added { OnOk result (answers.new.items
         ≡ answers.old.items ++ (line_answer root.old line.now ++ line_end ∷ [])) }
+    ensures retained { OnErr result (answers.new.items ≡ answers.old.items) }
 {
     text.clear();
     let begun = mem::replace(text, Vec::new(alloc));
-    let answered = answer(alloc, scratch, root, line, begun)?;
+    let mut answered = answer(alloc, scratch, root, line, begun)?;
+    answered.push(b'\n')?;
     answers.extend_from_slice(answered.as_slice())?;
-    answers.push(b'\n')?;
     *text = answered;
     Ok(())
 }
@@ -105,12 +107,34 @@ impl<'g> Session<'g> {
         Ok(())
     }
 
-    /// Answers the line that ends with these bytes, and clears the pending line.
+    /// Writes the pending answers after a failed allocation, and returns the fault that ends the
+    /// session: the given one, or that of the output if it fails, too.
+    fn write_before_fault<W: Output>(&mut self, writer: &mut W, fault: EngineFault) -> EngineFault
+        requires { fault ≡ EngineFault.OutOfMemory → W.failures writer.old < COUNT_LIMIT }
+        ensures { (answer : List ℕ → List ℕ) (lines : List (List ℕ)) (begun : Option (List ℕ))
+            (waiting : List ℕ) (count : ℕ)
+            → IsLinesFault answer lines begun (W.written writer.old) waiting
+            self.old.answers.items count (W.failures writer.old) fault
+            → IsWrittenLinesFault answer lines begun (W.written writer.new) waiting count
+            (W.failures writer.new) result }
+    {
+        match fault {
+            EngineFault::OutOfMemory => match self.flush(writer) {
+                Ok(()) => fault,
+                Err(of_output) => of_output,
+            },
+            _ => fault,
+        }
+    }
+
+    /// Answers the line that ends with these bytes, and clears the pending line. If it fails, the
+    /// pending answers are as they were.
     fn end_line(&mut self, tail: &[u8]) -> Result<(), AllocError>
         ensures same { line_answer self.new.root ≡ line_answer self.old.root }
         ensures ended { OnOk result ((self.new.line.items ≡ []) × (self.new.answers.items
             ≡ self.old.answers.items
             ++ (line_answer self.old.root (self.old.line.items ++ tail.now) ++ line_end ∷ []))) }
+        ensures retained { OnErr result (self.new.answers.items ≡ self.old.answers.items) }
     {
         if self.line.is_empty() {
             return add_answer(
@@ -144,10 +168,10 @@ impl<'g> Session<'g> {
             self.old.answers.items self.new.answers.items
             (answer_lines (line_answer self.old.root) ((self.old.line.items ++ tail.now) ∷ []))
             × (self.new.line.items ≡ []) × (W.failures writer.new ≡ W.failures writer.old)) }
-        ensures err { IfErr result
-            (λ fault. IsAnswerFault fault (W.failures writer.old) (W.failures writer.new)
-            × AppendsPrefix (W.written writer.old) (W.written writer.new) (self.old.answers.items
-            ++ answer_lines (line_answer self.old.root) ((self.old.line.items ++ tail.now) ∷ []))) }
+        ensures err { IfErr result (IsLinesFault (line_answer self.old.root)
+            ((self.old.line.items ++ tail.now) ∷ []) (W.written writer.old) (W.written writer.new)
+            self.old.answers.items self.new.answers.items (W.failures writer.old)
+            (W.failures writer.new)) }
     {
         self.end_line(tail)?;
         if BLOCK <= self.answers.len() {
@@ -157,12 +181,8 @@ impl<'g> Session<'g> {
     }
 
     /// Answers the lines that end in the block and writes the answers. The last line is retained if
-    /// it has no end yet.
-    pub(crate) fn take_block<W: Output>(
-        &mut self,
-        writer: &mut W,
-        block: &[u8],
-    ) -> Result<(), EngineFault>
+    /// it has no end yet. If an allocation fails, the answers before it are pending.
+    fn answer_block<W: Output>(&mut self, writer: &mut W, block: &[u8]) -> Result<(), EngineFault>
         requires { W.failures writer.old < COUNT_LIMIT }
         ensures same { line_answer self.new.root ≡ line_answer self.old.root }
         ensures ok { OnOk result
@@ -173,11 +193,10 @@ impl<'g> Session<'g> {
             × (self.new.line.items ≡ last_or_empty
             (split_with_partial_line self.old.line.items block.now))
             × (W.failures writer.new ≡ W.failures writer.old)) }
-        ensures err { IfErr result
-            (λ fault. IsAnswerFault fault (W.failures writer.old) (W.failures writer.new)
-            × AppendsPrefix (W.written writer.old) (W.written writer.new) (self.old.answers.items
-            ++ answer_lines (line_answer self.old.root) (all_but_last
-            (split_with_partial_line self.old.line.items block.now)))) }
+        ensures err { IfErr result (IsLinesFault (line_answer self.old.root)
+            (all_but_last (split_with_partial_line self.old.line.items block.now))
+            (W.written writer.old) (W.written writer.new) self.old.answers.items
+            self.new.answers.items (W.failures writer.old) (W.failures writer.new)) }
     {
         let mut rest = block;
         'lines: while let Some((line, more)) = split_line(rest) {
@@ -188,22 +207,69 @@ impl<'g> Session<'g> {
         self.flush(writer)
     }
 
-    /// Answers a last line without a line end, and writes the pending answers.
-    pub(crate) fn finish<W: Output>(&mut self, writer: &mut W) -> Result<(), EngineFault>
+    /// Answers the lines that end in the block and writes the answers. The last line is retained if
+    /// it has no end yet. If an allocation fails, the answers before it are written.
+    pub(crate) fn take_block<W: Output>(
+        &mut self,
+        writer: &mut W,
+        block: &[u8],
+    ) -> Result<(), EngineFault>
+        requires { W.failures writer.old < COUNT_LIMIT }
+        ensures same { OnOk result (line_answer self.new.root ≡ line_answer self.old.root) }
+        ensures ok { OnOk result
+            (Appends (W.written writer.old) (W.written writer.new) (self.old.answers.items
+            ++ answer_lines (line_answer self.old.root) (all_but_last
+            (split_with_partial_line self.old.line.items block.now)))
+            × (self.new.answers.items ≡ [])
+            × (self.new.line.items ≡ last_or_empty
+            (split_with_partial_line self.old.line.items block.now))
+            × (W.failures writer.new ≡ W.failures writer.old)) }
+        ensures err { IfErr result (IsWrittenLinesFault (line_answer self.old.root)
+            (all_but_last (split_with_partial_line self.old.line.items block.now))
+            (W.written writer.old) (W.written writer.new) self.old.answers.items
+            (W.failures writer.old) (W.failures writer.new)) }
+    {
+        match self.answer_block(writer, block) {
+            Ok(()) => Ok(()),
+            Err(fault) => Err(self.write_before_fault(writer, fault)),
+        }
+    }
+
+    /// Answers a last line without a line end, and writes the pending answers. If an allocation
+    /// fails, the answers before it are pending.
+    fn answer_last_line<W: Output>(&mut self, writer: &mut W) -> Result<(), EngineFault>
         requires { W.failures writer.old < COUNT_LIMIT }
         ensures ok { OnOk result
             (Appends (W.written writer.old) (W.written writer.new) (self.old.answers.items
             ++ answer_lines (line_answer self.old.root) (nonempty_line self.old.line.items))
             × (W.failures writer.new ≡ W.failures writer.old)) }
-        ensures err { IfErr result
-            (λ fault. IsAnswerFault fault (W.failures writer.old) (W.failures writer.new)
-            × AppendsPrefix (W.written writer.old) (W.written writer.new) (self.old.answers.items
-            ++ answer_lines (line_answer self.old.root) (nonempty_line self.old.line.items))) }
+        ensures err { IfErr result (IsLinesFault (line_answer self.old.root)
+            (nonempty_line self.old.line.items) (W.written writer.old) (W.written writer.new)
+            self.old.answers.items self.new.answers.items (W.failures writer.old)
+            (W.failures writer.new)) }
     {
         if self.line.is_empty() {
             return self.flush(writer);
         }
         self.take_line(writer, b"")?;
         self.flush(writer)
+    }
+
+    /// Answers a last line without a line end, and writes the pending answers. If an allocation
+    /// fails, the answers before it are written.
+    pub(crate) fn finish<W: Output>(&mut self, writer: &mut W) -> Result<(), EngineFault>
+        requires { W.failures writer.old < COUNT_LIMIT }
+        ensures ok { OnOk result
+            (Appends (W.written writer.old) (W.written writer.new) (self.old.answers.items
+            ++ answer_lines (line_answer self.old.root) (nonempty_line self.old.line.items))
+            × (W.failures writer.new ≡ W.failures writer.old)) }
+        ensures err { IfErr result (IsWrittenLinesFault (line_answer self.old.root)
+            (nonempty_line self.old.line.items) (W.written writer.old) (W.written writer.new)
+            self.old.answers.items (W.failures writer.old) (W.failures writer.new)) }
+    {
+        match self.answer_last_line(writer) {
+            Ok(()) => Ok(()),
+            Err(fault) => Err(self.write_before_fault(writer, fault)),
+        }
     }
 }

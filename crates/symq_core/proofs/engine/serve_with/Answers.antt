@@ -4,9 +4,11 @@ use Rattle.std.proofs.lemmas.Grind.{common_steps}
 use Rattle.std.proofs.KnownBytes.{Consumes-trans}
 use Rattle.std.specs.Io.KnownBytes.{Consumes}
 use Rattle.symq_core.specs.AnswerTexts.{answer_text}
-use Rattle.symq_core.specs.Lines.{answer_lines, nonempty_line}
+use Rattle.symq_core.specs.Lines.{all_but_last, nonempty_line}
+use Rattle.symq_core.specs.inner.Sessions.{split_with_partial_line}
 use Rattle.symq_core.specs.Devices.{COUNT_LIMIT}
-use Rattle.symq_core.proofs.Outputs.{block_sent, block_line, block_begun, begun_output, served_at_end, begun_at_end, read_within, fails_from, fails_if}
+use Rattle.symq_core.proofs.Outputs.{block_sent, block_line, block_begun, begun_output, served_at_end, begun_at_end, read_within}
+use Rattle.symq_core.proofs.Outputs.{fails_from, fails_if, block_first, last_first}
 use Rattle.symq_core.proofs.engine.serve_with.Goals as goal
 
 pub returns-then-read-eq0-clause-fails : goal.returns-then-read-eq0-clause-fails
@@ -22,8 +24,10 @@ returns-then-read-eq0-clause-fails g c =
     let all : Consumes start left v.0 = subst (Consumes start left) none
     (Consumes-trans start (g.R.Input.remaining l.reader) left v.0 (take c.in-Ok.read c.read.new.buffer) v.1 c.in-Ok.ensures.consumed.0) in
     let room : 0 < length c.read.new.buffer = grind (arith, common_steps) in
-    fails_if answer c.finish.result _ _ start left before (g.W.Output.written l.writer) after
-    (l.session.answers.items ++ answer_lines answer (nonempty_line l.session.line.items)) (rw v.8 at c.finish.ensures.err)
+    fails_if answer (nonempty_line l.session.line.items) c.finish.result l.session.answers.items _ _ start left before (g.W.Output.written l.writer) after
+    (rw v.8 at c.finish.ensures.err)
+    (λ q. last_first answer start left before (g.W.Output.written l.writer) after v.0 l.session.line.items l.session.answers.items all
+    (c.in-Ok.ensures.consumed.1 c.if-read-eq0.true room) v.3 v.4 v.2 q)
     (λ q. begun_at_end answer start left before (g.W.Output.written l.writer) after v.0 l.session.line.items l.session.answers.items all
     (c.in-Ok.ensures.consumed.1 c.if-read-eq0.true room) v.3 v.4 v.2 q)
 
@@ -65,10 +69,12 @@ returns-in_err-take_block-clause-fails g c =
     let before = g.W.Output.written c.args.writer.now in
     let middle = g.W.Output.written l.writer in
     let after = g.W.Output.written c.take_block.new.writer in
-    rw (p.1, p.2) (fails_from answer c.in_err-take_block.field-0.0 _ _ start left before after e.0
-    (begun_output answer start left before after (v.0 ++ block)
-    (Consumes-trans start (g.R.Input.remaining l.reader) left v.0 block v.1 c.in-Ok.ensures.consumed.0)
-    (block_begun answer before middle after v.0 l.session.line.items l.session.answers.items block v.3 v.4 v.2 e.1)))
+    let all = Consumes-trans start (g.R.Input.remaining l.reader) left v.0 block v.1 c.in-Ok.ensures.consumed.0 in
+    rw (p.1, p.2) (fails_from answer (all_but_last (split_with_partial_line l.session.line.items block)) c.in_err-take_block.field-0.0
+    l.session.answers.items _ _ start left before middle after e
+    (λ q. block_first answer start left before middle after v.0 l.session.line.items l.session.answers.items block all v.3 v.4 v.2 q)
+    (λ q. begun_output answer start left before after (v.0 ++ block) all
+    (block_begun answer before middle after v.0 l.session.line.items l.session.answers.items block v.3 v.4 v.2 q)))
 
 pub loop-read_index-preserved : goal.loop-read_index-preserved
 loop-read_index-preserved g c =

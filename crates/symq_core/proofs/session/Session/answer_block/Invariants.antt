@@ -1,7 +1,7 @@
 use Rattle.std.proofs.Common.{◌≡◌, ◌++◌, ℕ, List, length}
 use Rattle.symq_core.specs.Lines.{answer_lines}
 use Rattle.symq_core.specs.inner.Sessions.{SendsText, split_with_partial_line, line_answer}
-use Rattle.symq_core.proofs.session.Session.take_block.Given as goal
+use Rattle.symq_core.proofs.session.Session.answer_block.Given as goal
 
 abbrev pub invariant-lines : goal.invariant-lines
 invariant-lines g l =
