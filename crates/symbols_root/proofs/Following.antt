@@ -1,5 +1,5 @@
 -- The loop that follows a types chain.
-use Rattle.std.proofs.Common.{◌≡◌, ℕ, zero, suc, ◌+◌, ◌≤◌, Bool, true, false, ◌||◌, List, [], ◌∷◌, ◌++◌, length, map, reverse, find, IfSome}
+use Rattle.std.proofs.Common.{◌≡◌, ℕ, zero, suc, ◌+◌, ◌≤◌, ◌⊎◌, inl, inr, Bool, true, false, ◌||◌, List, [], ◌∷◌, ◌++◌, length, map, reverse, find, IfSome}
 use Rattle.std.proofs.Common.{option_copied, option_and_then, Option, None, Some, refl, sym, ap, subst, ◌∙◌, arith, append_assoc, append-nil}
 use Rattle.std.specs.Prelude.{if◌then◌else◌}
 use Rattle.std.specs.Borrow.{Bor}
@@ -11,7 +11,7 @@ use Rattle.std.proofs.lemmas.Option.{none-some, same_Some}
 use Rattle.indexmap.specs.IndexSet.{insert_key}
 use Rattle.symbols_ast.specs.Graph.{GraphView, ModuleView, module_after_redirect, content_types_dependency, IsCheckedContent}
 use Rattle.symbols_root.specs.Specifiers.{module_with_specifier, contains_specifier}
-use Rattle.symbols_root.specs.TypesChains.{is_analyzable, types_module, types_chain_from, types_chain, get_prefer_types}
+use Rattle.symbols_root.specs.TypesChains.{is_analyzable, types_module, types_chain_from, types_chain, get_prefer_types, HasTypesDependency}
 use Rattle.symbols_root.proofs.Among.{laws, nothing_once, AreIn, none_in, one_more_in, looked_up_under, types_under}
 use Rattle.symbols_root.proofs.Chains.{from_none, from_old, from_new, room}
 
@@ -31,6 +31,7 @@ pub record IsFollowing (graph : GraphView) (specifier : List ℕ) (before : List
   pub last : resolved_to ≡ find is_analyzable (reverse passed)
   pub known : (m : ModuleView) → resolved_to ≡ Some m → IsKnown graph m
   pub under : (m : ModuleView) → found ≡ Some m → module_with_specifier graph m.specifier ≡ Some m
+  pub named : (m : ModuleView) → found ≡ Some m → (module_after_redirect graph specifier ≡ Some m) ⊎ HasTypesDependency graph specifier
 
 pub following_first : (graph : GraphView) (specifier : List ℕ) → IsFollowing graph specifier [] None (module_after_redirect graph specifier)
 following_first graph specifier = record {
@@ -43,7 +44,14 @@ following_first graph specifier = record {
   last = refl;
   known = λ m e. absurd (none-some m e);
   under = looked_up_under graph specifier;
+  named = λ m e. inl e;
 }
+
+-- a types dependency of the module that was looked up: the first module of the chain has one
+pub types_followed : (graph : GraphView) (specifier types : List ℕ) (m : ModuleView) → content_types_dependency m.content ≡ Some types
+    → (module_after_redirect graph specifier ≡ Some m) ⊎ HasTypesDependency graph specifier → HasTypesDependency graph specifier
+types_followed graph specifier types m is (inl at) = (m, types, at, is)
+types_followed graph specifier types m is (inr earlier) = earlier
 
 -- the chain ends here
 occurs_at_end : (graph : GraphView) (specifier : List ℕ) (passed rest : List ModuleView) (resolved_to : Option ModuleView) → types_chain graph specifier
@@ -77,6 +85,12 @@ module _ {graph : GraphView} {specifier : List ℕ} {before : List (List ℕ)} {
       known_later true x e = subst (IsKnown graph) (same_Some m x e) (record { under = w.under m refl; checked = checked })
       known_later false x e = w.known x e
 
+      named_later : (types : Option (List ℕ)) → content_types_dependency m.content ≡ types → (x : ModuleView)
+          → option_and_then (module_after_redirect graph) types ≡ Some x
+          → (module_after_redirect graph specifier ≡ Some x) ⊎ HasTypesDependency graph specifier
+      named_later None is x e = absurd (none-some x e)
+      named_later (Some types) is x e = inr (types_followed graph specifier types m is (w.named m refl))
+
       by : (more : ℕ) → length graph.modules ≤ more + length before → types_chain graph specifier ≡ w.passed ++ types_chain_from graph more before (Some m)
           → IsFollowing graph specifier (before ++ m.specifier ∷ []) (if is_analyzable m then Some m else resolved_to) (types_module graph m)
       by zero enough chain = absurd (omega (arith, following_room m w new, enough))
@@ -91,6 +105,7 @@ module _ {graph : GraphView} {specifier : List ℕ} {before : List (List ℕ)} {
         last = last_of resolved_to w.passed m w.last;
         known = known_later (is_analyzable m);
         under = types_under graph (content_types_dependency m.content);
+        named = named_later (content_types_dependency m.content) refl;
       }
 
   -- a new module without a types dependency ends the chain

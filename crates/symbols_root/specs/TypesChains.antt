@@ -16,6 +16,11 @@ is_analyzable m = is_some (analyzable_source m.content)
 abbrev pub types_module : GraphView → ModuleView → Option ModuleView
 types_module graph m = option_and_then (module_after_redirect graph) (content_types_dependency m.content)
 
+-- the module of this specifier after one redirect has a types dependency
+abbrev pub HasTypesDependency : GraphView → List ℕ → Type 0
+HasTypesDependency graph specifier = (m : ModuleView) × (types : List ℕ) × (module_after_redirect graph specifier ≡ Some m)
+    × (content_types_dependency m.content ≡ Some types)
+
 -- the first of the modules is the one that was looked up, and each other is the types module of the one before
 abbrev pub AreTypesModulesFrom : GraphView → Option ModuleView → List ModuleView → Type 0
 AreTypesModulesFrom graph found [] = Unit {0}

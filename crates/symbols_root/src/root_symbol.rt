@@ -1,6 +1,6 @@
 //! A graph with the modules of it that were analyzed so far.
 
-ghost use Rattle.std.specs.Prelude.{◌≡◌, ◌<◌, ◌≤◌, ◌↔◌, ℕ, true, List, length};
+ghost use Rattle.std.specs.Prelude.{◌≡◌, ◌<◌, ◌≤◌, ◌↔◌, ℕ, true, false, List, length};
 ghost use Rattle.std.specs.Prelude.{Some, IsSome, IfSome, IfOk, IfErr, OnOk, OnErr};
 ghost use Rattle.std.specs.List.{IsDistinct};
 ghost use Rattle.std.specs.Option.{option_map};
@@ -20,6 +20,7 @@ ghost use Rattle.symbols_root.specs.Roots.{IsNeededUnstored, IsStoringFault, IsM
 ghost use Rattle.symbols_root.specs.Roots.{widest_limits};
 ghost use Rattle.symbols_root.specs.Growing.{HasGrown};
 ghost use Rattle.symbols_root.specs.Calls.{IsStored, WidestLimitsSuffice, KeepsStored};
+ghost use Rattle.symbols_root.specs.Calls.{CanResolvingFail};
 ghost use Rattle.symbols_root.specs.inner.StoredModules.{ResolvesToItself};
 
 use crate::limits::Limits;
@@ -204,6 +205,8 @@ impl<'a> RootSymbol<'a> {
         ensures refused { IfErr result (IsStoringFault self.old (Some graph_module.now.specifier)) }
         ensures enough { length self.old.graph.modules < 4294967296
             → WidestLimitsSuffice self.old result }
+        ensures unstored { OnErr result
+            (contains_specifier self.old.stored graph_module.now.specifier ≡ false) }
     {
         let specifier = graph_module.specifier();
         let Limits { modules, symbols } = self.limits;
@@ -266,7 +269,8 @@ impl<'a> RootSymbol<'a> {
     ///
     /// `TooManyModules` if the limit of stored modules is reached, `TooManySymbols` if the module
     /// has more symbols than the limit, `OutOfMemory` if an allocation failed. The root is
-    /// unchanged then.
+    /// unchanged then. If the module is stored, it fails only with `OutOfMemory`, and only if the
+    /// module that the specifier names has a types dependency.
     pub fn module_from_specifier(
         &mut self,
         specifier: &str,
@@ -284,6 +288,7 @@ impl<'a> RootSymbol<'a> {
             needed
             → IsModuleWithinLimits self.old needed) }
         ensures unchanged { OnErr result (self.new ≡ self.old) }
+        ensures can_fail { OnErr result (CanResolvingFail self.old specifier.now) }
         ensures under { IfOk result (λ _. IfSome (get_prefer_types self.old.graph specifier.now)
             (λ m. module_with_specifier self.old.graph m.specifier ≡ Some m)) }
         ensures chain { IsOnlyTypesChain self.old.graph specifier.now

@@ -1,7 +1,7 @@
 //! Resolution of a specifier to a module of the graph, along types dependencies.
 
 ghost use Rattle.std.specs.Prelude.{◌≡◌, ◌<◌, ◌↔◌, ℕ, List, length, Some, if◌then◌else◌, IfOk};
-ghost use Rattle.std.specs.Prelude.{IfSome};
+ghost use Rattle.std.specs.Prelude.{IfSome, OnErr};
 ghost use Rattle.std.specs.Borrow.{Bor};
 ghost use Rattle.std.specs.List.{list_any};
 ghost use Rattle.std.specs.Option.{option_copied};
@@ -9,7 +9,7 @@ ghost use Rattle.std.specs.Str.{bytes_eq};
 ghost use Rattle.symbols_ast.specs.Graph.{ModuleView, IsCheckedContent};
 ghost use Rattle.symbols_root.specs.Specifiers.{module_with_specifier};
 ghost use Rattle.symbols_root.specs.TypesChains.{is_analyzable, types_chain, get_prefer_types};
-ghost use Rattle.symbols_root.specs.TypesChains.{IsOnlyTypesChain};
+ghost use Rattle.symbols_root.specs.TypesChains.{IsOnlyTypesChain, HasTypesDependency};
 
 use indexmap::IndexSet;
 use std::alloc::{AllocError, Global};
@@ -62,6 +62,7 @@ pub(crate) fn get_prefer_types<'a>(
     ensures checked { IfOk result (λ found. IfSome found (λ m. IsCheckedContent m.now.content)) }
     ensures chain { IsOnlyTypesChain graph.now specifier.now (types_chain graph.now specifier.now) }
     ensures few { length graph.now.modules < 4294967296 }
+    ensures types { OnErr result (HasTypesDependency graph.now specifier.now) }
 {
     let mut before: IndexSet<&'a str> = IndexSet::new(alloc);
     let mut resolved_to = None;

@@ -1,9 +1,10 @@
 use Rattle.std.proofs.Common.{◌≡◌, true, false, option_copied, Some, None, sym, ap, subst, ◌∙◌, arith}
 use Rattle.std.proofs.lemmas.List.{length_push}
 use Rattle.symbols_ast.specs.Graph.{content_types_dependency}
+use Rattle.symbols_root.proofs.Among.{on_err}
 use Rattle.symbols_root.proofs.Chains.{only_chain}
 use Rattle.symbols_root.proofs.Following.{IsFollowing, borrowed_specifiers, visited_is, visited_push, following_first}
-use Rattle.symbols_root.proofs.Following.{following_over, following_back, following_room, following_last, following_step}
+use Rattle.symbols_root.proofs.Following.{following_over, following_back, following_room, following_last, following_step, types_followed}
 use Rattle.symbols_root.proofs.types_chain.get_prefer_types.Goals as goal
 
 pub types-init : goal.types-init
@@ -62,3 +63,11 @@ returns-in_err-insert-clause-chain c = only_chain c.args.graph.now c.args.specif
 
 pub returns-clause-chain : goal.returns-clause-chain
 returns-clause-chain c = only_chain c.args.graph.now c.args.specifier.now
+
+pub returns-in_err-insert-clause-types : goal.returns-in_err-insert-clause-types
+returns-in_err-insert-clause-types c =
+    let m = c.in-Some.graph_module.now in
+    let types : content_types_dependency m.content ≡ Some c.in-Some-types_dependency.types.now =
+    sym c.types_dependency.ensures ∙ ap option_copied c.in-Some-types_dependency.is in
+    on_err c.from_residual.result (types_followed c.args.graph.now c.args.specifier.now c.in-Some-types_dependency.types.now m types
+    (c.types.invariant.named m (ap option_copied c.in-Some.is)))

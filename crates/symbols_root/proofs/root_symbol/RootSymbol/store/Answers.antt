@@ -18,7 +18,7 @@ use Rattle.symbols_root.specs.StoredModules.{StoredModule, stored_specifiers}
 use Rattle.symbols_root.specs.inner.StoredModules.{ResolvesToItself}
 use Rattle.symbols_root.specs.Growing.{HasGrown}
 use Rattle.symbols_root.specs.laws.Growing.{has_grown_refl, has_grown_by_stored_module}
-use Rattle.symbols_root.proofs.Among.{laws, index_among, same_bytes}
+use Rattle.symbols_root.proofs.Among.{on_err, laws, index_among, same_bytes}
 use Rattle.symbols_root.proofs.Storing.{stored_is, index_stored, length-stored, stored_push, insert_last, get_last, whole_push}
 use Rattle.symbols_root.proofs.Storing.{with_old, with_new, none_missing, refused_analysis, table_under, last_retained}
 use Rattle.symbols_root.proofs.Enough.{room_within}
@@ -210,3 +210,26 @@ returns-then-count-modules-clause-grown c = has_grown_refl c.args.self.now
 
 pub returns-in-Err-clause-grown : goal.returns-in-Err-clause-grown
 returns-in-Err-clause-grown c = has_grown_refl c.args.self.now
+
+-- ---- it fails only for a module that isn't stored
+
+pub returns-then-count-modules-clause-unstored : goal.returns-then-count-modules-clause-unstored
+returns-then-count-modules-clause-unstored c =
+    let q = c.args.graph_module.now.specifier in
+    let new = stored_is c.self.inside.modules.entries c.specifier-specifier.result.now q false (sym c.get_index_of.ensures.found
+    ∙ ap is_some c.in_default-get_index_of.is) c.specifier-specifier.ensures in
+    subst (λ (r : RootView). contains_specifier r.stored q ≡ false) c.self.view_is new
+
+pub returns-in-Err-clause-unstored : goal.returns-in-Err-clause-unstored
+returns-in-Err-clause-unstored c =
+    let q = c.args.graph_module.now.specifier in
+    let new = stored_is c.self.inside.modules.entries c.specifier-specifier.result.now q false (sym c.get_index_of.ensures.found
+    ∙ ap is_some c.in_default-get_index_of.is) c.specifier-specifier.ensures in
+    subst (λ (r : RootView). contains_specifier r.stored q ≡ false) c.self.view_is new
+
+pub returns-in_err-insert-clause-unstored : goal.returns-in_err-insert-clause-unstored
+returns-in_err-insert-clause-unstored c =
+    let q = c.args.graph_module.now.specifier in
+    let new = stored_is c.self.inside.modules.entries c.specifier-specifier.result.now q false (sym c.get_index_of.ensures.found
+    ∙ ap is_some c.in_default-get_index_of.is) c.specifier-specifier.ensures in
+    on_err c.from_residual.result (subst (λ (r : RootView). contains_specifier r.stored q ≡ false) c.self.view_is new)
