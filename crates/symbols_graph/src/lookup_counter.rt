@@ -6,6 +6,7 @@ ghost use Rattle.std.specs.Bool.{Decides};
 /// A count of look-ups in the table of resolved specifiers of a graph (extension).
 /// `ModuleGraph::resolve_dependency`, the only call that looks one up, adds one to it. There is no
 /// other way to change a count.
+#[derive(Drop)]
 pub struct LookupCounter {
     count: u128,
 }
