@@ -2,14 +2,13 @@
 use Rattle.std.specs.Prelude.{ℕ, List, map, String, string_bytes}
 use Rattle.std.specs.Global.{Global}
 use Rattle.std.specs.List.{flat_map}
-use Rattle.std.specs.declared.hash.FoldHasher.{FoldHasher}
-use Rattle.std.specs.declared.hash.BuildHasherDefault.{BuildHasherDefault}
+use Rattle.std.specs.declared.random_state.RandomState.{RandomState}
 use Rattle.indexmap.specs.IndexMap.{IndexMap}
 use Rattle.symbols_ast.specs.Graph.{Resolution}
 
 -- A map from strings.
 abbrev pub StringMap : Type 0 → Type 0
-StringMap V = IndexMap (String Global) V (BuildHasherDefault FoldHasher)
+StringMap V = IndexMap (String Global) V RandomState
 
 -- Pairs of strings, as bytes.
 abbrev pub string_pairs_view : List (String Global × String Global) → List (List ℕ × List ℕ)

@@ -10,17 +10,18 @@ ghost use Rattle.symbols_graph.specs.inner.CheckSteps.{IsFirstWhere, IsRepeatBy}
 
 use std::alloc::{AllocError, Global};
 use std::collections::HashSet;
-use std::hash::Hash;
+use std::hash::{Hash, RandomState};
 use symbols_ast::graph::{RawModule, RawResolution};
 
 /// Returns the first key that is also earlier in the list, if any.
 fn first_repeat<K: Copy + Eq + Hash + Drop>(
     alloc: Global,
+    hash_keys: RandomState,
     keys: &[K],
 ) -> Result<Option<K>, AllocError>
     ensures { IfOk result (IsFirstWhere (IsRepeatBy K.eq keys.now)) }
 {
-    let mut seen = HashSet::new(alloc);
+    let mut seen = HashSet::with_hasher(alloc, hash_keys);
     for key in keys {
         if !seen.insert(*key)? {
             return Ok(Some(*key));
@@ -32,6 +33,7 @@ fn first_repeat<K: Copy + Eq + Hash + Drop>(
 /// Returns the first specifier that an earlier module has too, if any.
 pub(crate) fn repeated_specifier(
     alloc: Global,
+    hash_keys: RandomState,
     modules: &[RawModule],
 ) -> Result<Option<&str>, AllocError>
     ensures { IfOk result (λ found. IsFirstWhere
@@ -41,12 +43,13 @@ pub(crate) fn repeated_specifier(
         .iter()
         .map(|module| module.specifier.as_str())
         .collect(alloc)?;
-    first_repeat(alloc, &names)
+    first_repeat(alloc, hash_keys, &names)
 }
 
 /// Returns the first source that an earlier redirect has too, if any.
 pub(crate) fn repeated_source(
     alloc: Global,
+    hash_keys: RandomState,
     redirects: &[(String, String)],
 ) -> Result<Option<&str>, AllocError>
     ensures { IfOk result (λ found. IsFirstWhere
@@ -56,12 +59,13 @@ pub(crate) fn repeated_source(
         .iter()
         .map(|redirect| redirect.0.as_str())
         .collect(alloc)?;
-    first_repeat(alloc, &names)
+    first_repeat(alloc, hash_keys, &names)
 }
 
 /// Returns the first referrer and specifier text that an earlier resolution has too, if any.
 pub(crate) fn repeated_resolution(
     alloc: Global,
+    hash_keys: RandomState,
     resolutions: &[RawResolution],
 ) -> Result<Option<(&str, &str)>, AllocError>
     ensures { IfOk result
@@ -72,5 +76,5 @@ pub(crate) fn repeated_resolution(
         .iter()
         .map(|row| (row.referrer.as_str(), row.specifier_text.as_str()))
         .collect(alloc)?;
-    first_repeat(alloc, &pairs)
+    first_repeat(alloc, hash_keys, &pairs)
 }

@@ -10,18 +10,21 @@ ghost use Rattle.symbols_ast.specs.Graph.{graph_view, module_after_redirect, res
 ghost use Rattle.symbols_graph.specs.GraphFaults.{IsFaultlessGraph, IsFirstGraphFault};
 
 use crate::graph_check::check;
-use crate::graph_maps::{Resolutions, keyed_modules, keyed_redirects, keyed_resolutions};
+use crate::graph_maps::{
+    Resolutions, StringMap, keyed_modules, keyed_redirects, keyed_resolutions,
+};
+use crate::hash_keys::KeyBytes;
 use crate::lookup_counter::LookupCounter;
-use indexmap::IndexMap;
 use std::alloc::Global;
+use std::hash::RandomState;
 use std::marker::Model;
 use symbols_ast::graph::{GraphFault, GraphModule, RawGraph};
 
 /// A checked module graph: modules by specifier, redirects, and the table of resolved specifiers.
 #[derive(Drop)]
 pub struct ModuleGraph {
-    modules: IndexMap<String, GraphModule>,
-    redirects: IndexMap<String, String>,
+    modules: StringMap<GraphModule>,
+    redirects: StringMap<String>,
     resolutions: Resolutions,
 }
 
@@ -48,7 +51,7 @@ impl Model for ModuleGraph {
 
 /// Returns the target of the redirect from a specifier, if there is one. It skips the lookup if the
 /// graph has no redirects.
-fn target<'r>(redirects: &'r IndexMap<String, String>, specifier: &str) -> Option<&'r String>
+fn target<'r>(redirects: &'r StringMap<String>, specifier: &str) -> Option<&'r String>
     ensures { option_copied result
         ≡ lookup (λ k. bytes_eq specifier.now (string_bytes k)) redirects.now.entries }
 {
@@ -62,6 +65,9 @@ impl ModuleGraph {
     /// Checks a raw graph and returns it as a module graph, or the first fault (extension).
     /// Accepted are a redirect to an absent module, and a resolution with an absent referrer or
     /// target.
+    ///
+    /// Its maps hash with keys that are always the same, so a graph can be written whose names all
+    /// collide. Use `with_keys` for graphs that you don't trust.
     ///
     /// # Errors
     ///
@@ -77,20 +83,56 @@ impl ModuleGraph {
             → resolved_dependency graph referrer specifier_text
             ≡ resolved_dependency (graph_view raw) referrer specifier_text) }
     {
-        check(alloc, &raw)?;
+        match RandomState::new(&KeyBytes::new([0; 16])) {
+            Ok(keys) => ModuleGraph::with_keys(alloc, keys, raw),
+            Err(_) => Err(GraphFault::OutOfMemory),
+        }
+    }
+
+    /// Checks a raw graph and returns it as a module graph, or the first fault (extension).
+    /// Accepted are a redirect to an absent module, and a resolution with an absent referrer or
+    /// target.
+    ///
+    /// Its maps hash with these keys, as do those of tables and answers over the graph. Whoever
+    /// writes the graph must not know them: then no choice of names makes look-ups slow.
+    ///
+    /// # Errors
+    ///
+    /// The first fault in the order of `GraphFault`, or `OutOfMemory` if an allocation failed.
+    pub fn with_keys(
+        alloc: Global,
+        keys: RandomState,
+        raw: RawGraph,
+    ) -> Result<ModuleGraph, GraphFault>
+        ensures faultless { OnOk result (IsFaultlessGraph (graph_view raw)) }
+        ensures refused { IfErr result (λ fault. fault ≢ OutOfMemory
+            → IsFirstGraphFault (graph_view raw) fault) }
+
+        ensures modules { IfOk result (λ graph. graph.modules ≡ (graph_view raw).modules) }
+        ensures redirects { IfOk result (λ graph. graph.redirects ≡ (graph_view raw).redirects) }
+        ensures resolutions { IfOk result (λ graph. (referrer specifier_text : List ℕ)
+            → resolved_dependency graph referrer specifier_text
+            ≡ resolved_dependency (graph_view raw) referrer specifier_text) }
+    {
+        check(alloc, keys, &raw)?;
         let RawGraph {
             modules,
             redirects,
             resolutions,
         } = raw;
-        let modules = keyed_modules(alloc, modules)?;
-        let redirects = keyed_redirects(alloc, redirects)?;
-        let resolutions = keyed_resolutions(alloc, resolutions)?;
+        let modules = keyed_modules(alloc, keys, modules)?;
+        let redirects = keyed_redirects(alloc, keys, redirects)?;
+        let resolutions = keyed_resolutions(alloc, keys, resolutions)?;
         Ok(ModuleGraph {
             modules,
             redirects,
             resolutions,
         })
+    }
+
+    /// Returns the keys that the maps of the graph hash with (extension).
+    pub fn keys(&self) -> RandomState {
+        *self.modules.hasher()
     }
 
     /// Returns the module of a specifier, after at most one redirect; `None` if the graph has no

@@ -12,6 +12,7 @@ use crate::duplicates::{repeated_resolution, repeated_source, repeated_specifier
 use crate::redirects::redirect_to_redirect;
 use crate::tree_check::first_tree_fault;
 use std::alloc::{AllocError, Global};
+use std::hash::RandomState;
 use symbols_ast::graph::{GraphFault, RawGraph, RawModuleKind, TreeFault};
 
 /// Returns the first fault of a module's tree; `None` without a tree.
@@ -40,11 +41,11 @@ fn check_count(raw: &RawGraph) -> Result<(), GraphFault>
 }
 
 /// Refuses a second module of the same specifier.
-fn check_specifiers(alloc: Global, raw: &RawGraph) -> Result<(), GraphFault>
+fn check_specifiers(alloc: Global, keys: RandomState, raw: &RawGraph) -> Result<(), GraphFault>
     ensures accepted { OnOk result (HasNoGraphFaultOfRank (graph_view raw.now) 1) }
     ensures refused { IfErr result (IsFirstGraphFaultOfRank (graph_view raw.now) 1) }
 {
-    match repeated_specifier(alloc, &raw.modules)? {
+    match repeated_specifier(alloc, keys, &raw.modules)? {
         Some(name) => {
             let specifier = String::from_str(alloc, name)?;
             Err(GraphFault::DuplicateSpecifier(specifier))
@@ -54,11 +55,11 @@ fn check_specifiers(alloc: Global, raw: &RawGraph) -> Result<(), GraphFault>
 }
 
 /// Refuses a second redirect of the same source.
-fn check_sources(alloc: Global, raw: &RawGraph) -> Result<(), GraphFault>
+fn check_sources(alloc: Global, keys: RandomState, raw: &RawGraph) -> Result<(), GraphFault>
     ensures accepted { OnOk result (HasNoGraphFaultOfRank (graph_view raw.now) 2) }
     ensures refused { IfErr result (IsFirstGraphFaultOfRank (graph_view raw.now) 2) }
 {
-    match repeated_source(alloc, &raw.redirects)? {
+    match repeated_source(alloc, keys, &raw.redirects)? {
         Some(name) => {
             let source = String::from_str(alloc, name)?;
             Err(GraphFault::DuplicateRedirect(source))
@@ -68,11 +69,15 @@ fn check_sources(alloc: Global, raw: &RawGraph) -> Result<(), GraphFault>
 }
 
 /// Refuses a redirect whose target is itself redirected.
-fn check_redirect_targets(alloc: Global, raw: &RawGraph) -> Result<(), GraphFault>
+fn check_redirect_targets(
+    alloc: Global,
+    keys: RandomState,
+    raw: &RawGraph,
+) -> Result<(), GraphFault>
     ensures accepted { OnOk result (HasNoGraphFaultOfRank (graph_view raw.now) 3) }
     ensures refused { IfErr result (IsFirstGraphFaultOfRank (graph_view raw.now) 3) }
 {
-    match redirect_to_redirect(alloc, &raw.redirects)? {
+    match redirect_to_redirect(alloc, keys, &raw.redirects)? {
         Some(name) => {
             let source = String::from_str(alloc, name)?;
             Err(GraphFault::RedirectToRedirect(source))
@@ -82,11 +87,11 @@ fn check_redirect_targets(alloc: Global, raw: &RawGraph) -> Result<(), GraphFaul
 }
 
 /// Refuses a second resolution of the same specifier text in the same module.
-fn check_resolutions(alloc: Global, raw: &RawGraph) -> Result<(), GraphFault>
+fn check_resolutions(alloc: Global, keys: RandomState, raw: &RawGraph) -> Result<(), GraphFault>
     ensures accepted { OnOk result (HasNoGraphFaultOfRank (graph_view raw.now) 4) }
     ensures refused { IfErr result (IsFirstGraphFaultOfRank (graph_view raw.now) 4) }
 {
-    match repeated_resolution(alloc, &raw.resolutions)? {
+    match repeated_resolution(alloc, keys, &raw.resolutions)? {
         Some((from, repeated)) => {
             let referrer = String::from_str(alloc, from)?;
             let specifier_text = String::from_str(alloc, repeated)?;
@@ -112,16 +117,16 @@ fn check_trees(alloc: Global, raw: &RawGraph) -> Result<(), GraphFault>
 }
 
 /// Checks a raw graph, and fails with its first fault (extension).
-pub(crate) fn check(alloc: Global, raw: &RawGraph) -> Result<(), GraphFault>
+pub(crate) fn check(alloc: Global, keys: RandomState, raw: &RawGraph) -> Result<(), GraphFault>
     ensures checked { OnOk result (All (λ m. IsCheckedContent (content_view m.kind)) raw.now.modules.items) }
     ensures accepted { OnOk result (IsFaultlessGraph (graph_view raw.now)) }
     ensures refused { IfErr result (λ fault. fault ≢ OutOfMemory
         → IsFirstGraphFault (graph_view raw.now) fault) }
 {
     check_count(raw)?;
-    check_specifiers(alloc, raw)?;
-    check_sources(alloc, raw)?;
-    check_redirect_targets(alloc, raw)?;
-    check_resolutions(alloc, raw)?;
+    check_specifiers(alloc, keys, raw)?;
+    check_sources(alloc, keys, raw)?;
+    check_redirect_targets(alloc, keys, raw)?;
+    check_resolutions(alloc, keys, raw)?;
     check_trees(alloc, raw)
 }

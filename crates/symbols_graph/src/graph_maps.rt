@@ -15,13 +15,17 @@ ghost use Rattle.symbols_graph.specs.inner.CheckSteps.{HasNoRepeat, resolved_spe
 
 use indexmap::IndexMap;
 use std::alloc::{AllocError, Global};
+use std::hash::RandomState;
 use symbols_ast::graph::{GraphModule, RawModule, RawResolution};
 
+/// A map from strings.
+pub(crate) type StringMap<V> = IndexMap<String, V, RandomState>;
+
 /// Resolutions by referrer, and then by specifier text.
-pub(crate) type Resolutions = IndexMap<String, IndexMap<String, String>>;
+pub(crate) type Resolutions = StringMap<StringMap<String>>;
 
 /// Inserts a value under a name, in place of an earlier value of that name.
-fn put<V: Drop>(named: &mut IndexMap<String, V>, name: String, value: V) -> Result<(), AllocError>
+fn put<V: Drop>(named: &mut StringMap<V>, name: String, value: V) -> Result<(), AllocError>
     ensures entries { OnOk result
         (named.new.entries ≡ insert_entry string_eq named.old.entries name value) }
     ensures updates { OnOk result (Updates string_eq named.old named.new name (Some value)) }
@@ -34,14 +38,15 @@ fn put<V: Drop>(named: &mut IndexMap<String, V>, name: String, value: V) -> Resu
 /// Returns the modules in order, each under a copy of its specifier.
 pub(crate) fn keyed_modules(
     alloc: Global,
+    keys: RandomState,
     modules: Vec<RawModule>,
-) -> Result<IndexMap<String, GraphModule>, AllocError>
+) -> Result<StringMap<GraphModule>, AllocError>
     requires checked { All (λ m. IsCheckedContent (content_view m.kind)) modules.items }
     requires distinct { HasNoRepeat (module_specifiers (map module_view modules.items)) }
     ensures modules { IfOk result (λ keyed. values keyed ≡ map module_view modules.items) }
     ensures keyed { IfOk result (λ keyed. AreKeyedBySpecifier keyed.entries) }
 {
-    let mut keyed = IndexMap::with_capacity(alloc, modules.len())?;
+    let mut keyed = IndexMap::with_capacity_and_hasher(alloc, modules.len(), keys)?;
     for raw in modules {
         let key = raw.specifier.clone()?;
         put(&mut keyed, key, GraphModule::from_raw(raw))?;
@@ -52,12 +57,13 @@ pub(crate) fn keyed_modules(
 /// Returns the targets of the redirects by their sources, in order.
 pub(crate) fn keyed_redirects(
     alloc: Global,
+    keys: RandomState,
     redirects: Vec<(String, String)>,
-) -> Result<IndexMap<String, String>, AllocError>
+) -> Result<StringMap<String>, AllocError>
     requires distinct { HasNoRepeat (redirect_sources (map redirect_view redirects.items)) }
     ensures { IfOk result (λ keyed. string_pairs_view keyed.entries ≡ map redirect_view redirects.items) }
 {
-    let mut keyed = IndexMap::with_capacity(alloc, redirects.len())?;
+    let mut keyed = IndexMap::with_capacity_and_hasher(alloc, redirects.len(), keys)?;
     for (source, target) in redirects {
         put(&mut keyed, source, target)?;
     }
@@ -67,6 +73,7 @@ pub(crate) fn keyed_redirects(
 /// Adds a resolution whose referrer and specifier text have none so far.
 fn add_resolution(
     alloc: Global,
+    keys: RandomState,
     tables: &mut Resolutions,
     row: RawResolution,
 ) -> Result<(), AllocError>
@@ -86,7 +93,7 @@ fn add_resolution(
     if let Some(table) = tables.get_mut(referrer.as_str()) {
         return put(table, specifier_text, specifier);
     }
-    let mut table = IndexMap::new(alloc);
+    let mut table = IndexMap::with_hasher(alloc, keys);
     put(&mut table, specifier_text, specifier)?;
     put(tables, referrer, table)
 }
@@ -94,6 +101,7 @@ fn add_resolution(
 /// Returns the resolutions by referrer and specifier text.
 pub(crate) fn keyed_resolutions(
     alloc: Global,
+    keys: RandomState,
     resolutions: Vec<RawResolution>,
 ) -> Result<Resolutions, AllocError>
     requires { HasNoRepeat (resolution_keys (map resolution_view resolutions.items)) }
@@ -102,9 +110,9 @@ pub(crate) fn keyed_resolutions(
         ≡ find_resolved_specifier (map resolution_view resolutions.items) referrer specifier_text) }
     ensures unique { IfOk result (IsUnique string_eq) }
 {
-    let mut tables = IndexMap::new(alloc);
+    let mut tables = IndexMap::with_hasher(alloc, keys);
     for row in resolutions {
-        add_resolution(alloc, &mut tables, row)?;
+        add_resolution(alloc, keys, &mut tables, row)?;
     }
     Ok(tables)
 }

@@ -10,12 +10,14 @@ mod duplicates;
 mod graph;
 mod graph_check;
 mod graph_maps;
+mod hash_keys;
 mod lookup_counter;
 mod node_shape;
 mod redirects;
 mod tree_check;
 
 pub use graph::ModuleGraph;
+pub use hash_keys::KeyBytes;
 pub use lookup_counter::LookupCounter;
 pub use symbols_ast::graph::{
     GraphFault, GraphModule, RawGraph, RawModule, RawModuleKind, RawResolution, TreeFault,

@@ -8,16 +8,18 @@ ghost use Rattle.symbols_graph.specs.inner.CheckSteps.{IsFirstWhere};
 
 use std::alloc::{AllocError, Global};
 use std::collections::HashSet;
+use std::hash::RandomState;
 
 /// Returns the source of the first redirect whose target is itself redirected, if any.
 pub(crate) fn redirect_to_redirect(
     alloc: Global,
+    keys: RandomState,
     redirects: &[(String, String)],
 ) -> Result<Option<&str>, AllocError>
     ensures { IfOk result (λ found. IsFirstWhere
         (IsRedirectToRedirect (map redirect_view redirects.now)) (option_copied found)) }
 {
-    let mut starts: HashSet<&str> = HashSet::new(alloc);
+    let mut starts: HashSet<&str, RandomState> = HashSet::with_hasher(alloc, keys);
     for (source, _) in redirects {
         starts.insert(source.as_str())?;
     }

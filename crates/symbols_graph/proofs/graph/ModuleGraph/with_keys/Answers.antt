@@ -7,7 +7,7 @@ use Rattle.symbols_ast.specs.Graph.{ModuleView, graph_view}
 use Rattle.symbols_graph.specs.GraphFaults.{IsFaultlessGraph}
 use Rattle.symbols_graph.proofs.DistinctEntries.{distinct_specifiers, distinct_sources, distinct_checked}
 use Rattle.symbols_graph.proofs.GraphLookups.{rows_found}
-use Rattle.symbols_graph.proofs.graph.ModuleGraph.new.Goals as goal
+use Rattle.symbols_graph.proofs.graph.ModuleGraph.with_keys.Goals as goal
 
 pub keyed_modules-requires-clause-distinct : goal.keyed_modules-requires-clause-distinct
 keyed_modules-requires-clause-distinct c = distinct_specifiers c.args.raw c.in_ok-check.ensures.accepted
