@@ -23,6 +23,7 @@ use crate::info::{EsModuleInfo, JsonModuleInfo, ModuleInfo, SymbolsFault};
 use indexmap::IndexMap;
 use std::alloc::Global;
 use std::collections::HashMap;
+use std::hash::RandomState;
 use symbols_ast::graph::GraphModule;
 use symbols_ast::ids::{ModuleId, SymbolId};
 use symbols_ast::tree::{NodeRef, SourceRange, Tree};
@@ -40,9 +41,9 @@ fn begin<'a>(setting: Setting, decl: SymbolDecl<'a>) -> Result<ModuleBuilder<'a>
     let mut builder = ModuleBuilder {
         setting,
         symbols: Vec::new(alloc),
-        ids: IndexMap::new(alloc),
-        child_names: HashMap::new(alloc),
-        member_names: HashMap::new(alloc),
+        ids: IndexMap::with_hasher(alloc, setting.keys),
+        child_names: HashMap::with_hasher(alloc, setting.keys),
+        member_names: HashMap::with_hasher(alloc, setting.keys),
         stars: Vec::new(alloc),
     };
     builder.add_symbol(None, decl)?;
@@ -176,6 +177,7 @@ fn build_module<'a>(
 /// stored.
 pub fn analyze<'a>(
     alloc: Global,
+    keys: RandomState,
     module_id: ModuleId,
     graph_module: &'a GraphModule,
     limit: u32,
@@ -186,6 +188,7 @@ pub fn analyze<'a>(
 {
     let setting = Setting {
         alloc,
+        keys,
         module_id,
         limit,
     };

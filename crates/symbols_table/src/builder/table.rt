@@ -25,6 +25,7 @@ use smallvec::SmallVec;
 use std::alloc::{AllocError, AllocFailed, Global};
 use std::borrow::CowStr;
 use std::collections::HashMap;
+use std::hash::RandomState;
 use symbols_ast::ids::{ModuleId, SymbolId};
 use symbols_ast::tree::{Id, NodeId};
 
@@ -51,10 +52,12 @@ impl<T: Drop> From<AllocFailed<T>> for BuildFault {
     }
 }
 
-/// The settings of a builder: its allocator, the module's number and the limit of symbols.
+/// The settings of a builder: its allocator, the keys of its maps, the module's number and the limit
+/// of symbols.
 #[derive(Clone, Copy)]
 pub(crate) struct Setting {
     pub(crate) alloc: Global,
+    pub(crate) keys: RandomState,
     pub(crate) module_id: ModuleId,
     pub(crate) limit: u32,
 }
@@ -65,15 +68,15 @@ pub(crate) struct Setting {
 pub(crate) struct ModuleBuilder<'a> {
     pub(crate) setting: Setting,
     pub(crate) symbols: Vec<Symbol<'a>>,
-    pub(crate) ids: IndexMap<&'a Id, SymbolId>,
-    pub(crate) child_names: HashMap<LocalName<'a>, SymbolId>,
-    pub(crate) member_names: HashMap<LocalName<'a>, SymbolId>,
+    pub(crate) ids: IndexMap<&'a Id, SymbolId, RandomState>,
+    pub(crate) child_names: HashMap<LocalName<'a>, SymbolId, RandomState>,
+    pub(crate) member_names: HashMap<LocalName<'a>, SymbolId, RandomState>,
     pub(crate) stars: Vec<StarStatement<'a>>,
 }
 
 /// Adds an entry for a symbol's name, if it has one and its holder has no entry of that name.
 fn add_name<'a>(
-    names: &mut HashMap<LocalName<'a>, SymbolId>,
+    names: &mut HashMap<LocalName<'a>, SymbolId, RandomState>,
     holder: SymbolId,
     name: Option<CowStr<'a>>,
     symbol: SymbolId,
@@ -156,7 +159,7 @@ impl<'a> ModuleBuilder<'a> {
         let borrowed_symbol = &mut self.symbols[holder.0 as usize];
         borrowed_symbol
             .tables
-            .add_export(self.setting.alloc, name, symbol)?;
+            .add_export(self.setting.alloc, self.setting.keys, name, symbol)?;
         Ok(())
     }
 
@@ -225,7 +228,7 @@ impl<'a> ModuleBuilder<'a> {
         let borrowed_symbol = &mut self.symbols[holder.0 as usize];
         borrowed_symbol
             .tables
-            .add_child(self.setting.alloc, symbol)?;
+            .add_child(self.setting.alloc, self.setting.keys, symbol)?;
         add_name(&mut self.child_names, holder, name, symbol)
     }
 
@@ -246,7 +249,7 @@ impl<'a> ModuleBuilder<'a> {
         let borrowed_symbol = &mut self.symbols[holder.0 as usize];
         borrowed_symbol
             .tables
-            .add_member(self.setting.alloc, symbol)?;
+            .add_member(self.setting.alloc, self.setting.keys, symbol)?;
         add_name(&mut self.member_names, holder, name, symbol)
     }
 

@@ -8,6 +8,7 @@ ghost use Rattle.symbols_table.specs.TableViews.{export_entry_view};
 
 use indexmap::IndexMap;
 use indexmap::map::Slice;
+use std::hash::RandomState;
 use std::iter::FusedIterator;
 use std::marker::Model;
 use symbols_ast::ids::SymbolId;
@@ -30,7 +31,7 @@ impl<'a> Model for Exports<'a> {
 }
 
 impl<'a> Exports<'a> {
-    pub(crate) fn new(exports: &'a IndexMap<String, SymbolId>) -> Exports<'a>
+    pub(crate) fn new(exports: &'a IndexMap<String, SymbolId, RandomState>) -> Exports<'a>
         ensures { result ≡ exports_view exports.now.entries }
     {
         Exports {

@@ -13,13 +13,14 @@ use crate::decl::exports::Exports;
 use crate::decl::symbol_set::SymbolSet;
 use indexmap::IndexMap;
 use std::alloc::{AllocError, AllocFailed, Global};
+use std::hash::RandomState;
 use std::marker::Model;
 use symbols_ast::ids::SymbolId;
 
 /// The allocated tables of a symbol that exports or declares something.
 #[derive(Drop)]
 struct Maps {
-    exports: IndexMap<String, SymbolId>,
+    exports: IndexMap<String, SymbolId, RandomState>,
     child_ids: SymbolSet,
     members: SymbolSet,
 }
@@ -40,7 +41,11 @@ impl Model for Tables {
 }
 
 /// Allocates the maps, if there are none.
-fn fill(maps: &mut Option<Box<Maps>>, alloc: Global) -> Result<(), AllocFailed<Maps>>
+fn fill(
+    maps: &mut Option<Box<Maps>>,
+    alloc: Global,
+    keys: RandomState,
+) -> Result<(), AllocFailed<Maps>>
     ensures same { symbol_maps_view maps.new ≡ symbol_maps_view maps.old }
     ensures made { OnOk result (IsSome maps.new) }
 {
@@ -48,7 +53,7 @@ fn fill(maps: &mut Option<Box<Maps>>, alloc: Global) -> Result<(), AllocFailed<M
         *maps = Some(Box::new(
             alloc,
             Maps {
-                exports: IndexMap::new(alloc),
+                exports: IndexMap::with_hasher(alloc, keys),
                 child_ids: SymbolSet::new(alloc),
                 members: SymbolSet::new(alloc),
             },
@@ -119,6 +124,7 @@ impl Tables {
     pub(crate) fn add_export(
         &mut self,
         alloc: Global,
+        keys: RandomState,
         name: String,
         symbol: SymbolId,
     ) -> Result<(), AllocError>
@@ -127,7 +133,7 @@ impl Tables {
               self.old.exports (string_bytes name) symbol;
         }) }
     {
-        fill(&mut self.maps, alloc)?;
+        fill(&mut self.maps, alloc, keys)?;
         match &mut self.maps {
             Some(maps) => {
                 maps.exports.insert(name, symbol)?;
@@ -138,11 +144,16 @@ impl Tables {
     }
 
     /// Adds a child, unless it is one already.
-    pub(crate) fn add_child(&mut self, alloc: Global, symbol: SymbolId) -> Result<(), AllocError>
+    pub(crate) fn add_child(
+        &mut self,
+        alloc: Global,
+        keys: RandomState,
+        symbol: SymbolId,
+    ) -> Result<(), AllocError>
         ensures { OnOk result
             (self.new ≡ record self.old { children = append_if_absent self.old.children symbol }) }
     {
-        fill(&mut self.maps, alloc)?;
+        fill(&mut self.maps, alloc, keys)?;
         match &mut self.maps {
             Some(maps) => {
                 maps.child_ids.insert(alloc, symbol)?;
@@ -153,11 +164,16 @@ impl Tables {
     }
 
     /// Adds a member, unless it is one already.
-    pub(crate) fn add_member(&mut self, alloc: Global, symbol: SymbolId) -> Result<(), AllocError>
+    pub(crate) fn add_member(
+        &mut self,
+        alloc: Global,
+        keys: RandomState,
+        symbol: SymbolId,
+    ) -> Result<(), AllocError>
         ensures { OnOk result
             (self.new ≡ record self.old { members = append_if_absent self.old.members symbol }) }
     {
-        fill(&mut self.maps, alloc)?;
+        fill(&mut self.maps, alloc, keys)?;
         match &mut self.maps {
             Some(maps) => {
                 maps.members.insert(alloc, symbol)?;

@@ -15,6 +15,7 @@ use crate::decl::Symbol;
 use crate::info::module_info::{ModuleInfoRef, Symbols};
 use crate::info::re_exports::StarStatement;
 use indexmap::IndexMap;
+use std::hash::RandomState;
 use symbols_ast::ids::{ModuleId, SymbolId};
 use symbols_ast::tree::{Id, Tree};
 
@@ -28,7 +29,7 @@ pub struct EsModuleInfo<'a> {
     pub(crate) text: &'a str,
     pub(crate) source: &'a Tree,
     pub(crate) symbols: Vec<Symbol<'a>>,
-    pub(crate) ids: IndexMap<&'a Id, SymbolId>,
+    pub(crate) ids: IndexMap<&'a Id, SymbolId, RandomState>,
     pub(crate) stars: Vec<StarStatement<'a>>,
     pub ghost well_formed: { IsWellFormedTree source.now.nodes.items },
     pub ghost faultless: { IsFaultlessTree text.now source.now.nodes.items },
