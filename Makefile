@@ -11,8 +11,8 @@ SEEDS ?= 0..2000
 help:
 	@echo 'make run [FOLDER=DIR]            the public names of a directory, else of examples/first, by an unverified build: a minute or two once'
 	@echo 'make try GRAPH=g.json QUERIES=q  the answers to the lines of q on a graph, by that build'
-	@echo 'make check                       all tests that need no proof, on an unverified build: ten minutes'
-	@echo 'make symq                        proves and builds the program, as ./symq: 43 minutes on four processors'
+	@echo 'make check                       all tests that need no proof, on an unverified build: six minutes'
+	@echo 'make symq                        proves and builds the program, as ./symq: 16 minutes on four processors'
 	@echo 'make lib                         proves and builds the library for C, Rust and Python into lib/: docs/LIBRARY.md'
 	@echo 'make test                        the full check; the last line is N passed, M failed: an hour and a half'
 	@echo 'make wrong                       tries all mutants, and not only those that are due, and records them: hours'
