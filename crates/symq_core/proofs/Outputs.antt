@@ -122,8 +122,8 @@ fails_if answer lines (Err fault) waiting old new input left a b c h p q = fails
 lines_begin : (read left : List ℕ) → (more : List (List ℕ)) × (input_lines (read ++ left) ≡ terminated_lines read ++ more)
 lines_begin read left =
     let last = nonempty_line (last_or_empty (split_at_newlines (read ++ left))) in
-    let others = all_but_last (split_with_partial_line (last_or_empty (split_at_newlines read)) left) in
-    (others ++ last, ap (λ t. t ++ last) (terminated_lines-append read left) ∙ append_assoc (terminated_lines read) others last)
+    let in_block = all_but_last (split_with_partial_line (last_or_empty (split_at_newlines read)) left) in
+    (in_block ++ last, ap (λ t. t ++ last) (terminated_lines-append read left) ∙ append_assoc (terminated_lines read) in_block last)
 
 -- the answers to the lines before, and to some first lines after them, are answers to first lines of the input
 first_after : (answer : List ℕ → List ℕ) (bytes : List ℕ) (a b c : Option (List ℕ)) (before lines more : List (List ℕ)) (waiting : List ℕ) → waiting ≡ []
