@@ -28,6 +28,7 @@ use crate::rules::Rules;
 use crate::types_chain::get_prefer_types;
 use indexmap::IndexMap;
 use std::alloc::Global;
+use std::hash::RandomState;
 use std::marker::Model;
 use symbols_graph::ids::{ModuleId, SymbolId};
 use symbols_graph::tree::Id;
@@ -44,7 +45,7 @@ pub struct RootSymbol<'a> {
     graph: &'a ModuleGraph,
     rules: Rules,
     limits: Limits,
-    modules: IndexMap<&'a str, ModuleInfo<'a>>,
+    modules: IndexMap<&'a str, ModuleInfo<'a>, RandomState>,
     /// The module that was last requested by its own specifier, if that resolves to it. A request
     /// for the same specifier needs no look-up.
     last: Option<(&'a str, ModuleId)>,
@@ -110,7 +111,7 @@ impl<'a> RootSymbol<'a> {
             graph,
             rules,
             limits,
-            modules: IndexMap::new(alloc),
+            modules: IndexMap::with_hasher(alloc, graph.keys()),
             last: None,
         }
     }
@@ -132,6 +133,11 @@ impl<'a> RootSymbol<'a> {
     /// Returns the allocator (extension).
     pub fn alloc(&self) -> Global {
         self.alloc
+    }
+
+    /// Returns the keys that its maps hash with: those of the graph (extension).
+    pub fn keys(&self) -> RandomState {
+        *self.modules.hasher()
     }
 
     // States that no module is stored twice.
@@ -228,7 +234,7 @@ impl<'a> RootSymbol<'a> {
             return Err(SymbolsFault::TooManyModules);
         }
         let module_id = ModuleId(count as u32);
-        let info = match analyze(self.alloc, module_id, graph_module, symbols) {
+        let info = match analyze(self.alloc, self.keys(), module_id, graph_module, symbols) {
             Ok(Some(info)) => info,
             Ok(None) => unreachable!(),
             Err(fault) => return Err(fault),

@@ -13,6 +13,7 @@ ghost use Rattle.symbols_root.specs.TypesChains.{IsOnlyTypesChain, HasTypesDepen
 
 use indexmap::IndexSet;
 use std::alloc::{AllocError, Global};
+use std::hash::RandomState;
 use symbols_graph::{GraphModule, ModuleGraph};
 
 /// Returns whether a module has symbols: it has a tree, or is JSON.
@@ -40,7 +41,7 @@ fn last_analyzable_module<'a>(
 }
 
 /// Returns whether a specifier is among the visited ones. An empty set isn't searched.
-fn is_visited(before: &IndexSet<&str>, specifier: &str) -> bool
+fn is_visited(before: &IndexSet<&str, RandomState>, specifier: &str) -> bool
     ensures { result ≡ list_any (λ (key : Bor (List ℕ)).
         bytes_eq specifier.now key.now) before.now.keys }
 {
@@ -64,7 +65,7 @@ pub(crate) fn get_prefer_types<'a>(
     ensures few { length graph.now.modules < 4294967296 }
     ensures types { OnErr result (HasTypesDependency graph.now specifier.now) }
 {
-    let mut before: IndexSet<&'a str> = IndexSet::new(alloc);
+    let mut before: IndexSet<&'a str, RandomState> = IndexSet::with_hasher(alloc, graph.keys());
     let mut resolved_to = None;
     let mut found = graph.get(specifier);
     'types: while let Some(graph_module) = found {

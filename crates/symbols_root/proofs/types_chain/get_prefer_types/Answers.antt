@@ -8,7 +8,7 @@ use Rattle.symbols_root.proofs.Following.{following_over, following_back, follow
 use Rattle.symbols_root.proofs.types_chain.get_prefer_types.Goals as goal
 
 pub types-init : goal.types-init
-types-init c = rw (c.new-before.ensures.empty, c.get-found.ensures.found) (following_first c.args.graph.now c.args.specifier.now)
+types-init c = rw (c.with_hasher-before.ensures.empty, c.get-found.ensures.found) (following_first c.args.graph.now c.args.specifier.now)
 
 pub returns-then-is_visited-clause-resolved : goal.returns-then-is_visited-clause-resolved
 returns-then-is_visited-clause-resolved c =

@@ -4,4 +4,4 @@ use Rattle.symbols_root.proofs.Among.{nothing_once}
 use Rattle.symbols_root.proofs.root_symbol.RootSymbol.with_rules.Goals as goal
 
 pub invariant_of-result : goal.invariant_of-result
-invariant_of-result c = rw c.new.ensures.empty (λ i entry at. absurd (none-some entry at), omega arith, nothing_once, tt)
+invariant_of-result c = rw c.with_hasher.ensures.empty (λ i entry at. absurd (none-some entry at), omega arith, nothing_once, tt)
