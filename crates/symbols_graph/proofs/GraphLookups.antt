@@ -14,7 +14,7 @@ use Rattle.symbols_graph.specs.Tables.{StringMap, resolutions_of_referrer, flat_
 use Rattle.symbols_graph.specs.inner.Tables.{AreKeyedBySpecifier}
 
 -- A lookup of a redirect's target in the map is one in the list.
-lookup-string_pairs_view : (s : List ℕ) (es : List (String Global × String Global))
+pub lookup-string_pairs_view : (s : List ℕ) (es : List (String Global × String Global))
     → lookup (bytes_eq s) (string_pairs_view es) ≡ option_map string_bytes (lookup (λ k. bytes_eq s (string_bytes k)) es)
 lookup-string_pairs_view s [] = refl
 lookup-string_pairs_view s (e ∷ es) = by (bytes_eq s (string_bytes e.0)) (lookup-string_pairs_view s es)
@@ -26,7 +26,7 @@ lookup-string_pairs_view s (e ∷ es) = by (bytes_eq s (string_bytes e.0)) (look
     by false rest = rest
 
 -- A search for a module by its specifier is a lookup, if each module's key is its specifier.
-find-keyed : (s : List ℕ) (es : List (String Global × ModuleView)) → AreKeyedBySpecifier es
+pub find-keyed : (s : List ℕ) (es : List (String Global × ModuleView)) → AreKeyedBySpecifier es
     → find (λ m. bytes_eq s m.specifier) (map (λ e. e.1) es) ≡ lookup (λ k. bytes_eq s (string_bytes k)) es
 find-keyed s [] keyed = refl
 find-keyed s (e ∷ es) keyed =

@@ -14,3 +14,6 @@ mod ModuleMaps
 mod ResolutionMaps
 mod GraphLookups
 mod DistinctEntries
+mod PutModules
+mod PutFaults
+mod OpenedAnew

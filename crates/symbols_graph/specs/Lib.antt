@@ -13,4 +13,5 @@ pub use Rattle.symbols_ast.specs.Graph
 pub mod Repeats
 pub mod GraphFaults
 pub mod Tables
+pub mod PutModules
 pub mod inner

@@ -2,3 +2,4 @@
 pub mod Tables
 pub mod Depths
 pub mod CheckSteps
+pub mod PutSteps

@@ -1,13 +1,17 @@
 //! The checked module graph.
 
 ghost use Rattle.std.specs.Prelude.{◌≡◌, ◌≢◌, ◌<◌, ◌+◌, ◌^◌, ℕ, length, string_bytes, IfErr, IfOk, List};
-ghost use Rattle.std.specs.Prelude.{OnOk};
+ghost use Rattle.std.specs.Prelude.{OnErr, OnOk};
 ghost use Rattle.std.specs.Map.{lookup};
 ghost use Rattle.std.specs.Option.{option_copied};
 ghost use Rattle.std.specs.Str.{bytes_eq};
 ghost use Rattle.symbols_ast.specs.declared.graph.faults.GraphFault.TheVariants.{OutOfMemory};
-ghost use Rattle.symbols_ast.specs.Graph.{graph_view, module_after_redirect, resolved_dependency};
+ghost use Rattle.symbols_ast.specs.Graph.{graph_view, module_after_redirect, module_view};
+ghost use Rattle.symbols_ast.specs.Graph.{resolved_dependency};
 ghost use Rattle.symbols_graph.specs.GraphFaults.{IsFaultlessGraph, IsFirstGraphFault};
+ghost use Rattle.symbols_graph.specs.PutModules.{IsFaultlessPut, IsFirstPutFault, modules_with};
+ghost use Rattle.symbols_graph.specs.PutModules.{with_module};
+ghost use Rattle.symbols_graph.specs.Tables.{string_pairs_view};
 
 use crate::graph_check::check;
 use crate::graph_maps::{
@@ -15,10 +19,11 @@ use crate::graph_maps::{
 };
 use crate::hash_keys::KeyBytes;
 use crate::lookup_counter::LookupCounter;
+use crate::put_check::check_put;
 use std::alloc::Global;
 use std::hash::RandomState;
 use std::marker::Model;
-use symbols_ast::graph::{GraphFault, GraphModule, RawGraph};
+use symbols_ast::graph::{GraphFault, GraphModule, RawGraph, RawModule};
 
 /// A checked module graph: modules by specifier, redirects, and the table of resolved specifiers.
 #[derive(Drop)]
@@ -165,5 +170,45 @@ impl ModuleGraph {
         lookups.add_one();
         let table = self.resolutions.get(referrer)?;
         table.get(specifier_text).map(String::as_str)
+    }
+
+    /// Puts a module in place of the one of its specifier, or after all if there is none (extension).
+    /// The pairs are its specifier texts, each with the specifier that it resolves to. They replace
+    /// all resolutions of that module. The graph is then as if opened with this module and them.
+    ///
+    /// # Errors
+    ///
+    /// The first fault of the module and its resolutions in the order of `GraphFault`, or
+    /// `OutOfMemory` if an allocation failed. The graph is then unchanged.
+    pub fn put_module(
+        &mut self,
+        alloc: Global,
+        raw: RawModule,
+        resolutions: Vec<(String, String)>,
+    ) -> Result<(), GraphFault>
+        ensures faultless { OnOk result (IsFaultlessPut self.old.modules (module_view raw)
+            (string_pairs_view resolutions.items)) }
+        ensures refused { IfErr result (λ fault. fault ≢ OutOfMemory
+            → IsFirstPutFault self.old.modules (module_view raw)
+            (string_pairs_view resolutions.items) fault) }
+        ensures modules { OnOk result
+            (self.new.modules ≡ modules_with (module_view raw) self.old.modules) }
+        ensures redirects { OnOk result (self.new.redirects ≡ self.old.redirects) }
+        ensures resolutions { OnOk result ((referrer specifier_text : List ℕ)
+            → resolved_dependency self.new referrer specifier_text
+            ≡ resolved_dependency (with_module self.old (module_view raw)
+            (string_pairs_view resolutions.items)) referrer specifier_text) }
+        ensures unchanged { OnErr result (self.new ≡ self.old) }
+    {
+        let keys = self.keys();
+        check_put(alloc, keys, &self.modules, &raw, &resolutions)?;
+        let key = raw.specifier.clone()?;
+        let referrer = raw.specifier.clone()?;
+        let resolved = keyed_redirects(alloc, keys, resolutions)?;
+        self.modules.reserve(1)?;
+        self.resolutions.insert(referrer, resolved)?;
+        let checked = GraphModule::from_raw(raw);
+        self.modules.insert(key, checked).unwrap();
+        Ok(())
     }
 }

@@ -16,7 +16,10 @@ use std::hash::RandomState;
 use symbols_ast::graph::{GraphFault, RawGraph, RawModuleKind, TreeFault};
 
 /// Returns the first fault of a module's tree; `None` without a tree.
-fn tree_fault(alloc: Global, kind: &RawModuleKind) -> Result<Option<TreeFault>, AllocError>
+pub(crate) fn tree_fault(
+    alloc: Global,
+    kind: &RawModuleKind,
+) -> Result<Option<TreeFault>, AllocError>
     ensures { IfOk result (λ found.
         MatchOption found (IsCheckedContent (content_view kind.now)) (HasFirstTreeFault (content_view kind.now))) }
 {

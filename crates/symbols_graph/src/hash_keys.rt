@@ -1,5 +1,7 @@
 //! Keys of hash maps from given bytes.
 
+ghost use Rattle.std.specs.Prelude.{◌≡◌};
+
 use std::io;
 use std::random::RandomSource;
 
@@ -12,7 +14,9 @@ pub struct KeyBytes {
 
 impl KeyBytes {
     /// Returns these bytes as a source of keys.
-    pub fn new(bytes: [u8; 16]) -> KeyBytes {
+    pub fn new(bytes: [u8; 16]) -> KeyBytes
+        ensures { result.bytes ≡ bytes }
+    {
         KeyBytes { bytes }
     }
 }

@@ -11,8 +11,10 @@ mod graph;
 mod graph_check;
 mod graph_maps;
 mod hash_keys;
+pub mod laws;
 mod lookup_counter;
 mod node_shape;
+mod put_check;
 mod redirects;
 mod tree_check;
 
