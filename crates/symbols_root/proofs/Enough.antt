@@ -14,7 +14,7 @@ use Rattle.symbols_root.specs.Specifiers.{module_with_specifier, contains_specif
 use Rattle.symbols_root.specs.Roots.{RootView, widest_limits}
 use Rattle.symbols_root.specs.StoredModules.{StoredModule, stored_specifiers}
 use Rattle.symbols_root.specs.inner.StoredModules.{AreTablesOfModules}
-use Rattle.symbols_root.proofs.Among.{laws, AreIn, under_in, one_more_in, no_more, among_index}
+use Rattle.symbols_root.specs.laws.Specifiers.{laws, AreIn, under_in, one_more_in, no_more, among_index}
 
 -- ---- modules
 

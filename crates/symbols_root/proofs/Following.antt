@@ -12,8 +12,8 @@ use Rattle.indexmap.specs.IndexSet.{insert_key}
 use Rattle.symbols_ast.specs.Graph.{GraphView, ModuleView, module_after_redirect, content_types_dependency, IsCheckedContent}
 use Rattle.symbols_root.specs.Specifiers.{module_with_specifier, contains_specifier}
 use Rattle.symbols_root.specs.TypesChains.{is_analyzable, types_module, types_chain_from, types_chain, get_prefer_types, HasTypesDependency}
-use Rattle.symbols_root.proofs.Among.{laws, nothing_once, AreIn, none_in, one_more_in, looked_up_under, types_under}
-use Rattle.symbols_root.proofs.Chains.{from_none, from_old, from_new, room}
+use Rattle.symbols_root.specs.laws.Specifiers.{laws, nothing_once, AreIn, none_in, one_more_in, looked_up_under, types_under}
+use Rattle.symbols_root.specs.laws.TypesChains.{from_none, from_old, from_new, room}
 
 -- a module that was found: it has its own specifier in the graph, and its content is checked
 pub record IsKnown (graph : GraphView) (m : ModuleView) : Type 0 where

@@ -21,7 +21,7 @@ use Rattle.symbols_root.specs.Specifiers.{module_with_specifier, contains_specif
 use Rattle.symbols_root.specs.Roots.{RootView, with_stored_module, HasRoomForModule, IsNeededUnstored, IsStoringFault, IsTableOfModule}
 use Rattle.symbols_root.specs.StoredModules.{StoredModule, stored_specifiers}
 use Rattle.symbols_root.specs.inner.StoredModules.{AreTablesOfModules, ResolvesToItself}
-use Rattle.symbols_root.proofs.Among.{same_bytes}
+use Rattle.symbols_root.specs.laws.Specifiers.{same_bytes}
 
 -- ---- the map by specifiers
 

@@ -1,8 +1,8 @@
 use Rattle.std.proofs.Common.{◌≡◌, true, false, option_copied, Some, None, sym, ap, subst, ◌∙◌, arith}
 use Rattle.std.proofs.lemmas.List.{length_push}
 use Rattle.symbols_ast.specs.Graph.{content_types_dependency}
-use Rattle.symbols_root.proofs.Among.{on_err}
-use Rattle.symbols_root.proofs.Chains.{only_chain}
+use Rattle.symbols_root.specs.laws.Specifiers.{on_err}
+use Rattle.symbols_root.specs.laws.TypesChains.{only_chain}
 use Rattle.symbols_root.proofs.Following.{IsFollowing, borrowed_specifiers, visited_is, visited_push, following_first}
 use Rattle.symbols_root.proofs.Following.{following_over, following_back, following_room, following_last, following_step, types_followed}
 use Rattle.symbols_root.proofs.types_chain.get_prefer_types.Goals as goal

@@ -3,8 +3,8 @@ use Rattle.symbols_root.specs.Specifiers.{contains_specifier}
 use Rattle.symbols_root.specs.TypesChains.{is_analyzable, types_chain}
 use Rattle.symbols_root.specs.Roots.{with_stored_module, IsNeededUnstored, IsModuleWithinLimits}
 use Rattle.symbols_root.specs.laws.Growing.{has_grown_refl}
-use Rattle.symbols_root.proofs.Among.{found_passes, index_among}
-use Rattle.symbols_root.proofs.Chains.{only_chain}
+use Rattle.symbols_root.specs.laws.Specifiers.{found_passes, index_among}
+use Rattle.symbols_root.specs.laws.TypesChains.{only_chain}
 use Rattle.symbols_root.proofs.Storing.{with_old, none_missing}
 use Rattle.symbols_root.proofs.root_symbol.RootSymbol.module_from_specifier.Goals as goal
 

@@ -18,7 +18,7 @@ use Rattle.symbols_root.specs.StoredModules.{StoredModule, stored_specifiers}
 use Rattle.symbols_root.specs.inner.StoredModules.{ResolvesToItself}
 use Rattle.symbols_root.specs.Growing.{HasGrown}
 use Rattle.symbols_root.specs.laws.Growing.{has_grown_refl, has_grown_by_stored_module}
-use Rattle.symbols_root.proofs.Among.{on_err, laws, index_among, same_bytes}
+use Rattle.symbols_root.specs.laws.Specifiers.{on_err, laws, index_among, same_bytes}
 use Rattle.symbols_root.proofs.Storing.{stored_is, index_stored, length-stored, stored_push, insert_last, get_last, whole_push}
 use Rattle.symbols_root.proofs.Storing.{with_old, with_new, none_missing, refused_analysis, table_under, last_retained}
 use Rattle.symbols_root.proofs.Enough.{room_within}

@@ -1,6 +1,6 @@
 use Rattle.std.proofs.Common.{arith}
 use Rattle.std.proofs.lemmas.Option.{none-some}
-use Rattle.symbols_root.proofs.Among.{nothing_once}
+use Rattle.symbols_root.specs.laws.Specifiers.{nothing_once}
 use Rattle.symbols_root.proofs.root_symbol.RootSymbol.with_rules.Goals as goal
 
 pub invariant_of-result : goal.invariant_of-result

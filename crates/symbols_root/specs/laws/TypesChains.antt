@@ -1,4 +1,4 @@
--- The computed chain is the types chain, and there is only one.
+-- Laws of types chains: the computed chain is the types chain of a specifier, and no other list is. They are proved.
 use Rattle.std.proofs.Common.{◌≡◌, ℕ, zero, suc, ◌+◌, ◌≤◌, Bool, true, false, List, [], ◌∷◌, ◌++◌, length}
 use Rattle.std.proofs.Common.{Option, None, Some, refl, sym, ap, subst, ◌∙◌, arith, append_assoc, append-nil}
 use Rattle.std.specs.Prelude.{if◌then◌else◌}
@@ -11,7 +11,7 @@ use Rattle.symbols_ast.specs.Graph.{GraphView, ModuleView, module_after_redirect
 use Rattle.symbols_graph.specs.GraphFaults.{module_specifiers}
 use Rattle.symbols_root.specs.Specifiers.{module_with_specifier, contains_specifier}
 use Rattle.symbols_root.specs.TypesChains.{types_module, types_chain_from, types_chain, AreTypesModulesFrom, IsTypesChain, IsOnlyTypesChain}
-use Rattle.symbols_root.proofs.Among.{laws, nothing_once, AreIn, none_in, one_more_in, no_more, not_before, looked_up_under, types_under}
+use Rattle.symbols_root.specs.laws.Specifiers.{laws, nothing_once, AreIn, none_in, one_more_in, no_more, not_before, looked_up_under, types_under}
 
 module _ (graph : GraphView) where
   -- ---- one step of the chain
