@@ -27,7 +27,8 @@ use Rattle.symbols_paths.specs.FirstReach.{IsLeafOfSymbol, given, led, by_alias,
 use Rattle.symbols_paths.specs.NeededModules.{IsModuleNeeded, begun, imported, passed_on}
 use Rattle.symbols_paths.specs.inner.Needed.{IsStarImportDeclared}
 use Rattle.symbols_paths.proofs.ExporterNeeded.{exporter_needed}
-use Rattle.symbols_paths.proofs.Leaves.{to_same, decl_targets_same, none_in, only_this}
+use Rattle.symbols_paths.specs.laws.OneOutcome.{to_same}
+use Rattle.symbols_paths.proofs.Leaves.{decl_targets_same, none_in, only_this}
 use Rattle.symbols_paths.proofs.ResolvedSpecifiers.{symbol_of_export_entry}
 
 pub needed_from : {graph : GraphView} {a b c : List ℕ} → IsModuleNeeded graph a b → IsModuleNeeded graph b c → IsModuleNeeded graph a c

@@ -14,14 +14,9 @@ use Rattle.symbols_paths.specs.FirstReach as reach
 use Rattle.symbols_paths.specs.Choice.{FindsPaths, already_visited, is_new, ExpandsDecls, at_end, step, FollowsDecl, by_itself, by_forward, by_running}
 use Rattle.symbols_paths.specs.Choice.{by_alias, TriesCandidates, no_more, first_with, passes, ResolvesParts, no_parts, under, ReplacesDefinitions}
 use Rattle.symbols_paths.specs.Choice.{of_none, of_more, ReplacesDefinition, of_unresolved, of_link, of_definition, of_itself, of_lacking, forest_of_unresolved}
+use Rattle.symbols_paths.specs.laws.OneOutcome.{lacks_same}
 
 -- ---- constructors are injective, and the items of a list of one
-
-pub to_same : (u v : SymbolBySpecifier) → to u ≡ to v → u ≡ v
-to_same u v e = cc
-
-pub lacks_same : (x y : UnresolvedEntry) → lacks x ≡ lacks y → x ≡ y
-lacks_same x y e = cc
 
 pub decl_targets_same : (a b : ForwardTarget) → forwards a ≡ forwards b → a ≡ b
 decl_targets_same a b e = cc

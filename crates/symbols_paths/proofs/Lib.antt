@@ -1,6 +1,5 @@
 mod VisitedSymbols
 mod ResolvingAliases
-mod OneOutcome
 mod Results
 mod ChosenDerived
 mod Leaves

@@ -20,7 +20,8 @@ use Rattle.symbols_paths.specs.Choice.{by_forward, by_running, by_alias, TriesCa
 use Rattle.symbols_paths.specs.Choice.{ReplacesDefinitions, of_none, of_more, ReplacesDefinition, of_unresolved, of_link, of_definition, of_itself, of_lacking}
 use Rattle.symbols_paths.proofs.VisitedSymbols.{retained_by_one, one_visited, only_one}
 use Rattle.symbols_paths.proofs.ResolvingAliases.{running_or_one}
-use Rattle.symbols_paths.proofs.Leaves.{leaves_of_forest-link_unless_empty, IsTail, later, here, whole, changes_gives, to_same, first_leaf, none_in}
+use Rattle.symbols_paths.specs.laws.OneOutcome.{to_same}
+use Rattle.symbols_paths.proofs.Leaves.{leaves_of_forest-link_unless_empty, IsTail, later, here, whole, changes_gives, first_leaf, none_in}
 use Rattle.symbols_paths.proofs.Leaves.{not_missing}
 use Rattle.symbols_paths.proofs.FirstReachCovered.{in_left, in_right, missing_occurs}
 use Rattle.symbols_paths.proofs.ReachedSymbols.{AreReached, finds_reached}

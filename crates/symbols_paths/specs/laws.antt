@@ -1,2 +1,3 @@
 -- Laws of the definitions, for the crates above. They are proved: nothing in this directory has to be trusted.
 pub mod Storing
+pub mod OneOutcome

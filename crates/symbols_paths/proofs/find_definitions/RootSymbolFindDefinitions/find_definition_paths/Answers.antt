@@ -3,7 +3,7 @@ use Rattle.symbols_paths.specs.PartTargets.{routes_of_root}
 use Rattle.symbols_paths.specs.Answers.{AreDefinitionPaths, IsPathsFault}
 use Rattle.symbols_paths.specs.Views.{symbol_by_specifier}
 use Rattle.symbols_paths.proofs.Answering.{memory_refused}
-use Rattle.symbols_paths.proofs.OneOutcome.{chosen_once}
+use Rattle.symbols_paths.specs.laws.OneOutcome.{chosen_once}
 use Rattle.symbols_paths.proofs.Results.{on_memory}
 use Rattle.symbols_paths.proofs.find_definitions.RootSymbolFindDefinitions.find_definition_paths.Goals as goal
 

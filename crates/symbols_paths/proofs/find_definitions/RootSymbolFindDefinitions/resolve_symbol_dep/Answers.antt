@@ -10,7 +10,7 @@ use Rattle.symbols_paths.specs.DepAnswers.{resolved_dep_entry_view, dep_entries_
 use Rattle.symbols_paths.proofs.DepEntries.{dep_refused}
 use Rattle.symbols_paths.specs.NeededModules.{IsNeededByReference, StoresOnly}
 use Rattle.symbols_paths.specs.laws.Storing.{stores_wider}
-use Rattle.symbols_paths.proofs.OneOutcome.{chosen_once}
+use Rattle.symbols_paths.specs.laws.OneOutcome.{chosen_once}
 use Rattle.symbols_paths.proofs.find_definitions.RootSymbolFindDefinitions.resolve_symbol_dep.Goals as goal
 
 pub returns-in_ok-parts-in-QualifiedId-clause-answers : goal.returns-in_ok-parts-in-QualifiedId-clause-answers
