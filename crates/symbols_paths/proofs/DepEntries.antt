@@ -1,19 +1,19 @@
 -- Paths as entries, and borrowed texts.
 use Rattle.std.proofs.Common.{◌≡◌, ℕ, ◌<◌, List, [], ◌∷◌, ◌++◌, length, map, Option, None, Some}
-use Rattle.std.proofs.Common.{option_map, refl, sym, ap, subst, ◌∙◌, append_assoc, append-nil}
+use Rattle.std.proofs.Common.{option_map, refl, sym, ap, subst, ◌∙◌, append_assoc, append-nil, arith}
 use Rattle.std.specs.Prelude.{MatchOption}
 use Rattle.std.specs.Option.{option_map_or}
 use Rattle.std.proofs.lemmas.List.{map-append, nil_from_length}
-use Rattle.std.proofs.lemmas.Option.{none-some, same_Some}
+use Rattle.std.proofs.lemmas.Option.{none-some}
 use Rattle.symbols_ast.specs.declared.ids.ModuleId.{ModuleId}
 use Rattle.symbols_ast.specs.declared.ids.SymbolId.{SymbolId}
 use Rattle.symbols_ast.specs.declared.ids.UniqueSymbolId.{UniqueSymbolId}
 use Rattle.symbols_ast.specs.Graph.{GraphView}
 use Rattle.symbols_ast.specs.Ids.{IdView}
-use Rattle.symbols_nodes.specs.References.{import_type}
+use Rattle.symbols_nodes.specs.References.{SymbolReference, import_type}
 use Rattle.symbols_table.specs.declared.info.fault.SymbolsFault.{SymbolsFault}
 use Rattle.symbols_root.specs.declared.rules.Rules.{Rules}
-use Rattle.symbols_root.specs.Roots.{RootView, IsStoringFault, specifier_in}
+use Rattle.symbols_root.specs.Roots.{RootView, specifier_in}
 use Rattle.symbols_root.specs.Growing.{HasGrown}
 use Rattle.symbols_root.specs.laws.Growing.{specifier_unchanged_by_growth}
 use Rattle.symbols_exports.specs.StarStatements.{resolve_specifier}
@@ -25,17 +25,18 @@ use Rattle.symbols_paths.specs.PathTrees.{forest_of_tree}
 use Rattle.symbols_paths.specs.DeclTargets.{symbol_of_id}
 use Rattle.symbols_paths.specs.PartTargets.{PartTargetView, to, itself, lacks, import_part_target}
 use Rattle.symbols_paths.specs.Computed.{paths_with_parts}
-use Rattle.symbols_paths.specs.NeededModules.{IsModuleNeeded, begun, IsNeededModuleRefused}
+use Rattle.symbols_paths.specs.NeededModules.{begun, IsNeededByReference, IsOneRefused}
 use Rattle.symbols_paths.specs.Views.{path_by_specifier, paths_by_specifier, concat_module_ids, modules_of_path, modules_of_paths}
 use Rattle.symbols_paths.specs.inner.Views.{symbol_of_unique_id, first_part, later_parts}
 use Rattle.symbols_paths.specs.Answers.{ArePathsFor}
 use Rattle.symbols_paths.specs.DepAnswers.{DepEntryView, path_dep_entry, module_dep_entry, resolved_dep_entry_view, modules_of_entry, modules_of_entries}
 use Rattle.symbols_paths.specs.DepAnswers.{path_entries}
 use Rattle.symbols_paths.specs.DepAnswers.{ReferencedSymbol, referenced_by_id, referenced_by_part, missing_id_path, missing_part_path}
-use Rattle.symbols_paths.specs.DepAnswers.{module_entry, entries_without_symbol, dep_entries_of, IsDepAnswer, IsDepRefused, along_search, of_import}
+use Rattle.symbols_paths.specs.DepAnswers.{module_entry, entries_without_symbol, dep_entries_of, IsDepAnswer, IsDepRefused}
 use Rattle.symbols_paths.specs.inner.DepAnswers.{ArePathsOfReference}
-use Rattle.symbols_paths.proofs.LeafNeeds.{needed_from, part_of_import_needed}
-use Rattle.symbols_paths.proofs.Needing.{refused_from}
+use Rattle.symbols_paths.specs.inner.Needed.{IsNeededFrom, IsSearchedInImport}
+use Rattle.symbols_paths.proofs.LeafNeeds.{part_of_import_searched}
+use Rattle.symbols_paths.proofs.Needing.{needed_in_older}
 use Rattle.symbols_paths.proofs.BuilderLemmas.{joined_on}
 use Rattle.symbols_paths.proofs.QualifiedSteps.{some_parts}
 
@@ -140,32 +141,30 @@ pub part_target_itself : (rules : Rules) (graph : GraphView) (rest : QualifiedNa
 part_target_itself rules graph rest w paths is same = subst (λ v. ArePathsOfReference rules graph (referenced_by_part rest v) (missing_part_path v) paths) is
     same
 
--- a fault of the search from the part's symbol is one of a module needed from the imported module
-pub import_refused : (old mid new : RootView) (m text p : List ℕ) (ps : QualifiedNameParts) (target : UniqueSymbolId) (fault : SymbolsFault) → HasGrown old mid
-    → HasGrown mid new → to (symbol_of_unique_id mid target) ≡ import_part_target old.graph m text p ps (resolve_specifier old.graph m text)
-    → IsNeededModuleRefused new (specifier_in mid target.module_id) fault
-    → (start : List ℕ) → ((k : List ℕ) → resolve_specifier old.graph m text ≡ Some k → IsModuleNeeded old.graph start k) → IsNeededModuleRefused new start fault
-import_refused old mid new m text p ps target fault grown further decl_targets refused start needed =
-    let at = part_of_import_needed old.graph m text p ps (symbol_of_unique_id mid target) (sym decl_targets) in
-    refused_from new (subst (λ g. IsModuleNeeded g start (specifier_in mid target.module_id)) (sym (further.graph ∙ grown.graph))
-    (needed_from (needed at.0 at.1) at.2)) refused
+-- what the search for the first part comes to, and what the search of its symbol under the other parts needs, the import type needs
+pub part_searched : (root : RootView) (id : ModuleId) (specifier_text : List ℕ) (parts : QualifiedNameParts) → 0 < length parts → (v : List ℕ)
+    → IsSearchedInImport root id specifier_text (first_part parts) v
+    → IsNeededByReference root.rules root.graph (specifier_in root id) (import_type specifier_text parts) v
+part_searched root id specifier_text [] some v is = absurd (omega (arith, some))
+part_searched root id specifier_text (p ∷ ps) some v (m, target, searched) = (m, target, (v, searched, begun))
 
-pub dep_refused : (old new : RootView) (m text : List ℕ) (parts : QualifiedNameParts) (fault : SymbolsFault) → HasGrown old new
-    → ((start : List ℕ) → ((k : List ℕ) → resolve_specifier old.graph m text ≡ Some k → IsModuleNeeded old.graph start k)
-    → IsNeededModuleRefused new start fault)
-    → IsDepRefused new m (import_type text parts) fault
-dep_refused old new m text parts fault grown refused = by (resolve_specifier old.graph m text) refl
-  where
-    by : (found : Option (List ℕ)) → resolve_specifier old.graph m text ≡ found → IsDepRefused new m (import_type text parts) fault
-    by None is = along_search (refused m (λ k e. absurd (none-some k (sym is ∙ e))))
-    by (Some v) is = of_import text parts v refl (subst (λ g. resolve_specifier g m text ≡ Some v) (sym grown.graph) is)
-        (refused v (λ k e. subst (IsModuleNeeded old.graph v) (same_Some v k (sym is ∙ e)) begun))
+pub part_symbol_needs : (old mid : RootView) (id : ModuleId) (specifier_text : List ℕ) (parts : QualifiedNameParts) (target : UniqueSymbolId)
+    → 0 < length parts → HasGrown old mid
+    → to (symbol_of_unique_id mid target) ≡ import_part_target old.graph (specifier_in old id) specifier_text (first_part parts) (later_parts parts)
+    (resolve_specifier old.graph (specifier_in old id) specifier_text)
+    → (v : List ℕ) → IsNeededFrom mid target.module_id (later_parts parts) v
+    → IsNeededByReference old.rules old.graph (specifier_in old id) (import_type specifier_text parts) v
+part_symbol_needs old mid id specifier_text [] target some grown is v needed = absurd (omega (arith, some))
+part_symbol_needs old mid id specifier_text (p ∷ ps) target some grown is v needed =
+    let at = part_of_import_searched old.graph (specifier_in old id) specifier_text p ps (symbol_of_unique_id mid target) (sym is) in
+    (at.0, at.1, (specifier_in mid target.module_id, at.2, needed_in_older grown needed))
 
--- a fault of resolving the specifier is one of storing the imported module
-pub target_refused : (old new : RootView) (m text : List ℕ) (fault : SymbolsFault) → new ≡ old → IsStoringFault old (resolve_specifier old.graph m text) fault
-    → (start : List ℕ) → ((k : List ℕ) → resolve_specifier old.graph m text ≡ Some k → IsModuleNeeded old.graph start k) → IsNeededModuleRefused new start fault
-target_refused old new m text fault same refusal start needed = subst (λ root. IsNeededModuleRefused root start fault) (sym same)
-    (record { needed = resolve_specifier old.graph m text; is_needed = λ v e. needed v e; refused = refusal })
+-- a fault of what a reference needs, in a root that has grown
+pub dep_refused : (old new : RootView) (m : List ℕ) (reference : SymbolReference) (fault : SymbolsFault) → HasGrown old new
+    → IsOneRefused new (IsNeededByReference old.rules old.graph m reference) fault → IsDepRefused new m reference fault
+dep_refused old new m reference fault grown is =
+    subst (λ (g : GraphView). IsOneRefused new (IsNeededByReference new.rules g m reference) fault) (sym grown.graph)
+    (subst (λ (r : Rules). IsOneRefused new (IsNeededByReference r old.graph m reference) fault) (sym grown.rules) is)
 
 -- ---- the entries of an import type
 

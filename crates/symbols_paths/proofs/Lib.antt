@@ -30,7 +30,7 @@ mod Answering
 mod Forwards
 mod StarLoop
 mod LeafNeeds
-mod ExporterNeeded
+mod SearchedExports
 mod Needing
 mod PathEnds
 mod BuilderDefinitions

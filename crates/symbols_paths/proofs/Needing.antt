@@ -1,53 +1,75 @@
 -- Modules needed from a needed module.
-use Rattle.std.proofs.Common.{◌≡◌, ℕ, List, Option, None, Some, option_map, refl, sym, subst, slice_get}
+use Rattle.std.proofs.Common.{◌≡◌, ℕ, List, [], Option, None, Some, option_map, refl, sym, subst}
 use Rattle.std.proofs.lemmas.Option.{same_Some}
+use Rattle.symbols_ast.specs.declared.ids.ModuleId.{ModuleId}
 use Rattle.symbols_ast.specs.Graph.{GraphView}
-use Rattle.symbols_table.specs.DeclViews.{one_name}
 use Rattle.symbols_table.specs.declared.info.fault.SymbolsFault.{SymbolsFault}
-use Rattle.symbols_root.specs.Roots.{RootView, IsStoringFault}
+use Rattle.symbols_root.specs.declared.rules.Rules.{Rules}
+use Rattle.symbols_root.specs.Growing.{HasGrown}
+use Rattle.symbols_root.specs.Roots.{RootView, IsStoringFault, specifier_in}
+use Rattle.symbols_root.specs.Calls.{IsStored}
+use Rattle.symbols_root.specs.laws.Growing.{specifier_unchanged_by_growth}
 use Rattle.symbols_exports.specs.Exports.{ExportEntry}
 use Rattle.symbols_exports.specs.OneName.{find_export}
-use Rattle.symbols_exports.specs.StarStatements.{star_specifiers, resolve_specifier}
-use Rattle.symbols_paths.specs.PathTrees.{SymbolBySpecifier}
+use Rattle.symbols_exports.specs.StarStatements.{resolve_specifier}
+use Rattle.symbols_paths.specs.PathTrees.{SymbolBySpecifier, QualifiedNameParts}
 use Rattle.symbols_paths.specs.DeclTargets.{re_exported_symbol}
-use Rattle.symbols_paths.specs.NeededModules.{IsModuleNeeded, begun, imported, IsNeededModuleRefused}
+use Rattle.symbols_paths.specs.NeededModules.{IsSearchedAlongStars, IsSearchedForImport, IsModuleNeeded, begun, imported, IsOneRefused}
+use Rattle.symbols_paths.specs.inner.Needed.{IsNeededFrom}
 use Rattle.symbols_paths.specs.inner.SearchSteps.{IsImportDeclared}
-use Rattle.symbols_paths.proofs.LeafNeeds.{needed_from}
-use Rattle.symbols_paths.proofs.ExporterNeeded.{exporter_needed}
-use Rattle.symbols_paths.proofs.ResolvedSpecifiers.{needed_there, symbol_of_export_entry}
+use Rattle.symbols_paths.proofs.SearchedExports.{exporter_searched}
+use Rattle.symbols_paths.proofs.ResolvedSpecifiers.{OccursAmongStars, then_searched, symbol_of_export_entry}
 
-pub refused_from : (root : RootView) {a b : List ℕ} {fault : SymbolsFault} → IsModuleNeeded root.graph a b → IsNeededModuleRefused root b fault
-    → IsNeededModuleRefused root a fault
-refused_from root x is = record { needed = is.needed; is_needed = λ v e. needed_from x (is.is_needed v e); refused = is.refused }
+-- ---- in roots that have grown
 
--- the module of an import is needed
-pub needed_import : (graph : GraphView) (s : SymbolBySpecifier) (name specifier_text v : List ℕ) → IsImportDeclared graph s name specifier_text
-    → resolve_specifier graph s.specifier specifier_text ≡ Some v → IsModuleNeeded graph s.specifier v
-needed_import graph s name specifier_text v is decl_targets = imported s is.decl (one_name name) specifier_text begun is.occurs is.imports decl_targets
+pub needed_in_older : {a b : RootView} {start v : List ℕ} {parts : QualifiedNameParts} → HasGrown a b → IsModuleNeeded b.rules b.graph start parts v
+    → IsModuleNeeded a.rules a.graph start parts v
+needed_in_older {a = a} {b = b} {start = start} {v = v} {parts = parts} grown is =
+    subst (λ (g : GraphView). IsModuleNeeded a.rules g start parts v) grown.graph
+    (subst (λ (r : Rules). IsModuleNeeded r b.graph start parts v) grown.rules is)
 
-pub refused_import : (old new : RootView) (s : SymbolBySpecifier) (name specifier_text : List ℕ) (fault : SymbolsFault)
-    → IsImportDeclared old.graph s name specifier_text
-    → new ≡ old → IsStoringFault old (resolve_specifier old.graph s.specifier specifier_text) fault → IsNeededModuleRefused new s.specifier fault
-refused_import old new s name specifier_text fault is same refusal = subst (λ root. IsNeededModuleRefused root s.specifier fault) (sym same) (record {
-  needed = resolve_specifier old.graph s.specifier specifier_text;
-  is_needed = λ v decl_targets. needed_import old.graph s name specifier_text v is decl_targets;
-  refused = refusal;
-})
+pub needed_in_newer : {a b : RootView} {start v : List ℕ} {parts : QualifiedNameParts} → HasGrown a b → IsModuleNeeded a.rules a.graph start parts v
+    → IsModuleNeeded b.rules b.graph start parts v
+needed_in_newer {a = a} {b = b} {start = start} {v = v} {parts = parts} grown is =
+    subst (λ (g : GraphView). IsModuleNeeded b.rules g start parts v) (sym grown.graph)
+    (subst (λ (r : Rules). IsModuleNeeded r a.graph start parts v) (sym grown.rules) is)
 
--- the module of a candidate is needed
-pub needed_candidate : (graph : GraphView) (m specifier_text name : List ℕ) (position : ℕ) (c : SymbolBySpecifier)
-    → slice_get (star_specifiers graph m) position
-    ≡ Some specifier_text → Some c ≡ re_exported_symbol graph name (resolve_specifier graph m specifier_text) → IsModuleNeeded graph m c.specifier
-needed_candidate graph m specifier_text name position c at is = by (resolve_specifier graph m specifier_text) refl is
+-- from the same module, by its number
+pub needed_before : {a b : RootView} (id : ModuleId) → IsStored a id → HasGrown a b → (parts : QualifiedNameParts) (v : List ℕ)
+    → IsNeededFrom b id parts v → IsNeededFrom a id parts v
+needed_before {a = a} {b = b} id within grown parts v is =
+    needed_in_older grown (subst (λ (start : List ℕ). IsModuleNeeded b.rules b.graph start parts v) (specifier_unchanged_by_growth grown id within) is)
+
+-- ---- a specifier
+
+-- a fault of storing the module that a specifier resolves to
+pub refused_target : {these : List ℕ → Type 0} (old new : RootView) (target : Option (List ℕ)) (fault : SymbolsFault)
+    → ((v : List ℕ) → target ≡ Some v → these v)
+    → new ≡ old → IsStoringFault old target fault → IsOneRefused new these fault
+refused_target {these = these} old new target fault leads same refusal =
+    subst (λ root. IsOneRefused root these fault) (sym same) (record { needed = target; is_needed = leads; refused = refusal })
+
+-- what the search for an imported name comes to is needed
+pub needed_import : (rules : Rules) (graph : GraphView) (s : SymbolBySpecifier) (name specifier_text m v : List ℕ)
+    → IsImportDeclared graph s name specifier_text
+    → resolve_specifier graph s.specifier specifier_text ≡ Some m → IsSearchedForImport rules graph m name v
+    → IsModuleNeeded rules graph s.specifier [] v
+needed_import rules graph s name specifier_text m v is target searched =
+    imported s is.decl name specifier_text m begun is.occurs is.imports target searched
+
+-- the search along `export *` statements comes to the module of a candidate
+pub candidate_searched : (graph : GraphView) (m specifier_text name : List ℕ) (c : SymbolBySpecifier) → OccursAmongStars graph m specifier_text
+    → Some c ≡ re_exported_symbol graph name (resolve_specifier graph m specifier_text) → IsSearchedAlongStars graph m name c.specifier
+candidate_searched graph m specifier_text name c occurs is = by (resolve_specifier graph m specifier_text) refl is
   where
     entered : (v : List ℕ) → resolve_specifier graph m specifier_text ≡ Some v → (found : Option ExportEntry) → find_export graph v name ≡ found
-        → Some c ≡ option_map symbol_of_export_entry found → IsModuleNeeded graph m c.specifier
-    entered v decl_targets None e h = absurd cc
-    entered v decl_targets (Some entry) e h =
-        subst (λ (s : SymbolBySpecifier). IsModuleNeeded graph m s.specifier) (sym (same_Some c (symbol_of_export_entry entry) h))
-        (exporter_needed graph m v name entry (needed_there graph m specifier_text v position at decl_targets) e)
+        → Some c ≡ option_map symbol_of_export_entry found → IsSearchedAlongStars graph m name c.specifier
+    entered v target None e h = absurd cc
+    entered v target (Some entry) e h =
+        subst (λ (s : SymbolBySpecifier). IsSearchedAlongStars graph m name s.specifier) (sym (same_Some c (symbol_of_export_entry entry) h))
+        (then_searched graph m specifier_text name v entry.exporter occurs target (exporter_searched graph v name entry e))
 
     by : (found : Option (List ℕ)) → resolve_specifier graph m specifier_text ≡ found → Some c ≡ re_exported_symbol graph name found
-        → IsModuleNeeded graph m c.specifier
-    by None decl_targets h = absurd cc
-    by (Some v) decl_targets h = entered v decl_targets (find_export graph v name) refl h
+        → IsSearchedAlongStars graph m name c.specifier
+    by None target h = absurd cc
+    by (Some v) target h = entered v target (find_export graph v name) refl h

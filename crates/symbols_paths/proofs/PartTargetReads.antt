@@ -9,17 +9,13 @@ use Rattle.std.proofs.lemmas.Slice.Eq.{bytes_eq-Decides}
 use Rattle.symbols_ast.specs.declared.ids.ModuleId.{ModuleId}
 use Rattle.symbols_ast.specs.declared.ids.SymbolId.{SymbolId}
 use Rattle.symbols_ast.specs.Graph.{GraphView}
-use Rattle.symbols_table.specs.declared.info.fault.SymbolsFault.{SymbolsFault}
-use Rattle.symbols_root.specs.Roots.{RootView, IsStoringFault, specifier_in}
+use Rattle.symbols_root.specs.Roots.{RootView, specifier_in}
 use Rattle.symbols_root.specs.Growing.{HasGrown}
-use Rattle.symbols_root.specs.laws.Growing.{has_grown_trans}
 use Rattle.symbols_exports.specs.OneName.{find_export}
 use Rattle.symbols_paths.specs.PathTrees.{DeclBySpecifier, QualifiedNameParts, no_part}
 use Rattle.symbols_paths.specs.PartTargets.{lacks, itself, prototype_name, is_class_at, exported_part_target, module_part_target, import_part_target}
 use Rattle.symbols_paths.specs.Views.{strings_view}
 use Rattle.symbols_paths.specs.inner.Views.{first_part}
-use Rattle.symbols_paths.specs.NeededModules.{IsModuleNeeded, IsNeededModuleRefused}
-use Rattle.symbols_paths.proofs.Needing.{refused_from}
 
 pub first_read : (parts : List (String Global)) (part : String Global) → 0 < length parts → part ≡ get_or parts 0 part
     → string_bytes part ≡ first_part (strings_view parts)
@@ -51,17 +47,3 @@ pub named_specifier_text : (old mid : RootView) (m specifier_text p : List ℕ) 
 named_specifier_text old mid m specifier_text p ps id found retained decl_targets =
     (λ i. module_part_target (specifier_in mid id) p ps (find_export (retained.graph i) (specifier_in mid id) p))
     ∙ sym (ap (import_part_target old.graph m specifier_text p ps) decl_targets)
-
-pub refused_specifier : (old new : RootView) (found : Option (List ℕ)) (fault : SymbolsFault) (start : List ℕ)
-    → ((k : List ℕ) → found ≡ Some k → IsModuleNeeded old.graph start k) → new ≡ old → IsStoringFault old found fault → IsNeededModuleRefused new start fault
-refused_specifier old new found fault start needed same refusal =
-    subst (λ root. IsNeededModuleRefused root start fault) (sym same) (record { needed = found; is_needed = needed; refused = refusal })
-
-pub refused_after : (old mid new : RootView) (found : Option (List ℕ)) (id : ModuleId) (fault : SymbolsFault) (start : List ℕ) → ((k : List ℕ) → found ≡ Some k
-    → IsModuleNeeded old.graph start k) → HasGrown old mid → HasGrown mid new → found ≡ Some (specifier_in mid id)
-    → IsNeededModuleRefused new (specifier_in mid id) fault
-    → IsNeededModuleRefused new start fault
-refused_after old mid new found id fault start needed retained onward decl_targets refused =
-    refused_from new
-    (subst (λ g. IsModuleNeeded g start (specifier_in mid id)) (sym (has_grown_trans retained onward).graph) (needed (specifier_in mid id) decl_targets))
-    refused

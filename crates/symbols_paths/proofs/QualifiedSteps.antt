@@ -8,7 +8,6 @@ use Rattle.std.proofs.lemmas.List.{length-map, map-append, get_or-map, nil_from_
 use Rattle.std.proofs.lemmas.List.Elements.{Contains-append_left, Contains-append_right, Contains-append_cases, Contains-get_or, All-get_or}
 use Rattle.symbols_ast.specs.declared.ids.ModuleId.{ModuleId}
 use Rattle.symbols_ast.specs.declared.ids.UniqueSymbolId.{UniqueSymbolId}
-use Rattle.symbols_table.specs.declared.info.fault.SymbolsFault.{SymbolsFault}
 use Rattle.symbols_root.specs.Roots.{RootView, specifier_in}
 use Rattle.symbols_root.specs.Growing.{HasGrown}
 use Rattle.symbols_root.specs.laws.Growing.{has_grown_refl, has_grown_trans, specifier_unchanged_by_growth, still_stored}
@@ -29,16 +28,16 @@ use Rattle.symbols_paths.specs.Views.{symbol_by_specifier, decl_by_specifier, de
 use Rattle.symbols_paths.specs.Views.{AreModulesStored}
 use Rattle.symbols_paths.specs.inner.Views.{symbol_of_unique_id, first_part, later_parts}
 use Rattle.symbols_paths.specs.inner.PathBuilders.{built_paths, built_paths_of_option, built_path, modules_of_builders, builders_among}
-use Rattle.symbols_paths.specs.NeededModules.{IsModuleNeeded, IsNeededModuleRefused}
-use Rattle.symbols_paths.specs.inner.Needed.{IsStarImportDeclared}
+use Rattle.symbols_paths.specs.NeededModules.{IsModuleNeeded}
+use Rattle.symbols_paths.specs.inner.Needed.{IsNeededFrom, IsStarImportDeclared}
 use Rattle.symbols_paths.specs.inner.SearchSteps.{AreSymbolsStored, AreAliasesStored, symbols_of_unique_ids, decls_of_aliases, decl_of_alias, HasSearched}
 use Rattle.symbols_paths.specs.inner.SearchSteps.{while_running, by_walk, ArePathsFoundForSymbol, ArePathsFoundWithParts, ArePathsFoundForAlias}
 use Rattle.symbols_paths.specs.inner.SearchSteps.{IsDefinitionReplacement, part_target_view, IsPartStored}
 use Rattle.symbols_paths.proofs.GrownRoots.{all_still_stored}
 use Rattle.symbols_paths.proofs.NamedPathLemmas.{head_named}
 use Rattle.symbols_paths.proofs.Leaves.{finds_leaf}
-use Rattle.symbols_paths.proofs.LeafNeeds.{leaf_given, part_needed}
-use Rattle.symbols_paths.proofs.Needing.{refused_from}
+use Rattle.symbols_paths.proofs.LeafNeeds.{leaf_given}
+use Rattle.symbols_paths.proofs.Needing.{needed_in_newer}
 use Rattle.symbols_paths.proofs.LoopInvariants.{IsStepping, stepping_first, stepping_next, stepping_last}
 use Rattle.symbols_paths.proofs.SearchSteps.{is_alias_decl, running_by_name, running_with, still_aliases}
 use Rattle.symbols_paths.proofs.BuilderLemmas.{stored_with_option}
@@ -271,7 +270,7 @@ module _ (root : RootView) (once : IsDistinct bytes_eq root.stored) (running : L
 
 pub record IsGiven (s : UniqueSymbolId) (root : RootView) (x : Definition) : Type 0 where
   pub within : x.«module».0 < length root.stored
-  pub needed : IsModuleNeeded root.graph (specifier_in root s.module_id) (specifier_in root x.«module»)
+  pub needed : IsNeededFrom root s.module_id [] (specifier_in root x.«module»)
   pub declared : IsStarImportDeclared root.graph (definition_by_specifier root x)
 
 abbrev pub AreGiven : UniqueSymbolId → RootView → List Definition → Type 0
@@ -287,9 +286,9 @@ branches_given {s = s} {root = root} {after = after} x rest known grown are k d 
     given_later : (y : Definition) → IsGiven s root y → IsGiven s after y
     given_later y is = record {
       within = still_stored grown y.«module».0 is.within;
-      needed = subst (λ g. IsModuleNeeded g (specifier_in after s.module_id) (specifier_in after y.«module»)) (sym grown.graph)
-          (subst (λ v. IsModuleNeeded root.graph v (specifier_in after y.«module»)) (sym (specifier_unchanged_by_growth grown s.module_id known))
-          (subst (IsModuleNeeded root.graph (specifier_in root s.module_id)) (sym (specifier_unchanged_by_growth grown y.«module» is.within)) is.needed));
+      needed = needed_in_newer grown
+          (subst (λ v. IsModuleNeeded root.rules root.graph v [] (specifier_in after y.«module»)) (sym (specifier_unchanged_by_growth grown s.module_id known))
+          (subst (IsNeededFrom root s.module_id []) (sym (specifier_unchanged_by_growth grown y.«module» is.within)) is.needed));
       declared = subst (λ g. IsStarImportDeclared g (definition_by_specifier after y)) (sym grown.graph)
           (subst (IsStarImportDeclared root.graph) (sym (definition_later grown y is.within)) is.declared);
     }
@@ -331,28 +330,3 @@ given_first root running before after s paths xs found listed stored k d h =
       needed = is.needed;
       declared = is.declared;
     }
-
--- ---- faults
-
--- a fault refused from the module of a given definition is refused from the symbol's module, which needs it
-pub refused_given : {s : UniqueSymbolId} {root : RootView} (old new : RootView) (x : Definition) (fault : SymbolsFault) → s.module_id.0 < length old.stored
-    → HasGrown old root → HasGrown root new → IsGiven s root x → IsNeededModuleRefused new (specifier_in root x.«module») fault
-    → IsNeededModuleRefused new (specifier_in old s.module_id) fault
-refused_given {s = s} {root = root} old new x fault known before onward is refused =
-    let needed : IsModuleNeeded new.graph (specifier_in root s.module_id) (specifier_in root x.«module») =
-    subst (λ g. IsModuleNeeded g (specifier_in root s.module_id) (specifier_in root x.«module»)) (sym onward.graph) is.needed in
-    subst (λ v. IsNeededModuleRefused new v fault) (specifier_unchanged_by_growth before s.module_id known) (refused_from new needed refused)
-
--- a fault refused from the module of a part's symbol is refused from the definition's module, which needs it
-pub refused_on : (old mid new : RootView) (x : Definition) (parts : QualifiedNameParts) (target : UniqueSymbolId) (fault : SymbolsFault) → HasGrown old mid
-    → HasGrown mid new → IsStarImportDeclared old.graph (definition_by_specifier old x)
-    → to (symbol_of_unique_id mid target) ≡ part_target_of old.graph (definition_by_specifier old
-    x) (first_part parts) (later_parts parts) → IsNeededModuleRefused new (specifier_in mid target.module_id) fault
-    → IsNeededModuleRefused new (specifier_in old x.«module») fault
-refused_on old mid new x parts target fault retained onward declared target_specifier refused =
-    let there : IsModuleNeeded old.graph (specifier_in old x.«module») (specifier_in mid target.module_id) =
-    part_needed old.graph (definition_by_specifier old x) (first_part parts) (later_parts parts) (symbol_of_unique_id mid target) declared
-    (sym target_specifier) in
-    refused_from new (subst (λ g. IsModuleNeeded g (specifier_in old x.«module») (specifier_in mid target.module_id)) (sym (onward.graph ∙ retained.graph))
-    there)
-    refused

@@ -1,16 +1,15 @@
 -- Resolved specifiers and names along `export *`, in a root that stores their modules.
 use Rattle.std.proofs.Common.{◌≡◌, ℕ, ◌<◌, inl, inr, List, [], ◌∷◌, length, map, get_or, Option, None, Some}
-use Rattle.std.proofs.Common.{option_map, option_to_list, option_and_then, refl, sym, ap, subst, ◌∙◌, arith, slice_get}
+use Rattle.std.proofs.Common.{option_map, option_to_list, refl, sym, ap, subst, ◌∙◌, arith, slice_get}
 use Rattle.std.proofs.lemmas.Option.{none-some, same_Some, slice_get-map, get_or_from_slice_get}
 use Rattle.symbols_ast.specs.declared.ids.ModuleId.{ModuleId}
 use Rattle.symbols_ast.specs.declared.ids.UniqueSymbolId.{UniqueSymbolId}
 use Rattle.symbols_ast.specs.Graph.{GraphView}
 use Rattle.symbols_table.specs.declared.info.fault.SymbolsFault.{SymbolsFault}
-use Rattle.symbols_root.specs.Roots.{RootView, IsStoringFault, specifier_in}
+use Rattle.symbols_root.specs.Roots.{RootView, specifier_in}
 use Rattle.symbols_root.specs.Growing.{HasGrown}
 use Rattle.symbols_root.specs.laws.Numbers.{IsNumberOfFoundModule}
 use Rattle.symbols_exports.specs.declared.export_chain.ResolvedExportOrReExportAllPath.{ResolvedExportOrReExportAllPath}
-use Rattle.symbols_exports.specs.Chains.{star_target_at, chain_end_module}
 use Rattle.symbols_exports.specs.Exports.{ExportEntry}
 use Rattle.symbols_exports.specs.OneName.{find_export, IsOneNameAnswer, IsOneNameFault}
 use Rattle.symbols_exports.specs.ExportChains.{resolved_export}
@@ -20,65 +19,50 @@ use Rattle.symbols_exports.specs.ExportViews.{ExportView, entry_export_view, exp
 use Rattle.symbols_paths.specs.PathTrees.{SymbolBySpecifier}
 use Rattle.symbols_paths.specs.DeclTargets.{re_exported_symbol}
 use Rattle.symbols_paths.specs.inner.Views.{symbol_of_unique_id}
-use Rattle.symbols_paths.specs.NeededModules.{IsModuleNeeded, begun, passed_on, IsNeededModuleRefused}
+use Rattle.symbols_paths.specs.NeededModules.{IsSearchedForExport, IsSearchedAlongStars, IsOneRefused}
+use Rattle.symbols_paths.proofs.SearchedExports.{searched_itself, searched_by_statement}
 
 at_map : {A B : Type 0} (f : A → B) (d : B) (xs : List A) (i : ℕ) (x : A) → slice_get xs i ≡ Some x → get_or (map f xs) i d ≡ f x
 at_map f d xs i x e = get_or_from_slice_get (map f xs) i (f x) d (slice_get-map f xs i ∙ ap (option_map f) e)
 
--- ---- needed modules
+-- ---- the modules that a search comes to
 
-pub needed_along : {graph : GraphView} {start m u : List ℕ} (chain : List ℕ) → IsModuleNeeded graph start m
-    → chain_end_module (star_targets_of graph) m chain ≡ Some u
-    → IsModuleNeeded graph start u
-needed_along {graph = graph} {start = start} {m = m} {u = u} [] is e = subst (IsModuleNeeded graph start) (same_Some m u e) is
-needed_along {graph = graph} {start = start} {m = m} {u = u} (k ∷ chain) is e =
-    by (star_target_at (star_targets_of graph) m k) refl e (λ v at q. needed_along chain (passed_on m k is at) q)
-  where
-    by : (next : Option (List ℕ)) → star_target_at (star_targets_of graph) m k ≡ next
-        → option_and_then (λ v. chain_end_module (star_targets_of graph) v chain) next
-        ≡ Some u → ((v : List ℕ) → star_target_at (star_targets_of graph) m k ≡ Some v → chain_end_module (star_targets_of graph) v chain ≡ Some u
-        → IsModuleNeeded graph start u) → IsModuleNeeded graph start u
-    by None at q on = absurd (none-some u q)
-    by (Some v) at q on = on v at q
+-- a specifier at a position among those of the `export *` statements
+abbrev pub OccursAmongStars : GraphView → List ℕ → List ℕ → Type 0
+OccursAmongStars graph m specifier_text = (position : ℕ) × (slice_get (star_specifiers graph m) position ≡ Some specifier_text)
 
--- the module of an `export *` statement is needed
-pub needed_there : (graph : GraphView) (m specifier_text v : List ℕ) (position : ℕ) → slice_get (star_specifiers graph m) position ≡ Some specifier_text
-    → resolve_specifier graph m specifier_text ≡ Some v → IsModuleNeeded graph m v
-needed_there graph m specifier_text v position at decl_targets =
-    passed_on m position begun (at_map (resolve_specifier graph m) None (star_specifiers graph m) position specifier_text at ∙ decl_targets)
+-- the search along `export *` statements comes to what the search in the module of a statement comes to
+pub then_searched : (graph : GraphView) (m specifier_text name v u : List ℕ) → OccursAmongStars graph m specifier_text
+    → resolve_specifier graph m specifier_text ≡ Some v → IsSearchedForExport graph v name u → IsSearchedAlongStars graph m name u
+then_searched graph m specifier_text name v u occurs target searched = (
+  occurs.0,
+  v,
+  at_map (resolve_specifier graph m) None (star_specifiers graph m) occurs.0 specifier_text occurs.1 ∙ target,
+  searched,
+)
 
-pub refused_there : (old new : RootView) (m specifier_text : List ℕ) (fault : SymbolsFault) → (position : ℕ) × (slice_get (star_specifiers old.graph m) position
-    ≡ Some specifier_text) → new ≡ old → IsStoringFault old (resolve_specifier old.graph m specifier_text) fault → IsNeededModuleRefused new m fault
-refused_there old new m specifier_text fault occurs same refusal = subst (λ root. IsNeededModuleRefused root m fault) (sym same) (record {
-  needed = resolve_specifier old.graph m specifier_text;
-  is_needed = λ v decl_targets. needed_there old.graph m specifier_text v occurs.0 occurs.1 decl_targets;
-  refused = refusal;
-})
+-- and to the module of a statement
+pub there_searched : (graph : GraphView) (m specifier_text name v : List ℕ) → OccursAmongStars graph m specifier_text
+    → resolve_specifier graph m specifier_text ≡ Some v → IsSearchedAlongStars graph m name v
+there_searched graph m specifier_text name v occurs target = then_searched graph m specifier_text name v v occurs target (searched_itself graph v name)
 
 -- ---- a name along an `export *` statement
 
 pub refused_along : (old mid new : RootView) (m specifier_text name : List ℕ) (id : ModuleId) (fault : SymbolsFault) (lookups : ℕ) → HasGrown old mid
-    → HasGrown mid new → (position : ℕ) × (slice_get (star_specifiers old.graph m) position ≡ Some specifier_text)
+    → OccursAmongStars old.graph m specifier_text
     → IsNumberOfFoundModule mid id (resolve_specifier old.graph m specifier_text) → IsOneNameFault mid new id name fault lookups
-    → IsNeededModuleRefused new m fault
-refused_along old mid new m specifier_text name id fault lookups grown more occurs decl_targets (inl is) =
+    → IsOneRefused new (IsSearchedAlongStars old.graph m name) fault
+refused_along old mid new m specifier_text name id fault lookups grown occurs decl_targets (inl is) =
     absurd (omega (arith, is.unknown, decl_targets.within))
-refused_along old mid new m specifier_text name id fault lookups grown more occurs decl_targets (inr is) =
+refused_along old mid new m specifier_text name id fault lookups grown occurs decl_targets (inr is) =
     record { needed = is.needed; is_needed = needed; refused = is.refused }
   where
-    same : new.graph ≡ mid.graph
-    same = more.graph
-
-    there : IsModuleNeeded mid.graph m (specifier_in mid id)
-    there = subst (λ g. IsModuleNeeded g m (specifier_in mid id)) (sym grown.graph)
-        (needed_there old.graph m specifier_text (specifier_in mid id) occurs.0 occurs.1 decl_targets.is)
-
-    needed : (v : List ℕ) → is.needed ≡ Some v → IsModuleNeeded new.graph m v
+    needed : (v : List ℕ) → is.needed ≡ Some v → IsSearchedAlongStars old.graph m name v
     needed v e =
         let at = is.is_needed v e in
-        let referenced_symbol = is.lookups_are at.0 at.1 in
-        subst (λ g. IsModuleNeeded g m v) (sym same)
-        (passed_on at.0.0 at.0.1 (needed_along referenced_symbol.0 there referenced_symbol.1.is_chain.ends_at) at.2)
+        then_searched old.graph m specifier_text name (specifier_in mid id) v occurs decl_targets.is
+        (subst (λ (g : GraphView). IsSearchedForExport g (specifier_in mid id) name v) grown.graph
+        (searched_by_statement mid.graph (specifier_in mid id) name at.0 v (is.lookups_are at.0 at.1) at.2))
 
 abbrev pub symbol_of_export_entry : ExportEntry → SymbolBySpecifier
 symbol_of_export_entry entry = record { specifier = entry.exporter; number = entry.symbol }
@@ -127,17 +111,15 @@ some_stored old new name id path lookups is = (is.names_stored 0 (resolved_chain
 
 -- ---- a name of a stored module
 
-pub refused_export : (old new : RootView) (name : List ℕ) (id : ModuleId) (fault : SymbolsFault) (lookups : ℕ) → id.0 < length old.stored → HasGrown old new
-    → IsOneNameFault old new id name fault lookups → IsNeededModuleRefused new (specifier_in old id) fault
-refused_export old new name id fault lookups known grown (inl is) = absurd (omega (arith, is.unknown, known))
-refused_export old new name id fault lookups known grown (inr is) = record { needed = is.needed; is_needed = needed; refused = is.refused }
-  where
-    needed : (v : List ℕ) → is.needed ≡ Some v → IsModuleNeeded new.graph (specifier_in old id) v
-    needed v e =
-        let at = is.is_needed v e in
-        let referenced_symbol = is.lookups_are at.0 at.1 in
-        subst (λ g. IsModuleNeeded g (specifier_in old id) v) (sym grown.graph)
-        (passed_on at.0.0 at.0.1 (needed_along referenced_symbol.0 begun referenced_symbol.1.is_chain.ends_at) at.2)
+pub refused_export : (old new : RootView) (name : List ℕ) (id : ModuleId) (fault : SymbolsFault) (lookups : ℕ) → id.0 < length old.stored
+    → IsOneNameFault old new id name fault lookups → IsOneRefused new (IsSearchedForExport old.graph (specifier_in old id) name) fault
+refused_export old new name id fault lookups known (inl is) = absurd (omega (arith, is.unknown, known))
+refused_export old new name id fault lookups known (inr is) = record {
+  needed = is.needed;
+  is_needed = λ v e. let at = is.is_needed v e in
+      searched_by_statement old.graph (specifier_in old id) name at.0 v (is.lookups_are at.0 at.1) at.2;
+  refused = is.refused;
+}
 
 pub none_exported : (old new : RootView) (id : ModuleId) (name : List ℕ) (lookups : ℕ) → IsOneNameAnswer old new id name [] lookups
     → find_export old.graph (specifier_in old id) name ≡ None

@@ -19,7 +19,7 @@ use Rattle.symbols_paths.specs.DeclTargets.{symbol_of_id}
 use Rattle.symbols_paths.specs.PartTargets.{PartTargetView, to, itself, lacks, import_part_target}
 use Rattle.symbols_paths.specs.Computed.{paths_with_parts}
 use Rattle.symbols_paths.specs.Views.{path_by_specifier, concat_module_ids, modules_of_path}
-use Rattle.symbols_paths.specs.NeededModules.{IsNeededModuleRefused}
+use Rattle.symbols_paths.specs.NeededModules.{IsNeededByReference, IsOneRefused}
 use Rattle.symbols_paths.specs.Answers.{ArePathsFor}
 
 -- an entry: a path, or the specifier of a module
@@ -103,12 +103,9 @@ IsDepAnswer rules graph specifier reference entries = MatchOption (referenced_sy
     ≡ entries_without_symbol graph specifier reference) (λ referenced. (paths : PathForest) × ArePathsFor rules graph referenced.0 referenced.1 paths
     × (entries ≡ path_entries paths))
 
--- a fault: storing a module failed that is needed from this module, or from the module of an import type; or an allocation failed
-pub data IsDepRefused (root : RootView) (specifier : List ℕ) (reference : SymbolReference) (fault : SymbolsFault) : Type 0 where
-  along_search : IsNeededModuleRefused root specifier fault → IsDepRefused root specifier reference fault
-  of_import : (specifier_text : List ℕ) (parts : QualifiedNameParts) (target_specifier : List ℕ) → reference ≡ import_type specifier_text parts
-      → resolve_specifier root.graph specifier specifier_text ≡ Some target_specifier → IsNeededModuleRefused root target_specifier fault
-      → IsDepRefused root specifier reference fault
+-- a fault: storing a module failed that the reference may need, or an allocation failed
+abbrev pub IsDepRefused : RootView → List ℕ → SymbolReference → SymbolsFault → Type 0
+IsDepRefused root specifier reference fault = IsOneRefused root (IsNeededByReference root.rules root.graph specifier reference) fault
 
 -- a fault: no module with this id is stored, and the root is unchanged
 pub record IsUnknownDepModule (old new : RootView) (module_id : ModuleId) (fault : SymbolsFault) : Type 0 where

@@ -1,37 +1,79 @@
 -- The modules that a search may need, which alone it stores, and the faults of storing them.
-use Rattle.std.specs.Prelude.{◌≡◌, ◌⊎◌, ℕ, List, Option, Some, Contains}
+use Rattle.std.specs.Prelude.{◌≡◌, ◌⊎◌, ℕ, true, List, [], ◌∷◌, Option, Some, None, Contains}
 use Rattle.symbols_ast.specs.Graph.{GraphView}
+use Rattle.symbols_ast.specs.Ids.{IdView}
 use Rattle.symbols_nodes.specs.References.{SymbolReference, id, qualified_id, import_type}
-use Rattle.symbols_table.specs.DeclViews.{FileDepNameView, Declaration, file_ref}
+use Rattle.symbols_table.specs.DeclViews.{all_names, one_name, Declaration, qualified_target, file_ref}
 use Rattle.symbols_table.specs.declared.info.fault.SymbolsFault.{SymbolsFault}
+use Rattle.symbols_root.specs.declared.rules.Rules.{Rules}
 use Rattle.symbols_root.specs.Roots.{RootView, IsStoringFault}
-use Rattle.symbols_exports.specs.Chains.{star_target_at}
+use Rattle.symbols_exports.specs.Chains.{star_target_at, chain_end_module}
+use Rattle.symbols_exports.specs.OneName.{find_export, last_searched_chain, IsChainUpToLast}
 use Rattle.symbols_exports.specs.StarStatements.{resolve_specifier, star_targets_of}
-use Rattle.symbols_paths.specs.PathTrees.{SymbolBySpecifier}
-use Rattle.symbols_paths.specs.DeclTargets.{declarations_of}
+use Rattle.symbols_paths.specs.PathTrees.{SymbolBySpecifier, QualifiedNameParts}
+use Rattle.symbols_paths.specs.DeclTargets.{declarations_of, explicit_export, searches_stars_for}
 
--- a module that a search from `start` may need: `start` itself, and what an import or an `export *` of a needed module resolves to
-pub data IsModuleNeeded (graph : GraphView) (start : List ℕ) : List ℕ → Type 0 where
-  begun : IsModuleNeeded graph start start
-  imported : {v : List ℕ} (s : SymbolBySpecifier) (decl : Declaration) (name : FileDepNameView) (specifier_text : List ℕ)
-      → IsModuleNeeded graph start s.specifier
-      → Contains (declarations_of graph s) decl → decl.kind ≡ file_ref name specifier_text → resolve_specifier graph s.specifier specifier_text ≡ Some v
-      → IsModuleNeeded graph start v
-  passed_on : {v : List ℕ} (specifier : List ℕ) (position : ℕ) → IsModuleNeeded graph start specifier
-      → star_target_at (star_targets_of graph) specifier position ≡ Some v → IsModuleNeeded graph start v
+-- a module that the search for an export of `m` comes to: it is at the end of a chain from `m` that isn't after the last chain searched
+abbrev pub IsSearchedForExport : GraphView → List ℕ → List ℕ → List ℕ → Type 0
+IsSearchedForExport graph m name v = (chain : List ℕ) × (chain_end_module (star_targets_of graph) m chain ≡ Some v)
+    × IsChainUpToLast (last_searched_chain name (find_export graph m name)) chain
 
--- the fault of storing a needed module, or of a failed allocation
-pub record IsNeededModuleRefused (root : RootView) (start : List ℕ) (fault : SymbolsFault) : Type 0 where
+-- a module that the search for a name comes to along the `export *` statements of `m`: it looks for an export of the module of each
+abbrev pub IsSearchedAlongStars : GraphView → List ℕ → List ℕ → List ℕ → Type 0
+IsSearchedAlongStars graph m name v = (position : ℕ) × (next : List ℕ) × (star_target_at (star_targets_of graph) m position ≡ Some next)
+    × IsSearchedForExport graph next name v
+
+-- a module that the search for a name imported from `m` comes to: `m` itself; and along the `export *` statements of `m`, if it doesn't
+-- export the name locally and the rules let the search go on to these
+pub data IsSearchedForImport (rules : Rules) (graph : GraphView) (m name : List ℕ) : List ℕ → Type 0 where
+  imported_module : IsSearchedForImport rules graph m name m
+  along_stars : {v : List ℕ} → explicit_export graph m name ≡ None → searches_stars_for rules name ≡ true → IsSearchedAlongStars graph m name v
+      → IsSearchedForImport rules graph m name v
+
+mutual
+  -- a module that a search from `start` under parts may need: `start` itself; and what the search for a name comes to that a needed module
+  -- imports. Of a namespace import these names are the parts that the search may resolve
+  pub data IsModuleNeeded (rules : Rules) (graph : GraphView) (start : List ℕ) (parts : QualifiedNameParts) : List ℕ → Type 0 where
+    begun : IsModuleNeeded rules graph start parts start
+    imported : {v : List ℕ} (s : SymbolBySpecifier) (decl : Declaration) (name specifier_text m : List ℕ)
+        → IsModuleNeeded rules graph start parts s.specifier → Contains (declarations_of graph s) decl
+        → decl.kind ≡ file_ref (one_name name) specifier_text → resolve_specifier graph s.specifier specifier_text ≡ Some m
+        → IsSearchedForImport rules graph m name v → IsModuleNeeded rules graph start parts v
+    part_imported : {v : List ℕ} (s : SymbolBySpecifier) (decl : Declaration) (specifier_text m part : List ℕ)
+        → IsModuleNeeded rules graph start parts s.specifier → Contains (declarations_of graph s) decl
+        → decl.kind ≡ file_ref all_names specifier_text → resolve_specifier graph s.specifier specifier_text ≡ Some m
+        → IsPartNeeded rules graph start parts part → IsSearchedForExport graph m part v → IsModuleNeeded rules graph start parts v
+
+  -- a part that the search may resolve: one of the parts, or one of a qualified name that a needed module declares an alias of
+  pub data IsPartNeeded (rules : Rules) (graph : GraphView) (start : List ℕ) (parts : QualifiedNameParts) : List ℕ → Type 0 where
+    part_given : {part : List ℕ} → Contains parts part → IsPartNeeded rules graph start parts part
+    part_declared : {part : List ℕ} (s : SymbolBySpecifier) (decl : Declaration) (name : IdView) (qualifiers : QualifiedNameParts)
+        → IsModuleNeeded rules graph start parts s.specifier → Contains (declarations_of graph s) decl → decl.kind ≡ qualified_target name qualifiers
+        → Contains qualifiers part → IsPartNeeded rules graph start parts part
+
+-- the modules that an import type may need: its module; and from there what the search for its first part comes to, and what the search of
+-- its symbol under the other parts may need
+abbrev pub IsNeededByImportType : Rules → GraphView → List ℕ → QualifiedNameParts → List ℕ → Type 0
+IsNeededByImportType rules graph m [] v = v ≡ m
+IsNeededByImportType rules graph m (part ∷ remaining) v = (exporter : List ℕ) × IsSearchedForExport graph m part exporter
+    × IsModuleNeeded rules graph exporter remaining v
+
+-- the modules that a reference in a module may need
+abbrev pub IsNeededByReference : Rules → GraphView → List ℕ → SymbolReference → List ℕ → Type 0
+IsNeededByReference rules graph specifier (id name) v = IsModuleNeeded rules graph specifier [] v
+IsNeededByReference rules graph specifier (qualified_id name parts) v = IsModuleNeeded rules graph specifier parts v
+IsNeededByReference rules graph specifier (import_type specifier_text parts) v =
+    (m : List ℕ) × (resolve_specifier graph specifier specifier_text ≡ Some m) × IsNeededByImportType rules graph m parts v
+
+-- the fault of storing one of these modules, or of a failed allocation
+pub record IsOneRefused (root : RootView) (these : List ℕ → Type 0) (fault : SymbolsFault) : Type 0 where
   pub needed : Option (List ℕ)
-  pub is_needed : (specifier : List ℕ) → needed ≡ Some specifier → IsModuleNeeded root.graph start specifier
+  pub is_needed : (specifier : List ℕ) → needed ≡ Some specifier → these specifier
   pub refused : IsStoringFault root needed fault
 
--- the modules that a reference in a module may need: those needed from the module on, and from the module of an import type on
-abbrev pub IsNeededByReference : GraphView → List ℕ → SymbolReference → List ℕ → Type 0
-IsNeededByReference graph specifier (id name) v = IsModuleNeeded graph specifier v
-IsNeededByReference graph specifier (qualified_id name parts) v = IsModuleNeeded graph specifier v
-IsNeededByReference graph specifier (import_type specifier_text parts) v =
-    IsModuleNeeded graph specifier v ⊎ ((k : List ℕ) × (resolve_specifier graph specifier specifier_text ≡ Some k) × IsModuleNeeded graph k v)
+-- the fault of storing a module needed from `start`, or of a failed allocation
+abbrev pub IsNeededModuleRefused : RootView → List ℕ → SymbolsFault → Type 0
+IsNeededModuleRefused root start fault = IsOneRefused root (IsModuleNeeded root.rules root.graph start []) fault
 
 -- a call stores no module but these: each that is stored after it was stored before, or is one of them
 pub record StoresOnly (old new : RootView) (these : List ℕ → Type 0) : Type 0 where
@@ -39,4 +81,4 @@ pub record StoresOnly (old new : RootView) (these : List ℕ → Type 0) : Type 
 
 -- a call stores no module but those needed from `start`
 abbrev pub StoresOnlyNeeded : RootView → RootView → List ℕ → Type 0
-StoresOnlyNeeded old new start = StoresOnly old new (IsModuleNeeded old.graph start)
+StoresOnlyNeeded old new start = StoresOnly old new (IsModuleNeeded old.rules old.graph start [])

@@ -5,15 +5,15 @@ ghost use Rattle.std.specs.Prelude.{IfSome, OnOk};
 ghost use Rattle.std.specs.Option.{option_to_list};
 ghost use Rattle.symbols_ast.specs.declared.ids.UniqueSymbolId.{UniqueSymbolId};
 ghost use Rattle.symbols_table.specs.DeclViews.{Declaration};
-ghost use Rattle.symbols_root.specs.Roots.{specifier_in};
-ghost use Rattle.symbols_root.specs.Calls.{IsStored, KeepsStored};
+ghost use Rattle.symbols_root.specs.Calls.{IsStored};
 ghost use Rattle.symbols_paths.specs.declared.path_builder.PathBuilder.{PathBuilder};
 ghost use Rattle.symbols_paths.specs.DeclTargets.{declarations_of};
 ghost use Rattle.symbols_paths.specs.Views.{definition_by_specifier, AreModulesStored};
 ghost use Rattle.symbols_paths.specs.inner.Views.{symbol_of_unique_id, later_parts};
 ghost use Rattle.symbols_paths.specs.inner.PathBuilders.{remaining_parts, modules_of_builders};
-ghost use Rattle.symbols_paths.specs.NeededModules.{IsModuleNeeded, IsNeededModuleRefused};
-ghost use Rattle.symbols_paths.specs.NeededModules.{StoresOnly, StoresOnlyNeeded};
+ghost use Rattle.symbols_paths.specs.NeededModules.{StoresOnly};
+ghost use Rattle.symbols_paths.specs.inner.Needed.{IsNeededFrom, IsNeededAlongStarsOf};
+ghost use Rattle.symbols_paths.specs.inner.Needed.{IsNeededFromCandidate, KeepsOrRefuses};
 ghost use Rattle.symbols_paths.specs.inner.Needed.{IsStarImportDeclared};
 ghost use Rattle.symbols_paths.specs.inner.SearchSteps.{AreSymbolsStored, AreAliasesStored};
 ghost use Rattle.symbols_paths.specs.inner.SearchSteps.{IsSearchReady};
@@ -61,9 +61,10 @@ pub(crate) fn find_definition_paths_internal<'a>(
     symbol: UniqueSymbolId,
 ) -> Result<Vec<PathBuilder<'a>>, SymbolsFault>
     requires ready { IsSearchReady root.old symbol.module_id visited.old.keys resolving.old.keys }
-    ensures after_call { KeepsResolving root.old root.new symbol.module_id resolving.old.keys
-        resolving.new.keys result }
-    ensures stores { StoresOnlyNeeded root.old root.new (specifier_in root.old symbol.module_id) }
+    ensures after_call { KeepsResolving root.old root.new
+        (IsNeededFrom root.old symbol.module_id []) resolving.old.keys resolving.new.keys result }
+    ensures stores { StoresOnly root.old root.new
+        (IsNeededFrom root.old symbol.module_id []) }
     ensures found { IfOk result (λ paths.
         ArePathsFoundForSymbol root.new resolving.old.keys visited.old.keys symbol paths.items
         visited.new.keys) }
@@ -110,9 +111,10 @@ fn follow_decl<'a>(
     requires ready { IsSearchReady root.old symbol.module_id visited.old.keys resolving.old.keys }
     requires declared { (decl : Declaration) × Contains (declarations_of root.old.graph
         (symbol_of_unique_id root.old symbol)) decl × IsTargetImportedByDecl decl_target.now decl }
-    ensures after_call { KeepsResolving root.old root.new symbol.module_id resolving.old.keys
-        resolving.new.keys result }
-    ensures stores { StoresOnlyNeeded root.old root.new (specifier_in root.old symbol.module_id) }
+    ensures after_call { KeepsResolving root.old root.new
+        (IsNeededFrom root.old symbol.module_id []) resolving.old.keys resolving.new.keys result }
+    ensures stores { StoresOnly root.old root.new
+        (IsNeededFrom root.old symbol.module_id []) }
     ensures followed { OnOk result ((path : Option PathBuilder)
         × (paths.new.items ≡ paths.old.items ++ option_to_list path)
         × IsPathFoundForDecl root.new resolving.old.keys visited.old.keys symbol index
@@ -187,9 +189,10 @@ fn go_to_file_export<'a>(
     requires ready { IsSearchReady root.old symbol.module_id visited.old.keys resolving.old.keys }
     requires declared { IsImportDeclared root.old.graph (symbol_of_unique_id root.old symbol)
         named_import.now.name.now named_import.now.specifier_text.now }
-    ensures after_call { KeepsResolving root.old root.new symbol.module_id resolving.old.keys
-        resolving.new.keys result }
-    ensures stores { StoresOnlyNeeded root.old root.new (specifier_in root.old symbol.module_id) }
+    ensures after_call { KeepsResolving root.old root.new
+        (IsNeededFrom root.old symbol.module_id []) resolving.old.keys resolving.new.keys result }
+    ensures stores { StoresOnly root.old root.new
+        (IsNeededFrom root.old symbol.module_id []) }
     ensures tried { IfOk result
         (λ paths. ArePathsFoundForCandidates root.new resolving.old.keys visited.old.keys
         (forward_of_import symbol named_import.now.name.now named_import.now.specifier_text.now)
@@ -233,9 +236,11 @@ fn go_to_re_export_all<'a>(
     named_import: &NamedImport<'a>,
 ) -> Result<Vec<PathBuilder<'a>>, SymbolsFault>
     requires ready { IsSearchReady root.old module_id visited.old.keys resolving.old.keys }
-    ensures after_call { KeepsResolving root.old root.new module_id resolving.old.keys
-        resolving.new.keys result }
-    ensures stores { StoresOnlyNeeded root.old root.new (specifier_in root.old module_id) }
+    ensures after_call { KeepsResolving root.old root.new
+        (IsNeededAlongStarsOf root.old module_id named_import.now.name.now)
+        resolving.old.keys resolving.new.keys result }
+    ensures stores { StoresOnly root.old root.new
+        (IsNeededAlongStarsOf root.old module_id named_import.now.name.now) }
     ensures tried { IfOk result
         (λ paths. ArePathsFoundForCandidates root.new resolving.old.keys visited.old.keys
         (forward_along_stars module_id named_import.now.name.now) paths.items visited.new.keys) }
@@ -278,12 +283,9 @@ fn find_candidate_paths<'a>(
     requires known { IfSome candidate (λ symbol. IsStored root.old symbol.module_id) }
     requires visited { AreSymbolsStored root.old visited.old.keys }
     requires resolving { AreAliasesStored root.old resolving.old.keys }
-    ensures keeps { KeepsStored root.old root.new (λ fault. (symbol : UniqueSymbolId)
-        × (candidate ≡ Some symbol)
-        × IsNeededModuleRefused root.new (specifier_in root.old symbol.module_id) fault) result }
-    ensures stores { StoresOnly root.old root.new (λ v. (symbol : UniqueSymbolId)
-        × (candidate ≡ Some symbol)
-        × IsModuleNeeded root.old.graph (specifier_in root.old symbol.module_id) v) }
+    ensures keeps { KeepsOrRefuses root.old root.new
+        (IsNeededFromCandidate root.old candidate) result }
+    ensures stores { StoresOnly root.old root.new (IsNeededFromCandidate root.old candidate) }
     ensures candidate { IfOk result (λ paths. ArePathsFoundForCandidate root.new resolving.old.keys
         visited.old.keys candidate paths.items visited.new.keys) }
     ensures visits { IfOk result (λ paths.
@@ -309,9 +311,11 @@ fn resolve_alias<'a>(
 ) -> Result<Vec<PathBuilder<'a>>, SymbolsFault>
     requires ready { IsSearchReady root.old target.module_id [] resolving.old.keys }
     requires alias { IsStored root.old alias.«module» }
-    ensures after_call { KeepsResolving root.old root.new target.module_id resolving.old.keys
-        resolving.new.keys result }
-    ensures stores { StoresOnlyNeeded root.old root.new (specifier_in root.old target.module_id) }
+    ensures after_call { KeepsResolving root.old root.new
+        (IsNeededFrom root.old target.module_id (remaining_parts parts.now))
+        resolving.old.keys resolving.new.keys result }
+    ensures stores { StoresOnly root.old root.new
+        (IsNeededFrom root.old target.module_id (remaining_parts parts.now)) }
     ensures resolved { IfOk result (λ paths. ArePathsFoundForAlias root.new resolving.old.keys alias target
         (remaining_parts parts.now) paths.items) }
     ensures stored { IfOk result (λ paths. AreModulesStored root.new (modules_of_builders paths.items)) }
@@ -342,9 +346,11 @@ pub(crate) fn resolve_qualified_name_internal<'a>(
     parts: &SharedParts,
 ) -> Result<Vec<PathBuilder<'a>>, SymbolsFault>
     requires ready { IsSearchReady root.old symbol.module_id visited.old.keys resolving.old.keys }
-    ensures after_call { KeepsResolving root.old root.new symbol.module_id resolving.old.keys
-        resolving.new.keys result }
-    ensures stores { StoresOnlyNeeded root.old root.new (specifier_in root.old symbol.module_id) }
+    ensures after_call { KeepsResolving root.old root.new
+        (IsNeededFrom root.old symbol.module_id (remaining_parts parts.now))
+        resolving.old.keys resolving.new.keys result }
+    ensures stores { StoresOnly root.old root.new
+        (IsNeededFrom root.old symbol.module_id (remaining_parts parts.now)) }
     ensures found_under_parts { IfOk result (λ paths. ArePathsFoundWithParts root.new resolving.old.keys
         visited.old.keys symbol (remaining_parts parts.now) paths.items visited.new.keys) }
     ensures visits { IfOk result (λ paths.
@@ -380,9 +386,11 @@ fn resolve_paths_with_parts<'a>(
         × ArePathsFoundForSymbol root.old resolving.old.keys before symbol paths.items
         visited.old.keys }
     requires stored { AreModulesStored root.old (modules_of_builders paths.items) }
-    ensures after_call { KeepsResolving root.old root.new symbol.module_id resolving.old.keys
-        resolving.new.keys result }
-    ensures stores { StoresOnlyNeeded root.old root.new (specifier_in root.old symbol.module_id) }
+    ensures after_call { KeepsResolving root.old root.new
+        (IsNeededFrom root.old symbol.module_id (remaining_parts parts.now))
+        resolving.old.keys resolving.new.keys result }
+    ensures stores { StoresOnly root.old root.new
+        (IsNeededFrom root.old symbol.module_id (remaining_parts parts.now)) }
     ensures found_under_parts { IfOk result (λ found. (before : List UniqueSymbolId)
         → ArePathsFoundForSymbol root.old resolving.old.keys before symbol paths.entry.items
         visited.old.keys
@@ -414,9 +422,11 @@ fn resolve_remaining_parts<'a>(
 ) -> Result<Vec<PathBuilder<'a>>, SymbolsFault>
     requires ready { IsSearchReady root.old symbol.module_id visited.old.keys resolving.old.keys }
     requires some { 0 < length (remaining_parts parts.now) }
-    ensures after_call { KeepsResolving root.old root.new symbol.module_id resolving.old.keys
-        resolving.new.keys result }
-    ensures stores { StoresOnlyNeeded root.old root.new (specifier_in root.old symbol.module_id) }
+    ensures after_call { KeepsResolving root.old root.new
+        (IsNeededFrom root.old symbol.module_id (later_parts (remaining_parts parts.now)))
+        resolving.old.keys resolving.new.keys result }
+    ensures stores { StoresOnly root.old root.new
+        (IsNeededFrom root.old symbol.module_id (later_parts (remaining_parts parts.now))) }
     ensures found_under_parts { IfOk result
         (λ paths. ArePathsFoundWithParts root.new resolving.old.keys visited.old.keys symbol
         (later_parts (remaining_parts parts.now)) paths.items visited.new.keys) }
@@ -440,10 +450,11 @@ fn resolve_definition_with_parts<'a>(
     requires ready { IsSearchReady root.old definition.now.«module» visited.old.keys resolving.old.keys }
     requires some { 0 < length (remaining_parts parts.now) }
     requires declared { IsStarImportDeclared root.old.graph (definition_by_specifier root.old definition.now) }
-    ensures after_call { KeepsResolving root.old root.new definition.now.«module» resolving.old.keys
-        resolving.new.keys result }
-    ensures stores { StoresOnlyNeeded root.old root.new
-        (specifier_in root.old definition.now.«module») }
+    ensures after_call { KeepsResolving root.old root.new
+        (IsNeededFrom root.old definition.now.«module» (remaining_parts parts.now))
+        resolving.old.keys resolving.new.keys result }
+    ensures stores { StoresOnly root.old root.new
+        (IsNeededFrom root.old definition.now.«module» (remaining_parts parts.now)) }
     ensures changed { IfOk result (λ path. IsDefinitionReplacement root.new resolving.old.keys
         visited.old.keys definition.now (remaining_parts parts.now) path visited.new.keys) }
     ensures visits { IfOk result (λ path. HasSearched root.new visited.old.keys visited.new.keys

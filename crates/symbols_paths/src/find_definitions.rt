@@ -266,8 +266,8 @@ impl<'a> FindDefinitions<'a> for RootSymbol<'a> {
         ensures faults { IfErr result
             (IsDepFault self.old self.new module_id (reference_view dep.now)) }
         ensures grown { HasGrown self.old self.new }
-        ensures stores { StoresOnly self.old self.new (IsNeededByReference self.old.graph
-            (specifier_in self.old module_id) (reference_view dep.now)) }
+        ensures stores { StoresOnly self.old self.new (IsNeededByReference self.old.rules
+            self.old.graph (specifier_in self.old module_id) (reference_view dep.now)) }
         ensures only { (s : SymbolBySpecifier) (parts : QualifiedNameParts) (f g : PathForest)
             → IsForestFoundBySearchWithParts (routes_of_root self.old) s parts f
             → IsForestFoundBySearchWithParts (routes_of_root self.old) s parts g → f ≡ g }

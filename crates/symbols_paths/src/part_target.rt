@@ -2,7 +2,7 @@
 
 ghost use Rattle.std.specs.Prelude.{◌≡◌, ◌<◌, length, IfOk};
 ghost use Rattle.symbols_root.specs.Roots.{RootView, specifier_in};
-ghost use Rattle.symbols_root.specs.Calls.{IsStored, KeepsStored};
+ghost use Rattle.symbols_root.specs.Calls.{IsStored};
 ghost use Rattle.symbols_exports.specs.OneName.{find_export};
 ghost use Rattle.symbols_exports.specs.StarStatements.{resolve_specifier};
 ghost use Rattle.symbols_paths.specs.PartTargets.{lacks, exported_part_target, export_of_symbol};
@@ -11,9 +11,10 @@ ghost use Rattle.symbols_paths.specs.PartTargets.{part_target_of};
 ghost use Rattle.symbols_paths.specs.Views.{symbol_by_specifier, decl_by_specifier};
 ghost use Rattle.symbols_paths.specs.Views.{definition_by_specifier, reason_view, strings_view};
 ghost use Rattle.symbols_paths.specs.inner.Views.{first_part, later_parts};
-ghost use Rattle.symbols_paths.specs.NeededModules.{IsNeededModuleRefused, StoresOnlyNeeded};
-ghost use Rattle.symbols_paths.specs.inner.Needed.{IsImportRefused, IsStarImportDeclared};
-ghost use Rattle.symbols_paths.specs.inner.Needed.{StoresOnlyImported};
+ghost use Rattle.symbols_paths.specs.NeededModules.{StoresOnly};
+ghost use Rattle.symbols_paths.specs.inner.Needed.{IsNeededFrom, IsSearchedForExportOf};
+ghost use Rattle.symbols_paths.specs.inner.Needed.{IsSearchedInImport, KeepsOrRefuses};
+ghost use Rattle.symbols_paths.specs.inner.Needed.{IsStarImportDeclared};
 ghost use Rattle.symbols_paths.specs.inner.SearchSteps.{part_target_view, IsPartStored};
 
 use crate::decl_target::{export_of_symbol, is_class_at};
@@ -101,16 +102,16 @@ fn module_part_target(
 ) -> Result<PartTarget, SymbolsFault>
     requires known { IsStored root.old module_id }
     requires some { 0 < length parts.now }
-    ensures keeps { KeepsStored root.old root.new
-        (IsNeededModuleRefused root.new (specifier_in root.old module_id))
-        result }
+    ensures keeps { KeepsOrRefuses root.old root.new
+        (IsSearchedForExportOf root.old module_id (first_part (strings_view parts.now))) result }
     ensures view { IfOk result (λ part_target. part_target_view root.new part_target
         ≡ module_part_target (specifier_in root.old module_id) (first_part
         (strings_view parts.now)) (later_parts (strings_view parts.now))
         (find_export root.old.graph (specifier_in root.old module_id)
         (first_part (strings_view parts.now)))) }
     ensures stored { IfOk result (IsPartStored root.new) }
-    ensures stores { StoresOnlyNeeded root.old root.new (specifier_in root.old module_id) }
+    ensures stores { StoresOnly root.old root.new
+        (IsSearchedForExportOf root.old module_id (first_part (strings_view parts.now))) }
 {
     match export_of(root, module_id, parts[0].as_str()) {
         Err(fault) => Err(fault),
@@ -135,14 +136,15 @@ pub(crate) fn import_part_target(
 ) -> Result<PartTarget, SymbolsFault>
     requires known { IsStored root.old module_id }
     requires some { 0 < length parts.now }
-    ensures keeps { KeepsStored root.old root.new
-        (IsImportRefused root.old root.new module_id specifier_text.now) result }
+    ensures keeps { KeepsOrRefuses root.old root.new (IsSearchedInImport root.old module_id
+        specifier_text.now (first_part (strings_view parts.now))) result }
     ensures view { IfOk result (λ part_target. part_target_view root.new part_target
         ≡ import_part_target root.old.graph (specifier_in root.old module_id) specifier_text.now
         (first_part (strings_view parts.now)) (later_parts (strings_view parts.now))
         (resolve_specifier root.old.graph (specifier_in root.old module_id) specifier_text.now)) }
     ensures stored { IfOk result (IsPartStored root.new) }
-    ensures stores { StoresOnlyImported root.old root.new module_id specifier_text.now }
+    ensures stores { StoresOnly root.old root.new (IsSearchedInImport root.old module_id
+        specifier_text.now (first_part (strings_view parts.now))) }
 {
     match resolve_specifier(root, module_id, specifier_text) {
         Err(fault) => Err(fault),
@@ -167,15 +169,15 @@ pub(crate) fn part_target_of(
     requires known { IsStored root.old definition.now.«module» }
     requires some { 0 < length parts.now }
     requires declared { IsStarImportDeclared root.old.graph (definition_by_specifier root.old definition.now) }
-    ensures keeps { KeepsStored root.old root.new
-        (IsNeededModuleRefused root.new (specifier_in root.old definition.now.«module»)) result }
+    ensures keeps { KeepsOrRefuses root.old root.new
+        (IsNeededFrom root.old definition.now.«module» (strings_view parts.now)) result }
     ensures view { IfOk result (λ part_target. part_target_view root.new part_target
         ≡ part_target_of root.old.graph (definition_by_specifier root.old definition.now)
         (first_part
         (strings_view parts.now)) (later_parts (strings_view parts.now))) }
     ensures stored { IfOk result (IsPartStored root.new) }
-    ensures stores { StoresOnlyNeeded root.old root.new
-        (specifier_in root.old definition.now.«module») }
+    ensures stores { StoresOnly root.old root.new
+        (IsNeededFrom root.old definition.now.«module» (strings_view parts.now)) }
 {
     match definition.kind {
         DefinitionKind::Definition => {

@@ -7,7 +7,8 @@ ghost use Rattle.symbols_root.specs.Calls.{IsStored, KeepsStored};
 ghost use Rattle.symbols_exports.specs.StarStatements.{star_specifiers, resolve_specifier};
 ghost use Rattle.symbols_paths.specs.DeclTargets.{re_exported_symbol};
 ghost use Rattle.symbols_paths.specs.inner.Views.{symbol_of_unique_id};
-ghost use Rattle.symbols_paths.specs.NeededModules.{IsNeededModuleRefused, StoresOnlyNeeded};
+ghost use Rattle.symbols_paths.specs.NeededModules.{StoresOnly};
+ghost use Rattle.symbols_paths.specs.inner.Needed.{IsSearchedAlongStarsOf, KeepsOrRefuses};
 ghost use Rattle.symbols_paths.specs.inner.Needed.{StoresOnlyTarget};
 
 use symbols_exports::export_of;
@@ -58,14 +59,14 @@ pub(crate) fn re_exported_symbol(
     requires occurs { (position : ℕ)
         × (slice_get (star_specifiers root.old.graph (specifier_in root.old module_id)) position
         ≡ Some specifier_text.now) }
-    ensures keeps { KeepsStored root.old root.new
-        (IsNeededModuleRefused root.new (specifier_in root.old module_id))
-        result }
+    ensures keeps { KeepsOrRefuses root.old root.new
+        (IsSearchedAlongStarsOf root.old module_id name.now) result }
     ensures gives { IfOk result (λ symbol. option_map (symbol_of_unique_id root.new) symbol
         ≡ re_exported_symbol root.old.graph name.now (resolve_specifier root.old.graph
         (specifier_in root.old module_id) specifier_text.now)) }
     ensures stored { IfOk result (λ symbol. IfSome symbol (λ s. IsStored root.new s.module_id)) }
-    ensures stores { StoresOnlyNeeded root.old root.new (specifier_in root.old module_id) }
+    ensures stores { StoresOnly root.old root.new
+        (IsSearchedAlongStarsOf root.old module_id name.now) }
 {
     let target = match resolve_specifier(root, module_id, specifier_text) {
         Err(fault) => return Err(fault),

@@ -5,7 +5,7 @@ ghost use Rattle.std.specs.Cow.{cow_str_bytes};
 ghost use Rattle.symbols_ast.specs.Ids.{id_view};
 ghost use Rattle.symbols_nodes.specs.References.{qualified_id, import_type};
 ghost use Rattle.symbols_root.specs.Roots.{RootView, specifier_in};
-ghost use Rattle.symbols_root.specs.Calls.{IsStored, KeepsStored};
+ghost use Rattle.symbols_root.specs.Calls.{IsStored};
 ghost use Rattle.symbols_exports.specs.StarStatements.{resolve_specifier};
 ghost use Rattle.symbols_paths.specs.PartTargets.{import_part_target};
 ghost use Rattle.symbols_paths.specs.Computed.{paths_with_parts};
@@ -14,8 +14,8 @@ ghost use Rattle.symbols_paths.specs.inner.Views.{symbol_of_unique_id, borrowed_
 ghost use Rattle.symbols_paths.specs.inner.Views.{first_part, later_parts};
 ghost use Rattle.symbols_paths.specs.inner.PathBuilders.{remaining_parts, built_paths};
 ghost use Rattle.symbols_paths.specs.inner.PathBuilders.{modules_of_builders};
-ghost use Rattle.symbols_paths.specs.NeededModules.{IsNeededModuleRefused, StoresOnlyNeeded};
-ghost use Rattle.symbols_paths.specs.inner.Needed.{IsImportRefused, StoresOnlyImported};
+ghost use Rattle.symbols_paths.specs.NeededModules.{IsNeededByReference, StoresOnly};
+ghost use Rattle.symbols_paths.specs.inner.Needed.{IsNeededFrom, KeepsOrRefuses};
 ghost use Rattle.symbols_paths.specs.Answers.{ArePathsFor};
 ghost use Rattle.symbols_paths.specs.DepAnswers.{resolved_dep_entry_view, modules_of_entries};
 ghost use Rattle.symbols_paths.specs.DepAnswers.{path_entries};
@@ -57,9 +57,10 @@ fn resolve_qualified_name<'a>(
     parts: &SharedParts,
 ) -> Result<Vec<PathBuilder<'a>>, SymbolsFault>
     requires known { IsStored root.old symbol.module_id }
-    ensures keeps { KeepsStored root.old root.new
-        (IsNeededModuleRefused root.new (specifier_in root.old symbol.module_id)) result }
-    ensures stores { StoresOnlyNeeded root.old root.new (specifier_in root.old symbol.module_id) }
+    ensures keeps { KeepsOrRefuses root.old root.new
+        (IsNeededFrom root.old symbol.module_id (remaining_parts parts.now)) result }
+    ensures stores { StoresOnly root.old root.new
+        (IsNeededFrom root.old symbol.module_id (remaining_parts parts.now)) }
     ensures found { IfOk result (λ paths. ArePathsFor root.old.rules root.old.graph
         (symbol_of_unique_id root.old symbol) (remaining_parts parts.now)
         (built_paths root.new paths.items)) }
@@ -83,9 +84,10 @@ fn resolve_after_first_part<'a>(
 ) -> Result<Vec<PathBuilder<'a>>, SymbolsFault>
     requires known { IsStored root.old symbol.module_id }
     requires some { 0 < length (remaining_parts parts.now) }
-    ensures keeps { KeepsStored root.old root.new
-        (IsNeededModuleRefused root.new (specifier_in root.old symbol.module_id)) result }
-    ensures stores { StoresOnlyNeeded root.old root.new (specifier_in root.old symbol.module_id) }
+    ensures keeps { KeepsOrRefuses root.old root.new
+        (IsNeededFrom root.old symbol.module_id (later_parts (remaining_parts parts.now))) result }
+    ensures stores { StoresOnly root.old root.new
+        (IsNeededFrom root.old symbol.module_id (later_parts (remaining_parts parts.now))) }
     ensures found { IfOk result (λ paths. ArePathsFor root.old.rules root.old.graph
         (symbol_of_unique_id root.old symbol) (later_parts (remaining_parts parts.now))
         (built_paths root.new paths.items)) }
@@ -132,10 +134,10 @@ fn go_to_id_and_parts_definition_paths<'a>(
     parts: &SharedParts,
 ) -> Result<Vec<PathBuilder<'a>>, SymbolsFault>
     requires known { IsStored root.old module_id }
-    ensures keeps { KeepsStored root.old root.new
-        (IsNeededModuleRefused root.new (specifier_in root.old module_id))
-        result }
-    ensures stores { StoresOnlyNeeded root.old root.new (specifier_in root.old module_id) }
+    ensures keeps { KeepsOrRefuses root.old root.new
+        (IsNeededFrom root.old module_id (remaining_parts parts.now)) result }
+    ensures stores { StoresOnly root.old root.new
+        (IsNeededFrom root.old module_id (remaining_parts parts.now)) }
     ensures found { IfOk result (λ paths. ArePathsOfReference root.old.rules root.old.graph
         (referenced_by_id root.old.graph (specifier_in root.old module_id) (id_view id.now)
         (remaining_parts parts.now))
@@ -168,9 +170,12 @@ fn resolve_qualified_export_name<'a>(
 ) -> Result<Vec<PathBuilder<'a>>, SymbolsFault>
     requires known { IsStored root.old module_id }
     requires some { 0 < length (remaining_parts parts.now) }
-    ensures keeps { KeepsStored root.old root.new
-        (IsImportRefused root.old root.new module_id specifier_text.now) result }
-    ensures stores { StoresOnlyImported root.old root.new module_id specifier_text.now }
+    ensures keeps { KeepsOrRefuses root.old root.new
+        (IsNeededByReference root.old.rules root.old.graph (specifier_in root.old module_id)
+        (import_type specifier_text.now (remaining_parts parts.now))) result }
+    ensures stores { StoresOnly root.old root.new
+        (IsNeededByReference root.old.rules root.old.graph (specifier_in root.old module_id)
+        (import_type specifier_text.now (remaining_parts parts.now))) }
     ensures found { IfOk result (λ paths. ArePathsOfReference root.old.rules root.old.graph
         (referenced_by_part (later_parts (remaining_parts parts.now))
         (import_part_target root.old.graph (specifier_in root.old module_id) specifier_text.now
@@ -199,9 +204,12 @@ fn resolve_import_type<'a>(
     specifier_text: &str,
 ) -> Result<Vec<ResolvedSymbolDepEntry<'a>>, SymbolsFault>
     requires known { IsStored root.old module_id }
-    ensures keeps { KeepsStored root.old root.new
-        (IsImportRefused root.old root.new module_id specifier_text.now) result }
-    ensures stores { StoresOnlyImported root.old root.new module_id specifier_text.now }
+    ensures keeps { KeepsOrRefuses root.old root.new
+        (IsNeededByReference root.old.rules root.old.graph (specifier_in root.old module_id)
+        (import_type specifier_text.now [])) result }
+    ensures stores { StoresOnly root.old root.new
+        (IsNeededByReference root.old.rules root.old.graph (specifier_in root.old module_id)
+        (import_type specifier_text.now [])) }
     ensures found { IfOk result (λ entries. map (resolved_dep_entry_view root.new) entries.items
         ≡ entries_without_symbol root.old.graph (specifier_in root.old module_id) (import_type
         specifier_text.now [])) }
@@ -267,10 +275,10 @@ pub(crate) fn resolve_id_dep<'a>(
     parts: &SharedParts,
 ) -> Result<Vec<ResolvedSymbolDepEntry<'a>>, SymbolsFault>
     requires known { IsStored root.old module_id }
-    ensures keeps { KeepsStored root.old root.new
-        (IsNeededModuleRefused root.new (specifier_in root.old module_id))
-        result }
-    ensures stores { StoresOnlyNeeded root.old root.new (specifier_in root.old module_id) }
+    ensures keeps { KeepsOrRefuses root.old root.new
+        (IsNeededFrom root.old module_id (remaining_parts parts.now)) result }
+    ensures stores { StoresOnly root.old root.new
+        (IsNeededFrom root.old module_id (remaining_parts parts.now)) }
     ensures answers { IfOk result
         (λ entries. IsDepAnswer root.old.rules root.old.graph (specifier_in root.old module_id)
         (qualified_id (id_view id.now) (remaining_parts parts.now))
@@ -296,9 +304,12 @@ pub(crate) fn resolve_import_type_dep<'a>(
     parts: &SharedParts,
 ) -> Result<Vec<ResolvedSymbolDepEntry<'a>>, SymbolsFault>
     requires known { IsStored root.old module_id }
-    ensures keeps { KeepsStored root.old root.new
-        (IsImportRefused root.old root.new module_id specifier_text.now) result }
-    ensures stores { StoresOnlyImported root.old root.new module_id specifier_text.now }
+    ensures keeps { KeepsOrRefuses root.old root.new
+        (IsNeededByReference root.old.rules root.old.graph (specifier_in root.old module_id)
+        (import_type specifier_text.now (remaining_parts parts.now))) result }
+    ensures stores { StoresOnly root.old root.new
+        (IsNeededByReference root.old.rules root.old.graph (specifier_in root.old module_id)
+        (import_type specifier_text.now (remaining_parts parts.now))) }
     ensures answers { IfOk result
         (λ entries. IsDepAnswer root.old.rules root.old.graph (specifier_in root.old module_id)
         (import_type specifier_text.now (remaining_parts parts.now))

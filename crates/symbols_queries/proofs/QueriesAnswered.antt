@@ -11,7 +11,7 @@ use Rattle.symbols_ast.specs.declared.ids.SymbolId.{SymbolId}
 use Rattle.symbols_ast.specs.Graph.{GraphView}
 use Rattle.symbols_ast.specs.Ids.{IdView}
 use Rattle.symbols_nodes.specs.declared.deps.dep.ResolveDepsMode.{ResolveDepsMode}
-use Rattle.symbols_nodes.specs.References.{SymbolReference, SymbolDependency, id, qualified_id, import_type}
+use Rattle.symbols_nodes.specs.References.{SymbolReference, SymbolDependency}
 use Rattle.symbols_table.specs.declared.decl.symbol.Symbol.{Symbol}
 use Rattle.symbols_table.specs.declared.info.fault.SymbolsFault.{SymbolsFault}
 use Rattle.symbols_table.specs.declared.info.fault.SymbolsFault.TheVariants as fault
@@ -37,7 +37,7 @@ use Rattle.symbols_exports.specs.SharedNames.{NameWithExporters}
 use Rattle.symbols_exports.specs.SharedNameLists.{shared_names_of, shared_name_view_of_resolved, views_of_shared_names, shared_views_by_rules}
 use Rattle.symbols_exports.specs.Traces.{exports_of, unresolved_stars_of}
 use Rattle.symbols_paths.specs.Answers.{symbol_in_root as symbol_stored, AreDefinitionPaths, IsPathsFault}
-use Rattle.symbols_paths.specs.DepAnswers.{DepEntryView, IsDepAnswer, dep_entries_of, IsDepRefused, along_search, of_import, IsDepFault}
+use Rattle.symbols_paths.specs.DepAnswers.{DepEntryView, IsDepAnswer, dep_entries_of, IsDepRefused, IsDepFault}
 use Rattle.symbols_paths.specs.NeededModules.{IsModuleNeeded, IsNeededByReference}
 use Rattle.symbols_paths.specs.PathTrees.{PathForest}
 use Rattle.symbols_paths.specs.Views.{symbol_by_specifier}
@@ -84,12 +84,12 @@ memory_refused (Err e) old new specifier question has h =
 
 -- a question that needs no other module has no refused module
 pub no_refusal : (root : RootView) (specifier : List ℕ) (question : QuestionView) (f : SymbolsFault)
-    → ((v : List ℕ) → IsNeededByQuestion root.graph specifier question v → ⊥) → IsQuestionFault root root specifier question f
+    → ((v : List ℕ) → IsNeededByQuestion root.rules root.graph specifier question v → ⊥) → IsQuestionFault root root specifier question f
     → (f ≡ fault.OutOfMemory) ⊎ (f ≡ fault.UnknownSymbol)
 no_refusal root specifier question f none_needed (inl is) = inr is.fault_is
 no_refusal root specifier question f none_needed (inr is) = by is.needed f is.is_needed is.refused
   where
-    by : (needed : Option (List ℕ)) (f : SymbolsFault) → ((v : List ℕ) → needed ≡ Some v → IsNeededByQuestion root.graph specifier question v)
+    by : (needed : Option (List ℕ)) (f : SymbolsFault) → ((v : List ℕ) → needed ≡ Some v → IsNeededByQuestion root.rules root.graph specifier question v)
         → IsStoringFault root needed f → (f ≡ fault.OutOfMemory) ⊎ (f ≡ fault.UnknownSymbol)
     by (Some v) f query_kind w = absurd (none_needed v (query_kind v refl))
     by None fault.OutOfMemory query_kind w = inl refl
@@ -315,8 +315,8 @@ module _ (question : QuestionView) (s : SymbolId) (named_form : PathForest → A
     → question_answer rules graph specifier question ≡ answer_if_symbol (symbol_in_module graph specifier s)
     (named_form (definition_paths_from rules graph specifier s)))
     (by_means : (rules : Rules) (graph : GraphView) (specifier : List ℕ) (given : AnswerView) → IsAnswerOfPaths rules graph specifier s named_form given
-    → IsAnswerToQuestion rules graph specifier question given) (query_kind : (graph : GraphView) (specifier v : List ℕ) → IsModuleNeeded graph specifier v
-    → IsNeededByQuestion graph specifier question v) (other : IsOther question) where
+    → IsAnswerToQuestion rules graph specifier question given) (query_kind : (rules : Rules) (graph : GraphView) (specifier v : List ℕ)
+    → IsModuleNeeded rules graph specifier [] v → IsNeededByQuestion rules graph specifier question v) (other : IsOther question) where
   found_named : (old : RootView) (module_id : ModuleId) → symbol_stored old module_id s ≢ None → question_answer old.rules old.graph (specifier_in old
       module_id) question ≡ Some (named_form (definition_paths_from old.rules old.graph (specifier_in old module_id) s))
   found_named old module_id has = by_named old.rules old.graph (specifier_in old module_id)
@@ -352,8 +352,9 @@ module _ (question : QuestionView) (s : SymbolId) (named_form : PathForest → A
       inr (record {
         has_answer = paths_answered old module_id is.has_symbol;
         needed = is.refused.needed;
-        is_needed = λ v e. query_kind old.graph (specifier_in old module_id) v
-            (subst (λ (g : GraphView). IsModuleNeeded g (specifier_in old module_id) v) grown.graph (is.refused.is_needed v e));
+        is_needed = λ v e. query_kind old.rules old.graph (specifier_in old module_id) v
+            (subst (λ (g : GraphView). IsModuleNeeded old.rules g (specifier_in old module_id) [] v) grown.graph
+            (subst (λ (r : Rules). IsModuleNeeded r new.graph (specifier_in old module_id) [] v) grown.rules (is.refused.is_needed v e)));
         refused = is.refused.refused;
       })
 
@@ -380,29 +381,17 @@ pub entries_answered : (rules : Rules) (graph : GraphView) (specifier : List ℕ
     → question_answer rules graph specifier (query_resolve reference) ≢ None
 entries_answered rules graph specifier reference = λ no_answer_in_module. let no : ⊥ = cc in no
 
-needed_here : (graph : GraphView) (specifier : List ℕ) (reference : SymbolReference) (v : List ℕ) → IsModuleNeeded graph specifier v
-    → IsNeededByReference graph specifier reference v
-needed_here graph specifier (id name) v is = is
-needed_here graph specifier (qualified_id name parts) v is = is
-needed_here graph specifier (import_type text parts) v is = inl is
-
-refused_here : (old new : RootView) (specifier : List ℕ) (reference : SymbolReference) (f : SymbolsFault) → new.graph ≡ old.graph
+refused_here : (old new : RootView) (specifier : List ℕ) (reference : SymbolReference) (f : SymbolsFault) → HasGrown old new
     → IsDepRefused new specifier reference f → IsModuleForQuestionRefused old new specifier (query_resolve reference) f
-refused_here old new specifier reference f same (along_search is) = record {
+refused_here old new specifier reference f grown is = record {
   has_answer = entries_answered old.rules old.graph specifier reference;
   needed = is.needed;
-  is_needed = λ v e. needed_here old.graph specifier reference v (subst (λ (g : GraphView). IsModuleNeeded g specifier v) same (is.is_needed v e));
-  refused = is.refused;
-}
-refused_here old new specifier reference f same (of_import text parts target_specifier is_import occurs is) = record {
-  has_answer = entries_answered old.rules old.graph specifier reference;
-  needed = is.needed;
-  is_needed = λ v e. subst (λ (g : GraphView). IsNeededByReference g specifier reference v) same
-      (subst (λ (r : SymbolReference). IsNeededByReference new.graph specifier r v) (sym is_import) (inr (target_specifier, occurs, is.is_needed v e)));
+  is_needed = λ v e. subst (λ (g : GraphView). IsNeededByReference old.rules g specifier reference v) grown.graph
+      (subst (λ (r : Rules). IsNeededByReference r new.graph specifier reference v) grown.rules (is.is_needed v e));
   refused = is.refused;
 }
 
 pub entries_refused : (old new : RootView) (module_id : ModuleId) (reference : SymbolReference) (f : SymbolsFault) → HasGrown old new → module_id.0
     < length old.stored → IsDepFault old new module_id reference f → IsQuestionFault old new (specifier_in old module_id) (query_resolve reference) f
 entries_refused old new module_id reference f grown known (inl is) = absurd (omega (arith, is.unknown, known))
-entries_refused old new module_id reference f grown known (inr is) = inr (refused_here old new (specifier_in old module_id) reference f grown.graph is.1)
+entries_refused old new module_id reference f grown known (inr is) = inr (refused_here old new (specifier_in old module_id) reference f grown is.1)

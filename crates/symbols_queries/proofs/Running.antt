@@ -14,6 +14,7 @@ use Rattle.symbols_table.specs.declared.info.fault.SymbolsFault.{SymbolsFault}
 use Rattle.symbols_table.specs.declared.info.fault.SymbolsFault.TheVariants as fault
 use Rattle.symbols_root.specs.declared.rules.Rules.{Rules}
 use Rattle.symbols_root.specs.Growing.{HasGrown}
+use Rattle.symbols_root.specs.Calls.{CanResolvingFail}
 use Rattle.symbols_root.specs.Roots.{RootView, with_stored_module, maybe_specifier, specifier_in, IsStoringFault}
 use Rattle.symbols_root.specs.TypesChains.{types_chain, resolved_module_specifier, IsOnlyTypesChain}
 use Rattle.symbols_root.specs.laws.Growing.{has_grown_refl, has_grown_trans, has_grown_by_stored_module}
@@ -32,7 +33,8 @@ use Rattle.symbols_queries.specs.declared.query.Query.{Query}
 use Rattle.symbols_queries.specs.Queries.{query_view}
 use Rattle.symbols_queries.specs.AnswerViews.{answer_view}
 use Rattle.symbols_queries.specs.inner.Given.{IsQuestionAnswerReturned, IsQueryAnswerReturned}
-use Rattle.symbols_queries.specs.QueryFaults.{IsNeededByQuestion, IsNeededByQuery, IsStoredForQuery, IsStoredForQueries, IsQueryFault, IsQueryAnswered, IsAnswerLost, IsQueryListFault}
+use Rattle.symbols_queries.specs.QueryFaults.{IsNeededByQuestion, IsNeededByQuery, IsStoredForQuery, IsStoredForQueries, IsQueryFault}
+use Rattle.symbols_queries.specs.QueryFaults.{IsQueryAnswered, IsAnswerLost, IsQueryListFault}
 use Rattle.symbols_queries.specs.inner.QueryFaults.{IsQuestionFault}
 use Rattle.symbols_queries.proofs.Storing.{all_still_there, still_there}
 
@@ -122,30 +124,32 @@ none_given old mid specifier query same grown gives chain =
 
 -- the module that the specifier resolves to
 pub stores_queried : (old mid : RootView) (specifier : List ℕ) (query : QueryView) → specifier ≡ query.specifier
-    → mid ≡ with_stored_module old (resolved_module_specifier old.graph specifier) → StoresOnly old mid (IsStoredForQuery old.graph query)
+    → mid ≡ with_stored_module old (resolved_module_specifier old.graph specifier) → StoresOnly old mid (IsStoredForQuery old.rules old.graph query)
 stores_queried old mid specifier query same stored = stores_wider (stores_one old mid (resolved_module_specifier old.graph specifier) stored)
     (λ v e. inl (subst (λ (text : List ℕ). resolved_module_specifier old.graph text ≡ Some v) same e))
 
 needed_by_query : (old mid : RootView) (module_id : ModuleId) (query : QueryView) → IsQueried old mid module_id query → (v : List ℕ)
-    → IsNeededByQuestion mid.graph (specifier_in mid module_id) query.question v → IsNeededByQuery old.graph query v
+    → IsNeededByQuestion mid.rules mid.graph (specifier_in mid module_id) query.question v → IsNeededByQuery old.rules old.graph query v
 needed_by_query old mid module_id query queried v needed = (
   specifier_in mid module_id,
   queried.occurs,
-  subst (λ (g : GraphView). IsNeededByQuestion g (specifier_in mid module_id) query.question v) queried.grown.graph needed,
+  subst (λ (g : GraphView). IsNeededByQuestion old.rules g (specifier_in mid module_id) query.question v) queried.grown.graph
+      (subst (λ (r : Rules). IsNeededByQuestion r mid.graph (specifier_in mid module_id) query.question v) queried.grown.rules needed),
 )
 
 -- and those that the question needs
 pub stores_for_query : (old mid new : RootView) (module_id : ModuleId) (query : QueryView) → IsQueried old mid module_id query
-    → StoresOnly old mid (IsStoredForQuery old.graph query)
-    → StoresOnly mid new (IsNeededByQuestion mid.graph (specifier_in mid module_id) query.question)
-    → StoresOnly old new (IsStoredForQuery old.graph query)
+    → StoresOnly old mid (IsStoredForQuery old.rules old.graph query)
+    → StoresOnly mid new (IsNeededByQuestion mid.rules mid.graph (specifier_in mid module_id) query.question)
+    → StoresOnly old new (IsStoredForQuery old.rules old.graph query)
 stores_for_query old mid new module_id query queried first then =
     stores_then first then (λ v needed. inr (needed_by_query old mid module_id query queried v needed))
 
 -- ---- why a query fails
 
 pub query_refused : (old mid new : RootView) (module_id : ModuleId) (query : QueryView) (f : SymbolsFault) → IsQueried old mid module_id query
-    → HasGrown mid new → StoresOnly mid new (IsNeededByQuestion mid.graph (specifier_in mid module_id) query.question) → IsQuestionFault mid new (specifier_in mid module_id) query.question f → IsQueryFault old new query f
+    → HasGrown mid new → StoresOnly mid new (IsNeededByQuestion mid.rules mid.graph (specifier_in mid module_id) query.question)
+    → IsQuestionFault mid new (specifier_in mid module_id) query.question f → IsQueryFault old new query f
 query_refused old mid new module_id query f queried grown only (inl is) = inl (record {
   no_answer = answer_is old mid query (specifier_in mid module_id) queried.grown queried.occurs ∙ is.no_answer_in_module;
   fault_is = is.fault_is;
@@ -155,7 +159,7 @@ query_refused old mid new module_id query f queried grown only (inr is) = inr (i
   has_answer = λ no_answer_in_module. is.has_answer (sym (answer_is old mid query (specifier_in mid module_id) queried.grown queried.occurs)
       ∙ no_answer_in_module);
   stored = subst (λ (root : RootView). HasGrown root new) queried.stored grown;
-  only = subst (λ (root : RootView). StoresOnly root new (IsNeededByQuery old.graph query)) queried.stored
+  only = subst (λ (root : RootView). StoresOnly root new (IsNeededByQuery old.rules old.graph query)) queried.stored
       (stores_wider only (needed_by_query old mid module_id query queried));
   needed = is.needed;
   is_needed = λ v e. needed_by_query old mid module_id query queried v (is.is_needed v e);
@@ -163,12 +167,12 @@ query_refused old mid new module_id query f queried grown only (inr is) = inr (i
 }))
 
 pub module_refused : (old new : RootView) (specifier : List ℕ) (query : QueryView) (f : SymbolsFault) → specifier ≡ query.specifier → new ≡ old
-    → IsStoringFault old (resolved_module_specifier old.graph specifier) f → IsQueryFault old new query f
-module_refused old new specifier query f same unchanged refusal =
+    → IsStoringFault old (resolved_module_specifier old.graph specifier) f → CanResolvingFail old specifier → IsQueryFault old new query f
+module_refused old new specifier query f same unchanged refusal can_fail =
     inr (inl (record {
       refused = subst (λ (text : List ℕ). IsStoringFault old (resolved_module_specifier old.graph text) f) same refusal;
-      unchanged =
-          unchanged;
+      can_fail = subst (CanResolvingFail old) same can_fail;
+      unchanged = unchanged;
     }))
 
 -- ---- queries one after the other
@@ -212,7 +216,7 @@ IsNamed old now query given = IsQueryAnswerReturned old now (query_view query) (
 pub record AreAnswered (old now : RootView) (answers : List Answer) (queries : List Query) (index : ℕ) : Type 0 where
   pub grown : HasGrown old now
   pub named_form : AllZip (IsNamed old now) (take index queries) answers
-  pub only : StoresOnly old now (IsStoredForQueries old.graph (map query_view (take index queries)))
+  pub only : StoresOnly old now (IsStoredForQueries old.rules old.graph (map query_view (take index queries)))
 
 pub answered_first : (root : RootView) (answers : List Answer) (queries : List Query) → answers ≡ [] → AreAnswered root root answers queries 0
 answered_first root answers queries none_yet =
@@ -220,23 +224,24 @@ answered_first root answers queries none_yet =
 
 -- the modules of some queries, and of one after them
 stores_further : (old mid new : RootView) (before : List Query) (query : Query) → HasGrown old mid
-    → StoresOnly old mid (IsStoredForQueries old.graph (map query_view before)) → StoresOnly mid new (IsStoredForQuery mid.graph (query_view query))
-    → StoresOnly old new (IsStoredForQueries old.graph (map query_view (before ++ query ∷ [])))
-stores_further old mid new before query grown first then = subst (λ (qs : List QueryView). StoresOnly old new (IsStoredForQueries old.graph qs))
+    → StoresOnly old mid (IsStoredForQueries old.rules old.graph (map query_view before)) → StoresOnly mid new (IsStoredForQuery mid.rules mid.graph (query_view query))
+    → StoresOnly old new (IsStoredForQueries old.rules old.graph (map query_view (before ++ query ∷ [])))
+stores_further old mid new before query grown first then = subst (λ (qs : List QueryView). StoresOnly old new (IsStoredForQueries old.rules old.graph qs))
     (sym (map-append query_view before (query ∷ []))) (stores_then (stores_wider first earlier) then this)
   where
     all : List QueryView
     all = map query_view before ++ query_view query ∷ []
 
-    earlier : (v : List ℕ) → IsStoredForQueries old.graph (map query_view before) v → IsStoredForQueries old.graph all v
+    earlier : (v : List ℕ) → IsStoredForQueries old.rules old.graph (map query_view before) v → IsStoredForQueries old.rules old.graph all v
     earlier v s = (s.0, Contains-append_left (map query_view before) (query_view query ∷ []) s.0 s.1, s.2)
 
-    this : (v : List ℕ) → IsStoredForQuery mid.graph (query_view query) v → IsStoredForQueries old.graph all v
+    this : (v : List ℕ) → IsStoredForQuery mid.rules mid.graph (query_view query) v → IsStoredForQueries old.rules old.graph all v
     this v s = (
       query_view query,
       Contains-append_right (map query_view before) (query_view query ∷ []) (query_view query)
           (Contains-get_or (query_view query ∷ []) 0 (query_view query) (omega arith)),
-      subst (λ (g : GraphView). IsStoredForQuery g (query_view query) v) grown.graph s,
+      subst (λ (g : GraphView). IsStoredForQuery old.rules g (query_view query) v) grown.graph
+          (subst (λ (r : Rules). IsStoredForQuery r mid.graph (query_view query) v) grown.rules s),
     )
 
 -- the queries up to an index
@@ -244,27 +249,27 @@ with_this : (queries : List Query) (index : ℕ) (query : Query) → index < len
     → take index queries ++ query ∷ [] ≡ take (index + 1) queries
 with_this queries index query within at = ap (λ q. take index queries ++ q ∷ []) at ∙ sym (take_more queries index query within)
 
-stores_for_all : (old new : RootView) (queries : List Query) (index : ℕ) → StoresOnly old new (IsStoredForQueries old.graph (map query_view (take index queries)))
-    → StoresOnly old new (IsStoredForQueries old.graph (map query_view queries))
-stores_for_all old new queries index is = subst (λ (qs : List Query). StoresOnly old new (IsStoredForQueries old.graph (map query_view qs)))
-    (take-append-drop index queries) (subst (λ (qs : List QueryView). StoresOnly old new (IsStoredForQueries old.graph qs))
+stores_for_all : (old new : RootView) (queries : List Query) (index : ℕ) → StoresOnly old new (IsStoredForQueries old.rules old.graph (map query_view (take index queries)))
+    → StoresOnly old new (IsStoredForQueries old.rules old.graph (map query_view queries))
+stores_for_all old new queries index is = subst (λ (qs : List Query). StoresOnly old new (IsStoredForQueries old.rules old.graph (map query_view qs)))
+    (take-append-drop index queries) (subst (λ (qs : List QueryView). StoresOnly old new (IsStoredForQueries old.rules old.graph qs))
     (sym (map-append query_view (take index queries) (drop index queries))) (stores_wider is earlier))
   where
-    earlier : (v : List ℕ) → IsStoredForQueries old.graph (map query_view (take index queries)) v
-        → IsStoredForQueries old.graph (map query_view (take index queries) ++ map query_view (drop index queries)) v
+    earlier : (v : List ℕ) → IsStoredForQueries old.rules old.graph (map query_view (take index queries)) v
+        → IsStoredForQueries old.rules old.graph (map query_view (take index queries) ++ map query_view (drop index queries)) v
     earlier v s = (s.0, Contains-append_left (map query_view (take index queries)) (map query_view (drop index queries)) s.0 s.1, s.2)
 
 -- up to a query that was answered or failed
 pub stores_up_to : (old mid new : RootView) (answers : List Answer) (queries : List Query) (index : ℕ) (query : Query)
     → AreAnswered old mid answers queries index → index < length queries → query ≡ get_or queries index query
-    → StoresOnly mid new (IsStoredForQuery mid.graph (query_view query)) → StoresOnly old new (IsStoredForQueries old.graph (map query_view queries))
+    → StoresOnly mid new (IsStoredForQuery mid.rules mid.graph (query_view query)) → StoresOnly old new (IsStoredForQueries old.rules old.graph (map query_view queries))
 stores_up_to old mid new answers queries index query is within at then = stores_for_all old new queries (index + 1)
-    (subst (λ (qs : List Query). StoresOnly old new (IsStoredForQueries old.graph (map query_view qs))) (with_this queries index query within at)
+    (subst (λ (qs : List Query). StoresOnly old new (IsStoredForQueries old.rules old.graph (map query_view qs))) (with_this queries index query within at)
     (stores_further old mid new (take index queries) query is.grown is.only then))
 
 -- and after all of them
 pub stores_last : (old new : RootView) (answers : List Answer) (queries : List Query) (index : ℕ) → AreAnswered old new answers queries index
-    → StoresOnly old new (IsStoredForQueries old.graph (map query_view queries))
+    → StoresOnly old new (IsStoredForQueries old.rules old.graph (map query_view queries))
 stores_last old new answers queries index is = stores_for_all old new queries index is.only
 
 -- it is right in a root that has stored more
@@ -298,7 +303,7 @@ named_at_first old now new query given grown is = record {
 
 pub answered_on : (old mid new : RootView) (answers further : List Answer) (given : Answer) (queries : List Query) (index : ℕ) (query : Query)
     → AreAnswered old mid answers queries index → index < length queries → query ≡ get_or queries index query → HasGrown mid new → IsNamed mid new query given
-    → StoresOnly mid new (IsStoredForQuery mid.graph (query_view query)) → further ≡ answers ++ given ∷ [] → AreAnswered old new further queries (index + 1)
+    → StoresOnly mid new (IsStoredForQuery mid.rules mid.graph (query_view query)) → further ≡ answers ++ given ∷ [] → AreAnswered old new further queries (index + 1)
 answered_on old mid new answers further given queries index query is within at grown named_form then put =
     let before = zip_weaker (IsNamed old mid) (IsNamed old new) (still_named old mid new grown) (take index queries) answers is.named_form in
     let consumed = with_this queries index query within at in
@@ -307,7 +312,7 @@ answered_on old mid new answers further given queries index query is within at g
       named_form = subst (AllZip (IsNamed old new) (take (index + 1) queries)) (sym put) (subst (λ (qs : List Query). AllZip (IsNamed old new) qs (answers
           ++ given ∷ [])) consumed (zip_more (IsNamed old new) (take index queries) answers query given before
           (named_at_first old mid new query given is.grown named_form)));
-      only = subst (λ (qs : List Query). StoresOnly old new (IsStoredForQueries old.graph (map query_view qs))) consumed
+      only = subst (λ (qs : List Query). StoresOnly old new (IsStoredForQueries old.rules old.graph (map query_view qs))) consumed
           (stores_further old mid new (take index queries) query is.grown is.only then);
     }
 
@@ -354,7 +359,7 @@ run_refused old mid new answers queries index query f is within at fails = recor
 -- an allocation failed for one more answer
 pub run_out_of_memory : {A : Type 0} (r : Result A SymbolsFault) (old mid new : RootView) (answers : List Answer) (given : Answer) (queries : List Query)
     (index : ℕ) (query : Query) → AreAnswered old mid answers queries index → index < length queries → query ≡ get_or queries index query
-    → HasGrown mid new → IsNamed mid new query given → StoresOnly mid new (IsStoredForQuery mid.graph (query_view query))
+    → HasGrown mid new → IsNamed mid new query given → StoresOnly mid new (IsStoredForQuery mid.rules mid.graph (query_view query))
     → IsErrAnd r (λ e. e ≡ fault.OutOfMemory) → IfErr r (IsQueryListFault old new (map query_view queries))
 run_out_of_memory (Ok x) old mid new answers given queries index query is within at grown named_form then h = tt
 run_out_of_memory (Err e) old mid new answers given queries index query is within at grown named_form then h =

@@ -1,8 +1,10 @@
 -- Why a query fails.
-use Rattle.std.specs.Prelude.{◌≡◌, ◌≢◌, ◌⊎◌, ℕ, List, ◌∷◌, ◌++◌, All, Contains, Option, Some, None}
+use Rattle.std.specs.Prelude.{◌≡◌, ◌≢◌, ◌⊎◌, ℕ, List, [], ◌∷◌, ◌++◌, All, Contains, Option, Some, None}
 use Rattle.symbols_ast.specs.Graph.{GraphView}
 use Rattle.symbols_table.specs.declared.info.fault.SymbolsFault.{SymbolsFault}
 use Rattle.symbols_table.specs.declared.info.fault.SymbolsFault.TheVariants.{OutOfMemory, UnknownSymbol}
+use Rattle.symbols_root.specs.declared.rules.Rules.{Rules}
+use Rattle.symbols_root.specs.Calls.{CanResolvingFail}
 use Rattle.symbols_root.specs.TypesChains.{resolved_module_specifier}
 use Rattle.symbols_root.specs.Roots.{RootView, with_stored_module, IsStoringFault}
 use Rattle.symbols_exports.specs.Chains.{IsReachedByStars}
@@ -17,30 +19,30 @@ use Rattle.symbols_answers.specs.Stored.{AreQueryModulesStored}
 
 -- the other modules that a question on a module may need: for its exports and public names the reachable ones, for definitions and
 -- references those of the search
-abbrev pub IsNeededByQuestion : GraphView → List ℕ → QuestionView → List ℕ → Type 0
-IsNeededByQuestion graph specifier query_module v = ⊥
-IsNeededByQuestion graph specifier query_exports v = IsReachedByStars (star_targets_of graph) specifier v
-IsNeededByQuestion graph specifier query_names v = IsReachedByStars (star_targets_of graph) specifier v
-IsNeededByQuestion graph specifier (query_symbol name) v = ⊥
-IsNeededByQuestion graph specifier (query_name s) v = ⊥
-IsNeededByQuestion graph specifier (query_deps s mode) v = ⊥
-IsNeededByQuestion graph specifier (query_paths s) v = IsModuleNeeded graph specifier v
-IsNeededByQuestion graph specifier (query_definitions s) v = IsModuleNeeded graph specifier v
-IsNeededByQuestion graph specifier (query_leaves s) v = IsModuleNeeded graph specifier v
-IsNeededByQuestion graph specifier (query_resolve reference) v = IsNeededByReference graph specifier reference v
+abbrev pub IsNeededByQuestion : Rules → GraphView → List ℕ → QuestionView → List ℕ → Type 0
+IsNeededByQuestion rules graph specifier query_module v = ⊥
+IsNeededByQuestion rules graph specifier query_exports v = IsReachedByStars (star_targets_of graph) specifier v
+IsNeededByQuestion rules graph specifier query_names v = IsReachedByStars (star_targets_of graph) specifier v
+IsNeededByQuestion rules graph specifier (query_symbol name) v = ⊥
+IsNeededByQuestion rules graph specifier (query_name s) v = ⊥
+IsNeededByQuestion rules graph specifier (query_deps s mode) v = ⊥
+IsNeededByQuestion rules graph specifier (query_paths s) v = IsModuleNeeded rules graph specifier [] v
+IsNeededByQuestion rules graph specifier (query_definitions s) v = IsModuleNeeded rules graph specifier [] v
+IsNeededByQuestion rules graph specifier (query_leaves s) v = IsModuleNeeded rules graph specifier [] v
+IsNeededByQuestion rules graph specifier (query_resolve reference) v = IsNeededByReference rules graph specifier reference v
 
 -- the modules that a query may need besides the one that its specifier resolves to
-abbrev pub IsNeededByQuery : GraphView → QueryView → List ℕ → Type 0
-IsNeededByQuery graph query v = (specifier : List ℕ) × (resolved_module_specifier graph query.specifier ≡ Some specifier)
-    × IsNeededByQuestion graph specifier query.question v
+abbrev pub IsNeededByQuery : Rules → GraphView → QueryView → List ℕ → Type 0
+IsNeededByQuery rules graph query v = (specifier : List ℕ) × (resolved_module_specifier graph query.specifier ≡ Some specifier)
+    × IsNeededByQuestion rules graph specifier query.question v
 
 -- the modules that a query may store: the one that its specifier resolves to, and those that it may need besides
-abbrev pub IsStoredForQuery : GraphView → QueryView → List ℕ → Type 0
-IsStoredForQuery graph query v = (resolved_module_specifier graph query.specifier ≡ Some v) ⊎ IsNeededByQuery graph query v
+abbrev pub IsStoredForQuery : Rules → GraphView → QueryView → List ℕ → Type 0
+IsStoredForQuery rules graph query v = (resolved_module_specifier graph query.specifier ≡ Some v) ⊎ IsNeededByQuery rules graph query v
 
 -- the modules that one of some queries may store
-abbrev pub IsStoredForQueries : GraphView → List QueryView → List ℕ → Type 0
-IsStoredForQueries graph queries v = (query : QueryView) × Contains queries query × IsStoredForQuery graph query v
+abbrev pub IsStoredForQueries : Rules → GraphView → List QueryView → List ℕ → Type 0
+IsStoredForQueries rules graph queries v = (query : QueryView) × Contains queries query × IsStoredForQuery rules graph query v
 
 -- the queried module has no such symbol: it alone is stored, if it wasn't
 pub record IsUnknownSymbolQueryFault (old new : RootView) (query : QueryView) (fault : SymbolsFault) : Type 0 where
@@ -48,9 +50,10 @@ pub record IsUnknownSymbolQueryFault (old new : RootView) (query : QueryView) (f
   pub fault_is : fault ≡ UnknownSymbol
   pub stored : new ≡ with_stored_module old (resolved_module_specifier old.graph query.specifier)
 
--- the queried module is refused, or an allocation failed for it: nothing changes
+-- the queried module is refused, or an allocation failed for it: nothing changes. It isn't stored, or a types dependency leads to it
 pub record IsQueriedModuleRefused (old new : RootView) (query : QueryView) (fault : SymbolsFault) : Type 0 where
   pub refused : IsStoringFault old (resolved_module_specifier old.graph query.specifier) fault
+  pub can_fail : CanResolvingFail old query.specifier
   pub unchanged : new ≡ old
 
 -- the query has an answer, and the queried module is stored; another module that may be needed is refused, or an allocation failed. Besides
@@ -58,9 +61,9 @@ pub record IsQueriedModuleRefused (old new : RootView) (query : QueryView) (faul
 pub record IsModuleForQueryRefused (old new : RootView) (query : QueryView) (fault : SymbolsFault) : Type 0 where
   pub has_answer : query_answer old.rules old.graph query ≢ None
   pub stored : HasGrown (with_stored_module old (resolved_module_specifier old.graph query.specifier)) new
-  pub only : StoresOnly (with_stored_module old (resolved_module_specifier old.graph query.specifier)) new (IsNeededByQuery old.graph query)
+  pub only : StoresOnly (with_stored_module old (resolved_module_specifier old.graph query.specifier)) new (IsNeededByQuery old.rules old.graph query)
   pub needed : Option (List ℕ)
-  pub is_needed : (v : List ℕ) → needed ≡ Some v → IsNeededByQuery old.graph query v
+  pub is_needed : (v : List ℕ) → needed ≡ Some v → IsNeededByQuery old.rules old.graph query v
   pub refused : IsStoringFault new needed fault
 
 -- why a query fails: one of these
@@ -77,7 +80,7 @@ pub record IsAnswerLost (old new : RootView) (query : QueryView) (fault : Symbol
   pub fault_is : fault ≡ OutOfMemory
   pub answered : IsQueryAnswered new query
   pub grown : HasGrown old new
-  pub only : StoresOnly old new (IsStoredForQuery old.graph query)
+  pub only : StoresOnly old new (IsStoredForQuery old.rules old.graph query)
 
 -- why a list of queries fails: those before one are answered, in a root that has stored what they need, and newly stored only what they may
 -- store; from that root on this one fails, or its answer is lost
@@ -88,6 +91,6 @@ pub record IsQueryListFault (old new : RootView) (queries : List QueryView) (fau
   pub are : queries ≡ before ++ query ∷ later
   pub between : RootView
   pub grown : HasGrown old between
-  pub only : StoresOnly old between (IsStoredForQueries old.graph before)
+  pub only : StoresOnly old between (IsStoredForQueries old.rules old.graph before)
   pub answered : All (IsQueryAnswered between) before
   pub fails : IsQueryFault between new query fault ⊎ IsAnswerLost between new query fault

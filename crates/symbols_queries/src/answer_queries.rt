@@ -50,7 +50,7 @@ fn exports_answer<'a>(
     requires { IsStored root.old module_id }
     ensures keeps { KeepsStored root.old root.new
         (IsQuestionFault root.old root.new (specifier_in root.old module_id) query_exports) result }
-    ensures stores { StoresOnly root.old root.new (IsNeededByQuestion root.old.graph
+    ensures stores { StoresOnly root.old root.new (IsNeededByQuestion root.old.rules root.old.graph
         (specifier_in root.old module_id) query_exports) }
     ensures given { IfOk result (λ answer. IsQuestionAnswerReturned root.old root.new
         (specifier_in root.old module_id) query_exports (answer_view answer)) }
@@ -69,7 +69,7 @@ fn names_answer<'a>(
     requires { IsStored root.old module_id }
     ensures keeps { KeepsStored root.old root.new
         (IsQuestionFault root.old root.new (specifier_in root.old module_id) query_names) result }
-    ensures stores { StoresOnly root.old root.new (IsNeededByQuestion root.old.graph
+    ensures stores { StoresOnly root.old root.new (IsNeededByQuestion root.old.rules root.old.graph
         (specifier_in root.old module_id) query_names) }
     ensures given { IfOk result (λ answer. IsQuestionAnswerReturned root.old root.new
         (specifier_in root.old module_id) query_names (answer_view answer)) }
@@ -135,7 +135,7 @@ fn paths_answer<'a>(
     requires { IsStored root.old module_id }
     ensures keeps { IsQuestionOutcome root.old root.new (IsQuestionFault root.old root.new
         (specifier_in root.old module_id) (query_paths symbol)) result }
-    ensures stores { StoresOnly root.old root.new (IsNeededByQuestion root.old.graph
+    ensures stores { StoresOnly root.old root.new (IsNeededByQuestion root.old.rules root.old.graph
         (specifier_in root.old module_id) (query_paths symbol)) }
     ensures given { IfOk result (λ answer. IsQuestionAnswerReturned root.old root.new
         (specifier_in root.old module_id) (query_paths symbol) (answer_view answer)) }
@@ -155,7 +155,7 @@ fn definitions_answer<'a>(
     requires { IsStored root.old module_id }
     ensures keeps { IsQuestionOutcome root.old root.new (IsQuestionFault root.old root.new
         (specifier_in root.old module_id) (query_definitions symbol)) result }
-    ensures stores { StoresOnly root.old root.new (IsNeededByQuestion root.old.graph
+    ensures stores { StoresOnly root.old root.new (IsNeededByQuestion root.old.rules root.old.graph
         (specifier_in root.old module_id) (query_definitions symbol)) }
     ensures given { IfOk result (λ answer. IsQuestionAnswerReturned root.old root.new
         (specifier_in root.old module_id) (query_definitions symbol) (answer_view answer)) }
@@ -178,7 +178,7 @@ fn leaves_answer<'a>(
     requires { IsStored root.old module_id }
     ensures keeps { IsQuestionOutcome root.old root.new (IsQuestionFault root.old root.new
         (specifier_in root.old module_id) (query_leaves symbol)) result }
-    ensures stores { StoresOnly root.old root.new (IsNeededByQuestion root.old.graph
+    ensures stores { StoresOnly root.old root.new (IsNeededByQuestion root.old.rules root.old.graph
         (specifier_in root.old module_id) (query_leaves symbol)) }
     ensures given { IfOk result (λ answer. IsQuestionAnswerReturned root.old root.new
         (specifier_in root.old module_id) (query_leaves symbol) (answer_view answer)) }
@@ -199,7 +199,7 @@ fn entries_answer<'a>(
     ensures keeps { KeepsStored root.old root.new
         (IsQuestionFault root.old root.new (specifier_in root.old module_id)
         (query_resolve (reference_view dep.now))) result }
-    ensures stores { StoresOnly root.old root.new (IsNeededByQuestion root.old.graph
+    ensures stores { StoresOnly root.old root.new (IsNeededByQuestion root.old.rules root.old.graph
         (specifier_in root.old module_id) (query_resolve (reference_view dep.now))) }
     ensures given { IfOk result (λ answer. IsQuestionAnswerReturned root.old root.new
         (specifier_in root.old module_id) (query_resolve (reference_view dep.now))
@@ -222,7 +222,7 @@ fn answer_on<'a>(
     ensures keeps { IsQuestionOutcome root.old root.new
         (IsQuestionFault root.old root.new (specifier_in root.old module_id)
         (query_view query.now).question) result }
-    ensures stores { StoresOnly root.old root.new (IsNeededByQuestion root.old.graph
+    ensures stores { StoresOnly root.old root.new (IsNeededByQuestion root.old.rules root.old.graph
         (specifier_in root.old module_id) (query_view query.now).question) }
     ensures given { IfOk result (λ answer. IsQuestionAnswerReturned root.old root.new
         (specifier_in root.old module_id) (query_view query.now).question (answer_view answer)) }
@@ -251,7 +251,8 @@ pub trait AnswerQueries<'a> {
     /// stored then. Else `OutOfMemory`, or the limit that a module breaks: the queried module, or
     /// one that its answer may need. If the queried module is refused, nothing changes. Modules
     /// that were stored stay stored. No other module is stored than the queried one and those that
-    /// the answer may need.
+    /// the answer may need. If the queried module is stored, and the one that the specifier names has
+    /// no types dependency, a symbol that doesn't exist is always told as `UnknownSymbol`.
     fn answer(&mut self, query: &Query<'_>) -> Result<Answer<'a>, SymbolsFault>;
 
     /// Returns the answers to queries, in order (extension). None depends on earlier calls or
@@ -279,7 +280,7 @@ impl<'a> AnswerQueries<'a> for RootSymbol<'a> {
         ensures listed { (start : List ℕ) → AreExportListsCorrectAndUnique self.old.graph start }
         ensures faults { IfErr result (IsQueryFault self.old self.new (query_view query.now)) }
         ensures stores { StoresOnly self.old self.new
-            (IsStoredForQuery self.old.graph (query_view query.now)) }
+            (IsStoredForQuery self.old.rules self.old.graph (query_view query.now)) }
         ensures enough { self.old.limits ≡ widest_limits
             → IfErr result (λ fault. (fault ≡ OutOfMemory) ⊎ (fault ≡ UnknownSymbol)) }
     {
@@ -306,7 +307,7 @@ impl<'a> AnswerQueries<'a> for RootSymbol<'a> {
         ensures listed { (start : List ℕ) → AreExportListsCorrectAndUnique self.old.graph start }
         ensures faults { IfErr result (IsQueryListFault self.old self.new (map query_view queries.now)) }
         ensures stores { StoresOnly self.old self.new
-            (IsStoredForQueries self.old.graph (map query_view queries.now)) }
+            (IsStoredForQueries self.old.rules self.old.graph (map query_view queries.now)) }
         ensures enough { self.old.limits ≡ widest_limits
             → IfErr result (λ fault. (fault ≡ OutOfMemory) ⊎ (fault ≡ UnknownSymbol)) }
     {

@@ -4,8 +4,8 @@ use Rattle.std.specs.Option.{option_map}
 use Rattle.symbols_ast.specs.declared.ids.ModuleId.{ModuleId}
 use Rattle.symbols_ast.specs.declared.ids.UniqueSymbolId.{UniqueSymbolId}
 use Rattle.symbols_ast.specs.Graph.{GraphView}
-use Rattle.symbols_ast.specs.Ids.{id_view}
-use Rattle.symbols_table.specs.DeclViews.{Declaration, file_ref, one_name}
+use Rattle.symbols_ast.specs.Ids.{IdView, id_view}
+use Rattle.symbols_table.specs.DeclViews.{Declaration, qualified_target, file_ref, one_name}
 use Rattle.symbols_table.specs.declared.info.fault.SymbolsFault.{SymbolsFault}
 use Rattle.symbols_root.specs.declared.rules.Rules.{Rules}
 use Rattle.symbols_root.specs.Roots.{RootView, specifier_in}
@@ -29,7 +29,7 @@ use Rattle.symbols_paths.specs.Views.{symbol_by_specifier, decl_by_specifier, de
 use Rattle.symbols_paths.specs.Views.{AreModulesStored}
 use Rattle.symbols_paths.specs.inner.Views.{symbol_of_unique_id, first_part, later_parts}
 use Rattle.symbols_paths.specs.inner.PathBuilders.{remaining_parts, built_paths, built_paths_of_option}
-use Rattle.symbols_paths.specs.NeededModules.{IsNeededModuleRefused}
+use Rattle.symbols_paths.specs.NeededModules.{IsOneRefused}
 
 -- the paths of a candidate; none without a candidate
 abbrev pub FindsPathsOfCandidate : SearchRoutes → ℕ → List DeclBySpecifier → List SymbolBySpecifier → Option SymbolBySpecifier → PathForest
@@ -54,9 +54,10 @@ decl_target_view rules graph s (read.Alias t parts) = alias (record { specifier 
 decl_target_view rules graph s (read.Import named_import) = forwards
     (import_forward rules graph s named_import.name.now named_import.specifier_text.now (resolve_specifier graph s.specifier named_import.specifier_text.now))
 
--- if the target is an import, the declaration is an import of this name from this specifier
+-- if the target is an import, the declaration is an import of this name from this specifier; if it is an alias, one of these qualifiers
 abbrev pub IsTargetImportedByDecl : DeclTarget → Declaration → Type 0
 IsTargetImportedByDecl (read.Import named_import) decl = decl.kind ≡ file_ref (one_name named_import.name.now) named_import.specifier_text.now
+IsTargetImportedByDecl (read.Alias s parts) decl = (name : IdView) × (decl.kind ≡ qualified_target name (remaining_parts parts))
 IsTargetImportedByDecl _ decl = Unit {0}
 
 -- the declaration at an index, whose target this is
@@ -96,11 +97,11 @@ pub record IsSearchReady (root : RootView) (module_id : ModuleId) (before : List
   pub visited : AreSymbolsStored root before
   pub resolving : AreAliasesStored root running
 
--- after a search in this module: the root keeps what each call keeps, a fault is of a module needed from this one or of a failed
--- allocation, and a result leaves the aliases being resolved as they were
-pub record KeepsResolving {A : Type 0} (old new : RootView) (module_id : ModuleId) (running after : List AliasDecl) (result : Result A SymbolsFault) : Type 0
+-- after a search that may need these modules: the root keeps what each call keeps, a fault is of one of them or of a failed allocation, and a
+-- result leaves the aliases being resolved as they were
+pub record KeepsResolving {A : Type 0} (old new : RootView) (these : List ℕ → Type 0) (running after : List AliasDecl) (result : Result A SymbolsFault) : Type 0
   where
-    pub keeps : KeepsStored old new (IsNeededModuleRefused new (specifier_in old module_id)) result
+    pub keeps : KeepsStored old new (IsOneRefused new these) result
     pub same : OnOk result (after ≡ running)
 
 abbrev pub decl_of_alias : RootView → AliasDecl → DeclBySpecifier

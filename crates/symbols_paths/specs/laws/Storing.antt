@@ -1,11 +1,12 @@
--- Laws of `StoresOnly`: what several calls, one after the other, store. They are proved.
+-- Laws of `StoresOnly` and `IsOneRefused`: what several calls, one after the other, store. They are proved.
 use Rattle.std.proofs.Common.{◌≡◌, ℕ, zero, suc, ◌<◌, Bool, true, false, List, [], ◌∷◌, ◌++◌, length, map, Option, None, Some, inl, inr, sym, ap, subst, arith}
 use Rattle.std.specs.Prelude.{◌⊎◌, Contains, if◌then◌else◌}
 use Rattle.std.proofs.lemmas.List.Elements.{Contains-append_right, Contains-append_cases, Contains-get_or}
 use Rattle.std.proofs.lemmas.Option.{same_Some}
+use Rattle.symbols_table.specs.declared.info.fault.SymbolsFault.{SymbolsFault}
 use Rattle.symbols_root.specs.Specifiers.{contains_specifier}
 use Rattle.symbols_root.specs.Roots.{RootView, with_stored_module, with_stored_modules}
-use Rattle.symbols_paths.specs.NeededModules.{StoresOnly}
+use Rattle.symbols_paths.specs.NeededModules.{IsOneRefused, StoresOnly}
 
 -- nothing is stored
 pub stores_nothing : {P : List ℕ → Type 0} (root : RootView) → StoresOnly root root P
@@ -21,6 +22,11 @@ stores_wider {old = old} {P = P} {Q = Q} is wider = record { each = λ v h. by v
     by : (v : List ℕ) → Contains old.stored v ⊎ P v → Contains old.stored v ⊎ Q v
     by v (inl h) = inl h
     by v (inr p) = inr (wider v p)
+
+-- a fault of one of these modules is one of more modules
+pub refused_wider : {root : RootView} {P Q : List ℕ → Type 0} {fault : SymbolsFault} → IsOneRefused root P fault → ((v : List ℕ) → P v → Q v)
+    → IsOneRefused root Q fault
+refused_wider is wider = record { needed = is.needed; is_needed = λ v e. wider v (is.is_needed v e); refused = is.refused }
 
 -- a call after another
 pub stores_then : {a b c : RootView} {P Q : List ℕ → Type 0} → StoresOnly a b P → StoresOnly b c Q → ((v : List ℕ) → Q v → P v) → StoresOnly a c P

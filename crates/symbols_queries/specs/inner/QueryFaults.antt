@@ -18,7 +18,7 @@ pub record IsUnknownSymbolQuestionFault (old new : RootView) (specifier : List �
 pub record IsModuleForQuestionRefused (old new : RootView) (specifier : List ℕ) (question : QuestionView) (fault : SymbolsFault) : Type 0 where
   pub has_answer : question_answer old.rules old.graph specifier question ≢ None
   pub needed : Option (List ℕ)
-  pub is_needed : (v : List ℕ) → needed ≡ Some v → IsNeededByQuestion old.graph specifier question v
+  pub is_needed : (v : List ℕ) → needed ≡ Some v → IsNeededByQuestion old.rules old.graph specifier question v
   pub refused : IsStoringFault new needed fault
 
 abbrev pub IsQuestionFault : RootView → RootView → List ℕ → QuestionView → SymbolsFault → Type 0

@@ -3,6 +3,8 @@ use Rattle.std.proofs.Common.{None, Some, ◌+◌, option_map, sym, ap, subst, �
 use Rattle.std.proofs.lemmas.List.{length-append, nil_from_length}
 use Rattle.std.proofs.lemmas.Result.{IfOk-weaker, on_ok_weaker}
 use Rattle.symbols_ast.specs.declared.ids.ModuleId.{ModuleId}
+use Rattle.symbols_ast.specs.Ids.{IdView}
+use Rattle.symbols_table.specs.DeclViews.{qualified_target}
 use Rattle.symbols_root.specs.Roots.{RootView, specifier_in}
 use Rattle.symbols_root.specs.Calls.{IsStored}
 use Rattle.symbols_root.specs.laws.Calls.{keeps_stored_after_growth}
@@ -16,7 +18,7 @@ use Rattle.symbols_paths.specs.DeclTargets.{explicit_export, searches_stars_for}
 use Rattle.symbols_paths.specs.Views.{strings_view}
 use Rattle.symbols_paths.specs.inner.Views.{symbol_of_unique_id, later_parts}
 use Rattle.symbols_paths.specs.inner.PathBuilders.{remaining_parts, built_paths, modules_of_builders}
-use Rattle.symbols_paths.specs.NeededModules.{IsModuleNeeded, IsNeededModuleRefused}
+use Rattle.symbols_paths.specs.NeededModules.{imported_module}
 use Rattle.symbols_paths.specs.inner.SearchSteps.{AreSymbolsStored, AreAliasesStored, IsTargetOfDeclAtIndex, ArePathsFoundForSymbol, ArePathsFoundWithParts}
 use Rattle.symbols_paths.proofs.GrownRoots.{still_numbered, all_still_stored}
 use Rattle.symbols_paths.proofs.NamedPathLemmas.{none_at, some_at, is_some}
@@ -28,14 +30,16 @@ use Rattle.symbols_paths.proofs.Forwards.{option_stored, target_later, tried_unr
 use Rattle.symbols_paths.proofs.StarLoop.{querying_first, querying_within, position_within, position_before}
 use Rattle.symbols_paths.proofs.StarLoop.{querying_next, querying_here, here_searched, querying_last, last_searched}
 use Rattle.symbols_paths.proofs.SearchSteps.{still_aliases, aliases_with, is_symbol, is_alias_decl}
-use Rattle.symbols_paths.proofs.SearchPreconditions.{still_ready, keeps_from, fault_from, keeps_out_of_memory}
+use Rattle.symbols_paths.proofs.SearchPreconditions.{still_ready, keeps_wider, fault_wider, keeps_out_of_memory}
 use Rattle.symbols_paths.proofs.SharedParts.{short_parts}
 use Rattle.symbols_paths.proofs.QualifiedSteps.{IsWalking, AreGiven, head_in_index, one_less, walked_alone, changed_itself}
 use Rattle.symbols_paths.proofs.QualifiedSteps.{changed_lacking, changed_on, walking_first, walking_next, walking_last, resolved_open}
-use Rattle.symbols_paths.proofs.QualifiedSteps.{resolved_walk, first_given, branches_given, given_first, refused_given, refused_on}
-use Rattle.symbols_paths.proofs.Needing.{refused_from, needed_import, refused_import, needed_candidate}
-use Rattle.symbols_paths.specs.laws.Storing.{stores_nothing, stores_wider}
-use Rattle.symbols_paths.proofs.StoredNeeded.{needed_again, needed_onward, stores_import, stores_candidate, stores_given, stores_on}
+use Rattle.symbols_paths.proofs.QualifiedSteps.{resolved_walk, first_given, branches_given, given_first}
+use Rattle.symbols_paths.proofs.LeafNeeds.{under_parts}
+use Rattle.symbols_paths.proofs.Needing.{needed_before, refused_target, needed_import}
+use Rattle.symbols_paths.specs.laws.Storing.{stores_nothing, stores_wider, stores_then}
+use Rattle.symbols_paths.proofs.StoredNeeded.{needed_again, stores_import, import_needs, stars_need, alias_needs, along_before, searched_is_needed}
+use Rattle.symbols_paths.proofs.StoredNeeded.{candidate_needs, stores_candidate, given_needs, stores_given, part_target_needs, stores_on}
 use Rattle.symbols_paths.proofs.Sets.{new_key, old_key, few_before, popped}
 use Rattle.symbols_paths.proofs.definition_search.+definitions.Goals as goal
 
@@ -90,11 +94,14 @@ find_definition_paths_internal-follow_decl-requires t c =
 pub find_definition_paths_internal-returns-in-Err-clause-after_call : goal.find_definition_paths_internal-returns-in-Err-clause-after_call
 find_definition_paths_internal-returns-in-Err-clause-after_call t c =
     let is = c.loop-paths.invariant.0 in
-    record { keeps = fault_from is.grown c.args.symbol.module_id c.requires.ready.known c.in-Err.ensures.after_call.keeps; same = tt }
+    record {
+      keeps = fault_wider is.grown (needed_before c.args.symbol.module_id c.requires.ready.known is.grown []) c.in-Err.ensures.after_call.keeps;
+      same = tt;
+    }
 
 pub find_definition_paths_internal-returns-in-Err-clause-stores : goal.find_definition_paths_internal-returns-in-Err-clause-stores
 find_definition_paths_internal-returns-in-Err-clause-stores t c =
-    needed_again c.args.symbol.module_id c.requires.ready.known c.loop-paths.invariant.0.grown c.loop-paths.invariant.1 c.in-Err.ensures.stores
+    needed_again [] c.args.symbol.module_id c.requires.ready.known c.loop-paths.invariant.0.grown c.loop-paths.invariant.1 c.in-Err.ensures.stores
 
 pub find_definition_paths_internal-returns-clause-after_call : goal.find_definition_paths_internal-returns-clause-after_call
 find_definition_paths_internal-returns-clause-after_call t c =
@@ -124,7 +131,7 @@ find_definition_paths_internal-loop-paths-preserved-in-Ok t c =
     rw added.1 (
       finding_next c.loop-paths.invariant.0 c.requires.ready.known c.in-Some.decl_target read c.in-Ok.ensures.after_call.keeps.grown added.0 added.2
           c.follow_decl.new.resolving.keys c.in-Ok.ensures.after_call.same added.3,
-      needed_again c.args.symbol.module_id c.requires.ready.known c.loop-paths.invariant.0.grown c.loop-paths.invariant.1 c.in-Ok.ensures.stores,
+      needed_again [] c.args.symbol.module_id c.requires.ready.known c.loop-paths.invariant.0.grown c.loop-paths.invariant.1 c.in-Ok.ensures.stores,
     )
 
 pub find_definition_paths_internal-loop-paths-smaller-in-Ok-2 : goal.find_definition_paths_internal-loop-paths-smaller-in-Ok-2
@@ -141,7 +148,7 @@ find_definition_paths_internal-loop-paths-preserved-in-Ok-2 t c =
     rw added.1 (
       finding_next c.loop-paths.invariant.0 c.requires.ready.known c.in-Some.decl_target read c.in-Ok.ensures.after_call.keeps.grown added.0 added.2
           c.follow_decl.new.resolving.keys c.in-Ok.ensures.after_call.same added.3,
-      needed_again c.args.symbol.module_id c.requires.ready.known c.loop-paths.invariant.0.grown c.loop-paths.invariant.1 c.in-Ok.ensures.stores,
+      needed_again [] c.args.symbol.module_id c.requires.ready.known c.loop-paths.invariant.0.grown c.loop-paths.invariant.1 c.in-Ok.ensures.stores,
     )
 
 pub find_definition_paths_internal-loop-paths-smaller : goal.find_definition_paths_internal-loop-paths-smaller
@@ -158,7 +165,7 @@ find_definition_paths_internal-loop-paths-preserved t c =
     rw added.1 (
       finding_next c.loop-paths.invariant.0 c.requires.ready.known c.in-Some.decl_target read c.in-Ok.ensures.after_call.keeps.grown added.0 added.2
           c.follow_decl.new.resolving.keys c.in-Ok.ensures.after_call.same added.3,
-      needed_again c.args.symbol.module_id c.requires.ready.known c.loop-paths.invariant.0.grown c.loop-paths.invariant.1 c.in-Ok.ensures.stores,
+      needed_again [] c.args.symbol.module_id c.requires.ready.known c.loop-paths.invariant.0.grown c.loop-paths.invariant.1 c.in-Ok.ensures.stores,
     )
 
 pub find_definition_paths_internal-returns-clause-found : goal.find_definition_paths_internal-returns-clause-found
@@ -280,10 +287,11 @@ go_to_file_export-returns-in-Err-clause-after_call t c =
     record {
       keeps = record {
         grown = keeps.grown;
-        refused = refused_import c.args.root.now c.resolve_specifier.new.root (symbol_of_unique_id c.args.root.now
-            c.args.symbol) c.args.named_import.now.name.now c.args.named_import.now.specifier_text.now c.in-Err.fault c.requires.declared
-            c.in-Err.ensures.unchanged
-            c.in-Err.ensures.keeps.refused;
+        refused = refused_target c.args.root.now c.resolve_specifier.new.root (resolve_specifier c.args.root.now.graph (specifier_in c.args.root.now
+            c.args.symbol.module_id) c.args.named_import.now.specifier_text.now) c.in-Err.fault
+            (λ v target. needed_import c.args.root.now.rules c.args.root.now.graph (symbol_of_unique_id c.args.root.now c.args.symbol)
+            c.args.named_import.now.name.now c.args.named_import.now.specifier_text.now v v c.requires.declared target imported_module)
+            c.in-Err.ensures.unchanged c.in-Err.ensures.keeps.refused;
         enough = keeps.enough;
       };
       same = tt;
@@ -366,19 +374,13 @@ pub go_to_file_export-returns-in-Some-clause-after_call : goal.go_to_file_export
 go_to_file_export-returns-in-Some-clause-after_call t c =
     let old = c.args.root.now in
     let mid = c.resolve_specifier.new.root in
-    let start = specifier_in old c.args.symbol.module_id in
-    let decl_targets = target_is mid c.in-Ok-Some.module_id (resolve_specifier old.graph start c.args.named_import.now.specifier_text.now)
-    (rw c.in-Ok-Some.field-0-is at c.in-Ok-Some.ensures.gives) in
+    let decl_targets = target_is mid c.in-Ok-Some.module_id (resolve_specifier old.graph (specifier_in old c.args.symbol.module_id)
+    c.args.named_import.now.specifier_text.now) (rw c.in-Ok-Some.field-0-is at c.in-Ok-Some.ensures.gives) in
     let then = c.find_definition_paths_internal.ensures.after_call in
-    let whole = has_grown_trans c.in-Ok-Some.ensures.keeps.grown then.keeps.grown in
-    let to = needed_import old.graph (symbol_of_unique_id old c.args.symbol) c.args.named_import.now.name.now c.args.named_import.now.specifier_text.now
-    (specifier_in mid c.in-Ok-Some.module_id) c.requires.declared decl_targets.is in
-    let needed : IsModuleNeeded c.find_definition_paths_internal.new.root.graph start (specifier_in mid c.new.result.module_id) =
-    subst (λ g. IsModuleNeeded g start (specifier_in mid c.new.result.module_id)) (sym whole.graph)
-    (subst (λ (id : ModuleId). IsModuleNeeded old.graph start (specifier_in mid id)) (sym c.new.ensures.module) to) in
     record {
-      keeps = keeps_stored_after_growth c.find_definition_paths_internal.result c.in-Ok-Some.ensures.keeps.grown
-          (λ fault refused. refused_from c.find_definition_paths_internal.new.root needed refused) then.keeps;
+      keeps = keeps_wider c.find_definition_paths_internal.result c.in-Ok-Some.ensures.keeps.grown (import_needs old mid c.args.symbol
+          c.args.named_import.now.name.now c.args.named_import.now.specifier_text.now c.in-Ok-Some.module_id c.new.result.module_id
+          c.in-Ok-Some.ensures.keeps.grown c.requires.declared decl_targets.is c.new.ensures.module) then.keeps;
       same = then.same;
     }
 
@@ -386,14 +388,12 @@ pub go_to_file_export-returns-in-Some-clause-stores : goal.go_to_file_export-ret
 go_to_file_export-returns-in-Some-clause-stores t c =
     let old = c.args.root.now in
     let mid = c.resolve_specifier.new.root in
-    let start = specifier_in old c.args.symbol.module_id in
-    let decl_targets = target_is mid c.in-Ok-Some.module_id (resolve_specifier old.graph start c.args.named_import.now.specifier_text.now)
-    (rw c.in-Ok-Some.field-0-is at c.in-Ok-Some.ensures.gives) in
-    let to = needed_import old.graph (symbol_of_unique_id old c.args.symbol) c.args.named_import.now.name.now c.args.named_import.now.specifier_text.now
-    (specifier_in mid c.in-Ok-Some.module_id) c.requires.declared decl_targets.is in
-    needed_onward c.in-Ok-Some.ensures.keeps.grown (stores_import old mid c.args.symbol c.args.named_import.now.name.now
-    c.args.named_import.now.specifier_text.now c.requires.declared c.in-Ok-Some.ensures.stores) c.find_definition_paths_internal.ensures.stores
-    (subst (λ (id : ModuleId). IsModuleNeeded old.graph start (specifier_in mid id)) (sym c.new.ensures.module) to)
+    let decl_targets = target_is mid c.in-Ok-Some.module_id (resolve_specifier old.graph (specifier_in old c.args.symbol.module_id)
+    c.args.named_import.now.specifier_text.now) (rw c.in-Ok-Some.field-0-is at c.in-Ok-Some.ensures.gives) in
+    stores_then (stores_import old mid c.args.symbol c.args.named_import.now.name.now c.args.named_import.now.specifier_text.now c.requires.declared
+    c.in-Ok-Some.ensures.stores) c.find_definition_paths_internal.ensures.stores (import_needs old mid c.args.symbol c.args.named_import.now.name.now
+    c.args.named_import.now.specifier_text.now c.in-Ok-Some.module_id c.new.result.module_id c.in-Ok-Some.ensures.keeps.grown c.requires.declared
+    decl_targets.is c.new.ensures.module)
 
 pub go_to_file_export-returns-in-None-clause-tried : goal.go_to_file_export-returns-in-None-clause-tried
 go_to_file_export-returns-in-None-clause-tried t c =
@@ -414,18 +414,14 @@ pub go_to_file_export-returns-in-None-clause-after_call : goal.go_to_file_export
 go_to_file_export-returns-in-None-clause-after_call t c =
     let old = c.args.root.now in
     let mid = c.resolve_specifier.new.root in
-    let start = specifier_in old c.args.symbol.module_id in
-    let decl_targets = target_is mid c.in-Ok-Some.module_id (resolve_specifier old.graph start c.args.named_import.now.specifier_text.now)
-    (rw c.in-Ok-Some.field-0-is at c.in-Ok-Some.ensures.gives) in
+    let decl_targets = target_is mid c.in-Ok-Some.module_id (resolve_specifier old.graph (specifier_in old c.args.symbol.module_id)
+    c.args.named_import.now.specifier_text.now) (rw c.in-Ok-Some.field-0-is at c.in-Ok-Some.ensures.gives) in
+    let so : searches_stars_for mid.rules c.args.named_import.now.name.now ≡ true = search rules in
     let then = c.go_to_re_export_all.ensures.after_call in
-    let whole = has_grown_trans c.in-Ok-Some.ensures.keeps.grown then.keeps.grown in
-    let to = needed_import old.graph (symbol_of_unique_id old c.args.symbol) c.args.named_import.now.name.now c.args.named_import.now.specifier_text.now
-    (specifier_in mid c.in-Ok-Some.module_id) c.requires.declared decl_targets.is in
-    let needed : IsModuleNeeded c.go_to_re_export_all.new.root.graph start (specifier_in mid c.in-Ok-Some.module_id) =
-    subst (λ g. IsModuleNeeded g start (specifier_in mid c.in-Ok-Some.module_id)) (sym whole.graph) to in
     record {
-      keeps = keeps_stored_after_growth c.go_to_re_export_all.result c.in-Ok-Some.ensures.keeps.grown
-          (λ fault refused. refused_from c.go_to_re_export_all.new.root needed refused) then.keeps;
+      keeps = keeps_wider c.go_to_re_export_all.result c.in-Ok-Some.ensures.keeps.grown (stars_need old mid c.args.symbol c.args.named_import.now.name.now
+          c.args.named_import.now.specifier_text.now c.in-Ok-Some.module_id c.in-Ok-Some.ensures.keeps.grown c.requires.declared decl_targets.is
+          (sym c.in-None.ensures) so) then.keeps;
       same = then.same;
     }
 
@@ -433,14 +429,13 @@ pub go_to_file_export-returns-in-None-clause-stores : goal.go_to_file_export-ret
 go_to_file_export-returns-in-None-clause-stores t c =
     let old = c.args.root.now in
     let mid = c.resolve_specifier.new.root in
-    let start = specifier_in old c.args.symbol.module_id in
-    let decl_targets = target_is mid c.in-Ok-Some.module_id (resolve_specifier old.graph start c.args.named_import.now.specifier_text.now)
-    (rw c.in-Ok-Some.field-0-is at c.in-Ok-Some.ensures.gives) in
-    let to = needed_import old.graph (symbol_of_unique_id old c.args.symbol) c.args.named_import.now.name.now c.args.named_import.now.specifier_text.now
-    (specifier_in mid c.in-Ok-Some.module_id) c.requires.declared decl_targets.is in
-    needed_onward c.in-Ok-Some.ensures.keeps.grown (stores_import old mid c.args.symbol c.args.named_import.now.name.now
-    c.args.named_import.now.specifier_text.now c.requires.declared c.in-Ok-Some.ensures.stores) c.go_to_re_export_all.ensures.stores
-    to
+    let decl_targets = target_is mid c.in-Ok-Some.module_id (resolve_specifier old.graph (specifier_in old c.args.symbol.module_id)
+    c.args.named_import.now.specifier_text.now) (rw c.in-Ok-Some.field-0-is at c.in-Ok-Some.ensures.gives) in
+    let so : searches_stars_for mid.rules c.args.named_import.now.name.now ≡ true = search rules in
+    stores_then (stores_import old mid c.args.symbol c.args.named_import.now.name.now c.args.named_import.now.specifier_text.now c.requires.declared
+    c.in-Ok-Some.ensures.stores) c.go_to_re_export_all.ensures.stores (stars_need old mid c.args.symbol c.args.named_import.now.name.now
+    c.args.named_import.now.specifier_text.now c.in-Ok-Some.module_id c.in-Ok-Some.ensures.keeps.grown c.requires.declared decl_targets.is
+    (sym c.in-None.ensures) so)
 
 pub go_to_file_export-returns-in_ok-missing_export_builder-in-None-2-clause-tried : goal.go_to_file_export-returns-in_ok-missing_export_builder-in-None-2-clause-tried
 go_to_file_export-returns-in_ok-missing_export_builder-in-None-2-clause-tried t c =
@@ -498,11 +493,18 @@ go_to_re_export_all-re_exported_symbol-requires-clause-known t c = querying_with
 pub go_to_re_export_all-returns-in-Err-clause-after_call : goal.go_to_re_export_all-returns-in-Err-clause-after_call
 go_to_re_export_all-returns-in-Err-clause-after_call t c =
     let is = c.loop-specifier_text.invariant.0 in
-    record { keeps = fault_from is.grown c.args.module_id c.requires.ready.known c.in-Err.ensures.keeps; same = tt }
+    let name = c.args.named_import.now.name.now in
+    record {
+      keeps = fault_wider is.grown (λ v searched. along_before c.args.module_id name c.requires.ready.known is.grown v
+          (searched_is_needed c.loop-specifier_text.root c.args.module_id name v searched)) c.in-Err.ensures.keeps;
+      same = tt;
+    }
 
 pub go_to_re_export_all-returns-in-Err-clause-stores : goal.go_to_re_export_all-returns-in-Err-clause-stores
 go_to_re_export_all-returns-in-Err-clause-stores t c =
-    needed_again c.args.module_id c.requires.ready.known c.loop-specifier_text.invariant.0.grown c.loop-specifier_text.invariant.1 c.in-Err.ensures.stores
+    let name = c.args.named_import.now.name.now in
+    stores_then c.loop-specifier_text.invariant.1 c.in-Err.ensures.stores (λ v searched. along_before c.args.module_id name c.requires.ready.known
+    c.loop-specifier_text.invariant.0.grown v (searched_is_needed c.loop-specifier_text.root c.args.module_id name v searched))
 
 pub go_to_re_export_all-find_candidate_paths-requires : goal.go_to_re_export_all-find_candidate_paths-requires
 go_to_re_export_all-find_candidate_paths-requires t c =
@@ -524,35 +526,19 @@ go_to_re_export_all-returns-in-Err-find_candidate_paths-clause-after_call t c =
     let is = c.loop-specifier_text.invariant.0 in
     let root = c.loop-specifier_text.root in
     let mid = c.re_exported_symbol.new.root in
-    let after = c.find_candidate_paths.new.root in
-    let refused = c.in-Err-find_candidate_paths.ensures.keeps.refused in
-    let start = specifier_in root c.args.module_id in
-    let at = sym c.in-Some.ensures.specifier_text in
-    let gives : Some (symbol_of_unique_id mid refused.0) ≡ _ = sym (ap (option_map (symbol_of_unique_id mid)) refused.1) ∙ c.in-Ok.ensures.gives in
-    let whole = has_grown_trans c.in-Ok.ensures.keeps.grown c.in-Err-find_candidate_paths.ensures.keeps.grown in
-    let needed : IsModuleNeeded after.graph start (specifier_in mid refused.0.module_id) =
-    subst (λ g. IsModuleNeeded g start (specifier_in mid refused.0.module_id))
-    (sym whole.graph) (needed_candidate root.graph start c.in-Some.specifier_text.now c.args.named_import.now.name.now c.loop-specifier_text.position
-    (symbol_of_unique_id mid refused.0) at gives) in
-    let here : IsNeededModuleRefused after (specifier_in c.args.root.now c.args.module_id) c.in-Err-find_candidate_paths.fault =
-    subst (λ v. IsNeededModuleRefused after v c.in-Err-find_candidate_paths.fault)
-    (specifier_unchanged_by_growth is.grown c.args.module_id c.requires.ready.known)
-    (refused_from after needed refused.2) in
     record {
-      keeps = record {
-        grown = has_grown_trans is.grown whole;
-        refused = here;
-        enough = λ wide. c.in-Err-find_candidate_paths.ensures.keeps.enough (c.in-Ok.ensures.keeps.grown.limits ∙ (is.grown.limits ∙ wide));
-      };
+      keeps = fault_wider (has_grown_trans is.grown c.in-Ok.ensures.keeps.grown) (candidate_needs c.args.root.now root mid c.args.module_id
+          c.in-Some.specifier_text.now c.args.named_import.now.name.now c.in-Ok.candidate c.requires.ready.known is.grown c.in-Ok.ensures.keeps.grown
+          (c.loop-specifier_text.position, sym c.in-Some.ensures.specifier_text) c.in-Ok.ensures.gives) c.in-Err-find_candidate_paths.ensures.keeps;
       same = tt;
     }
 
 pub go_to_re_export_all-returns-in-Err-find_candidate_paths-clause-stores : goal.go_to_re_export_all-returns-in-Err-find_candidate_paths-clause-stores
 go_to_re_export_all-returns-in-Err-find_candidate_paths-clause-stores t c =
     stores_candidate c.args.root.now c.loop-specifier_text.root c.re_exported_symbol.new.root c.find_candidate_paths.new.root c.args.module_id
-    c.in-Some.specifier_text.now c.args.named_import.now.name.now c.loop-specifier_text.position c.in-Ok.candidate c.requires.ready.known
+    c.in-Some.specifier_text.now c.args.named_import.now.name.now c.in-Ok.candidate c.requires.ready.known
     c.loop-specifier_text.invariant.0.grown c.in-Ok.ensures.keeps.grown c.loop-specifier_text.invariant.1 c.in-Ok.ensures.stores
-    (sym c.in-Some.ensures.specifier_text) c.in-Ok.ensures.gives c.in-Err-find_candidate_paths.ensures.stores
+    (c.loop-specifier_text.position, sym c.in-Some.ensures.specifier_text) c.in-Ok.ensures.gives c.in-Err-find_candidate_paths.ensures.stores
 
 pub go_to_re_export_all-returns-then-not-is_empty-clause-after_call : goal.go_to_re_export_all-returns-then-not-is_empty-clause-after_call
 go_to_re_export_all-returns-then-not-is_empty-clause-after_call t c =
@@ -569,9 +555,9 @@ go_to_re_export_all-returns-then-not-is_empty-clause-after_call t c =
 pub go_to_re_export_all-returns-then-not-is_empty-clause-stores : goal.go_to_re_export_all-returns-then-not-is_empty-clause-stores
 go_to_re_export_all-returns-then-not-is_empty-clause-stores t c =
     stores_candidate c.args.root.now c.loop-specifier_text.root c.re_exported_symbol.new.root c.find_candidate_paths.new.root c.args.module_id
-    c.in-Some.specifier_text.now c.args.named_import.now.name.now c.loop-specifier_text.position c.in-Ok.candidate c.requires.ready.known
+    c.in-Some.specifier_text.now c.args.named_import.now.name.now c.in-Ok.candidate c.requires.ready.known
     c.loop-specifier_text.invariant.0.grown c.in-Ok.ensures.keeps.grown c.loop-specifier_text.invariant.1 c.in-Ok.ensures.stores
-    (sym c.in-Some.ensures.specifier_text) c.in-Ok.ensures.gives c.in-Ok-find_candidate_paths.ensures.stores
+    (c.loop-specifier_text.position, sym c.in-Some.ensures.specifier_text) c.in-Ok.ensures.gives c.in-Ok-find_candidate_paths.ensures.stores
 
 pub go_to_re_export_all-returns-then-not-is_empty-clause-tried : goal.go_to_re_export_all-returns-then-not-is_empty-clause-tried
 go_to_re_export_all-returns-then-not-is_empty-clause-tried t c =
@@ -608,9 +594,9 @@ go_to_re_export_all-loop-specifier_text-preserved t c = (
       c.in-Ok-find_candidate_paths.ensures.same c.in-Ok-find_candidate_paths.ensures.visits
       (λ later. is_none later c.in-Ok-find_candidate_paths.paths (sym c.if-not-is_empty.false ∙ c.is_empty.ensures)),
   stores_candidate c.args.root.now c.loop-specifier_text.root c.re_exported_symbol.new.root c.find_candidate_paths.new.root c.args.module_id
-      c.in-Some.specifier_text.now c.args.named_import.now.name.now c.loop-specifier_text.position c.in-Ok.candidate c.requires.ready.known
+      c.in-Some.specifier_text.now c.args.named_import.now.name.now c.in-Ok.candidate c.requires.ready.known
       c.loop-specifier_text.invariant.0.grown c.in-Ok.ensures.keeps.grown c.loop-specifier_text.invariant.1 c.in-Ok.ensures.stores
-      (sym c.in-Some.ensures.specifier_text) c.in-Ok.ensures.gives c.in-Ok-find_candidate_paths.ensures.stores,
+      (c.loop-specifier_text.position, sym c.in-Some.ensures.specifier_text) c.in-Ok.ensures.gives c.in-Ok-find_candidate_paths.ensures.stores,
 )
 
 pub go_to_re_export_all-returns-in_err-missing_export_builder-clause-after_call : goal.go_to_re_export_all-returns-in_err-missing_export_builder-clause-after_call
@@ -650,6 +636,11 @@ pub find_candidate_paths-returns-in-Some-clause-stores : goal.find_candidate_pat
 find_candidate_paths-returns-in-Some-clause-stores t c =
     stores_wider c.find_definition_paths_internal.ensures.stores (λ v needed. (c.in-Some.symbol, c.in-Some.is, needed))
 
+pub find_candidate_paths-returns-in-Some-clause-keeps : goal.find_candidate_paths-returns-in-Some-clause-keeps
+find_candidate_paths-returns-in-Some-clause-keeps t c =
+    keeps_wider c.find_definition_paths_internal.result (has_grown_refl c.args.root.now) (λ v needed. (c.in-Some.symbol, c.in-Some.is, needed))
+    c.find_definition_paths_internal.ensures.after_call.keeps
+
 -- ---- an alias
 
 pub follow_decl-resolve_alias-requires : goal.follow_decl-resolve_alias-requires
@@ -678,6 +669,39 @@ follow_decl-returns-in_ok-push_link_with_parts-in-Ok-resolve_alias-clause-follow
         stored = option_stored root added.0 (added.3 root within c.in-Ok-resolve_alias.ensures.stored);
       },
     )
+
+pub follow_decl-returns-in-Err-resolve_alias-clause-after_call : goal.follow_decl-returns-in-Err-resolve_alias-clause-after_call
+follow_decl-returns-in-Err-resolve_alias-clause-after_call t c =
+    let declared = c.requires.declared in
+    let named : (name : IdView) × (declared.0.kind ≡ qualified_target name (remaining_parts c.in-Alias.parts)) = rw c.in-Alias.is at declared.2 in
+    let needs = alias_needs c.args.root.now c.args.symbol c.new-target-in-Alias.result.module_id (remaining_parts c.in-Alias.parts)
+    c.new-target-in-Alias.ensures.module (declared.0, declared.1, named) in
+    let then = c.in-Err-resolve_alias.ensures.after_call in
+    record { keeps = fault_wider (has_grown_refl c.args.root.now) needs then.keeps; same = tt }
+
+pub follow_decl-returns-in-Err-resolve_alias-clause-stores : goal.follow_decl-returns-in-Err-resolve_alias-clause-stores
+follow_decl-returns-in-Err-resolve_alias-clause-stores t c =
+    let declared = c.requires.declared in
+    let named : (name : IdView) × (declared.0.kind ≡ qualified_target name (remaining_parts c.in-Alias.parts)) = rw c.in-Alias.is at declared.2 in
+    let needs = alias_needs c.args.root.now c.args.symbol c.new-target-in-Alias.result.module_id (remaining_parts c.in-Alias.parts)
+    c.new-target-in-Alias.ensures.module (declared.0, declared.1, named) in
+    stores_wider c.in-Err-resolve_alias.ensures.stores needs
+
+pub follow_decl-returns-in_err-push_link_with_parts-in-Ok-resolve_alias-clause-stores : goal.follow_decl-returns-in_err-push_link_with_parts-in-Ok-resolve_alias-clause-stores
+follow_decl-returns-in_err-push_link_with_parts-in-Ok-resolve_alias-clause-stores t c =
+    let declared = c.requires.declared in
+    let named : (name : IdView) × (declared.0.kind ≡ qualified_target name (remaining_parts c.in-Alias.parts)) = rw c.in-Alias.is at declared.2 in
+    let needs = alias_needs c.args.root.now c.args.symbol c.new-target-in-Alias.result.module_id (remaining_parts c.in-Alias.parts)
+    c.new-target-in-Alias.ensures.module (declared.0, declared.1, named) in
+    stores_wider c.in-Ok-resolve_alias.ensures.stores needs
+
+pub follow_decl-returns-in_ok-push_link_with_parts-in-Ok-resolve_alias-clause-stores : goal.follow_decl-returns-in_ok-push_link_with_parts-in-Ok-resolve_alias-clause-stores
+follow_decl-returns-in_ok-push_link_with_parts-in-Ok-resolve_alias-clause-stores t c =
+    let declared = c.requires.declared in
+    let named : (name : IdView) × (declared.0.kind ≡ qualified_target name (remaining_parts c.in-Alias.parts)) = rw c.in-Alias.is at declared.2 in
+    let needs = alias_needs c.args.root.now c.args.symbol c.new-target-in-Alias.result.module_id (remaining_parts c.in-Alias.parts)
+    c.new-target-in-Alias.ensures.module (declared.0, declared.1, named) in
+    stores_wider c.in-Ok-resolve_alias.ensures.stores needs
 
 pub resolve_alias-returns-then-not-is_new-clause-resolved : goal.resolve_alias-returns-then-not-is_new-clause-resolved
 resolve_alias-returns-then-not-is_new-clause-resolved t c =
@@ -787,14 +811,31 @@ resolve_qualified_name_internal-returns-clause-after_call t c =
     let first = c.in-Ok.ensures.after_call in
     let then = c.resolve_paths_with_parts.ensures.after_call in
     record {
-      keeps = keeps_from c.resolve_paths_with_parts.result first.keeps.grown c.args.symbol.module_id c.requires.ready.known then.keeps;
+      keeps = keeps_wider c.resolve_paths_with_parts.result first.keeps.grown (needed_before c.args.symbol.module_id c.requires.ready.known first.keeps.grown
+          (remaining_parts c.args.parts.now)) then.keeps;
       same = on_ok_weaker c.resolve_paths_with_parts.result (λ same. same ∙ first.same) then.same;
     }
 
 pub resolve_qualified_name_internal-returns-clause-stores : goal.resolve_qualified_name_internal-returns-clause-stores
 resolve_qualified_name_internal-returns-clause-stores t c =
-    needed_again c.args.symbol.module_id c.requires.ready.known c.in-Ok.ensures.after_call.keeps.grown c.in-Ok.ensures.stores
-    c.resolve_paths_with_parts.ensures.stores
+    let parts = remaining_parts c.args.parts.now in
+    needed_again parts c.args.symbol.module_id c.requires.ready.known c.in-Ok.ensures.after_call.keeps.grown
+    (stores_wider c.in-Ok.ensures.stores (λ v needed. under_parts parts needed)) c.resolve_paths_with_parts.ensures.stores
+
+pub resolve_qualified_name_internal-returns-in-Err-clause-after_call : goal.resolve_qualified_name_internal-returns-in-Err-clause-after_call
+resolve_qualified_name_internal-returns-in-Err-clause-after_call t c = record {
+  keeps = fault_wider (has_grown_refl c.args.root.now) (λ v needed. under_parts (remaining_parts c.args.parts.now) needed)
+      c.in-Err.ensures.after_call.keeps;
+  same = tt;
+}
+
+pub resolve_qualified_name_internal-returns-in-Err-clause-stores : goal.resolve_qualified_name_internal-returns-in-Err-clause-stores
+resolve_qualified_name_internal-returns-in-Err-clause-stores t c =
+    stores_wider c.in-Err.ensures.stores (λ v needed. under_parts (remaining_parts c.args.parts.now) needed)
+
+pub resolve_qualified_name_internal-returns-then-is_empty-clause-stores : goal.resolve_qualified_name_internal-returns-then-is_empty-clause-stores
+resolve_qualified_name_internal-returns-then-is_empty-clause-stores t c =
+    stores_wider c.in-Ok.ensures.stores (λ v needed. under_parts (remaining_parts c.args.parts.now) needed)
 
 pub resolve_qualified_name_internal-returns-clause-found_under_parts : goal.resolve_qualified_name_internal-returns-clause-found_under_parts
 resolve_qualified_name_internal-returns-clause-found_under_parts t c =
@@ -864,7 +905,7 @@ resolve_paths_with_parts-returns-in_err-push_back-in-Ok-clause-stores t c =
     let given = first_given c.in-Some.definition c.next.new.self.rest.items
     (subst (AreGiven c.args.symbol c.loop-definition.root) c.in-Some.ensures.steps.0 c.loop-definition.invariant.1) in
     stores_given c.args.root.now c.loop-definition.root c.resolve_definition_with_parts.new.root c.args.symbol c.in-Some.definition
-    c.requires.ready.known c.loop-definition.invariant.0.grown given c.loop-definition.invariant.2 c.in-Ok.ensures.stores
+    (remaining_parts c.args.parts.now) c.requires.ready.known c.loop-definition.invariant.0.grown given c.loop-definition.invariant.2 c.in-Ok.ensures.stores
 
 pub resolve_paths_with_parts-returns-in_err-replace_definitions-clause-after_call : goal.resolve_paths_with_parts-returns-in_err-replace_definitions-clause-after_call
 resolve_paths_with_parts-returns-in_err-replace_definitions-clause-after_call t c =
@@ -879,15 +920,9 @@ resolve_paths_with_parts-returns-in-Err-clause-after_call t c =
     let given = first_given c.in-Some.definition c.next.new.self.rest.items
     (subst (AreGiven c.args.symbol c.loop-definition.root) c.in-Some.ensures.steps.0 c.loop-definition.invariant.1) in
     let first = c.loop-definition.invariant.0.grown in
-    let keeps = c.in-Err.ensures.after_call.keeps in
     record {
-      keeps = record {
-        grown = has_grown_trans first keeps.grown;
-        refused = refused_given c.args.root.now c.resolve_definition_with_parts.new.root
-            c.in-Some.definition c.in-Err.fault c.requires.ready.known c.loop-definition.invariant.0.grown c.in-Err.ensures.after_call.keeps.grown given
-            c.in-Err.ensures.after_call.keeps.refused;
-        enough = λ wide. keeps.enough (first.limits ∙ wide);
-      };
+      keeps = fault_wider first (given_needs c.args.root.now c.loop-definition.root c.args.symbol c.in-Some.definition (remaining_parts c.args.parts.now)
+          c.requires.ready.known first given) c.in-Err.ensures.after_call.keeps;
       same = tt;
     }
 
@@ -896,7 +931,7 @@ resolve_paths_with_parts-returns-in-Err-clause-stores t c =
     let given = first_given c.in-Some.definition c.next.new.self.rest.items
     (subst (AreGiven c.args.symbol c.loop-definition.root) c.in-Some.ensures.steps.0 c.loop-definition.invariant.1) in
     stores_given c.args.root.now c.loop-definition.root c.resolve_definition_with_parts.new.root c.args.symbol c.in-Some.definition
-    c.requires.ready.known c.loop-definition.invariant.0.grown given c.loop-definition.invariant.2 c.in-Err.ensures.stores
+    (remaining_parts c.args.parts.now) c.requires.ready.known c.loop-definition.invariant.0.grown given c.loop-definition.invariant.2 c.in-Err.ensures.stores
 
 pub resolve_paths_with_parts-loop-definition-preserved : goal.resolve_paths_with_parts-loop-definition-preserved
 resolve_paths_with_parts-loop-definition-preserved t c =
@@ -911,7 +946,8 @@ resolve_paths_with_parts-loop-definition-preserved t c =
       walking_next c.in-Some.definition is c.in-Ok.ensures.after_call.keeps.grown c.in-Ok.path c.in-Ok.ensures.changed
           c.resolve_definition_with_parts.new.resolving.keys c.in-Ok.ensures.after_call.same c.in-Ok.ensures.visits,
       branches_given c.in-Some.definition rest known c.in-Ok.ensures.after_call.keeps.grown given,
-      stores_given c.args.root.now here c.resolve_definition_with_parts.new.root c.args.symbol c.in-Some.definition c.requires.ready.known
+      stores_given c.args.root.now here c.resolve_definition_with_parts.new.root c.args.symbol c.in-Some.definition (remaining_parts c.args.parts.now)
+          c.requires.ready.known
           c.loop-definition.invariant.0.grown (first_given c.in-Some.definition rest given) c.loop-definition.invariant.2 c.in-Ok.ensures.stores,
     )
 
@@ -1017,26 +1053,20 @@ resolve_definition_with_parts-resolve_remaining_parts-requires t c =
 
 pub resolve_definition_with_parts-returns-in-Err-resolve_remaining_parts-clause-after_call : goal.resolve_definition_with_parts-returns-in-Err-resolve_remaining_parts-clause-after_call
 resolve_definition_with_parts-returns-in-Err-resolve_remaining_parts-clause-after_call t c =
-    let first = c.in-Ok-Symbol.ensures.keeps.grown in
-    let keeps = c.in-Err-resolve_remaining_parts.ensures.after_call.keeps in
     record {
-      keeps = record {
-        grown = has_grown_trans first keeps.grown;
-        refused = refused_on c.args.root.now c.part_target_of.new.root c.resolve_remaining_parts.new.root
-            c.args.definition.now (remaining_parts c.args.parts.now) c.in-Ok-Symbol.target c.in-Err-resolve_remaining_parts.fault
-            c.in-Ok-Symbol.ensures.keeps.grown
-            c.in-Err-resolve_remaining_parts.ensures.after_call.keeps.grown c.requires.declared (rw (c.in-Ok-Symbol.field-0-is, c.texts.ensures.view) at
-            c.in-Ok-Symbol.ensures.view) c.in-Err-resolve_remaining_parts.ensures.after_call.keeps.refused;
-        enough = λ wide. keeps.enough (first.limits ∙ wide);
-      };
+      keeps = fault_wider c.in-Ok-Symbol.ensures.keeps.grown (part_target_needs c.args.root.now c.part_target_of.new.root c.args.definition.now
+          (remaining_parts c.args.parts.now) c.in-Ok-Symbol.target c.in-Ok-Symbol.ensures.keeps.grown c.requires.declared c.requires.some
+          (rw (c.in-Ok-Symbol.field-0-is, c.texts.ensures.view) at c.in-Ok-Symbol.ensures.view))
+          c.in-Err-resolve_remaining_parts.ensures.after_call.keeps;
       same = tt;
     }
 
 pub resolve_definition_with_parts-returns-in-Err-resolve_remaining_parts-clause-stores : goal.resolve_definition_with_parts-returns-in-Err-resolve_remaining_parts-clause-stores
 resolve_definition_with_parts-returns-in-Err-resolve_remaining_parts-clause-stores t c =
     stores_on c.args.root.now c.part_target_of.new.root c.resolve_remaining_parts.new.root c.args.definition.now
-    (remaining_parts c.args.parts.now) c.in-Ok-Symbol.target c.in-Ok-Symbol.ensures.keeps.grown c.requires.declared
-    (rw (c.in-Ok-Symbol.field-0-is, c.texts.ensures.view) at c.in-Ok-Symbol.ensures.view) c.in-Ok-Symbol.ensures.stores c.in-Err-resolve_remaining_parts.ensures.stores
+    (remaining_parts c.args.parts.now) c.in-Ok-Symbol.target c.in-Ok-Symbol.ensures.keeps.grown c.requires.declared c.requires.some
+    (rw (c.in-Ok-Symbol.field-0-is, c.texts.ensures.view) at c.in-Ok-Symbol.ensures.view) (rw c.texts.ensures.view at c.in-Ok-Symbol.ensures.stores)
+    c.in-Err-resolve_remaining_parts.ensures.stores
 
 pub resolve_definition_with_parts-returns-in_ok-link_builder_with_parts-in-Ok-clause-changed : goal.resolve_definition_with_parts-returns-in_ok-link_builder_with_parts-in-Ok-clause-changed
 resolve_definition_with_parts-returns-in_ok-link_builder_with_parts-in-Ok-clause-changed t c =
@@ -1052,14 +1082,16 @@ resolve_definition_with_parts-returns-in_ok-link_builder_with_parts-in-Ok-clause
 pub resolve_definition_with_parts-returns-in_err-link_builder_with_parts-in-Ok-clause-stores : goal.resolve_definition_with_parts-returns-in_err-link_builder_with_parts-in-Ok-clause-stores
 resolve_definition_with_parts-returns-in_err-link_builder_with_parts-in-Ok-clause-stores t c =
     stores_on c.args.root.now c.part_target_of.new.root c.resolve_remaining_parts.new.root c.args.definition.now
-    (remaining_parts c.args.parts.now) c.in-Ok-Symbol.target c.in-Ok-Symbol.ensures.keeps.grown c.requires.declared
-    (rw (c.in-Ok-Symbol.field-0-is, c.texts.ensures.view) at c.in-Ok-Symbol.ensures.view) c.in-Ok-Symbol.ensures.stores c.in-Ok.ensures.stores
+    (remaining_parts c.args.parts.now) c.in-Ok-Symbol.target c.in-Ok-Symbol.ensures.keeps.grown c.requires.declared c.requires.some
+    (rw (c.in-Ok-Symbol.field-0-is, c.texts.ensures.view) at c.in-Ok-Symbol.ensures.view) (rw c.texts.ensures.view at c.in-Ok-Symbol.ensures.stores)
+    c.in-Ok.ensures.stores
 
 pub resolve_definition_with_parts-returns-in_ok-link_builder_with_parts-in-Ok-clause-stores : goal.resolve_definition_with_parts-returns-in_ok-link_builder_with_parts-in-Ok-clause-stores
 resolve_definition_with_parts-returns-in_ok-link_builder_with_parts-in-Ok-clause-stores t c =
     stores_on c.args.root.now c.part_target_of.new.root c.resolve_remaining_parts.new.root c.args.definition.now
-    (remaining_parts c.args.parts.now) c.in-Ok-Symbol.target c.in-Ok-Symbol.ensures.keeps.grown c.requires.declared
-    (rw (c.in-Ok-Symbol.field-0-is, c.texts.ensures.view) at c.in-Ok-Symbol.ensures.view) c.in-Ok-Symbol.ensures.stores c.in-Ok.ensures.stores
+    (remaining_parts c.args.parts.now) c.in-Ok-Symbol.target c.in-Ok-Symbol.ensures.keeps.grown c.requires.declared c.requires.some
+    (rw (c.in-Ok-Symbol.field-0-is, c.texts.ensures.view) at c.in-Ok-Symbol.ensures.view) (rw c.texts.ensures.view at c.in-Ok-Symbol.ensures.stores)
+    c.in-Ok.ensures.stores
 
 pub resolve_definition_with_parts-returns-in_ok-link_builder_with_parts-in-Ok-clause-visits : goal.resolve_definition_with_parts-returns-in_ok-link_builder_with_parts-in-Ok-clause-visits
 resolve_definition_with_parts-returns-in_ok-link_builder_with_parts-in-Ok-clause-visits t c =

@@ -1,8 +1,9 @@
-use Rattle.std.proofs.Common.{length, ◌-◌, ◌^◌}
+use Rattle.std.proofs.Common.{[], length, ◌-◌, ◌^◌}
 use Rattle.symbols_root.specs.Roots.{specifier_in}
 use Rattle.symbols_exports.specs.StarStatements.{star_specifiers}
 use Rattle.symbols_paths.specs.DeclTargets.{declarations_of}
-use Rattle.symbols_paths.specs.NeededModules.{StoresOnlyNeeded}
+use Rattle.symbols_paths.specs.NeededModules.{StoresOnly}
+use Rattle.symbols_paths.specs.inner.Needed.{IsNeededFrom, IsNeededAlongStarsOf}
 use Rattle.symbols_paths.specs.inner.Views.{symbol_of_unique_id}
 use Rattle.symbols_paths.specs.inner.PathBuilders.{remaining_parts}
 use Rattle.symbols_paths.proofs.DeclLoop.{IsFinding, left}
@@ -28,7 +29,7 @@ decreases-find_candidate_paths l = left (length l.resolving.now.keys) 0 (length 
 abbrev pub invariant-find_definition_paths_internal-loop-paths : goal.invariant-find_definition_paths_internal-loop-paths
 invariant-find_definition_paths_internal-loop-paths l =
     IsFinding l.fn.root l.fn.resolving.keys l.fn.visited.keys l.symbol l.root l.resolving.keys l.index l.visited.keys l.paths.items
-    × StoresOnlyNeeded l.fn.root l.root (specifier_in l.fn.root l.symbol.module_id)
+    × StoresOnly l.fn.root l.root (IsNeededFrom l.fn.root l.symbol.module_id [])
 
 abbrev pub decreases-find_definition_paths_internal-loop-paths : goal.decreases-find_definition_paths_internal-loop-paths
 decreases-find_definition_paths_internal-loop-paths l = length (declarations_of l.fn.root.graph (symbol_of_unique_id l.fn.root l.symbol)) - l.index
@@ -36,7 +37,7 @@ decreases-find_definition_paths_internal-loop-paths l = length (declarations_of 
 abbrev pub invariant-go_to_re_export_all-loop-specifier_text : goal.invariant-go_to_re_export_all-loop-specifier_text
 invariant-go_to_re_export_all-loop-specifier_text l =
     IsQuerying l.fn.root l.fn.resolving.keys l.fn.visited.keys l.module_id l.named_import.name.now l.root l.resolving.keys l.position l.visited.keys
-    × StoresOnlyNeeded l.fn.root l.root (specifier_in l.fn.root l.module_id)
+    × StoresOnly l.fn.root l.root (IsNeededAlongStarsOf l.fn.root l.module_id l.named_import.name.now)
 
 abbrev pub decreases-go_to_re_export_all-loop-specifier_text : goal.decreases-go_to_re_export_all-loop-specifier_text
 decreases-go_to_re_export_all-loop-specifier_text l = length (star_specifiers l.fn.root.graph (specifier_in l.fn.root l.module_id)) - l.position
@@ -59,4 +60,4 @@ decreases-resolve_definition_with_parts l = left (length l.resolving.now.keys) (
 abbrev pub invariant-resolve_paths_with_parts-loop-definition : goal.invariant-resolve_paths_with_parts-loop-definition
 invariant-resolve_paths_with_parts-loop-definition l = IsWalking l.fn.root l.fn.resolving.keys l.fn.visited.keys (remaining_parts l.parts) l.paths.items l.root
     l.resolving.keys l.definition-iterator.rest.items l.visited.keys l.changed.items × AreGiven l.fn.symbol l.root l.definition-iterator.rest.items
-    × StoresOnlyNeeded l.fn.root l.root (specifier_in l.fn.root l.fn.symbol.module_id)
+    × StoresOnly l.fn.root l.root (IsNeededFrom l.fn.root l.fn.symbol.module_id (remaining_parts l.parts))

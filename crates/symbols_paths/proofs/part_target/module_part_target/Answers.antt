@@ -6,6 +6,8 @@ use Rattle.symbols_root.specs.laws.Growing.{specifier_unchanged_by_growth, still
 use Rattle.symbols_exports.specs.OneName.{find_export}
 use Rattle.symbols_paths.specs.PathTrees.{no_part}
 use Rattle.symbols_paths.specs.PartTargets.{lacks, module_part_target}
+use Rattle.symbols_paths.specs.NeededModules.{IsOneRefused, StoresOnly}
+use Rattle.symbols_paths.specs.inner.Needed.{IsSearchedForExportOf}
 use Rattle.symbols_paths.specs.Views.{strings_view}
 use Rattle.symbols_paths.specs.inner.Views.{first_part, later_parts}
 use Rattle.symbols_paths.proofs.PartTargetReads.{first_read}
@@ -15,12 +17,15 @@ use Rattle.symbols_paths.proofs.StoredNeeded.{stores_exported, stores_unexported
 use Rattle.symbols_paths.proofs.part_target.module_part_target.Goals as goal
 
 pub returns-in-Err-clause-keeps : goal.returns-in-Err-clause-keeps
-returns-in-Err-clause-keeps c = record {
-  grown = c.in-Err.ensures.grown;
-  refused = refused_export c.args.root.now c.export_of.new.root _ c.args.module_id c.in-Err.fault c.in-Err.ensures.faults.0 c.requires.known
-      c.in-Err.ensures.grown c.in-Err.ensures.faults.1;
-  enough = c.in-Err.ensures.enough c.requires.known;
-}
+returns-in-Err-clause-keeps c =
+    let first = c.as_str.ensures.value ∙ first_read c.args.parts.now c.index-parts-0.result c.requires.some c.index-parts-0.is in
+    record {
+      grown = c.in-Err.ensures.grown;
+      refused = subst (λ name. IsOneRefused c.export_of.new.root (IsSearchedForExportOf c.args.root.now c.args.module_id name) c.in-Err.fault) first
+          (refused_export c.args.root.now c.export_of.new.root _ c.args.module_id c.in-Err.fault c.in-Err.ensures.faults.0 c.requires.known
+          c.in-Err.ensures.faults.1);
+      enough = c.in-Err.ensures.enough c.requires.known;
+    }
 
 pub returns-in_ok-missing_part-in-Ok-None-clause-view : goal.returns-in_ok-missing_part-in-Ok-None-clause-view
 returns-in_ok-missing_part-in-Ok-None-clause-view c =
@@ -52,20 +57,30 @@ returns-in-Ok-Some-clause-stored c = rw (c.new.ensures.module, c.as_resolved_exp
 
 pub returns-in-Err-clause-stores : goal.returns-in-Err-clause-stores
 returns-in-Err-clause-stores c =
-    stores_unexported c.args.root.now c.export_of.new.root c.args.module_id _ c.in-Err.fault c.in-Err.ensures.faults.0 c.in-Err.ensures.faults.1
+    let first = c.as_str.ensures.value ∙ first_read c.args.parts.now c.index-parts-0.result c.requires.some c.index-parts-0.is in
+    subst (λ name. StoresOnly c.args.root.now c.export_of.new.root (IsSearchedForExportOf c.args.root.now c.args.module_id name)) first
+    (stores_unexported c.args.root.now c.export_of.new.root c.args.module_id _ c.in-Err.fault c.in-Err.ensures.faults.0 c.in-Err.ensures.faults.1)
 
 pub returns-in_err-name-in-Ok-None-clause-stores : goal.returns-in_err-name-in-Ok-None-clause-stores
 returns-in_err-name-in-Ok-None-clause-stores c =
-    stores_exported c.args.root.now c.export_of.new.root c.args.module_id _ _ c.in-Ok-None.ensures.answers.0 c.in-Ok-None.ensures.answers.1
+    let first = c.as_str.ensures.value ∙ first_read c.args.parts.now c.index-parts-0.result c.requires.some c.index-parts-0.is in
+    subst (λ name. StoresOnly c.args.root.now c.export_of.new.root (IsSearchedForExportOf c.args.root.now c.args.module_id name)) first
+    (stores_exported c.args.root.now c.export_of.new.root c.args.module_id _ _ c.in-Ok-None.ensures.answers.0 c.in-Ok-None.ensures.answers.1)
 
 pub returns-in_err-missing_part-in-Ok-None-clause-stores : goal.returns-in_err-missing_part-in-Ok-None-clause-stores
 returns-in_err-missing_part-in-Ok-None-clause-stores c =
-    stores_exported c.args.root.now c.export_of.new.root c.args.module_id _ _ c.in-Ok-None.ensures.answers.0 c.in-Ok-None.ensures.answers.1
+    let first = c.as_str.ensures.value ∙ first_read c.args.parts.now c.index-parts-0.result c.requires.some c.index-parts-0.is in
+    subst (λ name. StoresOnly c.args.root.now c.export_of.new.root (IsSearchedForExportOf c.args.root.now c.args.module_id name)) first
+    (stores_exported c.args.root.now c.export_of.new.root c.args.module_id _ _ c.in-Ok-None.ensures.answers.0 c.in-Ok-None.ensures.answers.1)
 
 pub returns-in_ok-missing_part-in-Ok-None-clause-stores : goal.returns-in_ok-missing_part-in-Ok-None-clause-stores
 returns-in_ok-missing_part-in-Ok-None-clause-stores c =
-    stores_exported c.args.root.now c.export_of.new.root c.args.module_id _ _ c.in-Ok-None.ensures.answers.0 c.in-Ok-None.ensures.answers.1
+    let first = c.as_str.ensures.value ∙ first_read c.args.parts.now c.index-parts-0.result c.requires.some c.index-parts-0.is in
+    subst (λ name. StoresOnly c.args.root.now c.export_of.new.root (IsSearchedForExportOf c.args.root.now c.args.module_id name)) first
+    (stores_exported c.args.root.now c.export_of.new.root c.args.module_id _ _ c.in-Ok-None.ensures.answers.0 c.in-Ok-None.ensures.answers.1)
 
 pub returns-in-Ok-Some-clause-stores : goal.returns-in-Ok-Some-clause-stores
 returns-in-Ok-Some-clause-stores c =
-    stores_exported c.args.root.now c.export_of.new.root c.args.module_id _ _ c.in-Ok-Some.ensures.answers.0 c.in-Ok-Some.ensures.answers.1
+    let first = c.as_str.ensures.value ∙ first_read c.args.parts.now c.index-parts-0.result c.requires.some c.index-parts-0.is in
+    subst (λ name. StoresOnly c.args.root.now c.export_of.new.root (IsSearchedForExportOf c.args.root.now c.args.module_id name)) first
+    (stores_exported c.args.root.now c.export_of.new.root c.args.module_id _ _ c.in-Ok-Some.ensures.answers.0 c.in-Ok-Some.ensures.answers.1)

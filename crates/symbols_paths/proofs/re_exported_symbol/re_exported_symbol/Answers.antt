@@ -3,8 +3,9 @@ use Rattle.symbols_root.specs.Roots.{specifier_in}
 use Rattle.symbols_root.specs.laws.Growing.{has_grown_trans}
 use Rattle.symbols_root.specs.laws.Numbers.{target_is}
 use Rattle.symbols_exports.specs.StarStatements.{resolve_specifier}
-use Rattle.symbols_paths.proofs.ResolvedSpecifiers.{needed_there, refused_there, refused_along, none_along, some_along, some_stored}
-use Rattle.symbols_paths.proofs.StoredNeeded.{needed_onward, stores_there, stores_exported, stores_unexported}
+use Rattle.symbols_paths.proofs.Needing.{refused_target}
+use Rattle.symbols_paths.proofs.ResolvedSpecifiers.{there_searched, refused_along, none_along, some_along, some_stored}
+use Rattle.symbols_paths.proofs.StoredNeeded.{stores_there, stores_along, stores_exported, stores_unexported}
 use Rattle.symbols_paths.proofs.re_exported_symbol.re_exported_symbol.Goals as goal
 
 pub returns-in-Err-clause-keeps : goal.returns-in-Err-clause-keeps
@@ -12,8 +13,10 @@ returns-in-Err-clause-keeps c =
     let keeps = c.in-Err.ensures.keeps in
     record {
       grown = keeps.grown;
-      refused = refused_there c.args.root.now c.resolve_specifier.new.root (specifier_in c.args.root.now c.args.module_id) c.args.specifier_text.now
-          c.in-Err.fault c.requires.occurs c.in-Err.ensures.unchanged keeps.refused;
+      refused = refused_target c.args.root.now c.resolve_specifier.new.root (resolve_specifier c.args.root.now.graph
+          (specifier_in c.args.root.now c.args.module_id) c.args.specifier_text.now) c.in-Err.fault
+          (λ v target. there_searched c.args.root.now.graph (specifier_in c.args.root.now c.args.module_id) c.args.specifier_text.now c.args.name.now v
+          c.requires.occurs target) c.in-Err.ensures.unchanged keeps.refused;
       enough = keeps.enough;
     }
 
@@ -26,7 +29,7 @@ returns-in-Err-export_of-clause-keeps c =
     record {
       grown = has_grown_trans first then.grown;
       refused = refused_along c.args.root.now c.resolve_specifier.new.root c.export_of.new.root (specifier_in c.args.root.now c.args.module_id)
-          c.args.specifier_text.now c.args.name.now c.in-Ok-Some.target c.in-Err-export_of.fault then.faults.0 first then.grown c.requires.occurs decl_targets
+          c.args.specifier_text.now c.args.name.now c.in-Ok-Some.target c.in-Err-export_of.fault then.faults.0 first c.requires.occurs decl_targets
           then.faults.1;
       enough = λ wide. then.enough decl_targets.within (first.limits ∙ wide);
     }
@@ -63,43 +66,42 @@ returns-in-Ok-Some-export_of-clause-stored c = rw (c.new.ensures.module, c.as_re
     (rw c.in-Ok-Some-export_of.field-0-is at c.in-Ok-Some-export_of.ensures.answers.1))
 
 pub returns-in-Err-clause-stores : goal.returns-in-Err-clause-stores
-returns-in-Err-clause-stores c =
-    stores_there c.args.root.now c.resolve_specifier.new.root c.args.module_id c.args.specifier_text.now c.requires.occurs c.in-Err.ensures.stores
+returns-in-Err-clause-stores c = stores_there c.args.root.now c.resolve_specifier.new.root c.args.module_id c.args.specifier_text.now c.args.name.now
+    c.requires.occurs c.in-Err.ensures.stores
 
 pub returns-in-Ok-None-clause-stores : goal.returns-in-Ok-None-clause-stores
-returns-in-Ok-None-clause-stores c =
-    stores_there c.args.root.now c.resolve_specifier.new.root c.args.module_id c.args.specifier_text.now c.requires.occurs c.in-Ok-None.ensures.stores
+returns-in-Ok-None-clause-stores c = stores_there c.args.root.now c.resolve_specifier.new.root c.args.module_id c.args.specifier_text.now c.args.name.now
+    c.requires.occurs c.in-Ok-None.ensures.stores
 
 pub returns-in-Err-export_of-clause-stores : goal.returns-in-Err-export_of-clause-stores
 returns-in-Err-export_of-clause-stores c =
     let old = c.args.root.now in
     let mid = c.resolve_specifier.new.root in
-    let start = specifier_in old c.args.module_id in
-    let decl_targets = target_is mid c.in-Ok-Some.target (resolve_specifier old.graph start c.args.specifier_text.now)
+    let decl_targets = target_is mid c.in-Ok-Some.target (resolve_specifier old.graph (specifier_in old c.args.module_id) c.args.specifier_text.now)
     (rw c.in-Ok-Some.field-0-is at c.in-Ok-Some.ensures.gives) in
-    needed_onward c.in-Ok-Some.ensures.keeps.grown (stores_there old mid c.args.module_id c.args.specifier_text.now c.requires.occurs
-    c.in-Ok-Some.ensures.stores) (stores_unexported mid c.export_of.new.root c.in-Ok-Some.target c.args.name.now c.in-Err-export_of.fault
-    c.in-Err-export_of.ensures.faults.0 c.in-Err-export_of.ensures.faults.1) (needed_there old.graph start c.args.specifier_text.now (specifier_in mid c.in-Ok-Some.target) c.requires.occurs.0
-    c.requires.occurs.1 decl_targets.is)
+    stores_along old mid c.export_of.new.root c.args.module_id c.in-Ok-Some.target c.args.specifier_text.now c.args.name.now
+    c.in-Ok-Some.ensures.keeps.grown c.requires.occurs decl_targets.is c.in-Ok-Some.ensures.stores
+    (stores_unexported mid c.export_of.new.root c.in-Ok-Some.target c.args.name.now c.in-Err-export_of.fault c.in-Err-export_of.ensures.faults.0
+    c.in-Err-export_of.ensures.faults.1)
 
 pub returns-in-Ok-None-export_of-clause-stores : goal.returns-in-Ok-None-export_of-clause-stores
 returns-in-Ok-None-export_of-clause-stores c =
     let old = c.args.root.now in
     let mid = c.resolve_specifier.new.root in
-    let start = specifier_in old c.args.module_id in
-    let decl_targets = target_is mid c.in-Ok-Some.target (resolve_specifier old.graph start c.args.specifier_text.now)
+    let decl_targets = target_is mid c.in-Ok-Some.target (resolve_specifier old.graph (specifier_in old c.args.module_id) c.args.specifier_text.now)
     (rw c.in-Ok-Some.field-0-is at c.in-Ok-Some.ensures.gives) in
-    needed_onward c.in-Ok-Some.ensures.keeps.grown (stores_there old mid c.args.module_id c.args.specifier_text.now c.requires.occurs
-    c.in-Ok-Some.ensures.stores) (stores_exported mid c.export_of.new.root c.in-Ok-Some.target c.args.name.now _ c.in-Ok-None-export_of.ensures.answers.0 c.in-Ok-None-export_of.ensures.answers.1) (needed_there old.graph start c.args.specifier_text.now (specifier_in mid c.in-Ok-Some.target) c.requires.occurs.0
-    c.requires.occurs.1 decl_targets.is)
+    stores_along old mid c.export_of.new.root c.args.module_id c.in-Ok-Some.target c.args.specifier_text.now c.args.name.now
+    c.in-Ok-Some.ensures.keeps.grown c.requires.occurs decl_targets.is c.in-Ok-Some.ensures.stores
+    (stores_exported mid c.export_of.new.root c.in-Ok-Some.target c.args.name.now _ c.in-Ok-None-export_of.ensures.answers.0
+    c.in-Ok-None-export_of.ensures.answers.1)
 
 pub returns-in-Ok-Some-export_of-clause-stores : goal.returns-in-Ok-Some-export_of-clause-stores
 returns-in-Ok-Some-export_of-clause-stores c =
     let old = c.args.root.now in
     let mid = c.resolve_specifier.new.root in
-    let start = specifier_in old c.args.module_id in
-    let decl_targets = target_is mid c.in-Ok-Some.target (resolve_specifier old.graph start c.args.specifier_text.now)
+    let decl_targets = target_is mid c.in-Ok-Some.target (resolve_specifier old.graph (specifier_in old c.args.module_id) c.args.specifier_text.now)
     (rw c.in-Ok-Some.field-0-is at c.in-Ok-Some.ensures.gives) in
-    needed_onward c.in-Ok-Some.ensures.keeps.grown (stores_there old mid c.args.module_id c.args.specifier_text.now c.requires.occurs
-    c.in-Ok-Some.ensures.stores) (stores_exported mid c.export_of.new.root c.in-Ok-Some.target c.args.name.now _ c.in-Ok-Some-export_of.ensures.answers.0 c.in-Ok-Some-export_of.ensures.answers.1) (needed_there old.graph start c.args.specifier_text.now (specifier_in mid c.in-Ok-Some.target) c.requires.occurs.0
-    c.requires.occurs.1 decl_targets.is)
+    stores_along old mid c.export_of.new.root c.args.module_id c.in-Ok-Some.target c.args.specifier_text.now c.args.name.now
+    c.in-Ok-Some.ensures.keeps.grown c.requires.occurs decl_targets.is c.in-Ok-Some.ensures.stores
+    (stores_exported mid c.export_of.new.root c.in-Ok-Some.target c.args.name.now _ c.in-Ok-Some-export_of.ensures.answers.0
+    c.in-Ok-Some-export_of.ensures.answers.1)

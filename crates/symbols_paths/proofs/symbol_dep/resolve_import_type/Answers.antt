@@ -1,4 +1,4 @@
-use Rattle.std.proofs.Common.{ℕ, List, map, sym, ap, subst, ◌∙◌}
+use Rattle.std.proofs.Common.{ℕ, List, map, refl, sym, ap, subst, ◌∙◌}
 use Rattle.std.specs.Prelude.{String}
 use Rattle.std.specs.Global.{Global}
 use Rattle.symbols_root.specs.Roots.{specifier_in}
@@ -9,8 +9,9 @@ use Rattle.symbols_paths.specs.PathTrees.{no_module, unresolved, leaf, forest_of
 use Rattle.symbols_paths.specs.Views.{strings_view, AreModulesStored}
 use Rattle.symbols_paths.specs.DepAnswers.{resolved_dep_entry_view, modules_of_entries, path_entries}
 use Rattle.symbols_paths.proofs.BuilderLemmas.{one_stored}
-use Rattle.symbols_paths.proofs.DepEntries.{target_refused, module_there, module_missing}
-use Rattle.symbols_paths.proofs.StoredNeeded.{stores_imported}
+use Rattle.symbols_paths.proofs.DepEntries.{module_there, module_missing}
+use Rattle.symbols_paths.specs.laws.Storing.{stores_wider}
+use Rattle.symbols_paths.proofs.Needing.{refused_target}
 use Rattle.symbols_paths.proofs.symbol_dep.resolve_import_type.Goals as goal
 
 pub returns-in-Err-clause-keeps : goal.returns-in-Err-clause-keeps
@@ -18,8 +19,9 @@ returns-in-Err-clause-keeps c =
     let keeps = c.in-Err.ensures.keeps in
     record {
       grown = keeps.grown;
-      refused = target_refused c.args.root.now c.resolve_specifier.new.root (specifier_in c.args.root.now c.args.module_id) c.args.specifier_text.now
-          c.in-Err.fault c.in-Err.ensures.unchanged keeps.refused;
+      refused = refused_target c.args.root.now c.resolve_specifier.new.root (resolve_specifier c.args.root.now.graph
+          (specifier_in c.args.root.now c.args.module_id) c.args.specifier_text.now) c.in-Err.fault (λ v target. (v, target, refl))
+          c.in-Err.ensures.unchanged keeps.refused;
       enough = keeps.enough;
     }
 
@@ -69,28 +71,28 @@ returns-in_ok-push-in-Ok-Some-clause-stored c =
 
 pub returns-in-Err-clause-stores : goal.returns-in-Err-clause-stores
 returns-in-Err-clause-stores c =
-    stores_imported c.args.root.now c.resolve_specifier.new.root c.args.module_id c.args.specifier_text.now c.in-Err.ensures.stores
+    stores_wider c.in-Err.ensures.stores (λ v target. (v, target, refl))
 
 pub returns-in_err-specifier_text-in-Ok-None-clause-stores : goal.returns-in_err-specifier_text-in-Ok-None-clause-stores
 returns-in_err-specifier_text-in-Ok-None-clause-stores c =
-    stores_imported c.args.root.now c.resolve_specifier.new.root c.args.module_id c.args.specifier_text.now c.in-Ok-None.ensures.stores
+    stores_wider c.in-Ok-None.ensures.stores (λ v target. (v, target, refl))
 
 pub returns-in_err-paths-in-Ok-None-clause-stores : goal.returns-in_err-paths-in-Ok-None-clause-stores
 returns-in_err-paths-in-Ok-None-clause-stores c =
-    stores_imported c.args.root.now c.resolve_specifier.new.root c.args.module_id c.args.specifier_text.now c.in-Ok-None.ensures.stores
+    stores_wider c.in-Ok-None.ensures.stores (λ v target. (v, target, refl))
 
 pub returns-in_err-entries_of_builders-in-Ok-None-clause-stores : goal.returns-in_err-entries_of_builders-in-Ok-None-clause-stores
 returns-in_err-entries_of_builders-in-Ok-None-clause-stores c =
-    stores_imported c.args.root.now c.resolve_specifier.new.root c.args.module_id c.args.specifier_text.now c.in-Ok-None.ensures.stores
+    stores_wider c.in-Ok-None.ensures.stores (λ v target. (v, target, refl))
 
 pub returns-in_ok-entries_of_builders-in-Ok-None-clause-stores : goal.returns-in_ok-entries_of_builders-in-Ok-None-clause-stores
 returns-in_ok-entries_of_builders-in-Ok-None-clause-stores c =
-    stores_imported c.args.root.now c.resolve_specifier.new.root c.args.module_id c.args.specifier_text.now c.in-Ok-None.ensures.stores
+    stores_wider c.in-Ok-None.ensures.stores (λ v target. (v, target, refl))
 
 pub returns-in_err-push-in-Ok-Some-clause-stores : goal.returns-in_err-push-in-Ok-Some-clause-stores
 returns-in_err-push-in-Ok-Some-clause-stores c =
-    stores_imported c.args.root.now c.resolve_specifier.new.root c.args.module_id c.args.specifier_text.now c.in-Ok-Some.ensures.stores
+    stores_wider c.in-Ok-Some.ensures.stores (λ v target. (v, target, refl))
 
 pub returns-in_ok-push-in-Ok-Some-clause-stores : goal.returns-in_ok-push-in-Ok-Some-clause-stores
 returns-in_ok-push-in-Ok-Some-clause-stores c =
-    stores_imported c.args.root.now c.resolve_specifier.new.root c.args.module_id c.args.specifier_text.now c.in-Ok-Some.ensures.stores
+    stores_wider c.in-Ok-Some.ensures.stores (λ v target. (v, target, refl))

@@ -19,7 +19,7 @@ returns-in-Err-clause-keeps c =
       grown = c.in-Err.ensures.grown;
       refused = paths_refused (query_definitions s) s (λ (paths : PathForest). answer_definitions (definitions_among (leaves_of_forest paths)))
           (λ rules graph specifier.
-          refl) (λ rules graph specifier given is. is) (λ graph specifier v is. is) (λ is. is) c.args.root.now c.go_to_definitions.new.self c.args.module_id
+          refl) (λ rules graph specifier given is. is) (λ rules graph specifier v is. is) (λ is. is) c.args.root.now c.go_to_definitions.new.self c.args.module_id
           c.in-Err.fault c.in-Err.ensures.grown c.requires c.in-Err.ensures.faults;
       enough = λ wide. paths_enough c.args.root.now c.go_to_definitions.new.self c.args.module_id c.args.symbol c.in-Err.fault c.requires
           c.in-Err.ensures.faults (λ has. c.in-Err.ensures.enough (c.requires, has) wide);
@@ -30,7 +30,7 @@ returns-in_err-named-in-Ok-clause-keeps c =
     let s = c.args.symbol in
     let has = paths_answered (query_definitions s) s (λ (paths : PathForest). answer_definitions (definitions_among (leaves_of_forest paths)))
     (λ rules graph specifier. refl)
-    (λ rules graph specifier given is. is) (λ graph specifier v is. is) (λ is. is) c.args.root.now c.args.module_id c.in-Ok.ensures.known.1 in
+    (λ rules graph specifier given is. is) (λ rules graph specifier v is. is) (λ is. is) c.args.root.now c.args.module_id c.in-Ok.ensures.known.1 in
     record {
       grown = c.in-Ok.ensures.grown;
       refused = memory_refused c.from_residual.result c.args.root.now c.go_to_definitions.new.self (specifier_in c.args.root.now c.args.module_id)
@@ -43,7 +43,7 @@ returns-in_ok-named-in-Ok-clause-given c =
     let s = c.args.symbol in
     paths_given (query_definitions s) s (λ (paths : PathForest). answer_definitions (definitions_among (leaves_of_forest paths)))
     (λ rules graph specifier. refl)
-    (λ rules graph specifier given is. is) (λ graph specifier v is. is) (λ is. is) c.args.root.now c.go_to_definitions.new.self c.args.module_id
+    (λ rules graph specifier given is. is) (λ rules graph specifier v is. is) (λ is. is) c.args.root.now c.go_to_definitions.new.self c.args.module_id
     (answer_definitions (map definition_by_specifier_view c.in_ok-named-in-Ok.named.items)) c.in-Ok.ensures.answers.0 c.in-Ok.ensures.grown c.requires
     c.in-Ok.ensures.known.1 c.in-Ok.ensures.answers.1 (ap answer_definitions (c.in_ok-named-in-Ok.ensures ∙ c.in-Ok.ensures.answers.2))
     (ap answer_definitions (c.in_ok-named-in-Ok.ensures ∙ c.in-Ok.ensures.listed)) (subst (λ named_form. All (Contains c.go_to_definitions.new.self.stored)

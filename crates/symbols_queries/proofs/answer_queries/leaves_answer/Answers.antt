@@ -18,7 +18,7 @@ returns-in-Err-clause-keeps c =
     record {
       grown = c.in-Err.ensures.grown;
       refused = paths_refused (query_leaves s) s (λ (paths : PathForest). answer_leaves (leaves_of_forest paths)) (λ rules graph specifier. refl)
-          (λ rules graph specifier given is. is) (λ graph specifier v is. is) (λ is. is) c.args.root.now c.go_to_definitions_or_unresolveds.new.self
+          (λ rules graph specifier given is. is) (λ rules graph specifier v is. is) (λ is. is) c.args.root.now c.go_to_definitions_or_unresolveds.new.self
           c.args.module_id c.in-Err.fault c.in-Err.ensures.grown c.requires c.in-Err.ensures.faults;
       enough = λ wide. paths_enough c.args.root.now c.go_to_definitions_or_unresolveds.new.self c.args.module_id c.args.symbol c.in-Err.fault c.requires
           c.in-Err.ensures.faults (λ has. c.in-Err.ensures.enough (c.requires, has) wide);
@@ -28,7 +28,7 @@ pub returns-in_err-path_ends_by_specifier-in-Ok-clause-keeps : goal.returns-in_e
 returns-in_err-path_ends_by_specifier-in-Ok-clause-keeps c =
     let s = c.args.symbol in
     let has = paths_answered (query_leaves s) s (λ (paths : PathForest). answer_leaves (leaves_of_forest paths)) (λ rules graph specifier. refl)
-    (λ rules graph specifier given is. is) (λ graph specifier v is. is) (λ is. is) c.args.root.now c.args.module_id c.in-Ok.ensures.known.1 in
+    (λ rules graph specifier given is. is) (λ rules graph specifier v is. is) (λ is. is) c.args.root.now c.args.module_id c.in-Ok.ensures.known.1 in
     record {
       grown = c.in-Ok.ensures.grown;
       refused = memory_refused c.from_residual.result c.args.root.now c.go_to_definitions_or_unresolveds.new.self
@@ -41,7 +41,7 @@ returns-in_ok-path_ends_by_specifier-in-Ok-clause-given c =
     let s = c.args.symbol in
     paths_given (query_leaves s) s (λ (paths : PathForest). answer_leaves (leaves_of_forest paths)) (λ rules graph specifier. refl)
     (λ rules graph specifier given is. is)
-    (λ graph specifier v is. is) (λ is. is) c.args.root.now c.go_to_definitions_or_unresolveds.new.self c.args.module_id
+    (λ rules graph specifier v is. is) (λ is. is) c.args.root.now c.go_to_definitions_or_unresolveds.new.self c.args.module_id
     (answer_leaves (map path_end_view c.in_ok-path_ends_by_specifier-in-Ok.field-0.items)) c.in-Ok.ensures.answers.0 c.in-Ok.ensures.grown c.requires
     c.in-Ok.ensures.known.1
     c.in-Ok.ensures.answers.1 (ap answer_leaves (c.in_ok-path_ends_by_specifier-in-Ok.ensures ∙ c.in-Ok.ensures.answers.2))

@@ -19,7 +19,7 @@ returns-in-Err-clause-keeps c =
       grown = c.in-Err.ensures.grown;
       refused = paths_refused (query_paths s) s (λ (paths : PathForest). answer_paths paths) (λ rules graph specifier. refl)
           (λ rules graph specifier given is. is)
-          (λ graph specifier v is. is) (λ is. is) c.args.root.now c.find_definition_paths.new.self c.args.module_id c.in-Err.fault c.in-Err.ensures.grown
+          (λ rules graph specifier v is. is) (λ is. is) c.args.root.now c.find_definition_paths.new.self c.args.module_id c.in-Err.fault c.in-Err.ensures.grown
           c.requires c.in-Err.ensures.faults;
       enough = λ wide. paths_enough c.args.root.now c.find_definition_paths.new.self c.args.module_id c.args.symbol c.in-Err.fault c.requires
           c.in-Err.ensures.faults (λ has. c.in-Err.ensures.enough (c.requires, has) wide);
@@ -30,7 +30,7 @@ returns-in_err-paths_by_specifier-in-Ok-clause-keeps c =
     let s = c.args.symbol in
     let has = paths_answered (query_paths s) s (λ (paths : PathForest). answer_paths paths) (λ rules graph specifier. refl)
     (λ rules graph specifier given is. is)
-    (λ graph specifier v is. is) (λ is. is) c.args.root.now c.args.module_id c.in-Ok.ensures.answers.has_symbol in
+    (λ rules graph specifier v is. is) (λ is. is) c.args.root.now c.args.module_id c.in-Ok.ensures.answers.has_symbol in
     record {
       grown = c.in-Ok.ensures.grown;
       refused = memory_refused c.from_residual.result c.args.root.now c.find_definition_paths.new.self (specifier_in c.args.root.now c.args.module_id)
@@ -42,7 +42,7 @@ pub returns-in_ok-paths_by_specifier-in-Ok-clause-given : goal.returns-in_ok-pat
 returns-in_ok-paths_by_specifier-in-Ok-clause-given c =
     let s = c.args.symbol in
     paths_given (query_paths s) s (λ (paths : PathForest). answer_paths paths) (λ rules graph specifier. refl) (λ rules graph specifier given is. is)
-    (λ graph specifier v is. is) (λ is. is) c.args.root.now c.find_definition_paths.new.self c.args.module_id
+    (λ rules graph specifier v is. is) (λ is. is) c.args.root.now c.find_definition_paths.new.self c.args.module_id
     (answer_paths (path_forest_view c.in_ok-paths_by_specifier-in-Ok.field-0.items)) (paths_by_specifier c.find_definition_paths.new.self c.in-Ok.paths.items)
     c.in-Ok.ensures.grown c.requires c.in-Ok.ensures.answers.has_symbol c.in-Ok.ensures.answers.are_paths
     (ap answer_paths c.in_ok-paths_by_specifier-in-Ok.ensures) (ap answer_paths (c.in_ok-paths_by_specifier-in-Ok.ensures ∙ c.in-Ok.ensures.listed))

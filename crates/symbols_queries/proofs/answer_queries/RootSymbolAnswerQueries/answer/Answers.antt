@@ -11,7 +11,7 @@ use Rattle.symbols_queries.proofs.answer_queries.RootSymbolAnswerQueries.answer.
 
 pub returns-in-Err-clause-faults : goal.returns-in-Err-clause-faults
 returns-in-Err-clause-faults c = module_refused c.args.self.now c.module_from_specifier.new.self c.specifier.result.now (query_view c.args.query.now)
-    c.in-Err.fault c.specifier.ensures c.in-Err.ensures.unchanged c.in-Err.ensures.keeps.refused
+    c.in-Err.fault c.specifier.ensures c.in-Err.ensures.unchanged c.in-Err.ensures.keeps.refused c.in-Err.ensures.can_fail
 
 pub returns-in-Ok-None-clause-answers : goal.returns-in-Ok-None-clause-answers
 returns-in-Ok-None-clause-answers c = (none_given c.args.self.now c.module_from_specifier.new.self c.specifier.result.now (query_view c.args.query.now)
