@@ -26,6 +26,7 @@ use crate::shadowed::{LaterChains, push_later_chain, shared_names};
 use crate::star_statements::{explicit_export, explicit_exports};
 use indexmap::IndexMap;
 use std::alloc::{AllocError, Global};
+use std::hash::RandomState;
 use std::marker::Model;
 use symbols_graph::ids::ModuleId;
 use symbols_root::RootSymbol;
@@ -34,7 +35,7 @@ use symbols_table::decl::Exports;
 /// Returns the index of a collected name, or `None` if it wasn't collected. An empty map isn't
 /// searched.
 fn index_of(
-    resolved: &IndexMap<String, ResolvedExportOrReExportAllPath<'_>>,
+    resolved: &IndexMap<String, ResolvedExportOrReExportAllPath<'_>, RandomState>,
     name: &str,
 ) -> Option<usize>
     ensures index { result ≡ position (λ (key : String Global).
@@ -52,7 +53,7 @@ fn index_of(
 /// collected, also the later chains of each name.
 #[derive(Drop)]
 pub(crate) struct CollectedExports<'a> {
-    resolved: IndexMap<String, ResolvedExportOrReExportAllPath<'a>>,
+    resolved: IndexMap<String, ResolvedExportOrReExportAllPath<'a>, RandomState>,
     collects_shared: bool,
     shadowed: LaterChains<'a>,
     unresolved: Vec<UnresolvedSpecifier<'a>>,
@@ -82,11 +83,15 @@ impl<'a> Model for CollectedExports<'a> {
 
 impl<'a> CollectedExports<'a> {
     /// Returns an empty collection. It allocates nothing.
-    pub(crate) fn new(alloc: Global, collects_shared: bool) -> CollectedExports<'a>
+    pub(crate) fn new(
+        alloc: Global,
+        keys: RandomState,
+        collects_shared: bool,
+    ) -> CollectedExports<'a>
         ensures { result ≡ record { keeps = collects_shared; collected = nothing_collected } }
     {
         CollectedExports {
-            resolved: IndexMap::new(alloc),
+            resolved: IndexMap::with_hasher(alloc, keys),
             collects_shared,
             shadowed: Vec::new(alloc),
             unresolved: Vec::new(alloc),

@@ -89,6 +89,7 @@ fn collect_without_stars<'a>(
     let empty_stack: Vec<Frame<'a>> = Vec::new(root.alloc());
     let mut collected = CollectedExports::new(
         root.alloc(),
+        root.keys(),
         name_filter.collects_shared(root.rules()),
     );
     collected.collect_from_module(root, module_id, &empty_stack, name_filter)?;
@@ -120,6 +121,7 @@ fn walk_stars<'a>(
     let mut stack: Vec<Frame<'a>> = Vec::new(root.alloc());
     let mut collected = CollectedExports::new(
         root.alloc(),
+        root.keys(),
         name_filter.collects_shared(root.rules()),
     );
     collected.collect_from_module(root, module_id, &stack, name_filter)?;

@@ -6,6 +6,7 @@ use crate::export_chain::ResolvedExportOrReExportAllPath;
 use crate::shared_name::SharedName;
 use indexmap::IndexMap;
 use std::alloc::Global;
+use std::hash::RandomState;
 use symbols_graph::ids::ModuleId;
 
 /// An `export *` statement that resolves to no module (as deno_graph).
@@ -26,7 +27,7 @@ pub struct UnresolvedSpecifier<'a> {
 pub struct ModuleExports<'a> {
     /// The exported names with their chains, in chain order. Names with the same chain have the
     /// order of the exporting module.
-    pub resolved: IndexMap<String, ResolvedExportOrReExportAllPath<'a>>,
+    pub resolved: IndexMap<String, ResolvedExportOrReExportAllPath<'a>, RandomState>,
     /// The names other than `default` that two or more reachable modules export locally and this
     /// module doesn't. Their order is that of `resolved`, which has them, too. It is empty by
     /// Deno's rules (extension).
@@ -38,13 +39,13 @@ pub struct ModuleExports<'a> {
 
 impl<'a> ModuleExports<'a> {
     /// Returns empty exports (as deno_graph's default). It allocates nothing.
-    pub fn new(alloc: Global) -> ModuleExports<'a>
+    pub fn new(alloc: Global, keys: RandomState) -> ModuleExports<'a>
         ensures resolved { result.resolved.entries ≡ [] }
         ensures shared { result.shared.items ≡ [] }
         ensures unresolved { result.unresolved_specifiers.items ≡ [] }
     {
         ModuleExports {
-            resolved: IndexMap::new(alloc),
+            resolved: IndexMap::with_hasher(alloc, keys),
             shared: Vec::new(alloc),
             unresolved_specifiers: Vec::new(alloc),
         }

@@ -6,6 +6,7 @@ ghost use Rattle.symbols_exports.specs.inner.NameFilter.{is_name_search_done, co
 
 use crate::export_chain::ResolvedExportOrReExportAllPath;
 use indexmap::IndexMap;
+use std::hash::RandomState;
 use symbols_root::Rules;
 
 /// The names that a walk collects: all exported names, or a given one.
@@ -20,7 +21,7 @@ impl NameFilter<'_> {
     /// or is `default`. No `export *` re-exports `default`.
     pub(crate) fn is_name_search_done(
         self,
-        resolved: &IndexMap<String, ResolvedExportOrReExportAllPath<'_>>,
+        resolved: &IndexMap<String, ResolvedExportOrReExportAllPath<'_>, RandomState>,
     ) -> bool
         ensures { result ≡ is_name_search_done self.entry
             (resolved_export_views resolved.now.entries) }

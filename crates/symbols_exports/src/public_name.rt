@@ -19,6 +19,7 @@ use crate::export_chain::{ResolvedExport, ResolvedExportOrReExportAllPath};
 use crate::export_walk::exports;
 use indexmap::IndexMap;
 use std::alloc::{AllocError, Global};
+use std::hash::RandomState;
 use symbols_graph::ids::ModuleId;
 use symbols_root::RootSymbol;
 use symbols_table::decl::Exports;
@@ -119,7 +120,7 @@ fn add_name(
 /// Returns the exported names, in order, each followed by its members.
 fn list_names(
     root: &RootSymbol<'_>,
-    resolved: &IndexMap<String, ResolvedExportOrReExportAllPath<'_>>,
+    resolved: &IndexMap<String, ResolvedExportOrReExportAllPath<'_>, RandomState>,
 ) -> Result<Vec<PublicName>, AllocError>
     requires { All (λ (name : ResolvedExportView). IsExplicitExport root.now name.export)
         (resolved_export_views resolved.now.entries) }

@@ -17,6 +17,7 @@ use crate::frame_chain::chain_of_frames;
 use crate::shared_name::SharedName;
 use indexmap::IndexMap;
 use std::alloc::{AllocError, Global};
+use std::hash::RandomState;
 
 /// The later chains of each collected name, by the index of the name.
 pub(crate) type LaterChains<'a> = Vec<Vec<ResolvedExportOrReExportAllPath<'a>>>;
@@ -118,7 +119,7 @@ fn shared_name<'a>(
 #[tactic(auto, using(crate::proofs::ShadowedChains::one_trace_each, crate::proofs::ShadowedChains::passed_over, crate::proofs::ShadowedChains::shared_after))]
 pub(crate) fn shared_names<'a>(
     alloc: Global,
-    resolved: &IndexMap<String, ResolvedExportOrReExportAllPath<'a>>,
+    resolved: &IndexMap<String, ResolvedExportOrReExportAllPath<'a>, RandomState>,
     shadowed: LaterChains<'a>,
 ) -> Result<Vec<SharedName<'a>>, AllocError>
     requires few { length shadowed.items ≤ length resolved.now.entries }
