@@ -1,6 +1,6 @@
 //! Re-exports of `symbols_graph`: raw graphs and their check.
 
 pub use symbols_graph::{
-    GraphFault, GraphModule, ModuleGraph, RawGraph, RawModule, RawModuleKind, RawResolution,
-    TreeFault,
+    GraphFault, GraphModule, KeyBytes, ModuleGraph, RawGraph, RawModule, RawModuleKind,
+    RawResolution, TreeFault,
 };

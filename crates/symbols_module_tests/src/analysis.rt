@@ -1,6 +1,7 @@
 //! Analyses a small module, read from a text and built by calls.
 
 use std::alloc::{AllocError, Global};
+use std::hash::RandomState;
 use symbols_graph::ids::{ModuleId, SymbolId};
 use symbols_graph::tree::{Decl, Item, Kind, NodeId, Tree};
 use symbols_graph::{GraphFault, GraphModule, ModuleGraph, RawGraph};
@@ -56,8 +57,8 @@ fn made(alloc: Global) -> Result<ModuleGraph, GraphFault> {
 
 /// Returns whether the module `m` is refused for too many symbols, under its specifier; `None` if
 /// it is refused for another reason.
-fn is_refused(alloc: Global, module: &GraphModule, limit: u32) -> Option<bool> {
-    match analyze(alloc, ModuleId::from_number(0), module, limit) {
+fn is_refused(alloc: Global, keys: RandomState, module: &GraphModule, limit: u32) -> Option<bool> {
+    match analyze(alloc, keys, ModuleId::from_number(0), module, limit) {
         Ok(_) => Some(false),
         Err(SymbolsFault::TooManySymbols(specifier)) => Some(specifier.as_str() == "m"),
         Err(_) => None,
@@ -75,7 +76,7 @@ fn limits(alloc: Global, graph: &ModuleGraph) -> Checked {
         (4, false, "four symbols are allowed"),
         (u32::MAX, false, "any number of symbols is allowed"),
     ] {
-        if is_refused(alloc, module, limit) != Some(is_beyond) {
+        if is_refused(alloc, graph.keys(), module, limit) != Some(is_beyond) {
             return Err(name);
         }
     }

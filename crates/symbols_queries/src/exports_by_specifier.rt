@@ -19,6 +19,7 @@ ghost use Rattle.symbols_queries.specs.AnswerViews.{shared_names_view};
 use crate::shared_name_by_specifier::{SharedNameBySpecifier, shared_names_by_rules};
 use indexmap::IndexMap;
 use std::alloc::{AllocError, Global};
+use std::hash::RandomState;
 use symbols_exports::{ModuleExports, ResolvedExportOrReExportAllPath, UnresolvedSpecifier};
 use symbols_graph::ids::{ModuleId, SymbolId};
 use symbols_root::RootSymbol;
@@ -139,7 +140,7 @@ fn export_by_specifier<'a>(
 fn export_list_by_specifier<'a>(
     alloc: Global,
     root: &RootSymbol<'a>,
-    resolved: IndexMap<String, ResolvedExportOrReExportAllPath<'a>>,
+    resolved: IndexMap<String, ResolvedExportOrReExportAllPath<'a>, RandomState>,
 ) -> Result<Vec<ExportBySpecifier<'a>>, AllocError>
     requires { AreExportsStored root.now (resolved_export_views resolved.entries) }
     ensures { IfOk result (λ exports. map export_view exports.items

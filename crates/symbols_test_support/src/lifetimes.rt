@@ -58,7 +58,8 @@ fn with_analyzed<R: CheckResult, F: FnOnce(ModuleInfoRef<'_, '_>) -> R + Drop>(
     let Some(module) = graph.get(specifier) else {
         return R::nothing();
     };
-    let Ok(Some(info)) = analyze(alloc, ModuleId::from_number(number), module, limit) else {
+    let module_id = ModuleId::from_number(number);
+    let Ok(Some(info)) = analyze(alloc, graph.keys(), module_id, module, limit) else {
         return R::nothing();
     };
     returned(info.as_ref())
