@@ -9,7 +9,7 @@ from .crates import TOP, Crate, libraries_below, libraries_of, read
 # output, the reason why serving fails, and the status and the line of an error
 FIXING = (
     'symq_reader::read_graph',
-    *('symbols_graph::ModuleGraph::new %s' % it for it in ('faultless', 'refused', 'modules', 'redirects', 'resolutions')),
+    *('symq_core::keyed_graph %s' % it for it in ('faultless', 'refused', 'modules', 'redirects', 'resolutions')),
     *('symq_core::read_args_with %s' % it for it in ('started', 'fails')),
     'symq_core::answer text',
     *('symq_core::serve_with %s' % it for it in ('served', 'fails', 'counted')),

@@ -4,21 +4,23 @@
 use std::io;
 use std::mem::ManuallyDrop;
 use std::process::ExitCode;
+use std::random::RandomSource;
 use std::rt::{Env, Files};
-use symbols_graph::ModuleGraph;
-use symq_core::{ExitError, ReaderInput, WriterOutput, read_args, serve_with};
+use symq_core::{ExitError, ReaderInput, WriterOutput, keyed_graph, read_args, serve_with};
 
 /// The size in bytes of a block that is allocated and freed at start. This raises glibc's threshold
 /// for mmap to nearly its maximum, so freed blocks up to this size are reused.
 const FREED_AT_START: usize = 33_000_000;
 
-fn run<R: Files + Env + AllocGlobal + Input + Print>(rt: &R) -> Result<(), ExitError> {
+fn run<R: Files + Env + AllocGlobal + Input + Print + RandomSource>(
+    rt: &R,
+) -> Result<(), ExitError> {
     // so the graph's tables reuse the memory of the reader, and not fresh pages that the system has
     // to clear
     drop(Vec::<u8>::with_capacity(rt.alloc(), FREED_AT_START));
     let (rules, raw) = read_args(rt)?;
     // never dropped: the process ends after it and frees all its memory
-    let graph = ManuallyDrop::new(ModuleGraph::new(rt.alloc(), raw).map_err(ExitError::Graph)?);
+    let graph = ManuallyDrop::new(keyed_graph(rt.alloc(), rt, raw).map_err(ExitError::Graph)?);
     let mut input = ReaderInput::new(rt.reader());
     let mut output = WriterOutput::new(io::writer(rt));
     serve_with(rt.alloc(), &graph, rules, &mut input, &mut output).map_err(ExitError::Engine)

@@ -15,9 +15,10 @@ use crate::printing::print_tables;
 use crate::start::read_args;
 use std::alloc::{AllocError, Global};
 use std::process::ExitCode;
+use std::random::RandomSource;
 use std::rt::{Env, Files};
-use symbols_graph::{ModuleGraph, RawGraph};
-use symq_core::{EngineFault, ExitError};
+use symbols_graph::RawGraph;
+use symq_core::{EngineFault, ExitError, keyed_graph};
 
 /// Returns the specifiers of the modules, in the graph's order.
 fn specifiers(alloc: Global, raw: &RawGraph) -> Result<Vec<String>, AllocError> {
@@ -28,12 +29,12 @@ fn specifiers(alloc: Global, raw: &RawGraph) -> Result<Vec<String>, AllocError> 
     Ok(specifiers)
 }
 
-fn run<R: Files + Env + AllocGlobal + Print>(rt: &R) -> Result<(), ExitError> {
+fn run<R: Files + Env + AllocGlobal + Print + RandomSource>(rt: &R) -> Result<(), ExitError> {
     let (form, raw) = read_args(rt)?;
     let specifiers = specifiers(rt.alloc(), &raw).map_err(|_| ExitError::Engine(
         EngineFault::OutOfMemory,
     ))?;
-    let graph = ModuleGraph::new(rt.alloc(), raw).map_err(ExitError::Graph)?;
+    let graph = keyed_graph(rt.alloc(), rt, raw).map_err(ExitError::Graph)?;
     print_tables(rt, &graph, specifiers.as_slice(), form).map_err(ExitError::Engine)
 }
 

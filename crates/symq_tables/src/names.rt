@@ -2,6 +2,7 @@
 
 use indexmap::IndexMap;
 use std::alloc::{AllocError, Global};
+use std::hash::RandomState;
 use symbols_graph::ids::SymbolId;
 use symbols_graph::tree::{Id, NodeId, NodeRef};
 use symbols_table::info::EsModuleInfo;
@@ -10,9 +11,10 @@ use symbols_table::info::EsModuleInfo;
 /// nodes.
 fn mapped_names<'a>(
     alloc: Global,
+    keys: RandomState,
     module: &EsModuleInfo<'a>,
-) -> Result<IndexMap<&'a Id, SymbolId>, AllocError> {
-    let mut names = IndexMap::new(alloc);
+) -> Result<IndexMap<&'a Id, SymbolId, RandomState>, AllocError> {
+    let mut names = IndexMap::with_hasher(alloc, keys);
     for number in 0..=u32::MAX {
         let Some(node) = NodeRef::new(module.source(), NodeId(number)) else {
             return Ok(names);
@@ -29,10 +31,11 @@ fn mapped_names<'a>(
 /// Prints a line for each name that resolves to a symbol.
 pub(crate) fn push_names(
     alloc: Global,
+    keys: RandomState,
     text: &mut String,
     module: &EsModuleInfo<'_>,
 ) -> Result<(), AllocError> {
-    let names = mapped_names(alloc, module)?;
+    let names = mapped_names(alloc, keys, module)?;
     for (id, symbol) in &names {
         let name = id.name.as_str();
         let scope = id.scope;

@@ -5,6 +5,7 @@ use crate::objects::{fault_line, module_line};
 use crate::start::Form;
 use crate::tables::push_symbols;
 use std::alloc::{AllocError, Global};
+use std::hash::RandomState;
 use std::io;
 use std::io::Write;
 use symbols_graph::ids::ModuleId;
@@ -16,6 +17,7 @@ use symq_core::EngineFault;
 /// Prints the specifier, the symbols and the names of a module. A JSON module has no names.
 fn push_module(
     alloc: Global,
+    keys: RandomState,
     text: &mut String,
     module: ModuleInfoRef<'_, '_>,
 ) -> Result<(), AllocError> {
@@ -23,7 +25,7 @@ fn push_module(
     write!(text, "module {specifier:?}\n")?;
     push_symbols(alloc, text, module)?;
     match module.esm() {
-        Some(esm) => push_names(alloc, text, esm),
+        Some(esm) => push_names(alloc, keys, text, esm),
         None => Ok(()),
     }
 }
@@ -40,10 +42,14 @@ fn push_fault(
 
 /// Returns the text for a module; empty if it has no symbols. It fails only if an allocation
 /// failed.
-fn module_text(alloc: Global, module: &GraphModule) -> Result<String, AllocError> {
+fn module_text(
+    alloc: Global,
+    keys: RandomState,
+    module: &GraphModule,
+) -> Result<String, AllocError> {
     let mut text = String::new(alloc);
-    match analyze(alloc, ModuleId::from_number(0), module, u32::MAX) {
-        Ok(Some(info)) => push_module(alloc, &mut text, info.as_ref())?,
+    match analyze(alloc, keys, ModuleId::from_number(0), module, u32::MAX) {
+        Ok(Some(info)) => push_module(alloc, keys, &mut text, info.as_ref())?,
         Ok(None) => {}
         Err(SymbolsFault::OutOfMemory) => return Err(AllocError),
         Err(fault) => push_fault(&mut text, module, &fault)?,
@@ -53,8 +59,12 @@ fn module_text(alloc: Global, module: &GraphModule) -> Result<String, AllocError
 
 /// Returns the line of JSON for a module; empty if it has no symbols. It fails only if an
 /// allocation failed.
-fn module_object(alloc: Global, module: &GraphModule) -> Result<Vec<u8>, AllocError> {
-    match analyze(alloc, ModuleId::from_number(0), module, u32::MAX) {
+fn module_object(
+    alloc: Global,
+    keys: RandomState,
+    module: &GraphModule,
+) -> Result<Vec<u8>, AllocError> {
+    match analyze(alloc, keys, ModuleId::from_number(0), module, u32::MAX) {
         Ok(Some(info)) => module_line(alloc, info.as_ref()),
         Ok(None) => Ok(Vec::new(alloc)),
         Err(SymbolsFault::OutOfMemory) => Err(AllocError),
@@ -66,10 +76,15 @@ fn module_object(alloc: Global, module: &GraphModule) -> Result<Vec<u8>, AllocEr
 }
 
 /// Returns the output for a module in this form.
-fn module_bytes(alloc: Global, module: &GraphModule, form: Form) -> Result<Vec<u8>, AllocError> {
+fn module_bytes(
+    alloc: Global,
+    keys: RandomState,
+    module: &GraphModule,
+    form: Form,
+) -> Result<Vec<u8>, AllocError> {
     match form {
-        Form::Lines => Ok(module_text(alloc, module)?.into_bytes()),
-        Form::Json => module_object(alloc, module),
+        Form::Lines => Ok(module_text(alloc, keys, module)?.into_bytes()),
+        Form::Json => module_object(alloc, keys, module),
     }
 }
 
@@ -94,7 +109,7 @@ pub(crate) fn print_tables<R: AllocGlobal + Print>(
     let mut output = io::writer(rt);
     for specifier in specifiers {
         if let Some(module) = graph_module_of(graph, specifier.as_str()) {
-            let text = module_bytes(rt.alloc(), module, form)?;
+            let text = module_bytes(rt.alloc(), graph.keys(), module, form)?;
             let written = output.write_all(text.as_slice());
             written.map_err(|_| EngineFault::OutputFailed)?;
         }
