@@ -7,8 +7,8 @@
 
 The library is packed into a directory of its own. `symq.h` has to declare the exports of the crate, with the types of the arguments, and a
 session with those of its fields; `bindings/c/example.c` is compiled with every warning as an error and answers the cases, by one call and by
-a session; so do the tests in Python and in Rust, which is built without and with its feature. `tests/library/refusing.c` is a host whose
-allocator fails call after call. The last line is 'N passed, M failed'.
+a session, each with keys and without; so do the tests in Python and in Rust, which is built without and with its feature.
+`tests/library/refusing.c` is a host whose allocator fails call after call. The last line is 'N passed, M failed'.
 """
 import argparse
 import glob
@@ -34,7 +34,7 @@ BINDINGS = os.path.join(TOP, 'bindings')
 WARNINGS = ['-std=c99', '-Wall', '-Wextra', '-Wpedantic', '-Werror', '-O1']
 # the C types of an export's types
 TYPES = {'Global': [], '&[u8]': ['const uint8_t *', 'size_t'], '&mut [u8]': ['uint8_t *', 'size_t'],
-         '&mut usize': ['size_t *'], '&mut Session': ['struct symq_session *'], 'u8': ['uint8_t'], '': ['void'],
+         '&mut usize': ['size_t *'], 'u64': ['uint64_t'], '&mut Session': ['struct symq_session *'], 'u8': ['uint8_t'], '': ['void'],
          'bool': ['bool'], '*mut u8': ['void *']}
 
 # where Debian's packages put crates, and the packages of those that the binding takes
@@ -105,6 +105,7 @@ def through_c(folder):
     example = compiled(folder, os.path.join(BINDINGS, 'c', 'example.c'), 'example')
     cases = [it for it in all_cases()[0] if it.program == 'symq' and it.words in (None, ['--strict', 'graph.json']) and it.graph is not None]
     cases += [it._replace(name=it.name + ', by a session', words=['--session', *(it.words or ['graph.json'])]) for it in cases]
+    cases += [it._replace(name=it.name + ', with keys', words=['--keyed', *(it.words or ['graph.json'])]) for it in cases]
     with ThreadPoolExecutor(os.cpu_count()) as pool:
         found = pool.map(lambda it: run_program(example, it), cases)
     return {'C: ' + case.name: text for case, text in zip(cases, found)}

@@ -38,6 +38,14 @@ uint8_t symq_answer(const uint8_t *text, size_t text_length, const uint8_t *line
 uint8_t symq_strict_answer(const uint8_t *text, size_t text_length, const uint8_t *lines, size_t lines_length, uint8_t *out,
                            size_t out_length, size_t *needed);
 
+/* Answers lines as `symq_answer` and `symq_strict_answer` do, over a graph whose maps hash with these keys: 16 random bytes, as of
+ * getentropy. Without keys the library hashes with fixed ones, and a graph can be written whose names all collide, so that a call
+ * takes time quadratic in its size. With keys that its writer doesn't know no graph can. Answers don't depend on keys. */
+uint8_t symq_keyed_answer(uint64_t first_key, uint64_t second_key, const uint8_t *text, size_t text_length, const uint8_t *lines,
+                          size_t lines_length, uint8_t *out, size_t out_length, size_t *needed);
+uint8_t symq_strict_keyed_answer(uint64_t first_key, uint64_t second_key, const uint8_t *text, size_t text_length,
+                                 const uint8_t *lines, size_t lines_length, uint8_t *out, size_t out_length, size_t *needed);
+
 /* A session, which retains a graph between calls. It begins closed, with all fields 0, as by `struct symq_session it = {0}`.
  * Only the calls write its fields or follow the pointer, and only one of its copies may be used. It may move to another
  * thread between calls, by a lock or by that thread's start or end. */
@@ -55,6 +63,12 @@ uint8_t symq_open(const uint8_t *text, size_t text_length, struct symq_session *
 /* Opens a session as `symq_open` does, by strict rules. */
 uint8_t symq_strict_open(const uint8_t *text, size_t text_length, struct symq_session *session, uint8_t *out, size_t out_length,
                          size_t *needed);
+
+/* Opens a session as `symq_open` and `symq_strict_open` do, with keys as of `symq_keyed_answer`. */
+uint8_t symq_keyed_open(uint64_t first_key, uint64_t second_key, const uint8_t *text, size_t text_length,
+                        struct symq_session *session, uint8_t *out, size_t out_length, size_t *needed);
+uint8_t symq_strict_keyed_open(uint64_t first_key, uint64_t second_key, const uint8_t *text, size_t text_length,
+                               struct symq_session *session, uint8_t *out, size_t out_length, size_t *needed);
 
 /* Answers lines as `symq_answer` does, over the graph of the session. The session doesn't change, not even with SYMQ_NO_MEMORY. */
 uint8_t symq_ask(struct symq_session *session, const uint8_t *lines, size_t lines_length, uint8_t *out, size_t out_length,

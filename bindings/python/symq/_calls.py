@@ -1,6 +1,7 @@
 """Declares the library's calls, as bindings/c/symq.h has them."""
 import ctypes
 import os
+import struct
 import threading
 from types import TracebackType
 from typing import Callable, List, Optional, Sequence, Type, TypeVar, Union
@@ -23,19 +24,22 @@ def _library() -> ctypes.CDLL:
     """Returns the library: the one that SYMQ_LIBRARY names, or the one in this package."""
     found = ctypes.CDLL(os.environ.get("SYMQ_LIBRARY") or os.path.join(_HERE, "libsymq.so"))
     text, out = [ctypes.c_char_p, ctypes.c_size_t], [ctypes.c_void_p, ctypes.c_size_t, ctypes.POINTER(ctypes.c_size_t)]
-    kept = ctypes.POINTER(_Kept)
-    for call in (found.symq_answer, found.symq_strict_answer):
-        call.argtypes = [*text, *text, *out]
-    for call in (found.symq_open, found.symq_strict_open):
-        call.argtypes = [*text, kept, *out]
+    keys, kept = [ctypes.c_uint64, ctypes.c_uint64], ctypes.POINTER(_Kept)
+    answers, opens = (found.symq_keyed_answer, found.symq_strict_keyed_answer), (found.symq_keyed_open, found.symq_strict_keyed_open)
+    for call in answers:
+        call.argtypes = [*keys, *text, *text, *out]
+    for call in opens:
+        call.argtypes = [*keys, *text, kept, *out]
     found.symq_ask.argtypes = [kept, *text, *out]
-    for call in (found.symq_answer, found.symq_strict_answer, found.symq_open, found.symq_strict_open, found.symq_ask):
+    for call in (*answers, *opens, found.symq_ask):
         call.restype = ctypes.c_uint8
     found.symq_close.argtypes, found.symq_close.restype = [kept], None
     return found
 
 
 _LIBRARY = _library()
+# the keys that maps hash with, which no writer of a graph knows
+_KEYS = struct.unpack("=2Q", os.urandom(16))
 
 
 class Stop(Exception):
@@ -70,8 +74,8 @@ def answer(graph: bytes, lines: bytes, *, strict: bool = False) -> bytes:
 
     The graph is read anew at each call, and possibly twice if the answers are long. Other threads run meanwhile.
     """
-    call = _LIBRARY.symq_strict_answer if strict else _LIBRARY.symq_answer
-    return _told(call, graph, len(graph), lines, len(lines))
+    call = _LIBRARY.symq_strict_keyed_answer if strict else _LIBRARY.symq_keyed_answer
+    return _told(call, *_KEYS, graph, len(graph), lines, len(lines))
 
 
 def query(graph: bytes, queries: Sequence[Query[T]], *, strict: bool = False) -> List[Union[T, Fault]]:
@@ -91,7 +95,8 @@ class Session:
     def __init__(self, graph: bytes, *, strict: bool = False) -> None:
         self._kept = _Kept()
         self._lock = threading.Lock()
-        _told(_LIBRARY.symq_strict_open if strict else _LIBRARY.symq_open, graph, len(graph), self._kept)
+        call = _LIBRARY.symq_strict_keyed_open if strict else _LIBRARY.symq_keyed_open
+        _told(call, *_KEYS, graph, len(graph), self._kept)
 
     def ask(self, lines: bytes) -> bytes:
         """Returns the answers to query lines, each with its line end. Raises `Stop` with status 1 if the session is closed."""

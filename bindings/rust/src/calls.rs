@@ -5,6 +5,8 @@ use crate::error::Error;
 use crate::error::Stop;
 #[cfg(feature = "json")]
 use serde_json::Value;
+use std::collections::hash_map::RandomState;
+use std::hash::{BuildHasher, Hasher};
 
 mod c {
     use std::ffi::c_void;
@@ -17,7 +19,9 @@ mod c {
     }
 
     extern "C" {
-        pub fn symq_answer(
+        pub fn symq_keyed_answer(
+            first_key: u64,
+            second_key: u64,
             text: *const u8,
             text_length: usize,
             lines: *const u8,
@@ -26,7 +30,9 @@ mod c {
             out_length: usize,
             needed: *mut usize,
         ) -> u8;
-        pub fn symq_strict_answer(
+        pub fn symq_strict_keyed_answer(
+            first_key: u64,
+            second_key: u64,
             text: *const u8,
             text_length: usize,
             lines: *const u8,
@@ -35,7 +41,9 @@ mod c {
             out_length: usize,
             needed: *mut usize,
         ) -> u8;
-        pub fn symq_open(
+        pub fn symq_keyed_open(
+            first_key: u64,
+            second_key: u64,
             text: *const u8,
             text_length: usize,
             session: *mut Kept,
@@ -43,7 +51,9 @@ mod c {
             out_length: usize,
             needed: *mut usize,
         ) -> u8;
-        pub fn symq_strict_open(
+        pub fn symq_strict_keyed_open(
+            first_key: u64,
+            second_key: u64,
             text: *const u8,
             text_length: usize,
             session: *mut Kept,
@@ -64,6 +74,12 @@ mod c {
 }
 
 const ROOM: usize = 1 << 16;
+
+/// Returns the keys that maps hash with, which no writer of a graph knows: hashes by random keys of the system.
+fn keys() -> (u64, u64) {
+    let hash = || RandomState::new().build_hasher().finish();
+    (hash(), hash())
+}
 
 /// Returns what a call writes with status 0. The call is repeated if the buffer was too small.
 fn told(mut call: impl FnMut(&mut [u8], &mut usize) -> u8) -> Result<Vec<u8>, Stop> {
@@ -86,15 +102,18 @@ fn told(mut call: impl FnMut(&mut [u8], &mut usize) -> u8) -> Result<Vec<u8>, St
 
 fn answered(is_strict: bool, graph: &[u8], lines: &[u8]) -> Result<Vec<u8>, Stop> {
     let call = if is_strict {
-        c::symq_strict_answer
+        c::symq_strict_keyed_answer
     } else {
-        c::symq_answer
+        c::symq_keyed_answer
     };
+    let (first_key, second_key) = keys();
     told(|out, needed| {
         // SAFETY: each pointer and length are those of one slice, which is borrowed for the call and isn't null; `out` and `needed`
         // are borrowed alone
         unsafe {
             call(
+                first_key,
+                second_key,
                 graph.as_ptr(),
                 graph.len(),
                 lines.as_ptr(),
@@ -137,9 +156,9 @@ unsafe impl Send for Session {}
 impl Session {
     fn opened(is_strict: bool, graph: &[u8]) -> Result<Session, Stop> {
         let call = if is_strict {
-            c::symq_strict_open
+            c::symq_strict_keyed_open
         } else {
-            c::symq_open
+            c::symq_keyed_open
         };
         let mut session = Session {
             kept: c::Kept {
@@ -147,10 +166,13 @@ impl Session {
                 kept: std::ptr::null_mut(),
             },
         };
+        let (first_key, second_key) = keys();
         told(|out, needed| {
             // SAFETY: as of `answered`; the session is borrowed alone, and is closed or as a call left it
             unsafe {
                 call(
+                    first_key,
+                    second_key,
                     graph.as_ptr(),
                     graph.len(),
                     &mut session.kept,

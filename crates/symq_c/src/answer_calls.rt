@@ -15,7 +15,7 @@ ghost use Rattle.symq_c.specs.OutBuffers.{IsTruncatedCopyToBuffer};
 use crate::graph_of_text::{answers, graph_of};
 use crate::out_buffer::{hand_out, hand_out_line};
 use std::alloc::Global;
-use symbols_graph::ModuleGraph;
+use symbols_graph::{KeyBytes, ModuleGraph};
 use symbols_root::Rules;
 use symq_core::ExitError;
 
@@ -45,9 +45,10 @@ pub(crate) fn answer_over(
 }
 
 /// Writes the answers to query lines over a graph's text to `out`. Returns the status, as
-/// `symq_answer` does.
-fn answer_by_rules(
+/// `symq_answer` does. Maps hash with keys from these bytes.
+pub(crate) fn answer_by_rules(
     alloc: Global,
+    key_bytes: KeyBytes,
     rules: Rules,
     text: &[u8],
     lines: &[u8],
@@ -64,7 +65,7 @@ fn answer_by_rules(
     ensures memory { result ≡ 7 → IsTruncatedCopyToBuffer out_of_memory_line out.old out.new needed.new }
     ensures no_other { (result ≡ 0) ⊎ (result ≡ 4) ⊎ (result ≡ 5) ⊎ (result ≡ 7) }
 {
-    let graph = match graph_of(alloc, text) {
+    let graph = match graph_of(alloc, key_bytes, text) {
         Ok(graph) => graph,
         Err(exit_error) => return hand_out_line(alloc, &exit_error, out, needed),
     };
@@ -94,7 +95,8 @@ pub extern "C" fn symq_answer(
     ensures memory { result ≡ 7 → IsTruncatedCopyToBuffer out_of_memory_line out.old out.new needed.new }
     ensures no_other { (result ≡ 0) ⊎ (result ≡ 4) ⊎ (result ≡ 5) ⊎ (result ≡ 7) }
 {
-    answer_by_rules(alloc, Rules::Deno, text, lines, out, needed)
+    let fixed = KeyBytes::new([0; 16]);
+    answer_by_rules(alloc, fixed, Rules::Deno, text, lines, out, needed)
 }
 
 /// Answers query lines as `symq_answer` does, by strict rules (extension).
@@ -116,5 +118,6 @@ pub extern "C" fn symq_strict_answer(
     ensures memory { result ≡ 7 → IsTruncatedCopyToBuffer out_of_memory_line out.old out.new needed.new }
     ensures no_other { (result ≡ 0) ⊎ (result ≡ 4) ⊎ (result ≡ 5) ⊎ (result ≡ 7) }
 {
-    answer_by_rules(alloc, Rules::Strict, text, lines, out, needed)
+    let fixed = KeyBytes::new([0; 16]);
+    answer_by_rules(alloc, fixed, Rules::Strict, text, lines, out, needed)
 }

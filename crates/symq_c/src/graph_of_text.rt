@@ -8,9 +8,11 @@ ghost use Rattle.symq_c.specs.GraphTexts.{IsRawGraphOf, IsCheckedGraphOf};
 ghost use Rattle.symq_c.specs.inner.GraphTexts.{IsGraphRefusal};
 
 use std::alloc::Global;
-use symbols_graph::{ModuleGraph, RawGraph};
+use symbols_graph::{KeyBytes, ModuleGraph, RawGraph};
 use symbols_root::Rules;
-use symq_core::{EngineFault, ExitError, MemoryInput, MemoryOutput, read_graph, serve_with};
+use symq_core::{
+    EngineFault, ExitError, MemoryInput, MemoryOutput, keyed_graph, read_graph, serve_with,
+};
 
 /// Returns the raw graph of a text, which isn't checked yet. It fails if the text is no graph or an
 /// allocation failed.
@@ -22,17 +24,21 @@ fn raw_graph_of(alloc: Global, text: &[u8]) -> Result<RawGraph, ExitError>
     read_graph(alloc, text).map_err(ExitError::Format)
 }
 
-/// Returns the checked graph of a text (extension).
+/// Returns the checked graph of a text, whose maps hash with keys from these bytes (extension).
 ///
 /// # Errors
 ///
 /// The text is no graph, the graph is refused, or an allocation failed.
-pub(crate) fn graph_of(alloc: Global, text: &[u8]) -> Result<ModuleGraph, ExitError>
+pub(crate) fn graph_of(
+    alloc: Global,
+    key_bytes: KeyBytes,
+    text: &[u8],
+) -> Result<ModuleGraph, ExitError>
     ensures accepted { IfOk result (λ graph. IsCheckedGraphOf text.now graph) }
     ensures refused { IfErr result (λ exit_error. IsGraphRefusal text.now exit_error) }
 {
     let raw = raw_graph_of(alloc, text)?;
-    ModuleGraph::new(alloc, raw).map_err(ExitError::Graph)
+    keyed_graph(alloc, &key_bytes, raw).map_err(ExitError::Graph)
 }
 
 /// Returns the answers to the lines by these rules, each with a line end. It fails only if an

@@ -7,6 +7,7 @@
 
 mod answer_calls;
 mod graph_of_text;
+mod keyed_calls;
 mod out_buffer;
 mod parts;
 mod session;

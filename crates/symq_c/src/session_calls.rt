@@ -17,12 +17,14 @@ use crate::out_buffer::{hand_out, hand_out_line};
 use crate::session::Session;
 use crate::session_state::state_of;
 use std::alloc::Global;
+use symbols_graph::KeyBytes;
 use symbols_root::Rules;
 
-/// Opens a session by these rules over the graph of a text. The former state of the session is
-/// freed.
-fn open_by_rules(
+/// Opens a session by these rules over the graph of a text, whose maps hash with keys from these
+/// bytes. The former state of the session is freed.
+pub(crate) fn open_by_rules(
     alloc: Global,
+    key_bytes: KeyBytes,
     rules: Rules,
     text: &[u8],
     session: &mut Session,
@@ -40,7 +42,7 @@ fn open_by_rules(
     ensures closed { result ≢ 0 → session.new.session_handle.state ≡ None }
 {
     *session = Session::closed(alloc);
-    let state = match state_of(alloc, rules, text) {
+    let state = match state_of(alloc, key_bytes, rules, text) {
         Ok(state) => state,
         Err(exit_error) => return hand_out_line(alloc, &exit_error, out, needed),
     };
@@ -70,7 +72,8 @@ pub extern "C" fn symq_open(
     ensures no_other { (result ≡ 0) ⊎ (result ≡ 4) ⊎ (result ≡ 5) ⊎ (result ≡ 7) }
     ensures closed { result ≢ 0 → session.new.session_handle.state ≡ None }
 {
-    open_by_rules(alloc, Rules::Deno, text, session, out, needed)
+    let fixed = KeyBytes::new([0; 16]);
+    open_by_rules(alloc, fixed, Rules::Deno, text, session, out, needed)
 }
 
 /// Opens a session as `symq_open` does, by strict rules (extension).
@@ -92,7 +95,8 @@ pub extern "C" fn symq_strict_open(
     ensures no_other { (result ≡ 0) ⊎ (result ≡ 4) ⊎ (result ≡ 5) ⊎ (result ≡ 7) }
     ensures closed { result ≢ 0 → session.new.session_handle.state ≡ None }
 {
-    open_by_rules(alloc, Rules::Strict, text, session, out, needed)
+    let fixed = KeyBytes::new([0; 16]);
+    open_by_rules(alloc, fixed, Rules::Strict, text, session, out, needed)
 }
 
 /// Answers query lines over the graph of a session, which doesn't change (extension). It returns 0
