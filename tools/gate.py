@@ -193,6 +193,7 @@ def all_parts():
     parts.append(Part('plain graphs').run(tool('run_plain.py')))
     parts += [model_part('program'), Part('symdir').run(tool('run_symdir.py'))]
     parts += [Part('refused calls').run(tool('run_refusing.py')), Part('long ways').run(tool('run_deep.py'))]
+    parts.append(Part('floods').run(tool('run_flood.py')))
     return parts + [Part('cases').run(tool('run_cases.py', '--proved'))]
 
 

@@ -10,7 +10,8 @@ import subprocess
 import sys
 import tempfile
 
-PACKAGES = {'node': 'nodejs', 'tsc': 'node-typescript', 'dot': 'graphviz', 'cc': 'build-essential', 'ar': 'build-essential', 'cargo': 'cargo'}
+PACKAGES = {'node': 'nodejs', 'tsc': 'node-typescript', 'dot': 'graphviz', 'cc': 'build-essential', 'ar': 'build-essential', 'cargo': 'cargo',
+            'valgrind': 'valgrind'}
 
 
 DEBIAN_KEYS = '/usr/share/keyrings/debian-archive-keyring.gpg'
