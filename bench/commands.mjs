@@ -7,12 +7,13 @@
 // the newest that is installed, and read the modules of TypeScript below the directory. Both write what they find to a pipe.
 // It prints the least times of the rounds, their ratios to the service's, on the clock and of the processors, and how much each found. The
 // last lines are a table: ratios on the clock, cold and cached.
-import { spawnSync } from 'node:child_process';
-import { existsSync, mkdtempSync, readFileSync, readdirSync, rmSync } from 'node:fs';
+import { existsSync, mkdtempSync, rmSync } from 'node:fs';
 import os from 'node:os';
 import path from 'node:path';
 import { fileURLToPath } from 'node:url';
 import { parseArgs } from 'node:util';
+
+import { forgetTrees, least, plainEnvironment, timeText, timedRun } from './measuring.mjs';
 
 const SELF = fileURLToPath(import.meta.url);
 const SYMDIR = fileURLToPath(new URL('../symdir/bin/symdir.js', import.meta.url));
@@ -21,7 +22,7 @@ const USAGE = 'usage: node bench/commands.mjs [--rounds N] [--symq FILE] [--type
 const SCRIPTS = ['--skip', '\\.[mc]?jsx?$'];
 
 /** @typedef {{ entries: string[], spot: string }} Asked what the service is told of a directory: its entries, and the place of a public name */
-/** @typedef {{ clock: number, processors: number }} Time */
+/** @typedef {import('./measuring.mjs').Time} Time */
 
 /** @type {Record<string, (folder: string, asked: Asked) => string[]>} the words of each command */
 const COMMANDS = {
@@ -37,23 +38,10 @@ const COMMANDS = {
   diff: (folder) => ['diff', folder, folder, '--json'],
 };
 
-/** @returns {number} the processor time in seconds of all ended child processes */
-function processors() {
-  if (!existsSync('/proc/self/stat')) return NaN;
-  const [user, system] = readFileSync('/proc/self/stat', 'utf8').split(') ')[1].split(' ').slice(13, 15);
-  return (Number(user) + Number(system)) / 100;
-}
-
 /** @param {string[]} words of Node @param {string} cache @returns {{ time: Time, stdout: string }} */
 function timed(words, cache) {
-  const { NODE_EXTRA_CA_CERTS: _, ...plain } = process.env;
   const PATH = values.typescript ? `${path.join(String(values.typescript), 'bin')}${path.delimiter}${process.env.PATH}` : process.env.PATH;
-  const [began, before] = [performance.now(), processors()];
-  const { status, signal, stdout, stderr } = spawnSync(process.execPath, words, {
-    encoding: 'utf8', maxBuffer: 1 << 28, env: { ...plain, PATH, SYMQ: String(values.symq), XDG_CACHE_HOME: cache } });
-  const time = { clock: (performance.now() - began) / 1000, processors: processors() - before };
-  if (status === null || status > 1) throw new Error(`${words.join(' ')}: status ${status}, signal ${signal}: ${stderr}`);
-  return { time, stdout };
+  return timedRun(words, { ...plainEnvironment(), PATH, SYMQ: String(values.symq), XDG_CACHE_HOME: cache }, 1);
 }
 
 /** @param {string} folder @param {string} cache @returns {Asked} */
@@ -71,22 +59,6 @@ function countOf(name, stdout) {
   if (name === 'where') return out.flatMap((/** @type {any} */ it) => it.ways.filter((/** @type {any} */ one) => one.defined)).length;
   if (name === 'uses') return out.flatMap((/** @type {any} */ it) => it.uses.filter((/** @type {any} */ one) => one.how !== 'export *')).length;
   return (/** @type {Record<string, any[]>} */ ({ api: out.names, leaks: out.leaks, missing: out.missing, unused: out.exports, cycles: out.cycles, web: out.edges, diff: out.changes }))[name].length;
-}
-
-/** @param {Time[]} times @returns {Time} the least of each */
-function least(times) {
-  return { clock: Math.min(...times.map((it) => it.clock)), processors: Math.min(...times.map((it) => it.processors)) };
-}
-
-/** @param {Time} time @param {Time} [other] @returns {string} with its ratio to the other */
-function timeText(time, other) {
-  const text = (/** @type {'clock' | 'processors'} */ it) => `${time[it].toFixed(2)} s${other ? ` (${(time[it] / other[it]).toFixed(2)})` : ''}`;
-  return `clock ${text('clock')}, processors ${text('processors')}`;
-}
-
-/** @param {string} folder a cache, whose trees and graphs are removed */
-function forgetTrees(folder) {
-  for (const it of readdirSync(folder)) if (/\.(trees|graph)$/.test(it)) rmSync(path.join(folder, it));
 }
 
 /** @param {string} folder @param {string} name of a command @param {Asked} asked @param {string} cache @returns {string} the cell of the table */

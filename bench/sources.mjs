@@ -10,8 +10,7 @@
 // It prints the least times of the rounds on the clock and of the processors, in seconds, and their ratios to the checker's. The
 // latter include child processes and are measured on Linux only. Both read the same files, the modules of TypeScript below the
 // directory, and both print how many names they found.
-import { spawnSync } from 'node:child_process';
-import { existsSync, mkdtempSync, readFileSync, readdirSync, rmSync } from 'node:fs';
+import { existsSync, mkdtempSync, rmSync } from 'node:fs';
 import { createRequire } from 'node:module';
 import os from 'node:os';
 import path from 'node:path';
@@ -22,6 +21,9 @@ import { begin } from '../symdir/lib/folder/begin.js';
 import { Files, isFolder } from '../symdir/lib/folder/files.js';
 import { isJavaScript } from '../symdir/lib/language.js';
 import { findTypeScript } from '../symdir/lib/typescript.js';
+import { forgetTrees, least, plainEnvironment, timeText, timedRun } from './measuring.mjs';
+
+/** @typedef {import('./measuring.mjs').Time} Time */
 
 const SELF = fileURLToPath(import.meta.url);
 const USAGE = 'usage: node bench/sources.mjs [--rounds N] [--symq FILE] [--environment as-is] FOLDER..';
@@ -82,40 +84,11 @@ async function askSymdir(folder, symq) {
   return { exports: exports.length, imports: imports.length };
 }
 
-/** @returns {number} the processor time in seconds of all ended child processes */
-function processors() {
-  if (!existsSync('/proc/self/stat')) return NaN;
-  const [user, system] = readFileSync('/proc/self/stat', 'utf8').split(') ')[1].split(' ').slice(13, 15);
-  return (Number(user) + Number(system)) / 100;
-}
-
-/** @typedef {{ clock: number, processors: number }} Time */
-
 /** @param {string[]} words @param {string} cache @returns {{ time: Time, count: string }} */
 function timed(words, cache) {
-  const { NODE_EXTRA_CA_CERTS: _, ...plain } = process.env;
-  const environment = values.environment === 'as-is' ? process.env : plain;
-  const [began, before] = [performance.now(), processors()];
-  const { status, signal, stdout, stderr } = spawnSync(process.execPath, [SELF, ...words], { encoding: 'utf8', env: { ...environment, XDG_CACHE_HOME: cache } });
-  const time = { clock: (performance.now() - began) / 1000, processors: processors() - before };
-  if (status !== 0) throw new Error(`${words.join(' ')}: status ${status}, signal ${signal}: ${stderr}`);
+  const environment = values.environment === 'as-is' ? process.env : plainEnvironment();
+  const { time, stdout } = timedRun([SELF, ...words], { ...environment, XDG_CACHE_HOME: cache }, 0);
   return { time, count: stdout.trim() };
-}
-
-/** @param {Time[]} times @returns {Time} the least of each */
-function least(times) {
-  return { clock: Math.min(...times.map((it) => it.clock)), processors: Math.min(...times.map((it) => it.processors)) };
-}
-
-/** @param {Time} time @param {Time} [other] @returns {string} with its ratio to the other */
-function timeText(time, other) {
-  const text = (/** @type {'clock' | 'processors'} */ it) => `${time[it].toFixed(2)} s${other ? ` (${(time[it] / other[it]).toFixed(2)})` : ''}`;
-  return `clock ${text('clock')}, processors ${text('processors')}`;
-}
-
-/** @param {string} folder a cache, whose trees and graphs are removed */
-function forgetTrees(folder) {
-  for (const it of readdirSync(folder)) if (/\.(trees|graph)$/.test(it)) rmSync(path.join(folder, it));
 }
 
 /** @param {string} folder @param {number} rounds @param {string} symq */
