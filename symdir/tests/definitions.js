@@ -58,8 +58,9 @@ export function isWithoutSymbol(language, node) {
   return symbol !== undefined && (targetOf(language, symbol).flags & (ts.SymbolFlags.TypeParameter | ts.SymbolFlags.EnumMember)) !== 0;
 }
 
-/** What the checker says of an import: no such module; a file that is no module; no such export, by several of its texts. */
+/** What the checker says of an import: no such module, of one of Node's also in another text, which newer versions have for modules too; a file that is no module; no such export. */
 const NO_MODULE = new Set([2307, 2792, 7016]);
+const NO_TYPES_OF_NODE = new Set([2580, 2591]);
 const NO_MODULE_BUT_FILE = 2306;
 const NO_EXPORT = new Set([2305, 2459, 2460, 2614, 2724, 1192, 2613]);
 
@@ -86,18 +87,24 @@ function hasOpenStar(language, file, met = new Set()) {
 
 /** @typedef {Map<string, string>} Lacking by place a text or a name */
 
+/** @param {Language} language @param {SourceFile} file @returns {[string, string][]} where its first syntax error stands, and what the parser says of it; none where it has none */
+export function syntaxOf(language, file) {
+  return language.service.getSyntacticDiagnostics(file.fileName).slice(0, 1).map(({ start, messageText }) => [language.place(file, start), ts.flattenDiagnosticMessageText(messageText, ' ')]);
+}
+
 /**
  * @param {Language} language
- * @returns {{ modules: Lacking, exports: Lacking, open: Lacking }} the text of each import of a module that isn't there, at its statement; the name of each export that isn't there;
- *   and of each that isn't there as far as can be known, since an `export *` on the way resolves to no file
+ * @returns {{ modules: Lacking, exports: Lacking, open: Lacking, syntax: Lacking }} the text of each import of a module that isn't there, at its statement; the name of each export that isn't there;
+ *   and of each that isn't there as far as can be known, since an `export *` on the way resolves to no file; and of each file the first syntax error
  */
 export function lackingBy(language) {
-  const [modules, exports, open] = [new Map(), new Map(), new Map()];
+  const [modules, exports, open, syntax] = [new Map(), new Map(), new Map(), new Map()];
   for (const file of language.sources()) {
+    for (const [place, text] of syntaxOf(language, file)) syntax.set(place, text);
     for (const { code, start = 0, length = 0 } of language.service.getSemanticDiagnostics(file.fileName)) {
       const text = file.text.slice(start, start + length);
       const of = importAt(file, start);
-      if (NO_MODULE.has(code)) modules.set(language.place(file, of ? of.statement.getStart() : start), text.slice(1, -1));
+      if (NO_MODULE.has(code) || (NO_TYPES_OF_NODE.has(code) && /^["']/.test(text))) modules.set(language.place(file, of ? of.statement.getStart() : start), text.slice(1, -1));
       // each file is a module here: one that exports nothing lacks each name
       if (code === NO_MODULE_BUT_FILE) for (const it of of?.names ?? []) exports.set(language.place(file, it.getStart()), it.getText());
       if (!NO_EXPORT.has(code)) continue;
@@ -105,7 +112,7 @@ export function lackingBy(language) {
       (to && hasOpenStar(language, to) ? open : exports).set(language.place(file, start), text);
     }
   }
-  return { modules, exports, open };
+  return { modules, exports, open, syntax };
 }
 
 /** @typedef {{ file: SourceFile, name: string }} Owner a module whose own text exports the name */
@@ -167,4 +174,28 @@ export function stepsOf(language, entry, name) {
     at = next?.name === '*' ? null : next;
   }
   return found;
+}
+
+/** @typedef {Map<string, { star: boolean, names: string[] }>} Web by `FROM TO` of each module that passes public names on to another the names, and whether by `export *` too */
+
+/** @param {Language} language @param {string[]} entries @returns {Web} what `web` lists, each public name followed from module to module */
+export function webBy(language, entries) {
+  /** @type {Map<string, { star: boolean, names: Set<string> }>} */
+  const found = new Map();
+  for (const file of language.sources().filter((it) => entries.includes(language.short(it.fileName)))) {
+    for (const { name } of language.exports(file)) {
+      for (const { from, to, isStar } of stepsOf(language, file, name)) {
+        const edge = found.get(`${from} ${to}`) ?? { star: false, names: new Set() };
+        found.set(`${from} ${to}`, edge);
+        edge.star ||= isStar;
+        edge.names.add(name);
+      }
+    }
+  }
+  return new Map([...found].sort(([a], [b]) => (a < b ? -1 : 1)).map(([key, { star, names }]) => [key, { star, names: [...names].sort() }]));
+}
+
+/** @param {{ from: string, to: string, star: boolean, names: string[] }[]} edges as `web --json` lists them @returns {Web} */
+export function webOf(edges) {
+  return new Map([...edges].map(({ from, to, star, names }) => /** @type {const} */ ([`${from} ${to}`, { star, names: [...names].sort() }])).sort(([a], [b]) => (a < b ? -1 : 1)));
 }

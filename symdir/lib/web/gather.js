@@ -3,9 +3,12 @@ import { isDefinition } from '../folder/folder.js';
 import { endOf } from '../folder/ends.js';
 
 /** @typedef {import('../folder/folder.js').Folder} Folder */
+/** @typedef {import('../folder/folder.js').Export} Export */
 
 /** @typedef {{ from: string, to: string, isStar: boolean, names: Set<string> }} Edge names pass from `to` to `from` */
 /** @typedef {{ module: string, text: string, isStar: boolean }} Lost an unresolved name or module */
+/** @typedef {{ to: string, name: string }} Taken a name of another module */
+/** @typedef {{ from: string, to: string, name: string, symbol?: number }} Step of a path, by an import or a re-export that is the symbol */
 
 /**
  * @typedef {object} Web
@@ -25,7 +28,7 @@ class Gathering {
     this.owned = new Map(folder.entries.map((it) => [it, new Map()]));
     /** @type {Map<string, Lost>} */
     this.lost = new Map();
-    /** @type {{ from: string, to: string, name: string }[]} steps of paths, which leave out modules that pass a name on by `export *` */
+    /** @type {Step[]} which leave out modules that pass a name on by `export *` */
     this.hops = [];
   }
 
@@ -50,14 +53,19 @@ class Gathering {
     if (!found.has(name)) found.set(name, line);
   }
 
-  /** @param {any} entry of a path @param {string} name @param {string[]} before the modules before it */
-  walk(entry, name, before) {
-    const { module } = entry;
-    const last = before[before.length - 1];
-    const here = last === module ? before : [...before, module];
-    if (here !== before && last !== undefined) this.hops.push({ from: last, to: module, name });
-    if (isDefinition(entry)) this.owns(module, name, this.folder.defined(entry).line);
-    else if ('next' in entry) entry.next.forEach((/** @type {any} */ it) => this.walk(it, name, here));
+  /** @param {string} module @param {string} name @param {string | null} last the module before it @param {number} [symbol] of that, which leads there @returns {string} it */
+  step(module, name, last, symbol) {
+    if (last !== null && last !== module) this.hops.push({ from: last, to: module, name, symbol });
+    return module;
+  }
+
+  /** @param {any} entry of a path @param {string} name @param {string | null} last the module before it @param {number} [symbol] of that, which leads there */
+  walk(entry, name, last, symbol) {
+    // a statement that stands for a whole module leads there from its own
+    const from = entry.by ? this.step(entry.by.module, name, last, symbol) : last;
+    const here = this.step(entry.module, name, from, entry.by ? undefined : symbol);
+    if (isDefinition(entry)) this.owns(entry.module, name, this.folder.defined(entry).line);
+    else if ('next' in entry) entry.next.forEach((/** @type {any} */ it) => this.walk(it, name, here, entry.decl?.[0]));
     else this.end(entry);
   }
 
@@ -78,7 +86,7 @@ class Gathering {
     all.forEach((it, i) => {
       const chain = [...it.chain.map(([module]) => module), it.module];
       chain.slice(1).forEach((to, at) => this.edge(chain[at], to, true, it.name));
-      for (const entry of paths[i]) this.walk(entry, it.name, []);
+      for (const entry of paths[i]) this.walk(entry, it.name, null);
     });
   }
 
@@ -97,21 +105,33 @@ class Gathering {
     return [...new Set(this.folder.sources.resolutions.get(module)?.values() ?? [])];
   }
 
+  /** @param {string} module @returns {boolean} whether it passes names on by `export *` */
+  hasStar(module) {
+    return this.folder.sources.modules.get(module)?.parsed.references.some(({ how }) => how === 'export *') ?? false;
+  }
+
+  /** @param {string} module @param {Map<string, Export[]>} exports @returns {Promise<Map<number | undefined, Taken>>} what each symbol of an import or a re-export takes */
+  async takenBy(module, exports) {
+    const { sources } = this.folder;
+    const rows = (sources.modules.get(module)?.parsed.references ?? []).flatMap(({ how, text, names }) => {
+      const to = sources.resolutions.get(module)?.get(text);
+      return to === undefined ? [] : names.map(([name, local, scope]) => ({ isExport: how === 'export', to: sources.typed(to), name, local, scope }));
+    });
+    const answers = await this.folder.ask(rows.flatMap((it) => (it.isExport ? [] : [['symbol', module, it.local, it.scope]])));
+    const own = new Map((exports.get(module) ?? []).filter((it) => it.module === module).map((it) => [it.name, it.symbol]));
+    return new Map(rows.map((it) => [it.isExport ? own.get(it.local) : answers.shift()?.symbol, { to: it.to, name: it.name }]));
+  }
+
   /** Finds for each step the modules between: those that pass the name on by `export *`. */
   async between() {
-    const far = this.hops.filter(({ from, to }) => !this.targets(from).includes(to));
-    const modules = [...new Set(far.flatMap(({ from }) => this.targets(from)))];
+    const open = [...new Set(this.hops.map(({ from }) => from))].filter((from) => this.targets(from).some((it) => this.hasStar(it)));
+    const modules = [...new Set(open.flatMap((it) => [it, ...this.targets(it)]))];
     const exports = new Map((await this.folder.exports(modules)).map((it, i) => [modules[i], it.exports]));
-    /** @type {Map<string, string[]>} */
-    const ways = new Map();
-    for (const { from, to } of far) {
-      const key = `${from}\n${to}`;
-      if (ways.has(key)) continue;
-      const found = this.targets(from).flatMap((it) => exports.get(it) ?? []).find((it) => it.module === to && it.chain.length > 0);
-      if (found) ways.set(key, [...found.chain.map(([module]) => module), to]);
-    }
-    for (const { from, to, name } of this.hops) {
-      const way = ways.get(`${from}\n${to}`) ?? [to];
+    const taken = new Map(await Promise.all(open.map(async (it) => /** @type {const} */ ([it, await this.takenBy(it, exports)]))));
+    for (const { from, to, name, symbol } of this.hops) {
+      const by = taken.get(from)?.get(symbol);
+      const found = by && exports.get(by.to)?.find((it) => it.name === by.name && it.module === to);
+      const way = [...(found?.chain.map(([module]) => module) ?? []), to];
       this.edge(from, way[0], false, name);
       way.slice(1).forEach((it, i) => this.edge(way[i], it, true, name));
     }
