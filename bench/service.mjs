@@ -4,7 +4,7 @@ import path from 'node:path';
 
 import { Files } from '../symdir/lib/folder/files.js';
 import { isJavaScript } from '../symdir/lib/language.js';
-import { stepsOf, targetOf } from '../symdir/tests/definitions.js';
+import { syntaxOf, targetOf, webBy } from '../symdir/tests/definitions.js';
 import { Language, forEachNode, ts } from '../symdir/tests/language.js';
 import { leaksBy } from '../symdir/tests/leaking.js';
 import { edgesBy, referencesTo, surfaceBy, unusedBy } from '../symdir/tests/wanted.js';
@@ -47,11 +47,12 @@ function describedBy(language) {
   return items.size > 0 ? namesBy(language).length : 0;
 }
 
-/** @param {Language} language @returns {number} how many imports resolve to no module, and how many imported names to nothing */
+/** @param {Language} language @returns {number} how many files have a syntax error, how many imports resolve to no module, and how many imported names to nothing */
 function lackingBy(language) {
   const { checker } = language;
   let count = 0;
   for (const file of language.sources()) {
+    count += syntaxOf(language, file).length;
     forEachNode(file, (it) => {
       if (ts.isStringLiteral(it) && (ts.isImportDeclaration(it.parent) || ts.isExportDeclaration(it.parent)) && !checker.getSymbolAtLocation(it)) count++;
       if (!ts.isImportSpecifier(it) && !ts.isExportSpecifier(it)) return;
@@ -82,7 +83,7 @@ const SEARCHES = {
   uses: (language) => referencesTo(language, ...spotOf()).length,
   unused: (language) => unusedBy(language, entries, entries).exports.length,
   cycles: (language) => [...edgesBy(language, true).values()].reduce((sum, it) => sum + it.size, 0),
-  web: (language) => new Set(entriesOf(language).flatMap((file) => language.exports(file).flatMap(({ name }) => stepsOf(language, file, name).map((it) => `${it.from} ${it.to}`)))).size,
+  web: (language) => webBy(language, entries).size,
   diff: (language) => {
     const [before, now] = [surfaceBy(language, entries), surfaceBy(open(), entries)];
     return [...before].filter(([key, { signature }]) => now.get(key)?.signature !== signature).length;

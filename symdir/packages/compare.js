@@ -16,7 +16,7 @@ import { fileURLToPath } from 'node:url';
 import { unprovedSymq } from '../lib/program.js';
 import { ts } from '../tests/language.js';
 import { COMPARED, ROLLUP } from './compared.js';
-import { takeInto } from './taken.js';
+import { putInPlace, takeInto } from './taken.js';
 
 /** @typedef {import('./compared.js').Compared} Compared */
 /** @typedef {import('./finding.js').Lists} Lists */
@@ -110,7 +110,7 @@ function compared(of) {
 function comparedIn(directory, of) {
   const { found: mine, seconds: ours } = measured('symdir', [directory, of.name]);
   const { found: theirs, seconds } = measured('typescript', [directory, of.name, JSON.stringify({ entries: mine.entries, spots: mine.spots })]);
-  const peer = of.rollup && existsSync(ROLLUP) ? measured('rollup', [directory, of.name]) : null;
+  const peer = of.rollup ? measured('rollup', [directory, of.name]) : null;
   const all = [...differences(mine, theirs), ...(peer ? peerDifferences(mine, peer.found) : [])];
   const numbers = all.map((it) => REASONS.findIndex((reason) => reason.holds(it, { directory, comments: theirs.comments })));
   const notes = (/** @type {string} */ list) => [...new Set(numbers.filter((it, i) => it >= 0 && all[i].list === list))].sort().map((it) => ` (${it + 1})`).join('');
@@ -168,6 +168,7 @@ async function main(words) {
   const isUnproved = words.includes('--unproved');
   if (isUnproved) process.env.SYMQ = await unprovedSymq();
   const names = words.filter((it) => !it.startsWith('--'));
+  putInPlace('rollup', path.dirname(ROLLUP));
   const rows = rowsOf(names.length > 0 ? COMPARED.filter((it) => names.includes(it.name)) : COMPARED, file);
   const open = rows.flatMap((it) => it.open.map((one) => ({ package: it.name, ...one })));
   for (const it of open) console.log(JSON.stringify(it));

@@ -10,7 +10,7 @@ const sourceScripts = (/** @type {string} */ it) => /^(package\.json|src\/.*\.js
 /** @type {Compared[]} */
 export const COMPARED = [
   { name: 'node-lumino', place: '/usr/share/nodejs/@lumino', isTaken: (it) => /^(?!example-)[^/]+\/(package\.json|src\/.*\.ts)$/.test(it), paths: { '@lumino/*': ['./*/src/index.ts'] } },
-  { name: 'node-graphql', place: '/usr/share/nodejs/graphql', isTaken: (it) => /^(?!NotSupported).*\.d\.ts$|^package\.json$/.test(it) },
+  { name: 'node-graphql', place: '/usr/share/nodejs/graphql', isTaken: declarations },
   { name: 'node-undici', place: '/usr/share/nodejs/undici-types', isTaken: declarations },
   { name: 'node-ajv', place: '/usr/share/nodejs/ajv', isTaken: declarations },
   { name: 'node-globby', place: '/usr/share/nodejs/fast-glob', isTaken: declarations },

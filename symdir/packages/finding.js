@@ -62,7 +62,7 @@ async function bySymdir(directory) {
 /** @param {string} directory @param {Compared} of @param {{ entries: string[], spots: string[] }} mine @returns {Theirs} what TypeScript's checker and its language service say */
 function byTypeScript(directory, of, { entries, spots }) {
   const language = languageOf(directory, of, { checkJs: true, noUnusedLocals: true });
-  const { modules, exports } = lackingBy(language);
+  const { modules, exports, syntax } = lackingBy(language);
   const { files, exports: unused } = unusedBy(language, entries, entries);
   const line = (/** @type {[string, string]} */ [place, text]) => `${place.replace(/:\d+$/, '')} ${text}`;
   const shown = language.sources().filter((it) => entries.includes(language.short(it.fileName))).flatMap((it) => language.exports(it).map((one) => ({
@@ -73,7 +73,7 @@ function byTypeScript(directory, of, { entries, spots }) {
   });
   return {
     names: sorted(shown.map((it) => it.name)), comments: shown.filter((it) => it.isComment).map((it) => it.name),
-    missing: sorted([...modules, ...exports].map(line)), leaks: sorted(leaksBy(language, entries)), files, exports: unused, uses: sorted(uses),
+    missing: sorted([...syntax, ...modules, ...exports].map(line)), leaks: sorted(leaksBy(language, entries)), files, exports: unused, uses: sorted(uses),
     cycles: circlesBy(edgesBy(language, true), null).map((it) => it.modules),
     locals: language.sources().flatMap((it) => language.service.getSemanticDiagnostics(it.fileName)).filter(({ code }) => UNUSED_LOCAL.has(code)).length,
   };

@@ -14,7 +14,7 @@ function spoil(folder, names) {
   names.forEach((name, i) => {
     const file = path.join(folder, name);
     if (i % 20 === 10) rmSync(file);
-    else if (i % 7 === 3) writeFileSync(file, readFileSync(file, 'utf8').replace(/^export (?=(declare |abstract |async )*(const|function|class|interface|type|enum) )/m, ''));
+    else if (i % 7 === 3) writeFileSync(file, readFileSync(file, 'utf8').replace(/^export (?=(declare |abstract |async )*(const|function|class|interface|type|enum) (?!\{))/m, ''));
   });
 }
 
@@ -31,8 +31,10 @@ for (const it of PACKAGES) {
       assert.deepEqual(by('file', 'package').map((/** @type {any} */ one) => `${one.file}:${one.line} ${one.text}`).sort(), modules.sort());
       const exports = [...wanted.exports.keys()].sort();
       assert.deepEqual(by('name').map((/** @type {any} */ one) => `${one.file}:${one.line}:${one.column}`).sort(), exports);
+      const syntax = [...wanted.syntax].map(([place, text]) => `${place} ${text}`);
+      assert.deepEqual(by('syntax').map((/** @type {any} */ one) => `${one.file}:${one.line}:${one.column} ${one.text}`), syntax);
       assert.equal(isSpoilt, modules.length > 0);
-      return `${modules.length} modules, ${exports.length} exports, ${wanted.open.size} that may come along an export * that resolves to no file`;
+      return `${syntax.length} syntax errors, ${modules.length} modules, ${exports.length} exports, ${wanted.open.size} that may come along an export * that resolves to no file`;
     };
     const whole = count(false);
     spoil(folder, languageOf(folder, it).files.map((one) => path.relative(folder, one)));

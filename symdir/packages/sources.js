@@ -8,7 +8,7 @@ import { takeInto } from './taken.js';
 export const PACKAGES = [
   { name: 'node-lumino', place: '/usr/share/nodejs/@lumino', isTaken: (it) => /^(?!example-)[^/]+\/(package\.json|src\/.*\.ts)$/.test(it), paths: { '@lumino/*': ['./*/src/index.ts'] } },
   { name: 'node-yjs', place: '/usr/share/nodejs/yjs', isTaken: (it) => /^(package\.json|src\/.*\.js)$/.test(it) },
-  { name: 'node-graphql', place: '/usr/share/nodejs/graphql', isTaken: (it) => /^(?!NotSupported).*\.d\.ts$|^package\.json$/.test(it) },
+  { name: 'node-graphql', place: '/usr/share/nodejs/graphql', isTaken: (it) => /\.d\.ts$|^package\.json$/.test(it) },
 ];
 
 /** @param {Package} of @returns {string} a folder of its own that has the files */

@@ -40,27 +40,72 @@ export function words(text) {
   return text.replace(/\s+/g, ' ').replaceAll(' }', '}').trim();
 }
 
+/** @param {Node} node @returns {import('typescript').JSDoc | undefined} its comment: of several the last */
+function docOf(node) {
+  return /** @type {any} */ (commented(node)).jsDoc?.at(-1);
+}
+
+/** @param {import('typescript').JSDocTag} tag @returns {string[]} its name, and those of tags for the properties of what it tells of */
+function tagNames(tag) {
+  /** @type {import('typescript').JSDocTag[]} */
+  const inner = /** @type {any} */ (tag).typeExpression?.type?.jsDocPropertyTags ?? [];
+  return [tag.tagName.text, ...inner.flatMap(tagNames)];
+}
+
 /** @param {Node} node @returns {{ text: string, tags: string[] }} the text before tags, and the tags' names */
 function commentOf(node) {
-  /** @type {import('typescript').JSDoc[]} */
-  const all = /** @type {any} */ (commented(node)).jsDoc ?? [];
-  const last = all[all.length - 1];
-  return { text: words(ts.getTextOfJSDocComment(last?.comment) ?? ''), tags: (last?.tags ?? []).map((it) => it.tagName.text) };
+  const doc = docOf(node);
+  return { text: words(ts.getTextOfJSDocComment(doc?.comment) ?? ''), tags: (doc?.tags ?? []).flatMap(tagNames) };
+}
+
+/** @param {Node} node @returns {string} all words of its comment, those of tags too */
+function wordsOf(node) {
+  const doc = docOf(node);
+  return doc ? words(doc.getSourceFile().text.slice(doc.pos + '/**'.length, doc.end - '*/'.length).replace(/^[ \t]*\*/gm, '')) : '';
+}
+
+/** @param {Node[]} declarations @returns {string} the words of their comments, each once */
+function joined(declarations) {
+  return [...new Set(declarations.map(wordsOf).filter((it) => it !== ''))].join(' ');
 }
 
 export class Comments {
-  /** @param {string} folder */
-  constructor(folder) {
+  /** @param {string} folder @param {import('./language.js').Language} [language] over its files, which knows all declarations of a name */
+  constructor(folder, language) {
     this.folder = folder;
+    this.language = language;
     /** @type {Map<string, import('typescript').SourceFile>} */
     this.files = new Map();
   }
 
-  /** @param {Place} place of a name @returns {{ text: string, tags: string[] }} */
-  at({ file, line, column }) {
-    const source = this.files.get(file) ?? ts.createSourceFile(file, readFileSync(path.join(this.folder, file), 'utf8'), ts.ScriptTarget.Latest, true);
+  /** @param {string} file @returns {import('typescript').SourceFile} */
+  source(file) {
+    const whole = path.join(this.folder, file);
+    const source = this.files.get(file) ?? this.language?.program.getSourceFile(whole) ?? ts.createSourceFile(file, readFileSync(whole, 'utf8'), ts.ScriptTarget.Latest, true);
     this.files.set(file, source);
-    return commentOf(declarationOf(nodeAt(source, source.getPositionOfLineAndCharacter(line - 1, column - 1))));
+    return source;
+  }
+
+  /** @param {Place} place of a name @returns {Node} what is declared by it */
+  declaration({ file, line, column }) {
+    const source = this.source(file);
+    return declarationOf(nodeAt(source, source.getPositionOfLineAndCharacter(line - 1, column - 1)));
+  }
+
+  /** @param {Place} place of a name @returns {{ text: string, tags: string[] }} */
+  at(place) {
+    return commentOf(this.declaration(place));
+  }
+
+  /** @param {Place[]} places of a name @returns {string} the words of its comments, each once */
+  wordsAt(places) {
+    return joined(places.map((it) => this.declaration(it)));
+  }
+
+  /** @param {Place} place of the name of a member @returns {string} the words of the comments of all its declarations, as overloads, or a getter and its setter, each once */
+  memberWords(place) {
+    const declaration = this.declaration(place);
+    return joined(/** @type {any} */ (declaration).symbol?.declarations ?? [declaration]);
   }
 }
 
