@@ -5,6 +5,8 @@ import { readFileSync, writeFileSync } from 'node:fs';
 import path from 'node:path';
 import test from 'node:test';
 
+import { hitsOf, madeOf } from '../lib/commands/where.js';
+import { parseFile } from '../lib/folder/parse.js';
 import { languageOf } from '../lib/language.js';
 import { findSymq } from '../lib/program.js';
 import { nodesOf } from '../lib/tree/convert.js';
@@ -133,6 +135,19 @@ function fieldsOf(node) {
   if (ts.isModuleDeclaration(node) && !ts.isModuleDeclaration(node.parent)) return { declare: (flags & ts.ModifierFlags.Ambient) !== 0 };
   return {};
 }
+
+test('a tree that is kept has the names and the nodes of its text parsed anew', () => {
+  const declarations = 'import a = require("./b");\nexport as namespace n;\ndeclare module "m" { export { x as y } from "./x"; }\ndeclare const c: a.b.C, d: import("./e").F<typeof c>;\nexport { c as default };\n';
+  for (const [name, text] of [...TEXTS, ['declared.d.ts', declarations], ['empty.ts', '']]) {
+    const file = path.join(folderOf({ [name]: text }), name);
+    const anew = nodesOf(file, text, { ...languageOf(name), bodies: true, ambient: false });
+    const nodes = anew.nodes ?? assert.fail(name);
+    const kept = madeOf(parseFile({ file, specifier: 'file:///a' }, { bodies: true, ambient: false }));
+    assert.deepEqual(hitsOf(kept), hitsOf({ ...anew, nodes }), name);
+    assert.deepEqual(kept.rows(), JSON.parse(nodesText(nodes)), name);
+    assert.deepEqual(kept.nodes.map(({ kind, start, end }) => [kind, start, end]), nodes.map(({ kind, start, end }) => [kind, start, end]), name);
+  }
+});
 
 test('each piece of syntax is a node of its kind, with its range and how it is written', () => {
   for (const [name, text] of TEXTS) {

@@ -2,7 +2,6 @@
 import { columns, counted, placeText } from '../output.js';
 import { isDefinition } from '../folder/folder.js';
 import { Places } from '../folder/text.js';
-import { nodesText } from '../tree/node.js';
 import { definitionsOf } from '../uses/ends.js';
 import { Finder } from '../uses/finder.js';
 import { Tree } from '../uses/tree.js';
@@ -101,13 +100,13 @@ function print({ print: line, paint, options }, folder, { name, defined, uses })
  */
 export async function findUses(folder, spot, name) {
   const module = moduleOf(folder, spot.file);
-  const made = await treeOf(module, spot.file);
+  const made = await treeOf(folder, module, spot.file);
   const hits = hitsAt(hitsOf(made), spot, new Places(made.text), name);
   const targets = await targetsOf(folder, module, hits, spot, name);
   if (targets.length === 0) return { all: [], isName: hits.length > 0 };
   const finder = new Finder(folder, targets.map((it) => it.definitions));
   const found = await finder.find();
-  const tree = new Tree(made.text, JSON.parse(nodesText(made.nodes)), false);
+  const tree = new Tree(made.text, targets.some(({ definitions }) => definitions.length === 0) ? made.rows() : [], false);
   const all = targets.map((it, i) => (it.definitions.length === 0 ? localUses(folder, module, tree, it) : {
     name: it.name, defined: it.definitions.map((at) => folder.defined(at)), uses: found[i] }));
   return { all, isName: true };

@@ -10,7 +10,7 @@ import { endsOf } from '../folder/settle.js';
 import { Places, decoded } from '../folder/text.js';
 import { languageOf } from '../language.js';
 import { columns, placeText } from '../output.js';
-import { TreeNode } from '../tree/node.js';
+import { TreeNode, nodesFrom, nodesText } from '../tree/node.js';
 
 /** @typedef {import('../folder/folder.js').Folder} Folder */
 /** @typedef {import('../cli.js').Run} Run */
@@ -192,15 +192,25 @@ function orOwn(ways, local) {
   return local.length > 0 ? local : ways;
 }
 
-/** @param {import('../folder/sources.js').Module} module @param {string} name of its file @returns its nodes, with those in the bodies of functions */
-export async function treeOf({ file, parsed: { fault } }, name) {
+/** @typedef {{ text: string, references: import('../tree/converter.js').Reference[], nodes: TreeNode[], rows: () => import('../uses/tree.js').Node[] }} Made of a text, with the nodes as they are kept, too */
+
+/** @param {import('../folder/sources.js').Module['parsed']} parsed with all nodes of its text @returns {Made} from its tree, without TypeScript, which takes longer to load */
+export function madeOf({ text: json, references }) {
+  const { text, tree: { nodes } } = JSON.parse(`${json}}`);
+  return { text, references, nodes: nodesFrom(nodes), rows: () => nodes };
+}
+
+/** @param {Folder} folder @param {import('../folder/sources.js').Module} module @param {string} name of its file @returns {Promise<Made>} its nodes, with those in the bodies of functions */
+export async function treeOf(folder, { file, parsed }, name) {
   if (file.endsWith('.json')) throw new Failure(`${name} is JSON: names are looked up in modules that import it`, 2);
-  if (fault) throw new Failure('a file with a syntax error isn\'t analyzed', 3, 'source');
+  if (parsed.fault) throw new Failure('a file with a syntax error isn\'t analyzed', 3, 'source');
+  if (folder.sources.reading.bodies || languageOf(file).declaration) return madeOf(parsed);
   const [{ nodesOf }, { storeCompiled }] = await Promise.all([import('../tree/convert.js'), import('../tree/typescript.js')]);
   const made = parsedDeep(() => nodesOf(file, decoded(readFileSync(file)), { ...languageOf(file), bodies: true, ambient: false }));
   storeCompiled();
   if (!made?.nodes) throw new Failure(`${name} is nested too deep for \`where\` and \`uses\``, 3, 'source');
-  return { ...made, nodes: made.nodes };
+  const { text, references, nodes } = made;
+  return { text, references, nodes, rows: () => JSON.parse(nodesText(nodes)) };
 }
 
 /** @template T @param {() => T} parse @returns {T | null} null where the stack isn't deep enough */
@@ -219,7 +229,7 @@ function parsedDeep(parse) {
  */
 async function waysAt(folder, spot, name) {
   const module = moduleOf(folder, spot.file);
-  const made = await treeOf(module, spot.file);
+  const made = await treeOf(folder, module, spot.file);
   const hits = hitsAt(hitsOf(made), spot, new Places(made.text), name);
   const paths = await pathsOf(folder, module.specifier, hits);
   await openMembers(folder, paths);

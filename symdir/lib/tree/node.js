@@ -97,6 +97,18 @@ export function numbered(root, first = 0, above = 0) {
   return nodes;
 }
 
+/** @param {{ kind: string, range: [number, number], [field: string]: any }[]} rows as they are kept, each of which holds others by their numbers @returns {TreeNode[]} by number */
+export function nodesFrom(rows) {
+  const nodes = rows.map(({ kind, range: [start, end] }) => new TreeNode(kind, start, end, {}));
+  const held = (/** @type {any} */ it) => (typeof it === 'number' ? nodes[it] : it);
+  rows.forEach(({ kind: _, range: __, sym, ...fields }, i) => {
+    const own = nodes[i].fields;
+    if (sym) own.sym = sym;
+    for (const key in fields) own[key] = Array.isArray(fields[key]) ? fields[key].map(held) : held(fields[key]);
+  });
+  return nodes;
+}
+
 /** @param {TreeNode[]} nodes numbered @returns {string} the JSON text of the list */
 export function nodesText(nodes) {
   const writer = new TreeWriter();
