@@ -1,6 +1,7 @@
 // How a run begins: which files the folder has, what is kept of them, threads for those of which nothing is, and symq over the graph that
 // was asked last, where all files have kept trees. This loads little, so that these start before what is needed later is loaded.
 import { isJavaScript } from '../language.js';
+import { optimize } from '../tree/budget.js';
 import { useTypeScript } from '../tree/which.js';
 import { findTypeScript } from '../typescript.js';
 import { Files } from './files.js';
@@ -72,6 +73,7 @@ export async function begin(reading, asked) {
   const pool = () => (made ??= poolOf(reading, typescript));
   const fresh = files.code().filter((it) => !kept?.modules.has(it) && (javascript || !isJavaScript(it)));
   if (fresh.length > 0) (await pool()).begin(fresh);
+  else if (!reading.typescript) optimize(true);
   const last = fresh.length > 0 ? null : await lastOf(kept, asked);
   return { reading, files, kept, pool, asked, last };
 }

@@ -3,11 +3,11 @@
 import { closeSync, mkdirSync, openSync, readFileSync, readSync } from 'node:fs';
 import Module, { createRequire } from 'node:module';
 import path from 'node:path';
-import v8 from 'node:v8';
 import { Script } from 'node:vm';
 
 import { findTypeScript } from '../typescript.js';
 import { replaceFile } from '../write.js';
+import { optimize } from './budget.js';
 import { usedTypeScript } from './which.js';
 
 /** Where the last block of the parser begins, and what each block ends with. */
@@ -76,16 +76,13 @@ function load(file, text, compiled) {
 const which = usedTypeScript()?.it ?? { typescript: findTypeScript(process.cwd()).file };
 const kept = readStored(which.kept);
 await usedTypeScript()?.when;
-// Most runs end before what V8's optimizing compiler makes pays for itself, in each of a few threads even more so: a function has to
-// run several times as long as it is set to by itself before it is compiled anew.
-if (!which.isGuest) v8.setFlagsFromString('--interrupt-budget=750000');
-/** What V8 sets it to by itself, and the length of a text from which on that is worth it. */
-const USUAL_BUDGET = 135_168;
+if (!which.isGuest) optimize(true);
+/** The length of a text from which on it is worth it that V8 optimizes as usual. */
 const LONG_TEXT = 1_000_000;
 
 /** @param {string} text that will be parsed */
 export function expect(text) {
-  if (text.length >= LONG_TEXT && !which.isGuest) v8.setFlagsFromString(`--interrupt-budget=${USUAL_BUDGET}`);
+  if (text.length >= LONG_TEXT && !which.isGuest) optimize(false);
 }
 
 const ascii = kept ? null : inAscii(readParser(which.typescript, 'latin1'));
