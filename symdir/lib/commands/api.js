@@ -193,11 +193,21 @@ async function check(run, folder) {
   return reportChanges(run, changesBetween(before, { items, isWhole: true }), items, texts);
 }
 
+/** @param {Run} run @param {Folder} folder @returns {Promise<string>} the section of a page with its picture, which Graphviz draws while the rest of the page is made */
+async function drawn(run, folder) {
+  if (run.report.format !== 'html') return '';
+  const { pictureHtml } = await import('../report/picture.js');
+  return pictureHtml(run, folder);
+}
+
 /** @param {Run} run @param {Folder} folder @returns {Promise<number>} the status */
 export async function api(run, folder) {
   if (run.options.save) return save(run, folder);
   if (run.options.check) return check(run, folder);
   const { report, options } = run;
+  const picture = drawn(run, folder);
+  // where the page fails before, that is told
+  picture.catch(() => {});
   const found = await exportsOf(folder);
   const isDescribed = options.docs || report.format === 'markdown' || report.format === 'html';
   const { described, docLines } = isDescribed ? await import('../report/described.js') : { described: null, docLines: undefined };
@@ -208,7 +218,7 @@ export async function api(run, folder) {
   report.found.rest(apiFindings(folder, answer), (it) => it);
   if (report.format === 'markdown' || report.format === 'html') {
     const { apiReport } = await import('../report/api.js');
-    report.body = await apiReport(run, folder, { ...answer, entries, names: /** @type {any} */ (names) });
+    report.body = await apiReport(run, folder, { ...answer, entries, names: /** @type {any} */ (names) }, picture);
   } else if (options.json) {
     report.json({ entries, names, ...(options.strict && { shared }), open, ...(declared.length > 0 && { declared }), ...(unlisted.length > 0 && { unlisted }) });
   } else for (const it of entries) printEntry(run, it, answer);

@@ -1,5 +1,5 @@
 // `symdir web`: who passes names on to whom, as a picture.
-import { spawnSync } from 'node:child_process';
+import { spawn } from 'node:child_process';
 import path from 'node:path';
 
 import { Failure } from '../failure.js';
@@ -13,8 +13,6 @@ import { output, replaceFile } from '../write.js';
 
 /** What Graphviz writes here, by the ending of the file. */
 const FORMS = ['svg', 'png', 'pdf'];
-/** A picture is smaller. */
-const PICTURE_BYTES = 1 << 30;
 
 /** @param {string} out @returns {string} what is written there, by its ending */
 export function formOf(out) {
@@ -24,16 +22,32 @@ export function formOf(out) {
   return form;
 }
 
-/** @param {string} text for Graphviz @param {string} form @returns {Buffer} the picture */
-export function pictureOf(text, form) {
-  const done = spawnSync('dot', [`-T${form}`], { input: text, maxBuffer: PICTURE_BYTES });
-  if (done.error) throw new Failure('Graphviz not found: install its command dot (`apt-get install graphviz`), or use -o web.dot');
-  if (done.status !== 0) throw new Failure(`Graphviz exited with status ${done.status}: ${done.stderr.toString().trim().split('\n').pop()}`);
-  return done.stdout;
+/** @param {import('node:stream').Readable} stream @returns {Buffer[]} what comes of it, when it has ended */
+function heard(stream) {
+  /** @type {Buffer[]} */
+  const parts = [];
+  stream.on('data', (it) => parts.push(it));
+  return parts;
 }
 
-/** @param {string} out @param {string} text for Graphviz @returns {Buffer} what is written there */
-function pictured(out, text) {
+/** @param {string} text for Graphviz @param {string} form @returns {Promise<Buffer>} the picture; other work can go on while it is drawn */
+export function pictureOf(text, form) {
+  return new Promise((resolve, reject) => {
+    const child = spawn('dot', [`-T${form}`]);
+    const [drawn, said] = [heard(child.stdout), heard(child.stderr)];
+    child.on('error', () => reject(new Failure('Graphviz not found: install its command dot (`apt-get install graphviz`), or use -o web.dot')));
+    child.on('close', (status) => {
+      if (status === 0) resolve(Buffer.concat(drawn));
+      else reject(new Failure(`Graphviz exited with status ${status}: ${Buffer.concat(said).toString().trim().split('\n').pop()}`));
+    });
+    // one that ends before it has read all tells why by its status
+    child.stdin.on('error', () => {});
+    child.stdin.end(text);
+  });
+}
+
+/** @param {string} out @param {string} text for Graphviz @returns {Promise<Buffer>} what is written there */
+async function pictured(out, text) {
   const form = formOf(out);
   return form === 'dot' ? Buffer.from(text) : pictureOf(text, form);
 }
@@ -48,7 +62,7 @@ export async function web({ options, print }, folder) {
   const found = await gather(folder);
   const short = (/** @type {string} */ it) => folder.short(it);
   const drawing = new Drawing(folder, found);
-  if (options.out) replaceFile(options.out, [pictured(options.out, drawing.text())]);
+  if (options.out) replaceFile(options.out, [await pictured(options.out, drawing.text())]);
   if (options.json) {
     print(JSON.stringify({
       entries: found.entries.map(short),

@@ -40,7 +40,7 @@ export class Folder {
     this.keeping = undefined;
     /** @type {Map<string, Places>} */
     this.places = new Map();
-    /** @type {Map<string, Map<string, Declaration[]>>} */
+    /** @type {Map<string, Map<number, number[]>>} by module and start where in its list of declarations they are */
     this.tables = new Map();
     /** @type {Map<string, string | null>} names of symbols in full, by number and module, where one range declares several */
     this.localNames = new Map();
@@ -160,21 +160,25 @@ export class Folder {
 
   /** @param {Definition} it @returns {Declaration[]} those of its range, of which a pattern has several */
   declarations({ module, start, end }) {
+    const all = this.sources.modules.get(module)?.parsed.declarations ?? [];
+    const places = (this.tableOf(module, all).get(start) ?? []).filter((i) => all[i + 1] === end);
+    const first = places.filter((i, k) => places.findIndex((it) => all[it + 3] === all[i + 3]) === k);
+    return first.map((i) => ({ kind: KINDS[all[i + 2]], name: all[i + 3], isPrivate: (all[i + 4] & PRIVATE) !== 0, isExported: (all[i + 4] & EXPORTED) !== 0 }));
+  }
+
+  /** @param {string} module @param {number[]} all its declarations, five numbers each @returns {Map<number, number[]>} by start where they are in the list */
+  tableOf(module, all) {
     let table = this.tables.get(module);
     if (!table) {
       table = new Map();
-      const all = this.sources.modules.get(module)?.parsed.declarations ?? [];
       for (let i = 0; i < all.length; i += 5) {
-        const [kind, name, flags] = [KINDS[all[i + 2]], all[i + 3], all[i + 4]];
-        const made = { kind, name, isPrivate: (flags & PRIVATE) !== 0, isExported: (flags & EXPORTED) !== 0 };
-        const key = `${all[i]} ${all[i + 1]}`;
-        const list = table.get(key);
-        if (!list) table.set(key, [made]);
-        else if (list.every((other) => other.name !== name)) list.push(made);
+        const list = table.get(all[i]);
+        if (list) list.push(i);
+        else table.set(all[i], [i]);
       }
       this.tables.set(module, table);
     }
-    return table.get(`${start} ${end}`) ?? [];
+    return table;
   }
 
   /** @param {Definition} it @returns {Declaration | null} */

@@ -2,8 +2,8 @@
 
 /** @typedef {import('./folder.js').Folder} Folder */
 
-/** How many numbers of symbols are asked for at first. */
-const FIRST_NUMBERS = 64;
+/** For a declaration of a module so many numbers are noted. */
+const NOTED = 5;
 
 export class Names {
   /** @param {Folder} folder */
@@ -15,15 +15,22 @@ export class Names {
     this.below = new Map();
   }
 
+  /** @param {string} module @returns {number} how many symbols it has, about: what it declares and imports, and itself */
+  sizeOf(module) {
+    const parsed = this.folder.sources.modules.get(module)?.parsed;
+    return parsed ? parsed.declarations.length / NOTED + parsed.references.reduce((sum, it) => sum + it.names.length, 0) + 2 : 2;
+  }
+
   /** @param {string[]} modules asks for the names of those that aren't known yet: until a number names no symbol */
   async read(modules) {
     let open = [...new Set(modules)].filter((it) => !this.names.has(it));
     for (const it of open) this.names.set(it, []);
-    for (let step = FIRST_NUMBERS; open.length > 0; step *= 2) {
-      const queries = open.map((it) => Array.from({ length: step }, (_, i) => ['name', it, this.of(it).length + i]));
+    while (open.length > 0) {
+      const queries = open.map((it) => Array.from({ length: this.of(it).length + this.sizeOf(it) }, (_, i) => ['name', it, this.of(it).length + i]));
       const answers = await this.folder.ask(queries.flat());
+      let at = 0;
       open = open.filter((it, i) => {
-        const mine = answers.slice(i * step, (i + 1) * step);
+        const mine = answers.slice(at, (at += queries[i].length));
         const end = mine.findIndex((answer) => !answer || 'fault' in answer);
         this.of(it).push(...(end < 0 ? mine : mine.slice(0, end)).map((answer) => answer.name));
         return end < 0;

@@ -9,7 +9,6 @@ import { byName } from './api.js';
 import { aroundName, withName } from './described.js';
 import { docHtml } from './doc-html.js';
 import { escaped } from './escape.js';
-import { pictureHtml } from './picture.js';
 
 /** @typedef {import('../cli.js').Run} Run */
 /** @typedef {import('../folder/folder.js').Folder} Folder */
@@ -120,8 +119,8 @@ function controls({ names, entries }) {
 </form>`;
 }
 
-/** @param {Run} run @param {Folder} folder @param {Answer} answer @returns {Promise<string>} */
-export async function page(run, folder, answer) {
+/** @param {Run} run @param {Folder} folder @param {Answer} answer @param {Promise<string>} drawn the section with the picture @returns {Promise<string>} */
+export async function page(run, folder, answer, drawn) {
   const { entries, names } = answer;
   const sorted = [...names].sort((a, b) => byName(a, b) || (a.entry < b.entry ? -1 : 1));
   const rows = sorted.map((it) => nameHtml(it, entries.length === 1)).join('\n');
@@ -129,7 +128,7 @@ export async function page(run, folder, answer) {
   const style = part('page.css');
   const hash = (/** @type {string} */ text) => `'sha256-${createHash('sha256').update(text).digest('base64')}'`;
   const title = escaped(titleOf(folder));
-  const picture = await pictureHtml(run, folder);
+  const picture = await drawn;
   return `<!doctype html>
 <html lang="en">
 <head>

@@ -33,7 +33,7 @@ export async function pictureHtml({ warn }, folder) {
   const drawing = new Drawing(folder, await gather(folder), (below) => `#${new URLSearchParams({ file: below })}`);
   const head = '<section class="picture"><h2>Re-exports</h2>';
   try {
-    const svg = inlined(pictureOf(drawing.text(), 'svg').toString());
+    const svg = inlined((await pictureOf(drawing.text(), 'svg')).toString());
     const [arrows, boxes] = LEGEND.map(escaped);
     return `${head}<p>${arrows} ${boxes} A click on a box lists the names that it defines.</p><p><button id="fit" type="button" aria-pressed="false">Fit to width</button></p>
 <div class="frame" id="picture" tabindex="0" role="region" aria-label="Picture of re-exports">${svg}</div></section>`;

@@ -27,18 +27,27 @@ export class Signatures {
   constructor(tree) {
     this.tree = tree;
     this.bytes = Buffer.from(tree.text);
-    /** @type {Map<string, number>} nodes by their ranges, of several the outermost */
-    this.byRange = new Map();
-    tree.nodes.forEach(({ range: [start, end] }, i) => {
-      const key = `${start} ${end}`;
-      if (i > 0 && !this.byRange.has(key)) this.byRange.set(key, i);
-    });
+    /** @type {Map<number, number>} by its start the first node that has it */
+    this.first = new Map();
+    /** The next node of the same start; 0 behind the last. */
+    this.next = new Uint32Array(tree.nodes.length);
+    for (let i = tree.nodes.length - 1; i > 0; i--) {
+      const [start] = tree.nodes[i].range;
+      this.next[i] = this.first.get(start) ?? 0;
+      this.first.set(start, i);
+    }
+  }
+
+  /** @param {number} start @param {number} end @returns {number} the node with the range, of several the outermost; -1 if there is none */
+  nodeAt(start, end) {
+    for (let at = this.first.get(start) ?? 0; at > 0; at = this.next[at]) if (this.tree.nodes[at].range[1] === end) return at;
+    return -1;
   }
 
   /** @param {number} start @param {number} end @returns {number | null} the declaration with the range */
   declarationAt(start, end) {
-    const found = this.byRange.get(`${start} ${end}`);
-    if (found === undefined) return null;
+    const found = this.nodeAt(start, end);
+    if (found < 0) return null;
     const { kind, decl } = this.tree.nodes[found];
     return kind === 'ExportDecl' || kind === 'ExportDefaultDecl' ? decl : found;
   }

@@ -41,18 +41,26 @@ class Gathering {
   constructor(folder, names) {
     this.folder = folder;
     this.names = names;
-    /** @type {Map<string, Signatures>} */
+    /** @type {Map<string, Tree>} */
     this.trees = new Map();
+    /** @type {Map<string, Signatures>} */
+    this.written = new Map();
+  }
+
+  /** @param {string} module @returns {Tree} without nodes where it isn't read */
+  treeOf(module) {
+    let found = this.trees.get(module);
+    if (!found) {
+      const source = this.folder.sources.modules.get(module);
+      this.trees.set(module, (found = source ? Tree.of(source) : new Tree('', [], false)));
+    }
+    return found;
   }
 
   /** @param {string} module @returns {Signatures} */
   signatures(module) {
-    let found = this.trees.get(module);
-    if (!found) {
-      const source = this.folder.sources.modules.get(module);
-      found = new Signatures(source ? Tree.of(source) : new Tree('', [], false));
-      this.trees.set(module, found);
-    }
+    let found = this.written.get(module);
+    if (!found) this.written.set(module, (found = new Signatures(this.treeOf(module))));
     return found;
   }
 
@@ -72,8 +80,9 @@ class Gathering {
   isHidden(it) {
     const { module, start, end } = it;
     if (this.folder.declaration(it)?.isPrivate) return true;
-    const { tree, byRange } = this.signatures(module);
-    let at = byRange.get(`${start} ${end}`) ?? -1;
+    const signatures = this.signatures(module);
+    const { tree } = signatures;
+    let at = signatures.nodeAt(start, end);
     if (at < 0 || tree.isDeclaration) return false;
     while (/^Var\w+ decls?$/.test(tree.stand(at))) at = tree.above[at];
     return tree.stand(at) === 'TsModuleBlock body' && tree.nodes[at].kind !== 'ExportDecl';
@@ -112,8 +121,13 @@ class Gathering {
 /** @type {Record<string, string>} */
 const SPECIAL = { ctor: ' constructor', index: ' index', call: ' call', construct: ' new' };
 
+/** What most names of members are: those of classes and namespaces, and of interfaces. */
+const USUAL = /^(?:\.(prototype\.)?([A-Za-z_$][\w$]*)|\["([A-Za-z_$][\w$]*)"\])$/;
+
 /** @param {string} name of a member, as symq gives it behind that of its owner @returns {string} `#name` of what instances have, `.name` of what is static */
 function memberName(name) {
+  const [, prototype, own, quoted] = USUAL.exec(name) ?? [];
+  if (own ?? quoted) return own && !prototype ? `.${own}` : `#${own ?? quoted}`;
   return name.replaceAll('.prototype.', '#').replaceAll('.prototype[', '#[').replace(/(?:[.#]|\[")%%dg_(\w+?)%%(?:"\])?$/, (_, what) => SPECIAL[what])
     .replace(/#?\["([\p{ID_Start}$_][\p{ID_Continue}$]*)"\]/gu, '#$1');
 }
@@ -149,9 +163,9 @@ class Levels {
   constructor(folder, exports) {
     this.folder = folder;
     this.exports = exports;
-    this.words = new TypeWords(folder, exports);
     this.names = new Names(folder);
     this.all = new Gathering(folder, this.names);
+    this.words = new TypeWords(folder, exports, (module) => this.all.treeOf(module));
   }
 
   /** @param {string} entry @param {string} module @param {{ name: string, top: string } | null} above the namespace that it is @param {boolean} isType @param {string[]} within @returns {Wanted[]} its exports */

@@ -1,6 +1,5 @@
 // Whether `export type` or `import type` stands on a name's way, so that it can be used as a type alone.
-import { Tree } from '../uses/tree.js';
-
+/** @typedef {import('../uses/tree.js').Tree} Tree */
 /** @typedef {import('../folder/folder.js').Folder} Folder */
 /** @typedef {import('../folder/folder.js').Export} Export */
 
@@ -42,10 +41,11 @@ function exported(nodes, { kind, orig, exported: own, name }) {
 }
 
 export class TypeWords {
-  /** @param {Folder} folder @param {Map<string, Map<string, Export>>} exports by module and name */
-  constructor(folder, exports) {
+  /** @param {Folder} folder @param {Map<string, Map<string, Export>>} exports by module and name @param {(module: string) => Tree} treeOf of one that is read */
+  constructor(folder, exports, treeOf) {
     this.folder = folder;
     this.exports = exports;
+    this.treeOf = treeOf;
     /** @type {Map<string, Words | null>} */
     this.modules = new Map();
   }
@@ -53,8 +53,7 @@ export class TypeWords {
   /** @param {string} module @returns {Words | null} null where it isn't read */
   of(module) {
     if (!this.modules.has(module)) {
-      const found = this.folder.sources.modules.get(module);
-      this.modules.set(module, found ? wordsOf(Tree.of(found)) : null);
+      this.modules.set(module, this.folder.sources.modules.has(module) ? wordsOf(this.treeOf(module)) : null);
     }
     return this.modules.get(module) ?? null;
   }
