@@ -2,7 +2,7 @@ import assert from 'node:assert/strict';
 import test from 'node:test';
 
 import { answer, folderOf, symdir } from './helper.js';
-import { Language } from './language.js';
+import { Language, ts } from './language.js';
 import { leaksBy } from './leaking.js';
 
 const FILES = {
@@ -92,4 +92,65 @@ export class B { protected a: S; }\n`;
 test('members without a name are called what they are', () => {
   const { leaks } = answer(['leaks', folderOf({ 'index.ts': 'interface T {}\nexport interface A { (a: T): 1; new (a: T): 1; [a: string]: T }\nexport class B { constructor(a: T) {} }\n' })]);
   assert.deepEqual(leaks.map((/** @type {any} */ it) => it.neededBy), [['A call', 'A new', 'A index', 'B constructor']]);
+});
+
+/** Initializers whose types TypeScript puts into the declaration: in each, `H` stands for a type of its own. */
+const SHOWN = [
+  '(): H => null!', '(a: H) => 1', '(...a: H[]) => 1', '<T extends H>(a: T) => 1', '<T = H>(a: T) => 1', 'async (a: H) => {}', 'function (a: H): void {}', 'function (): H { return null!; }',
+  '(a: number) => (b: H) => 1', '() => null! as H', '(a: string, b = null! as H) => 1', '(a = (b: H) => 1) => 1', '({ a }: H) => 1', '([a]: H[] = []) => 1', 'null! as H', '(null! as H)',
+  '<H>null!', '[null! as H]', '[...(null! as H[])]', '{ a: null! as H }', '{ a: [{ b: (c: H) => 1 }] }', '{ f(a: H) {} }', '{ get g(): H { return null!; } }', '{ set s(a: H) {} }', '{ ["a"](b: H) {} }',
+  '[(a: H) => 1] as const', '{ a: (b: H) => 1 } as const', 'class { a!: H }', 'class { m(a: H) {} }', 'class { get g(): H { return null!; } }', 'class { static s = (a: H) => 1 }',
+  'class { constructor(a: H) {} }', 'class { constructor(readonly a: H) {} }', 'class { [a: string]: H }', 'class<T extends H> { t!: T }', 'new Box<H>()', 'new Box<Box<H>>(null!)',
+  'null! as { a: (b: H) => 1 }', '(a: keyof H) => 1', '(a: Box<H>) => 1',
+];
+/** Initializers with types that no declaration has. */
+const HIDDEN = [
+  '(): number => { const a: H = null!; return 1; }', 'function (): void { let a: H; }', 'count(null! as H)', 'count<H>()', '{ ...(null! as H) }', '`${null! as H}`', '[null! as H].length', '(null! as H).a', '!(null! as H)',
+  'count(null! as H) + 1', '{ a: count(null! as H) }', '[count<H>()]', '{ [`${null! as H}`]: 1 }', '(): void => count(null! as H)', 'typeof (null! as H)', '(a?: number): void => { (b: H) => 1; }',
+];
+/** What TypeScript takes from its own library, in short. */
+const GLOBALS = `interface Array<T> { length: number; [at: number]: T }\ninterface ReadonlyArray<T> { readonly [at: number]: T }\ninterface Promise<T> { value: T }\n${
+  ['Boolean', 'Function', 'CallableFunction', 'NewableFunction', 'IArguments', 'Number', 'Object', 'RegExp', 'String'].map((it) => `interface ${it} {}\n`).join('')}`;
+
+test('types in an initializer count that TypeScript puts into the declaration', () => {
+  const rows = [...SHOWN, ...HIDDEN].map((it, i) => `export const v${i} = ${it.replace(/\bH\b/g, `H${i}`)};\n`);
+  const types = rows.map((_, i) => `interface H${i} { a: string }\n`);
+  const box = 'export class Box<T> { t!: T; constructor(a?: T) {} }\nexport declare function count<T>(a?: T): number;\n';
+  const files = { 'index.ts': [...types, box, ...rows].join(''), 'globals.d.ts': GLOBALS };
+  const folder = folderOf(files);
+  const { service } = new Language(folder, Object.keys(files), { declaration: true });
+  const [{ text }] = service.getEmitOutput(`${folder}/index.ts`, true, true).outputFiles;
+  // it leaves a type out that no declaration needs
+  const wanted = rows.map((_, i) => `H${i}`).filter((it) => text.includes(`interface ${it} {`));
+  assert.deepEqual(wanted, SHOWN.map((_, i) => `H${i}`), text);
+  const { leaks } = answer(['leaks', folder, '--entry', 'index.ts']);
+  assert.deepEqual(leaks.map((/** @type {any} */ it) => [it.name, it.neededBy]).sort(), wanted.map((it) => [it, [it.replace('H', 'v')]]).sort());
+});
+
+/** @param {string} text of index.ts, where types that users can't import are called `H` and a number @param {Record<string, string>} [files] */
+function leaking(text, files = {}) {
+  return answer(['leaks', folderOf({ 'index.ts': text, ...files }), '--entry', 'index.ts']).leaks.map((/** @type {any} */ it) => `${it.name} ${it.neededBy}`).sort();
+}
+
+test('of an initializer dotted names, import types and types of values count, too', () => {
+  const text = 'namespace N { export interface H1 {} }\nconst H2 = 1;\nexport const a = (it: N.H1) => 1;\nexport const b = (it: typeof H2) => 1;\nexport const c = (it: import("./b").H3) => 1;\n'
+    + 'export const d = (it: import("./b").M.H4<import("./b").H5>) => 1;\nexport const e = (it: typeof import("./b")) => 1;\n';
+  assert.deepEqual(leaking(text, { 'b.ts': 'export interface H3 {}\nexport namespace M { export interface H4<T> { t: T } }\nexport interface H5 {}\n' }), [
+    'H2 b', 'H3 c', 'H5 d', 'M.H4 d', 'N.H1 a']);
+});
+
+test('an initializer counts behind let and var, of members and parameters, and not where a type stands before it', () => {
+  const types = Array.from({ length: 20 }, (_, i) => `interface H${i} {}\n`).join('');
+  assert.deepEqual(leaking(`${types}export let a = (it: H1) => 1;\nexport var b = null! as H2;\nexport function c(it = (x: H3) => 1) {}
+export class C { d = (it: H4) => 1; static e = null! as H5; m(it = null! as H6) {} constructor(it = (x: H7) => 1, readonly f = (x: H8) => 1) {} }
+export namespace N { export const g = (it: H9) => 1 }\nexport default (it: H10) => [null! as H11];\n`), [
+    'H1 a', 'H10 default', 'H11 default', 'H2 b', 'H3 c', 'H4 C.d', 'H5 C.e', 'H6 C.m', 'H7 C constructor', 'H8 C constructor', 'H9 N.g'].sort());
+  assert.deepEqual(leaking(`${types}export const a: () => void = (it?: H1) => {};\nconst b = (it: H2) => 1;\nexport function c(it: () => void = (x?: H3) => {}) {}
+export class C { e: () => void = (it?: H5) => {}; private f = (it: H6) => 1; #g = (it: H7) => 1; private m(it = null! as H8) {} }
+export function o(it: string): void;\nexport function o(it = (x: H9) => 1) {}\nexport const p = class { private q!: H10; #r!: H11; private s(it: H12) {} };\n`), []);
+});
+
+test('what `satisfies` says counts, and so does what it stands behind', () => {
+  const text = 'interface H1 {}\ninterface H2 {}\ninterface H3 {}\nexport const a = { b: (it: H1) => 1 } satisfies H2;\nexport const c = [f(1 satisfies H3)];\ndeclare function f(it: 1): 1;\n';
+  assert.deepEqual(leaking(text), ['H1 a', 'H2 a']);
 });

@@ -2,8 +2,10 @@
 import { isDefinition } from '../folder/folder.js';
 import { Names } from '../folder/names.js';
 import { endsOf } from '../folder/settle.js';
+import { languageOf } from '../language.js';
 import { columns, counted, placeText, wrapped } from '../output.js';
 import { leakFinding } from '../report/findings.js';
+import { Initializers } from '../uses/initializers.js';
 import { Tree } from '../uses/tree.js';
 
 /** @typedef {import('../folder/folder.js').Folder} Folder */
@@ -102,6 +104,39 @@ function writtenIn(folder, { module, start, end }) {
   return new Set(types.map(({ name, scope, parts }) => JSON.stringify(parts.length > 0 ? ['qualified', name, scope, parts] : ['id', name, scope])));
 }
 
+/** Declarations that may have initializers. */
+const INITIALIZED = new Set(['const', 'let', 'var', 'using', 'property', 'accessor', 'function', 'method', 'constructor', 'default']);
+
+/**
+ * Finds what the types refer to that are written in initializers.
+ * @param {Folder} folder @param {Shown[]} all
+ * @returns {Promise<{ of: Shown, reference: unknown[] }[]>}
+ */
+async function initialized(folder, all) {
+  const mine = all.filter((it) => isTyped(folder, it.module));
+  const leaves = await folder.leaves(mine.map((it) => [it.module, it.symbol]));
+  /** @type {Map<string, { of: Shown, at: string }[]>} */
+  const asked = new Map();
+  mine.forEach((of, i) => {
+    const own = leaves[i].filter(isDefinition).filter((it) => it.module === of.module && it.symbol === of.symbol);
+    // of several declarations, as of overloads, none has a type that isn't written
+    const [only] = own;
+    if (own.length !== 1 || !INITIALIZED.has(folder.declaration(only)?.kind ?? '')) return;
+    asked.set(of.module, [...asked.get(of.module) ?? [], { of, at: `${only.start} ${only.end}` }]);
+  });
+  return [...asked].flatMap(([module, rows]) => {
+    const tree = Tree.of(/** @type {import('../folder/sources.js').Module} */ (folder.sources.modules.get(module)));
+    const initializers = new Initializers(tree);
+    return rows.flatMap(({ of, at }) => initializers.at(at).map((reference) => ({ of, reference })));
+  });
+}
+
+/** @param {Folder} folder @param {string} module @returns {boolean} whether initializers in it may have types: it is TypeScript and no declaration file */
+function isTyped(folder, module) {
+  const file = folder.sources.modules.get(module)?.file ?? '';
+  return /^tsx?$/.test(languageOf(file).language) && !languageOf(file).declaration;
+}
+
 /**
  * What the declarations of the symbols need that isn't among them.
  * @param {Folder} folder
@@ -114,8 +149,8 @@ async function needed(folder, all, values) {
   const answers = await folder.ask(all.map((it) => ['deps', it.module, it.symbol, 'types']));
   const written = new Map(values.map((it) => [`${it.symbol} ${it.module}`, writtenIn(folder, it)]));
   const isWritten = (/** @type {Shown} */ of, /** @type {any[]} */ reference) => reference[0] === 'import' || (written.get(`${of.symbol} ${of.module}`)?.has(JSON.stringify(reference)) ?? true);
-  const asked = answers.flatMap((answer, i) => (answer?.deps ?? []).flat().map((/** @type {any} */ [reference]) => ({ of: all[i], reference })))
-    .filter(({ of, reference }) => isWritten(of, reference));
+  const declared = answers.flatMap((answer, i) => (answer?.deps ?? []).flat().map((/** @type {any} */ [reference]) => ({ of: all[i], reference })));
+  const asked = [...declared.filter(({ of, reference }) => isWritten(of, reference)), ...await initialized(folder, all)];
   const paths = await folder.resolve(asked.map((it) => [it.of.module, it.reference]));
   /** @type {Map<string, Need>} */
   const found = new Map();
