@@ -12,8 +12,7 @@ const COMMON = `  --skip REGEX         excludes modules by their paths below the
 const ASKING = `  --entry FILE         an entry point, in place of those of package.json or deno.json; may be
                        repeated
   --json               prints JSON
-  --strict             strict rules: \`export *\` never exports \`default\`, and names that several
-                       modules export along it are reported (api, missing)
+  --strict             reports names that several modules export along \`export *\` (api, missing)
 ${COMMON}
   --symq FILE          the program symq (default: SYMQ, the repository's, or symq on the PATH)
   --unproved           uses an unverified build of symq, which the Rattle kit makes once`;

@@ -34,7 +34,7 @@ function ended(status, said) {
 
 /** @param {string} program @returns {Failure} */
 function notStrict(program) {
-  return new Failure(`${program} doesn't support --strict`);
+  return new Failure(`${program} is older than symdir: it doesn't support --strict`);
 }
 
 /** Questions by the lines that they are; each is asked once. */
@@ -67,11 +67,11 @@ function parsedLines(text) {
 
 /** symq as a process that stays: any number of rounds of questions. */
 export class Symq extends Asked {
-  /** @param {string} program @param {string} graph a file @param {boolean} [isStrict] whether it answers by strict rules */
-  constructor(program, graph, isStrict = false) {
+  /** @param {string} program @param {string} graph a file, on which it answers by strict rules: `export *` passes no `default` on */
+  constructor(program, graph) {
     super();
     this.program = program;
-    this.process = started(program, isStrict ? ['--strict', graph] : [graph]);
+    this.process = started(program, ['--strict', graph]);
     this.said = '';
     /** @type {string[]} lines that are asked, in order */
     this.open = [];
@@ -82,7 +82,7 @@ export class Symq extends Asked {
     this.process.stderr.on('data', (it) => (this.said += it));
     this.process.stdin.on('error', () => {});
     this.process.on('error', (error) => this.fail(notStarted(program, error)));
-    this.process.on('close', (status, signal) => this.fail(isStrict && status === USAGE ? notStrict(program) : ended(status ?? signal, this.said)));
+    this.process.on('close', (status, signal) => this.fail(status === USAGE ? notStrict(program) : ended(status ?? signal, this.said)));
     this.process.stdout.on('data', (it) => this.receive(it));
   }
 

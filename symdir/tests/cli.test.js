@@ -113,12 +113,12 @@ test('a program that refuses, and one that dies', () => {
   assert.equal(symdir(['api', folder, '--symq', path.dirname(isNone)]).status, 3);
 });
 
-test('--strict is passed on, and a program that doesn\'t know it is told as such', () => {
+test('symq is asked by strict rules, and a program that doesn\'t know them is told as such', () => {
   const knows = program({}, 'symq', '#!/bin/sh\necho "symq: words $1" >&2\nexit 6\n');
-  assert.equal(symdir(['api', folderOf(FILES), '--symq', knows, '--strict']).stderr, 'symdir: symq: words --strict\n');
+  for (const words of [[], ['--strict']]) assert.equal(symdir(['api', folderOf(FILES), '--symq', knows, ...words]).stderr, 'symdir: symq: words --strict\n');
   const older = program({}, 'symq', '#!/bin/sh\n[ $# -eq 1 ] || { echo "usage: symq GRAPH" >&2; exit 2; }\n');
-  assert.deepEqual(symdir(['api', folderOf(FILES), '--symq', older, '--strict']), {
-    status: 3, stdout: '', stderr: `symdir: ${older} doesn't support --strict\n` });
+  assert.deepEqual(symdir(['api', folderOf(FILES), '--symq', older]), {
+    status: 3, stdout: '', stderr: `symdir: ${older} is older than symdir: it doesn't support --strict\n` });
 });
 
 test('a file that can\'t be parsed is told with its place, and is a finding', () => {

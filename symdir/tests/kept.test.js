@@ -11,7 +11,7 @@ test('the graph that is kept is asked where it is still that of the folder, and 
   const folder = folderOf({ 'index.ts': 'export * from "a";\n', 'a.ts': 'export const one = 1;\n', 'b.ts': 'export const two = 1;\n' });
   const maps = (/** @type {string} */ to) => writeFileSync(path.join(folder, 'deno.json'), JSON.stringify({ imports: { a: to } }));
   // a program that notes which graphs it is given
-  const noting = program({}, 'symq', `#!/bin/sh\necho "$1" >> '${cache}/asked'\nexec '${path.resolve(findSymq(undefined))}' "$1"\n`);
+  const noting = program({}, 'symq', `#!/bin/sh\necho "$2" >> '${cache}/asked'\nexec '${path.resolve(findSymq(undefined))}' "$@"\n`);
   const names = () => {
     const { stdout, stderr } = symdir(['api', folder, '--entry', 'index.ts', '--json', '--symq', noting], { env: { XDG_CACHE_HOME: cache } });
     assert.equal(stderr, '');

@@ -1,6 +1,7 @@
 import assert from 'node:assert/strict';
 import test from 'node:test';
 
+import { openFolder } from '../lib/library/index.js';
 import { lackingBy } from './definitions.js';
 import { answer, folderOf, symdir } from './helper.js';
 import { Language } from './language.js';
@@ -42,6 +43,32 @@ test('imported names that aren\'t there', () => {
 test('a name that comes along `export *` is there; `default` doesn\'t come along it', () => {
   const files = { 'index.ts': 'import { a } from "./m";\nimport d from "./m";\n', 'm.ts': 'export * from "./n";\n', 'n.ts': 'export const a = 1;\nexport default 1;\n' };
   assert.deepEqual(missing(files), ['name index.ts:2:8 m.ts default']);
+});
+
+test('`default` doesn\'t come along `export *`, whatever asks for it, as by TypeScript', async () => {
+  const files = {
+    'index.ts': 'import d, { default as e, other } from "./m";\nexport { default } from "./m";\nexport { default as f } from "./m";\nexport { d, e, other };\nlet t: typeof import("./m").default;\n',
+    'm.ts': 'export * from "./n";\n', 'n.ts': 'export const other = 1;\nexport default class {}\n',
+  };
+  const folder = folderOf(files);
+  const wanted = lackingBy(new Language(folder, Object.keys(files)));
+  assert.deepEqual([...wanted.exports].map(([place]) => place), ['index.ts:1:8', 'index.ts:1:13', 'index.ts:2:10', 'index.ts:3:10']);
+  for (const strict of [false, true]) {
+    const opened = await openFolder(folder, { strict, entry: ['index.ts'] });
+    const lacking = (await opened.missing()).map((it) => `${it.file}:${it.line}:${it.column} ${it.text} of ${it.how}`);
+    assert.deepEqual(lacking, [...wanted.exports.keys(), 'index.ts:5:29'].map((it) => `${it} default of m.ts`));
+    for (const [line, name] of /** @type {[number, string][]} */ ([[1, 'd'], [1, 'e'], [1, 'default'], [2, 'default'], [3, 'f'], [4, 'd'], [4, 'e']])) {
+      const [{ ways: [{ defined, unresolved }] }] = await opened.where({ file: 'index.ts', line, name });
+      assert.deepEqual([defined, unresolved], [null, { what: 'name', file: 'm.ts', name: 'default' }], name);
+    }
+    const names = (await opened.names()).map((it) => `${it.name} ${it.unresolved.map(({ what }) => what)}`);
+    assert.deepEqual(names.sort(), ['d name', 'default name', 'e name', 'f name', 'other ']);
+    const [{ uses }] = await opened.uses({ file: 'n.ts', line: 2, column: 8 });
+    assert.deepEqual(uses, []);
+    await opened.close();
+  }
+  const { status, stdout } = symdir(['where', folder, 'index.ts:1', 'd']);
+  assert.deepEqual([status, stdout], [1, 'd  at index.ts:1:8\n  unresolved: m.ts has no export default    via index.ts\n']);
 });
 
 test('a name is reported where it is lacking first, and not where that leads by a re-export', () => {

@@ -20,7 +20,7 @@ export interface Options {
   ambientExports?: boolean;
   /** By default syntax trees are cached in the user's cache directory. */
   cache?: boolean;
-  /** Takes strict rules: `export *` never exports `default`, and `shared` lists names that several modules export along it. */
+  /** Lists in `shared` names that several modules export along `export *`, and reports them as missing. */
   strict?: boolean;
   /** By default function bodies are read. With `false` opening is faster, `uses` leaves them out, and `unused` and `cycles` fail. */
   bodies?: boolean;
@@ -129,7 +129,7 @@ export interface Exports {
   names: ExportedName[];
   /** Each `export *` whose names aren't known; `external` is the module that it resolves to, `isLost` where that can't be read or parsed. */
   open: (Position & { entry: string; text: string; external: string | null; isLost?: boolean })[];
-  /** With strict rules, names that several modules export along `export *`. */
+  /** With `strict`, names that several modules export along `export *`. */
   shared: { module: string; name: string; owners: { file: string; through: Star[] }[] }[];
   /** The names of `declare module "name"`, of a file that exports nothing. */
   declared: string[];

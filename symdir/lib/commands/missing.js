@@ -127,7 +127,7 @@ function print({ print: line, paint, options }, found) {
   }
 }
 
-/** @param {Folder} folder @param {boolean} isStrict @returns {Promise<Finding[]>} those that are shared, by strict rules alone, last */
+/** @param {Folder} folder @param {boolean} isStrict @returns {Promise<Finding[]>} those that are shared, with `--strict` alone, last */
 export async function findMissing(folder, isStrict) {
   const shared = await (isStrict ? ambiguousNames(folder) : []);
   return [...unparsed(folder), ...unresolvedImports(folder), ...(await missingExports(folder)), ...shared];

@@ -1,4 +1,4 @@
-// Names that come along `export *` from several modules, which strict rules tell.
+// Names that come along `export *` from several modules, which `--strict` tells.
 
 /** @typedef {import('../folder/folder.js').Folder} Folder */
 
@@ -11,7 +11,7 @@
  *   which `export *` it comes
  */
 
-/** @param {Folder} folder @param {string[]} specifiers @returns {Promise<SharedName[]>} none by Deno's rules */
+/** @param {Folder} folder @param {string[]} specifiers @returns {Promise<SharedName[]>} none without `--strict` */
 export async function sharedNames(folder, specifiers) {
   const all = await folder.exports(specifiers);
   return all.flatMap(({ shared = [] }, i) => shared.map(({ name, owners }) => ({

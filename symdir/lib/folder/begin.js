@@ -28,7 +28,7 @@ import { Kept, madeOf } from './kept.js';
  * Who is asked.
  * @typedef {object} Asked
  * @property {string} symq the program
- * @property {boolean} [strict]
+ * @property {boolean} [strict] whether shared names are told
  */
 
 /**
@@ -58,7 +58,7 @@ async function lastOf(kept, asked) {
   const graph = asked ? kept?.lastGraph() : null;
   if (!asked || !graph) return null;
   const { Symq } = await import('../symq.js');
-  return new Symq(asked.symq, graph, asked.strict);
+  return new Symq(asked.symq, graph);
 }
 
 /** @param {Reading} reading @param {Asked | null} asked null where nobody is @returns {Promise<Begun>} */

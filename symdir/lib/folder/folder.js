@@ -14,7 +14,7 @@ import { replaceFile } from '../write.js';
 
 /** @typedef {{ name: string, module: string, symbol: number, chain: [string, string][] }} Export */
 /** @typedef {{ name: string, owners: { module: string, symbol: number, chain: [string, string][] }[] }} Shared */
-/** @typedef {{ exports: Export[], shared?: Shared[], unresolved: [string, string][] }} Exports what is shared by strict rules alone */
+/** @typedef {{ exports: Export[], shared?: Shared[], unresolved: [string, string][] }} Exports what is shared with `--strict` alone */
 /** @typedef {{ module: string, start: number, text: string }} Statement that stands for a whole module, and the text that names it */
 /** @typedef {{ module: string, symbol: number, start: number, end: number, decl: [number, number], by?: Statement }} Definition of a module that a statement leads to, with that */
 /** @typedef {{ kind: string, module: string, name: string, parts: string[], why?: string }} Unresolved with why the name may be there all the same */
@@ -34,6 +34,8 @@ export class Folder {
     this.last = last;
     /** @type {Symq | null} */
     this.symq = null;
+    /** Whether shared names are told. */
+    this.isStrict = false;
     /** @type {Temporary | undefined} where the graph is, where it isn't kept */
     this.temporary = undefined;
     /** @type {Promise<void> | undefined} */
@@ -72,8 +74,9 @@ export class Folder {
     else {
       void this.last?.close();
       const graph = this.write(name, piecesOf(parts));
-      this.symq = new Symq(symq, graph, strict);
+      this.symq = new Symq(symq, graph);
     }
+    this.isStrict = strict ?? false;
     this.symq.progress = this.sources.reading.progress;
     this.keeping = this.sources.keep(name);
   }
@@ -101,7 +104,7 @@ export class Folder {
   /** @param {string[]} specifiers @returns {Promise<Exports[]>} empty ones of modules without symbols */
   async exports(specifiers) {
     const answers = await this.ask(specifiers.map((it) => ['exports', it]));
-    return answers.map((it) => it ?? { exports: [], unresolved: [] });
+    return answers.map((it) => ({ exports: it?.exports ?? [], ...(this.isStrict && { shared: it?.shared ?? [] }), unresolved: it?.unresolved ?? [] }));
   }
 
   /** @param {[string, number][]} symbols @returns {Promise<(Definition | Unresolved)[][]>} the ends of the paths to where each is defined */
