@@ -96,11 +96,13 @@ test('scopes outside of bodies have their numbers with bodies and without', () =
 });
 
 test('a function behind a label is declared where the label stands', () => {
-  const list = nodes('function g() { l: function f() {} f; } l: m: function f() {} f;', 'a.ts', { bodies: true });
-  const [declared, used, outside, usedOutside] = scopes(list, 'f');
+  const list = nodes('function g() { l: function f() {} f; } l: m: function f() {} f; function h() { l: m: n: function f() {} f; }', 'a.ts', { bodies: true });
+  const [declared, used, outside, usedOutside, deep, usedDeep] = scopes(list, 'f');
   assert.notEqual(declared, 1);
   assert.equal(used, declared);
   assert.deepEqual([outside, usedOutside], [1, 1]);
+  assert.notEqual(deep, 1);
+  assert.equal(usedDeep, deep);
 });
 
 test('a tree may be 4,096 deep, and no deeper', () => {
@@ -155,6 +157,9 @@ test('newer syntax than TypeScript 4.8 knows', () => {
   // words in strings and comments alone, which stay
   const quiet = 'const a = "x satisfies y", b = \'export type * from\', c = "class { accessor d }"; // using e = f;\n/* <const T> */ import g from "./h";\n';
   assert.deepEqual(strings(quiet), ['x satisfies y', 'export type * from', 'class { accessor d }']);
+  // a word is none within another one, where a text has newer syntax elsewhere
+  const within = nodes('using a = b; dissatisfies (c); preaccessor\n(d); let unusing = 1;').flatMap((/** @type {any} */ it) => it.sym?.[0] ?? []);
+  assert.deepEqual(within, ['a', 'b', 'dissatisfies', 'c', 'preaccessor', 'd', 'unusing']);
   // words that mean nothing else there
   for (const it of ['const using = 1; using; accessor(using); type = satisfies * 2;', 'let a = "x satisfies y with { z: 1 }"; // using a = 1', 'class C { accessor; accessor() {} }']) assert.deepEqual(nodes(it).filter((/** @type {any} */ one) => /UsingDecl|AutoAccessor/.test(one.kind)), [], it);
 });

@@ -70,11 +70,26 @@ test('a text that is nested too deep for the parser is told, and the others are 
   assert.equal(JSON.parse(stdout).modules.length, 2);
 });
 
-test('a tree that is more than 4,096 deep is told, and the others are there and answered', () => {
-  const folder = folderOf({ 'a.ts': 'export const a = 1;', 'b.ts': `declare namespace ${'b.'.repeat(4200)}b {}\n` });
+/** @param {any[]} nodes of a tree, each before those that it holds @returns {number} how deep the deepest lies, where the program's depth is 1 */
+function depthOf(nodes) {
+  const depths = nodes.map(() => 1);
+  nodes.forEach((node, i) => {
+    for (const key of Object.keys(node)) {
+      if (['kind', 'range', 'sym'].includes(key)) continue;
+      for (const it of [node[key]].flat()) if (typeof it === 'number') depths[it] = depths[i] + 1;
+    }
+  });
+  return depths.reduce((a, b) => Math.max(a, b));
+}
+
+test('a tree that is 4,096 deep is there, one that is deeper is told, and the others are answered', () => {
+  // program, declaration, each name behind a dot, and the block
+  const nested = (/** @type {number} */ depth) => `declare namespace b${'.b'.repeat(depth - 3)} {}\n`;
+  const folder = folderOf({ 'a.ts': 'export const a = 1;', 'b.ts': nested(4097), 'c.ts': nested(4096) });
   const { status, stdout, stderr } = symdir(['graph', folder]);
   assert.deepEqual([status, stderr], [1, 'symdir: b.ts:1:1: it is nested more than 4,096 deep\n']);
-  assert.deepEqual(JSON.parse(stdout).modules.map((/** @type {any} */ it) => it.tree !== undefined), [true, false]);
+  const trees = JSON.parse(stdout).modules.map((/** @type {any} */ it) => (it.tree ? depthOf(it.tree.nodes) : null));
+  assert.deepEqual(trees, [5, null, 4096]);
   assert.deepEqual(answer(['api', folder, '--entry', 'a.ts']).names.map((/** @type {any} */ it) => it.name), ['a']);
 });
 

@@ -6,6 +6,8 @@ import { symlinkSync, writeFileSync } from 'node:fs';
 import path from 'node:path';
 import test from 'node:test';
 
+import { failureOf } from '../lib/failure.js';
+import { Progress } from '../lib/output.js';
 import { BIN, folderOf, program, symdir } from './helper.js';
 
 const TEXT = 'export const n = 1;\n';
@@ -67,10 +69,17 @@ test('a configuration file of an installed package isn\'t told', () => {
   assert.match(found.stdout, /^index\.ts: 1 public name/);
 });
 
+test('a fault of this program is none of the system, and isn\'t told in a line', () => {
+  assert.equal(failureOf(Object.assign(new TypeError('no function'), { code: 'ERR_INVALID_ARG_TYPE' })), null);
+  assert.equal(failureOf(Object.assign(new Error('no code'), { syscall: 'open' })), null);
+  const failure = failureOf(Object.assign(new Error('EACCES: open'), { code: 'EACCES', syscall: 'open' }));
+  assert.deepEqual([failure?.message, failure?.status, failure?.kind], ['EACCES: open', 3, 'system']);
+});
+
 test('--verbose tells every five seconds how far it is, and nothing else does', async () => {
   const folder = folderOf({ 'index.ts': TEXT });
   const go = path.join(folderOf({}), 'go');
-  const waits = program({}, 'symq', `#!/bin/sh\nread line\nwhile [ ! -e '${go}' ]; do sleep 0.1; done\nexit 9\n`);
+  const waits = program({}, 'symq', `#!/bin/sh\nread line\ni=0\nwhile [ ! -e '${go}' ] && [ $i -lt 300 ]; do sleep 0.1; i=$((i + 1)); done\nexit 9\n`);
   const run = spawn(process.execPath, [BIN, 'api', folder, '--symq', waits, '--verbose']);
   let said = '';
   run.stderr.on('data', (it) => {
@@ -84,4 +93,46 @@ test('--verbose tells every five seconds how far it is, and nothing else does', 
   assert.ok(seconds.every((it, i) => it >= 5 * (i + 1)), said);
   const slow = program({}, 'symq', '#!/bin/sh\nread line\nsleep 6\nexit 9\n');
   assert.equal(symdir(['api', folder, '--symq', slow]).stderr, 'symdir: symq exited with status 9\n');
+});
+
+test('a line is told every five seconds, and on a terminal one that stays from the first second on', () => {
+  const told = (/** @type {boolean} */ isTerminal, /** @type {boolean} */ isVerbose, /** @type {number[]} */ times) => {
+    const { setInterval, Date: { now } } = globalThis;
+    const [write, terminal] = [process.stderr.write, Object.getOwnPropertyDescriptor(process.stderr, 'isTTY')];
+    /** @type {string[]} */
+    const lines = [];
+    /** @type {(() => void)[]} */
+    const ticks = [];
+    try {
+      globalThis.setInterval = /** @type {any} */ ((/** @type {() => void} */ tick, /** @type {number} */ every) => {
+        lines.push(`every ${every}`);
+        ticks.push(tick);
+        return { unref() { return 1; } };
+      });
+      Object.defineProperty(process.stderr, 'isTTY', { value: isTerminal, configurable: true });
+      process.stderr.write = /** @type {any} */ ((/** @type {string} */ it) => lines.push(it));
+      Date.now = () => 5000;
+      const progress = new Progress(isVerbose);
+      progress.update('at work');
+      progress.update('at more work');
+      for (const it of times) {
+        Date.now = () => 5000 + it;
+        ticks.forEach((tick) => tick());
+      }
+      progress.update('');
+      return lines;
+    } finally {
+      Object.assign(globalThis, { setInterval });
+      Date.now = now;
+      process.stderr.write = write;
+      if (terminal) Object.defineProperty(process.stderr, 'isTTY', terminal);
+      else Reflect.deleteProperty(process.stderr, 'isTTY');
+    }
+  };
+  assert.deepEqual(told(false, true, [5000, 10999]), ['every 5000', 'symdir: at more work, 5 s\n', 'symdir: at more work, 10 s\n']);
+  assert.deepEqual(told(false, false, [5000]), []);
+  for (const it of [false, true]) {
+    assert.deepEqual(told(true, it, [999, 1000]), ['every 100', '\r\x1b[Kat more work, 1 s', '\r\x1b[K']);
+    assert.deepEqual(told(true, it, [999]), ['every 100']);
+  }
 });

@@ -1,7 +1,7 @@
 // The build without proofs is made once for each state of its sources. A command in place of the kit's runs a program that is there.
 import assert from 'node:assert/strict';
 import { spawnSync } from 'node:child_process';
-import { appendFileSync, cpSync, existsSync, readFileSync, readdirSync, statSync, utimesSync } from 'node:fs';
+import { appendFileSync, cpSync, existsSync, readFileSync, readdirSync, statSync, symlinkSync, utimesSync } from 'node:fs';
 import path from 'node:path';
 import test from 'node:test';
 import { fileURLToPath } from 'node:url';
@@ -78,6 +78,18 @@ test('a build that fails is told, and nothing is kept', () => {
   const unwritable = symdir(['api', folderOf(FILES), '--unproved'], { env: { ...env, XDG_CACHE_HOME: '/dev/null/none' } });
   assert.deepEqual([unwritable.status, unwritable.stderr], [
     3, `${BUILDING}symq could not be stored in /dev/null/none/symdir: Not a directory\nsymdir: the unverified build of symq failed\n`]);
+});
+
+test('what the build needs and isn\'t there is told', () => {
+  const bin = folderOf({});
+  const said = () => {
+    const { status, stdout, stderr } = symdir(['api', folderOf(FILES), '--unproved'], { env: { PATH: bin, XDG_CACHE_HOME: folderOf({}) } });
+    assert.deepEqual([status, stdout], [3, '']);
+    return stderr;
+  };
+  assert.match(said(), /^symdir: --unproved needs python3: [^\n]*ENOENT\n$/);
+  symlinkSync(String(spawnSync('python3', ['-c', 'import sys; print(sys.executable)'], { encoding: 'utf8' }).stdout).trim(), path.join(bin, 'python3'));
+  assert.equal(said(), 'the Rattle kit is needed: its command rt was not found\nsymdir: the unverified build of symq failed\n');
 });
 
 test('tools/unproved_symq.sh answers queries by it', () => {
