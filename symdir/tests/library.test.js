@@ -7,6 +7,7 @@ import test from 'node:test';
 import { pathToFileURL } from 'node:url';
 
 import * as library from '../lib/library/index.js';
+import { checkedSpot, readingOf } from '../lib/library/options.js';
 import { findSymq } from '../lib/program.js';
 import { findTypeScript } from '../lib/typescript.js';
 import { PACKAGE, consumer, sameAsCommands } from './commands.js';
@@ -226,4 +227,37 @@ test('what the package has is what it names', () => {
   const { exports, files, bin } = JSON.parse(readFileSync(path.join(PACKAGE, 'package.json'), 'utf8'));
   for (const it of [exports['.'].types, exports['.'].default, bin.symdir, ...files]) assert.ok(existsSync(path.join(PACKAGE, it)), it);
   assert.equal(symdir(['--version']).stdout, `symdir ${JSON.parse(run('import it from "symdir/package.json" with { type: "json" };\nconsole.log(JSON.stringify(it.version));\n').stdout)}\n`);
+});
+
+test('each option and each key of a place has its type, and no other', async () => {
+  const folder = folderOf({ 'index.ts': '' });
+  const kindOf = (/** @type {() => unknown} */ it) => {
+    try {
+      it();
+      return '';
+    } catch (error) {
+      return /** @type {any} */ (error).kind;
+    }
+  };
+  const flags = ['js', 'packages', 'ambientExports', 'cache', 'strict', 'bodies'];
+  /** @type {[string, unknown[], unknown[]][]} values that are taken, and others */
+  const rows = [...flags.map((it) => /** @type {[string, unknown[], unknown[]]} */ ([it, [true, false, undefined], ['true', 1, null]])),
+    ['entry', [[], ['a.ts'], ['a.ts', 'b.ts']], ['a.ts', [1], ['a.ts', null]]], ['skip', [[], [/a/], [/a/, /b/]], [/a/, ['a'], [/a/, 'b']]],
+    ['symq', ['symq'], [1, null, ['symq']]], ['progress', [() => {}], ['a', null, true]]];
+  for (const [key, taken, others] of rows) {
+    for (const it of taken) assert.equal(kindOf(() => readingOf(folder, /** @type {any} */ ({ [key]: it }))), '', key);
+    for (const it of others) assert.equal(kindOf(() => readingOf(folder, /** @type {any} */ ({ [key]: it }))), 'argument', `${key} ${it}`);
+  }
+  for (const it of [1, null, '', undefined]) assert.equal(kindOf(() => readingOf(/** @type {any} */ (it), {})), 'argument');
+  assert.equal(readingOf(pathToFileURL(folder), {}).folder, folder);
+  const { typescript, progress, ...rest } = readingOf(folder, {});
+  assert.deepEqual(rest, { folder, skip: [], bodies: true, ambient: true, javascript: false, packages: false, cache: true });
+  const spots = [{ file: 'a.ts' }, { line: 1 }, { file: 1, line: 1 }, { file: 'a.ts', line: 0 }, { file: 'a.ts', line: 1.5 }, { file: 'a.ts', line: '1' }, { file: 'a.ts', line: 1, column: 0 },
+    { file: 'a.ts', line: 1, name: 1 }, { file: 'a.ts', line: 1, kind: 'a' }, null, 'a.ts:1'];
+  for (const it of spots) assert.equal(kindOf(() => checkedSpot(/** @type {any} */ (it))), 'argument', JSON.stringify(it));
+  assert.deepEqual(checkedSpot({ file: 'a.ts', line: 1 }), { spot: { file: 'a.ts', line: 1, column: null }, name: undefined });
+  assert.deepEqual(checkedSpot({ file: 'a.ts', line: 2, column: 3, name: 'n' }), { spot: { file: 'a.ts', line: 2, column: 3 }, name: 'n' });
+  const open = await openFolder(folder);
+  await assert.rejects(() => open.exports(/** @type {any} */ (undefined)), { name: 'SymdirError', kind: 'argument', message: 'exports takes a file' });
+  await open.close();
 });
