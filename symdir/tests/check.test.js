@@ -6,7 +6,7 @@ import test from 'node:test';
 import { CATEGORIES, FIELDS } from '../lib/check/kinds.js';
 import { kindsOf } from '../lib/check/faults.js';
 import { wordsOf } from '../lib/commands/check.js';
-import { folderOf, symdir } from './helper.js';
+import { folderOf, program, symdir } from './helper.js';
 
 const GRAPH = readFileSync(new URL('../../docs/GRAPH.md', import.meta.url), 'utf8');
 const FORMS = new URL('../../tests/forms/', import.meta.url);
@@ -82,4 +82,14 @@ test('the command: what symq says, and the words', () => {
 bad.json: module m, node 0 (Program): the range [0, 9] ends after the text, which has 0 bytes
 ` });
   assert.deepEqual(check(path.join('none', 'x.json')), { status: 3, stdout: '', stderr: 'symdir: none/x.json can\'t be read (ENOENT)\n' });
+});
+
+test('the command: a program that neither takes nor refuses the graph is a failure, told by its words or its status', () => {
+  const folder = folderOf({ 'g.json': '{}' });
+  const check = (/** @type {string} */ text) => symdir(['graph', '--check', 'g.json', '--symq', program({}, 'symq', `#!/bin/sh\n${text}\n`)], { cwd: folder });
+  assert.deepEqual(check('echo "symq: no memory" >&2; exit 7'), { status: 3, stdout: '', stderr: 'symdir: symq: no memory\n' });
+  assert.deepEqual(check('exit 7'), { status: 3, stdout: '', stderr: 'symdir: symq exited with status 7\n' });
+  for (const status of [4, 5]) assert.deepEqual(check(`echo "symq: refused" >&2; exit ${status}`), { status: 1, stdout: 'symq: refused\n', stderr: '' });
+  assert.deepEqual(check('exit 0'), { status: 0, stdout: 'g.json: accepted by symq\n', stderr: '' });
+  assert.match(symdir(['graph', '--check', 'g.json', '--symq', './g.json'], { cwd: folder }).stderr, /^symdir: can't start \.\/g\.json: [^\n]*EACCES\n$/);
 });

@@ -6,6 +6,7 @@ import path from 'node:path';
 import test from 'node:test';
 import { setTimeout } from 'node:timers/promises';
 
+import { findSymq } from '../lib/program.js';
 import { BIN, answer, folderOf, program, symdir } from './helper.js';
 
 const FILES = { 'a.ts': 'export * from "./b.ts";\n', 'b.ts': 'export const n = 1;\n' };
@@ -175,6 +176,27 @@ test('the package by itself: what it needs is told', () => {
   }
   assert.deepEqual(said({ PATH: process.env.PATH ?? '' }, 'api', folder, '--unproved'), [
     2, 'symdir: --unproved works only in the repository of deno_symbols\n']);
+});
+
+test('more questions than a pipe holds at once are answered, each by its own answer', () => {
+  const count = 6000;
+  const text = Array.from({ length: count }, (_, i) => `export const name${i} = 1;\n`).join('');
+  const folder = folderOf({ 'index.ts': text });
+  assert.equal(symdir(['api', folder, '--json', '-o', path.join(folder, 'names.json')]).status, 0);
+  const { names } = JSON.parse(readFileSync(path.join(folder, 'names.json'), 'utf8'));
+  assert.deepEqual(names.map((/** @type {any} */ it) => [it.name, it.defined[0].line]), Array.from({ length: count }, (_, i) => [`name${i}`, i + 1]));
+});
+
+test('a program that is named and isn\'t there is told, and `graph --check` goes without one that isn\'t named', () => {
+  const folder = folderOf({ ...FILES, 'g.json': '{}' });
+  assert.deepEqual(symdir(['graph', '--check', path.join(folder, 'g.json'), '--symq', '/none/symq']), { status: 2, stdout: '', stderr: 'symdir: no such program: /none/symq\n' });
+  assert.deepEqual(symdir(['api', folder, '--symq', '/none/symq']), { status: 2, stdout: '', stderr: 'symdir: no such program: /none/symq\n' });
+  // a name without a slash is looked for on the PATH
+  const bin = path.dirname(program({}, 'symq-by-name', `#!/bin/sh\nexec '${path.resolve(findSymq(undefined))}' "$@"\n`));
+  for (const words of [['--symq', 'symq-by-name'], []]) {
+    const { status, stderr } = symdir(['api', folder, ...words], { env: { PATH: `${bin}:${process.env.PATH}`, SYMQ: words.length > 0 ? '' : 'symq-by-name' } });
+    assert.deepEqual([status, stderr], [0, '']);
+  }
 });
 
 test('a folder that isn\'t there is told before a program that isn\'t', () => {

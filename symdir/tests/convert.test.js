@@ -115,6 +115,27 @@ test('a tree may be 4,096 deep, and no deeper', () => {
   assert.equal(treeOf(4097), null);
 });
 
+test('patterns that are assigned to hold others, default values and the rest', () => {
+  const parts = (/** @type {string} */ text) => nodes(text).map((/** @type {any} */ it) => it.kind).filter((/** @type {string} */ it) => /Pat|BindingIdent|Assign|Num/.test(it));
+  assert.deepEqual(parts('[a = 1] = b;'), ['Assign', 'AssignPat', 'BindingIdent', 'Num']);
+  assert.deepEqual(parts('[[a = 1]] = b;'), ['Assign', 'ArrayPat', 'AssignPat', 'BindingIdent', 'Num']);
+  assert.deepEqual(parts('[a, ...c] = b;'), ['Assign', 'BindingIdent', 'RestPat', 'BindingIdent']);
+  assert.deepEqual(parts('[a.c, a += 1] = b;'), ['Assign', 'ExprPat', 'ExprPat', 'Assign', 'BindingIdent', 'Num']);
+  assert.deepEqual(parts('({ a, c = 1, d: e, f: { g }, h: i = 2, ...k } = b);'), ['Assign', 'AssignPatProp', 'BindingIdent', 'AssignPatProp', 'BindingIdent', 'Num', 'KeyValuePatProp', 'BindingIdent',
+    'KeyValuePatProp', 'ObjectPat', 'AssignPatProp', 'BindingIdent', 'KeyValuePatProp', 'AssignPat', 'BindingIdent', 'Num', 'RestPat', 'BindingIdent']);
+  // what is written over a list or an object as a whole is none that takes it apart
+  assert.deepEqual(parts('a = [c = 1];'), ['Assign', 'BindingIdent', 'Assign', 'BindingIdent', 'Num']);
+  assert.deepEqual(parts('for ({ a = 1 } of b) {}'), ['ObjectPat', 'AssignPatProp', 'BindingIdent', 'Num']);
+  assert.deepEqual(parts('for (a in b) {}'), ['BindingIdent']);
+  assert.deepEqual(parts('for (a = 1;;) {}'), ['Assign', 'BindingIdent', 'Num']);
+});
+
+test('a setter without a parameter is a method, and an interface may be the default export', () => {
+  assert.deepEqual(nodes('interface A { set b(c: 1); set d(); }').flatMap((/** @type {any} */ it) => it.kind.match(/^Ts.*Signature$/) ?? []), ['TsSetterSignature', 'TsMethodSignature']);
+  const [, statement, declaration] = nodes('export default interface A {}');
+  assert.deepEqual([statement.kind, statement.range, declaration.kind, declaration.range], ['ExportDefaultDecl', [0, 29], 'TsInterfaceDecl', [15, 29]]);
+});
+
 test('what stands in bodies is left out, and what it imports is noted', () => {
   const made = nodesOf('a.ts', 'function f() { import("./b"); let x: import("./c").X; }', { ...languageOf('a.ts'), ...PLAIN });
   assert.deepEqual(made.references.map((it) => [it.how, it.text]), [['import()', './b'], ['import type', './c']]);

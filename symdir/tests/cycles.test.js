@@ -187,3 +187,10 @@ test('what people read, and the status', () => {
 2 modules, 2 imports between them: no import cycle
 ` });
 });
+
+test('imports of what isn\'t read, or is in no file, are none between the modules', () => {
+  const folder = folderOf({ 'a.ts': 'import "node:fs";\nimport "./gone";\nimport "npm:far";\nimport { p } from "p";\nimport { b } from "./b";\nexport const a = () => [b, p];\n', 'b.ts': 'export const b = 1;\n',
+    'node_modules/p/package.json': '{"types":"p.d.ts"}', 'node_modules/p/p.d.ts': 'export declare const p: 1;\n' });
+  assert.equal(symdir(['cycles', folder]).stdout, '2 modules, 1 import between them: no import cycle\n');
+  assert.match(symdir(['cycles', folder, '--packages']).stdout, /, 1 import between them: no import cycle\n$/);
+});

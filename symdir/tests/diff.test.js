@@ -56,6 +56,12 @@ test('members: of classes, interfaces, namespaces and enums, but for what is pri
   assert.deepEqual(diff('class B { x = 1 }\nexport { B as A };', 'class C { y = 1 }\nexport { C as A };'), ['major removed A#x', 'minor added A#y']);
 });
 
+test('members of a declaration file are all that it declares, with `export` or without', () => {
+  const text = 'export declare class A { a: 1; static b: 1 }\nexport declare namespace N { const c: 1, d: 2; export function e(): void; namespace M { const f: 1 } interface I { g: 1 } }\nexport declare enum E { h }\n';
+  const bare = 'export declare class A {}\nexport declare namespace N { namespace M {} interface I {} }\nexport declare enum E {}\n';
+  assert.deepEqual(diff({ 'index.d.ts': text }, { 'index.d.ts': bare }), ['A#a', 'A.b', 'E.h', 'N.I#g', 'N.M.f', 'N.c', 'N.d', 'N.e'].map((it) => `major removed ${it}`));
+});
+
 test('signatures, as they are written', () => {
   const of = (/** @type {string} */ before, /** @type {string} */ now) => diff(before, now).join();
   assert.equal(of('export function f(a: number): void {}', 'export function f(a: number, b?: X, c = 1, ...d: X[]): void {}'), 'minor signature f');

@@ -85,11 +85,14 @@ function depthOf(nodes) {
 test('a tree that is 4,096 deep is there, one that is deeper is told, and the others are answered', () => {
   // program, declaration, each name behind a dot, and the block
   const nested = (/** @type {number} */ depth) => `declare namespace b${'.b'.repeat(depth - 3)} {}\n`;
-  const folder = folderOf({ 'a.ts': 'export const a = 1;', 'b.ts': nested(4097), 'c.ts': nested(4096) });
+  // of an expression that is deeper a part is left out
+  const folder = folderOf({ 'a.ts': 'export const a = 1;', 'b.ts': nested(4097), 'c.ts': nested(4096), 'd.ts': `export default a${'.b'.repeat(5000)};\n` });
   const { status, stdout, stderr } = symdir(['graph', folder]);
   assert.deepEqual([status, stderr], [1, 'symdir: b.ts:1:1: it is nested more than 4,096 deep\n']);
   const trees = JSON.parse(stdout).modules.map((/** @type {any} */ it) => (it.tree ? depthOf(it.tree.nodes) : null));
+  const [deep] = trees.splice(3);
   assert.deepEqual(trees, [5, null, 4096]);
+  assert.ok(deep > 4000 && deep <= 4096, `${deep}`);
   assert.deepEqual(answer(['api', folder, '--entry', 'a.ts']).names.map((/** @type {any} */ it) => it.name), ['a']);
 });
 

@@ -147,3 +147,31 @@ test('the page says why names aren\'t listed', () => {
   assert.match(stdout, /<li>index\.ts:1:1: export \* from &#34;\.\/bad&#34; isn&#39;t analyzed, and its names are public too<\/li>/);
   assert.match(stdout, /<li>c\.js is CommonJS: its names aren&#39;t known<\/li>/);
 });
+
+test('a row of the page has the kind of its name, whether it is a type alone or deprecated, its place and its entry', () => {
+  const folder = folderOf({
+    'package.json': '{"name":"@s/shop","version":"1.2.3","exports":{".":"./index.ts","./more":"./more.ts"},"dependencies":{"far":"1"}}', 'more.ts': 'export { B } from "./a";\n',
+    'index.ts': 'export type { A } from "./a";\nexport { B } from "./a";\nexport { far } from "far";\n/** @deprecated Use B. */\nexport const old = 1;\n',
+    'a.ts': 'export class A {\n  /** Of a. */ static a?: 1;\n}\nexport interface B { b: 1 }\nexport function B(): 1;\nexport namespace B { export type C = 1 }\n' });
+  const { stdout } = symdir(['api', folder, '--html']);
+  const rows = [...stdout.matchAll(/<li class="row" data-name="(.*?)" data-kind="(.*?)" data-entry="(.*?)" data-files="(.*?)">(.*)<\/li>/g)].map(([, name, kind, entry, files, rest]) => {
+    const [, end] = /<span class="end">(.*?)<\/span><\/summary>/.exec(rest) ?? assert.fail(rest);
+    return [name, kind, entry, files, ...[...end.matchAll(/<span class="(kind|place|entry)">(.*?)<\/span>/g)].map(([, what, text]) => `${what} ${text}`)];
+  });
+  assert.deepEqual(rows, [
+    ['A', 'class', 'index.ts', 'a.ts', 'kind class', 'kind type-only', 'place a.ts:1:14', 'entry index.ts'],
+    ['B', 'interface+function+namespace', 'index.ts', 'a.ts', 'kind interface+function+namespace', 'place a.ts:4:18 +2', 'entry index.ts'],
+    ['B', 'interface+function+namespace', 'more.ts', 'a.ts', 'kind interface+function+namespace', 'place a.ts:4:18 +2', 'entry more.ts'],
+    ['far', 'external', 'index.ts', '', 'kind external', 'place in npm:far, an external module', 'entry index.ts'],
+    ['old', 'const', 'index.ts', 'index.ts', 'kind const', 'kind deprecated', 'place index.ts:5:14', 'entry index.ts']]);
+  assert.match(stdout, /<title>@s\/shop 1\.2\.3: public API<\/title>/);
+  assert.match(stdout, /<p class="about">5 public names of <code>index\.ts<\/code>, <code>more\.ts<\/code><\/p>/);
+  const options = (/** @type {string} */ id) => [...(new RegExp(`<select id="${id}">(.*?)</select>`).exec(stdout)?.[1] ?? '').matchAll(/<option value="(.*?)">/g)].map(([, it]) => it);
+  assert.deepEqual([options('kind'), options('entry')], [['', 'class', 'const', 'external', 'function', 'interface', 'namespace'], ['', 'index.ts', 'more.ts']]);
+  assert.match(stdout, /<h3>1 member<\/h3><ul class="members"><li data-name="A\.a"><code class="signature">static<\/code> <code class="name">A\.a<\/code><code class="signature">\?: 1<\/code> <span class="kind">property<\/span> <span class="place">a\.ts:2:\d+<\/span><div class="doc"><p>Of a\.<\/p><\/div><\/li><\/ul>/);
+  assert.match(stdout, /<dt>leads to<\/dt><dd>in npm:far, an external module<\/dd>/);
+  // of one entry alone there is nothing to choose
+  const single = symdir(['api', folder, '--entry', 'more.ts', '--html']).stdout;
+  assert.doesNotMatch(single, /id="entry"|class="entry"/);
+  assert.doesNotMatch(single, /<h2>(\d+ findings?|Public names)<\/h2>/);
+});
