@@ -141,6 +141,30 @@ test('doc comments as HTML', () => {
   assert.equal(docHtml('```\nopen'), '<div class="doc"><pre><code>open</code></pre></div>');
 });
 
+test('lists, headings, fences and tags of doc comments', () => {
+  const rows = {
+    '- a - b\n* c\n  - d': '<ul><li>a - b</li><li>c</li><li>d</li></ul>', 'a - b': '<p>a - b</p>', 'a\n\n\nb\nc': '<p>a</p><p>b c</p>',
+    '# One\n\n###### Six ##\nseven': '<p><strong>One</strong></p><p><strong>Six</strong></p><p>seven</p>', '####### Seven': '<p>####### Seven</p>', '#eight': '<p>#eight</p>',
+    'a\n```js\nb <c>\n\n- d\n```\n- e': '<p>a</p><pre><code>b &#60;c&#62;\n\n- d</code></pre><ul><li>e</li></ul>', '`a` `b` {@link c|d} {@link e}': '<p><code>a</code> <code>b</code> d <code>e</code></p>',
+  };
+  for (const [text, html] of Object.entries(rows)) assert.equal(docHtml(text), `<div class="doc">${html}</div>`, text);
+  const tags = {
+    '@param {string} [a.b] - The *a*.': '<dt>@param <code>[a.b]</code></dt><dd><p>The *a*.</p></dd>', '@typeParam T - Of it.': '<dt>@typeParam <code>T</code></dt><dd><p>Of it.</p></dd>',
+    '@template T': '<dt>@template <code>T</code></dt><dd></dd>', '@property {a} b c\nd': '<dt>@property <code>b</code></dt><dd><p>c d</p></dd>', '@returns a - b': '<dt>@returns</dt><dd><p>a - b</p></dd>',
+    '@parameter a - b': '<dt>@parameter</dt><dd><p>a - b</p></dd>', '@example\n```ts\nf();\n```': '<dt>@example</dt><dd><pre><code>f();</code></pre></dd>', '@example': '<dt>@example</dt><dd></dd>',
+    '@since 1\n```\n@param a\n```\n@x-y z': '<dt>@since</dt><dd><p>1</p><pre><code>@param a</code></pre></dd><dt>@x-y</dt><dd><p>z</p></dd>',
+  };
+  for (const [text, html] of Object.entries(tags)) assert.equal(docHtml(`A.\n\n${text}`), `<div class="doc"><p>A.</p><dl>${html}</dl></div>`, text);
+});
+
+test('of a picture each element and each attribute stays that Graphviz writes, and no other', () => {
+  for (const it of ['svg', 'g', 'polygon', 'path', 'polyline', 'ellipse', 'text', 'title', 'a']) assert.equal(inlined(`<svg><${it} x="1"/></svg>`), `<svg><${it} x="1"/></svg>`, it);
+  for (const it of ['script', 'image', 'use', 'style', 'animate', 'foreignObject', 'set', 'textPath', 'xsvg', 'b', 'linearGradient']) assert.equal(inlined(`<svg><${it} x="1"/></svg>`), '<svg></svg>', it);
+  const kept = 'id class transform fill stroke stroke-width stroke-dasharray points d cx cy rx ry x y text-anchor font-family font-size font-weight width height viewBox'.split(' ');
+  for (const it of kept) assert.equal(inlined(`<svg ${it}="a"></svg>`), `<svg ${it}="a"></svg>`, it);
+  for (const it of ['onload', 'style', 'href', 'src', 'xlink', 'xmlns', 'xml:space', 'target', 'fill-rule', 'data-id']) assert.equal(inlined(`<svg ${it}="#a"></svg>`), '<svg></svg>', it);
+});
+
 test('the page says why names aren\'t listed', () => {
   const folder = folderOf({ 'index.ts': 'export * from "./bad";\nexport * from "./c.js";\nexport const n = 1;\n', 'bad.ts': 'export const = ;\n', 'c.js': 'module.exports = 1;\n' });
   const { stdout } = symdir(['api', folder, '--entry', 'index.ts', '--entry', 'c.js', '--html']);

@@ -26,6 +26,14 @@ test('who passes which names on to whom', () => {
   assert.deepEqual(lost, [{ file: 'index.ts', text: './gone.ts', star: true }, { file: 'one.ts', text: 'no lost', star: false }]);
 });
 
+test('what isn\'t read has a box without names, and a name that may be there is one of its module', () => {
+  const { modules, edges, lost } = answer(['web', folderOf({ 'index.ts': 'export { far } from "npm:far";\nexport * from "npm:all";\nexport { gone } from "./gone";\nexport { b } from "./b.cjs";\nexport { none } from "./c";\n',
+    'b.cjs': 'exports.b = 1;\n', 'c.ts': 'export const c = 1;\n' })]);
+  assert.deepEqual(Object.fromEntries(modules.map((/** @type {any} */ it) => [it.file, it.names])), { 'index.ts': [], 'npm:far': [], 'npm:all': [], 'b.cjs': ['b'], 'c.ts': [] });
+  assert.deepEqual(edges.map((/** @type {any} */ it) => [it.to, it.star, it.names]).sort(), [['b.cjs', false, ['b']], ['c.ts', false, ['none']], ['npm:all', true, ['*']]]);
+  assert.deepEqual(lost.map((/** @type {any} */ it) => [it.file, it.text, it.star]).sort(), [['c.ts', 'no none', false], ['index.ts', './gone', false]]);
+});
+
 test('a name that passes through `export *` behind a named export', () => {
   const { edges } = answer(['web', folderOf({ 'index.ts': 'export { a } from "./b.ts";\n', 'b.ts': 'export * from "./c.ts";\n', 'c.ts': 'export const a = 1;\n' })]);
   assert.deepEqual(edges.map((/** @type {any} */ it) => [it.from, it.to, it.star]), [['index.ts', 'b.ts', false], ['b.ts', 'c.ts', true]]);
