@@ -26,8 +26,8 @@ function byKind(from, to) {
 test('a change of the kind: what can\'t be done any more, and what can be done too', () => {
   const rows = {
     major: ['class interface', 'class const', 'class type', 'class enum', 'enum type', 'namespace class', 'namespace const', 'class+namespace class', 'interface const', 'const type', 'interface type', 'class ?', 'function+namespace function',
-      'property getter', 'getter+setter getter', 'setter getter'],
-    minor: ['interface class', 'type enum', 'const class', 'class class+namespace', 'function function+namespace', 'interface interface+const', '? class', 'type interface', 'enum class', 'getter property', 'getter getter+setter', 'const namespace'],
+      'property getter', 'getter+setter getter', 'setter getter', 'function class', 'function enum', 'class function'],
+    minor: ['interface class', 'type enum', 'const class', 'class class+namespace', 'function function+namespace', 'interface interface+const', '? class', 'type interface', 'enum class', 'getter property', 'getter getter+setter', 'const namespace', 'method getter+setter', 'method property'],
     patch: ['const let', 'let var', 'var function', 'function using', 'using const', 'property parameter', 'parameter accessor', 'accessor getter+setter', 'getter+setter setter+getter', 'setter+getter property'],
   };
   for (const [advice, pairs] of Object.entries(rows)) for (const it of pairs) assert.equal(byKind(...(/** @type {[string, string]} */ (it.split(' ')))), `${advice} kind`, it);

@@ -62,6 +62,17 @@ test('members of a declaration file are all that it declares, with `export` or w
   assert.deepEqual(diff({ 'index.d.ts': text }, { 'index.d.ts': bare }), ['A#a', 'A.b', 'E.h', 'N.I#g', 'N.M.f', 'N.c', 'N.d', 'N.e'].map((it) => `major removed ${it}`));
 });
 
+test('words that change nothing for who uses a name are no part of its signature', () => {
+  const rows = [['export async function f(a: 1): P {}', 'export function f(a: 1): P {}'], ['export declare function f(a: 1): 1;', 'export function f(a: 1): 1;'], ['export declare const f: 1;', 'export const f: 1 = 1;'],
+    ['export class f { public a: 1; public b(): 1 {} }', 'export class f { a: 1; b(): 1 {} }'], ['export class f extends B { override a: 1; override b(): 1 {} }', 'export class f extends B { a: 1; b(): 1 {} }'],
+    ['export class f { async a(): P {} }', 'export class f { a(): P {} }'], ['export class f { declare a: 1 }', 'export class f { a: 1 }']];
+  const others = [['export class f { readonly a: 1 }', 'export class f { a: 1 }'], ['export class f { protected a: 1 }', 'export class f { a: 1 }']];
+  const [before, now] = [0, 1].map((i) => [...rows, ...others].map((it, k) => it[i].replace(/\bf\b/, `f${k}`)).join('\n'));
+  const wanted = others.map((_, i) => `major signature f${rows.length + i}#a`);
+  assert.deepEqual([diff(before, now), diff(now, before)], [wanted, wanted]);
+  assert.deepEqual(diff('export default async function (a: 1): P {}', 'export default function (a: 1): P {}'), []);
+});
+
 test('signatures, as they are written', () => {
   const of = (/** @type {string} */ before, /** @type {string} */ now) => diff(before, now).join();
   assert.equal(of('export function f(a: number): void {}', 'export function f(a: number, b?: X, c = 1, ...d: X[]): void {}'), 'minor signature f');
