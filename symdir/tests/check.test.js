@@ -93,3 +93,14 @@ test('the command: a program that neither takes nor refuses the graph is a failu
   assert.deepEqual(check('exit 0'), { status: 0, stdout: 'g.json: accepted by symq\n', stderr: '' });
   assert.match(symdir(['graph', '--check', 'g.json', '--symq', './g.json'], { cwd: folder }).stderr, /^symdir: can't start \.\/g\.json: [^\n]*EACCES\n$/);
 });
+
+test('lists and objects may be nested 127 deep, in texts brackets are none', () => {
+  const nested = (/** @type {number} */ depth, open = '[', close = ']') => wordsOf(Buffer.from(`{"a":\n${open.repeat(depth - 1)}${close.repeat(depth - 1)}}`));
+  assert.deepEqual([nested(127), nested(127, '{"b":', '}').length], [[], 1]);
+  assert.deepEqual(nested(128), ['2:127: lists and objects are nested more than 127 deep']);
+  const objects = (/** @type {number} */ depth) => wordsOf(Buffer.from(`${'{"a":'.repeat(depth)}1${'}'.repeat(depth)}`));
+  assert.deepEqual([objects(127), objects(128)], [[], ['1:636: lists and objects are nested more than 127 deep']]);
+  assert.deepEqual(wordsOf(Buffer.from(`{"a":"${'['.repeat(200)}"}`)), []);
+  // those that stand beside one another aren't nested
+  assert.deepEqual(wordsOf(Buffer.from(`{"a":[${'[],{},'.repeat(200)}[]]}`)), []);
+});

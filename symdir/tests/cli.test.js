@@ -24,6 +24,10 @@ test('help', () => {
     const first = it === 'where' || it === 'uses' ? `${found}, 1 none` : '0 no findings, 1 findings';
     assert.ok(stdout.endsWith(`Exit status: ${first}, 2 usage error, 3 failure.\n`));
     assert.ok(stdout.split('\n').every((line) => line.length <= 100));
+    // its examples are runs of the command
+    const examples = stdout.split('\n').filter((line) => /^ +symdir /.test(line));
+    assert.deepEqual(examples.filter((line) => !line.startsWith(`  symdir ${it} `)), [], it);
+    assert.ok(examples.length > 0);
   }
 });
 

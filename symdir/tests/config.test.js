@@ -1,6 +1,6 @@
 // Options from symdir.json and package.json.
 import assert from 'node:assert/strict';
-import { existsSync } from 'node:fs';
+import { existsSync, symlinkSync } from 'node:fs';
 import path from 'node:path';
 import test from 'node:test';
 
@@ -132,4 +132,12 @@ test('the example of --help is one', () => {
   assert.equal(symdir(['unused', folder, '--save-baseline']).status, 0);
   assert.equal(symdir(['unused', folder]).status, 0);
   assert.equal(symdir(['unused', folder, '--no-production', '--json']).status, 0);
+});
+
+test('symdir.json that can\'t be read ends the run, and a package.json doesn\'t', () => {
+  const folder = folderOf(FILES);
+  // it is there, and a read of it fails for whoever reads
+  symlinkSync('/proc/self/mem', path.join(folder, 'symdir.json'));
+  assert.deepEqual(symdir(['api', folder]), { status: 3, stdout: '', stderr: `symdir: ${folder}/symdir.json can't be read (EIO)\n` });
+  assert.equal(symdir(['api', folder, '--no-config']).status, 0);
 });

@@ -168,3 +168,18 @@ test('each piece of syntax is a node of its kind, with its range and how it is w
     assert.deepEqual(lacking, [], name);
   }
 });
+
+test('what a statement or an expression holds is in the order of the text', () => {
+  const text = 'for (let i = 0, j; i < j; i++) { j; }\nfor (const a in b) c;\nfor (const a of b) c;\nfor (a of b) c;\ndo a; while (b);\nwhile (a) b;\nif (a) b; else c;\ntry { a; } catch (b) { c; } finally { d; }\nswitch (a) { case b: c; default: d; }\n'
+    + 'const e = a ? b : c, f = a.b(c, ...d), g = `${a}${b}`, h = a`${b}`, i = { a, b: c, [d]: e, ...f, g() {}, get h() { return a; }, set i(j) {} }, k = a + b * c;\nexport { e, f as x };\nclass l { @m n; @o p() {} q = 1; }\n';
+  let count = 0;
+  for (const { kind, fields } of treeOf('a.ts', text)) {
+    for (const [key, value] of Object.entries(fields)) {
+      if (!Array.isArray(value) || typeof value[1] !== 'object') continue;
+      const starts = /** @type {import('../lib/tree/node.js').TreeNode[]} */ (value).map((it) => it.start);
+      assert.deepEqual(starts, [...starts].sort((a, b) => a - b), `${key} of ${kind}`);
+      count++;
+    }
+  }
+  assert.ok(count > 20);
+});
