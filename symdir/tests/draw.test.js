@@ -19,7 +19,8 @@ test('what isn\'t read has a box without names, and a name that may be there is 
  * @param {{ entries?: string[], lost?: { module: string, text: string, isStar: boolean }[], unread?: string[], linkTo?: (below: string) => string }} [more]
  * @returns {string} the text for Graphviz
  */
-function drawn(owned, edges, { entries = ['index.ts'], lost = [], unread = [], linkTo } = {}) {
+function drawn(owned, edges, more = {}) {
+  const { entries = ['index.ts'], lost = [], unread = [], linkTo } = more;
   const modules = new Map([...Object.keys(owned), ...entries].filter((it) => !unread.includes(it)).map((it) => [it, { file: `/shop/${it}` }]));
   const folder = { short: (/** @type {string} */ it) => it, sources: { folder: '/shop', modules } };
   const web = { entries, edges: edges.map(([from, to, isStar, names]) => ({ from, to, isStar, names: new Set(names) })), lost,
@@ -27,8 +28,8 @@ function drawn(owned, edges, { entries = ['index.ts'], lost = [], unread = [], l
   return new Drawing(/** @type {any} */ (folder), /** @type {any} */ (web), linkTo).text();
 }
 
-/** @param {number} count @param {(i: number) => string} nameOf @returns {string[]} */
-const list = (count, nameOf) => Array.from({ length: count }, (_, i) => nameOf(i));
+/** @template T @param {number} count @param {(i: number) => T} make @returns {T[]} */
+const list = (count, make) => Array.from({ length: count }, (_, i) => make(i));
 /** @param {string} text for Graphviz @returns {string[]} its boxes, one a line */
 const boxesIn = (text) => text.split('\n').filter((it) => /^n\d+ \[label=</.test(it));
 /** @param {string} text @returns {string[]} what stands in small letters */
@@ -50,10 +51,10 @@ test('three modules of a directory that are re-exported alike share a box, and o
 });
 
 test('a box of several modules has fourteen rows, and says how many more there are', () => {
-  const web = (/** @type {number} */ count) => drawn(Object.fromEntries(list(count, (i) => [`x/m${i}.ts`, ['a', 'b']]).map((it) => /** @type {any} */ (it))),
-    list(count, (i) => /** @type {any} */ (['index.ts', `x/m${i}.ts`, true, ['a', 'b']])));
+  const web = (/** @type {number} */ count) => drawn(Object.fromEntries(list(count, (i) => [`x/m${i}.ts`, ['a', 'b']])),
+    list(count, (i) => ['index.ts', `x/m${i}.ts`, true, ['a', 'b']]));
   const [, box] = boxesIn(web(14));
-  assert.deepEqual(smallIn(box), list(14, (i) => i).flatMap((/** @type {any} */ i) => [`m${i}.ts`, 'a, b']));
+  assert.deepEqual(smallIn(box), list(14, (i) => [`m${i}.ts`, 'a, b']).flat());
   assert.match(box, /<B>x\/ {2}14 modules<\/B>/);
   const [, more] = boxesIn(web(16));
   assert.deepEqual(smallIn(more).slice(-3), ['m13.ts', 'a, b', '+ 2 modules with 4 names']);

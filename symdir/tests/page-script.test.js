@@ -85,7 +85,8 @@ class Element {
 
 class Page {
   /** @param {[name: string, kind: string, file: string, members: string[]][]} rows @param {{ hash?: string, hasEntry?: boolean }} [how] */
-  constructor(rows, { hash = '', hasEntry = false } = {}) {
+  constructor(rows, how = {}) {
+    const { hash = '', hasEntry = false } = how;
     /** @type {Record<string, Element>} */
     this.byId = {};
     this.selected = 0;
