@@ -170,6 +170,9 @@ test('of members that fit three are told, and how many more', () => {
   assert.deepEqual(marked(0), [true, true, true, true, false]);
   page.type('#att');
   assert.deepEqual([page.shown, marked(0)], [['Shape#attach #attend'], [false, false, true, true, false]]);
+  const three = new Page([['One', 'class', 'a.ts', ['One#b1', 'One#b2', 'One#b3']]]);
+  three.type('b');
+  assert.deepEqual(three.shown, ['One#b1 #b2 #b3']);
 });
 
 test('the address fills the search, when the page is opened and when it changes', () => {

@@ -101,6 +101,19 @@ test('what is reached: what package.json runs or exports by a pattern, paths in 
   assert.deepEqual(files({ 'index.js': '/** @type {import("./types.js").T} */\nexport let t;\n', 'types.ts': 'export type T = 1;\nexport type U = 2;\n', 'index.ts': '' }), ['types.ts']);
 });
 
+test('what package.json runs and what its patterns mean, built or not, in each place that a source may have', () => {
+  const names = ['dist/lib/a.ts', 'src/lib/b.ts', 'lib/c/d.ts', 'lib.d.ts', 'src/e.ts', 'other/f.ts', 'src/libs/g.ts', 'x.y/z/h.ts', 'xzy/z/i.ts', 'run/one.ts', 'src/two.mts', 'tools/three.ts', 'tools/four.tsx', 'tools/five.ts', 'six.ts', 'un/seven.ts'];
+  const json = { exports: { '.': './index.ts', './*': './dist/lib/*.js', './z/*': { types: './x.y/z/*.d.ts' }, './none/*': null }, bin: { one: './run/one.js', two: 'dist/two.mjs' },
+    scripts: { a: 'node tools/three.js --x=tools/four.tsx && echo', b: 'tools/five.tsc', c: './six' } };
+  const inner = { 'in/package.json': '{"exports":{"./x/*":"./x/z/*.js"},"bin":"./cli.js","scripts":{"a":"node ../un/seven.ts"}}', 'in/cli.ts': '', 'in/more.ts': '', 'in/x/z/y.ts': '', 'on/x/z/y.ts': '' };
+  const folder = folderOf({ 'index.ts': 'export {};\n', 'package.json': JSON.stringify(json), ...Object.fromEntries(names.map((it) => [it, ''])), ...inner });
+  const files = (/** @type {string[]} */ ...words) => answer(['unused', folder, '--entry', 'index.ts', ...words]).files;
+  const unreached = ['in/more.ts', 'on/x/z/y.ts', 'other/f.ts', 'six.ts', 'src/e.ts', 'src/libs/g.ts', 'src/two.mts', 'tools/five.ts', 'xzy/z/i.ts'];
+  assert.deepEqual(files().sort(), unreached);
+  // without tests and scripts, what only a script runs isn't reached
+  assert.deepEqual(files('--production').sort(), [...unreached, 'tools/four.tsx', 'tools/three.ts', 'un/seven.ts'].sort());
+});
+
 test('types that comments of JavaScript import are used', () => {
   const out = answer(['unused', folderOf({ 'index.js': '/** @type {import("./types").T} */\nexport let t;\n', 'types.ts': 'export type T = 1;\nexport type U = 2;\n' })]);
   assert.deepEqual([out.files, out.exports.map((/** @type {any} */ it) => it.name)], [[], ['U']]);
