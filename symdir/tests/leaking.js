@@ -13,12 +13,31 @@ function isPrivate(node) {
   return modifiers.some((/** @type {Node} */ it) => it.kind === ts.SyntaxKind.PrivateKeyword) || (name && ts.isPrivateIdentifier(name));
 }
 
-/** @param {Node} node @returns {boolean} whether what it holds is no part of what is written about its type: a body, a value */
-function isValue(node) {
-  const { parent } = node;
-  if (ts.isBlock(node) || ts.isDecorator?.(node)) return true;
-  const isInitializer = /** @type {any} */ (parent).initializer === node && !ts.isEnumMember(parent);
-  return isInitializer || (ts.isArrowFunction(parent) && parent.body === node);
+/** @param {Node} node @returns {boolean} whether it is the value of a variable, a property or a parameter */
+function isInitializer(node) {
+  return /** @type {any} */ (node.parent).initializer === node && !ts.isEnumMember(node.parent);
+}
+
+/** @param {Node} node @returns {boolean} whether what it holds is no part of what is written about its type: a body */
+function isBody(node) {
+  return ts.isBlock(node) || ts.isDecorator?.(node) || (ts.isArrowFunction(node.parent) && node.parent.body === node);
+}
+
+/** @param {Node} node a value without a type before it @returns {Node[]} what is written in it that TypeScript's declaration has, too */
+function shownIn(node) {
+  if (ts.isParenthesizedExpression(node) || ts.isConstTypeReference(/** @type {any} */ (node).type ?? node)) return shownIn(/** @type {any} */ (node).expression);
+  if (ts.isAsExpression(node) || ts.isTypeAssertionExpression(node)) return [node.type];
+  const { isSatisfiesExpression = () => false } = /** @type {any} */ (ts);
+  if (isSatisfiesExpression(node)) return [...shownIn(/** @type {any} */ (node).expression), /** @type {any} */ (node).type];
+  if (ts.isFunctionExpression(node) || ts.isArrowFunction(node)) {
+    const result = node.type ? [node.type] : ts.isBlock(node.body) ? [] : shownIn(node.body);
+    return [...node.typeParameters ?? [], ...node.parameters, ...result];
+  }
+  if (ts.isNewExpression(node)) return [...node.typeArguments ?? []];
+  if (ts.isArrayLiteralExpression(node)) return node.elements.flatMap((it) => shownIn(ts.isSpreadElement(it) ? it.expression : it));
+  if (ts.isObjectLiteralExpression(node)) return node.properties.flatMap((it) => (ts.isPropertyAssignment(it) ? shownIn(it.initializer) : ts.isMethodDeclaration(it) || ts.isAccessor(it) ? [it] : []));
+  if (!ts.isClassExpression(node)) return [];
+  return [...node.typeParameters ?? [], ...(node.heritageClauses ?? []).flatMap((it) => it.types).flatMap((it) => it.typeArguments ?? []), ...node.members];
 }
 
 /** @param {Node} node @returns {boolean} whether it is a name, or a dotted one */
@@ -31,7 +50,12 @@ function referredIn(declaration) {
   /** @type {Node[]} */
   const found = [];
   const visit = (/** @type {Node} */ node) => {
-    if (isValue(node) || isPrivate(node) || node.kind >= ts.SyntaxKind.FirstJSDocNode && node.kind <= ts.SyntaxKind.LastJSDocNode) return;
+    if (isInitializer(node)) {
+      const { type, name } = /** @type {any} */ (node.parent);
+      if (!type && name && !ts.isBindingElement(node.parent) && !ts.isPropertyAssignment(node.parent) && (ts.isIdentifier(name) || ts.isClassElement(node.parent))) shownIn(node).forEach(visit);
+      return;
+    }
+    if (isBody(node) || isPrivate(node) || node.kind >= ts.SyntaxKind.FirstJSDocNode && node.kind <= ts.SyntaxKind.LastJSDocNode) return;
     if (ts.isTypeReferenceNode(node)) found.push(node.typeName);
     if (ts.isTypeQueryNode(node)) found.push(node.exprName);
     if (ts.isImportTypeNode(node) && node.qualifier) found.push(node.qualifier);

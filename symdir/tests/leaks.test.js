@@ -123,6 +123,9 @@ test('types in an initializer count that TypeScript puts into the declaration', 
   // it leaves a type out that no declaration needs
   const wanted = rows.map((_, i) => `H${i}`).filter((it) => text.includes(`interface ${it} {`));
   assert.deepEqual(wanted, SHOWN.map((_, i) => `H${i}`), text);
+  // what `make packages` compares with says the same
+  const places = leaksBy(new Language(folder, Object.keys(files)), ['index.ts']);
+  assert.deepEqual(places, wanted.map((it) => `index.ts:${Number(it.slice(1)) + 1}:11`).sort());
   const { leaks } = answer(['leaks', folder, '--entry', 'index.ts']);
   assert.deepEqual(leaks.map((/** @type {any} */ it) => [it.name, it.neededBy]).sort(), wanted.map((it) => [it, [it.replace('H', 'v')]]).sort());
 });
