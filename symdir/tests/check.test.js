@@ -104,3 +104,13 @@ test('lists and objects may be nested 127 deep, in texts brackets are none', () 
   // those that stand beside one another aren't nested
   assert.deepEqual(wordsOf(Buffer.from(`{"a":[${'[],{},'.repeat(200)}[]]}`)), []);
 });
+
+test('a node lies 4,096 deep at most, the program and what nothing holds at 1', () => {
+  const chain = (/** @type {number} */ count, /** @type {any[]} */ more = []) => ({ modules: [{ specifier: 'm', kind: 'esm', text: '', tree: { nodes: [{ kind: 'Program', range: [0, 0], body: [1] }, { kind: 'ExprStmt', range: [0, 0], expr: 2 },
+    ...Array.from({ length: count - 2 }, (_, i) => ({ kind: 'Other', range: [0, 0], ...(i < count - 3 && { children: [i + 3] }) })), ...more] } }] });
+  const words = (/** @type {object} */ graph) => wordsOf(Buffer.from(JSON.stringify(graph)));
+  assert.deepEqual(words(chain(4096)), []);
+  assert.deepEqual(words(chain(4097)), ['module m, node 4096 (Other): it lies more than 4096 deep']);
+  // two further nodes, of which one holds the other
+  assert.deepEqual(words(chain(4096, [{ kind: 'Other', range: [0, 0], children: [4097] }, { kind: 'Other', range: [0, 0] }])), []);
+});
