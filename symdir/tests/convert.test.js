@@ -130,6 +130,17 @@ test('patterns that are assigned to hold others, default values and the rest', (
   assert.deepEqual(parts('for (a = 1;;) {}'), ['Assign', 'BindingIdent', 'Num']);
 });
 
+test('the key of a member is what stands there, in classes, objects, patterns and interfaces', () => {
+  const KEYS = ['IdentName', 'Str', 'Num', 'Computed', 'PrivateName'];
+  const keys = (/** @type {string} */ text) => nodes(text, 'a.ts', { bodies: true }).filter((it) => KEYS.includes(it.kind)).map((it) => `${it.kind} ${it.name ?? it.value ?? it.text ?? ''}`.trim());
+  assert.deepEqual(keys('class A { a; "b c"; 1.5; [d] }'), ['IdentName a', 'Str b c', 'Num 1.5', 'Computed']);
+  assert.deepEqual(keys('class A { a() {} "b c"() {} 1.5() {} get [d]() { return e; } #f() {} }'), ['IdentName a', 'Str b c', 'Num 1.5', 'Computed', 'PrivateName f']);
+  assert.deepEqual(keys('f({ a: g, "b c": h, 1.5: i, [d]: j, k() {} });'), ['IdentName a', 'Str b c', 'Num 1.5', 'Computed', 'IdentName k']);
+  assert.deepEqual(keys('const { a: g, "b c": h, 1.5: i, [d]: j } = k;'), ['IdentName a', 'Str b c', 'Num 1.5', 'Computed']);
+  const elements = nodes('interface A { a: 1; "b c": 1; 1.5: 1; [d]: 1 }').filter((it) => it.kind === 'TsPropertySignature').map((it) => it.computed ?? false);
+  assert.deepEqual([keys('interface A { a: 1; "b c": 1; 1.5: 1; [d]: 1 }'), elements], [['Str b c', 'Num 1.5'], [false, false, false, true]]);
+});
+
 test('a setter without a parameter is a method, and an interface may be the default export', () => {
   assert.deepEqual(nodes('interface A { set b(c: 1); set d(); }').flatMap((/** @type {any} */ it) => it.kind.match(/^Ts.*Signature$/) ?? []), ['TsSetterSignature', 'TsMethodSignature']);
   const [, statement, declaration] = nodes('export default interface A {}');
