@@ -3,6 +3,7 @@ import { readFileSync, readdirSync, rmSync, utimesSync, writeFileSync } from 'no
 import path from 'node:path';
 import test from 'node:test';
 
+import { madeOf } from '../lib/folder/kept.js';
 import { findSymq } from '../lib/program.js';
 import { folderOf, program, symdir } from './helper.js';
 
@@ -80,4 +81,23 @@ test('what is old goes: files of thirty days, parts of an hour, graphs that othe
   assert.equal(symdir(['api', folder], { env: { ...env, NODE_OPTIONS: `--require ${still}` } }).status, 0);
   const left = readdirSync(path.dirname(trees)).map((it) => it.replace(path.basename(base), 'own'));
   assert.deepEqual(left.filter((it) => !/^(own\.[^.]{20,}\.graph|own\.trees|parser.*|symq-.*)$/.test(it)).sort(), ['elsewhere.other.graph', 'new', 'own.more.graph', 'x.1a', 'y.123']);
+});
+
+test('the cache directory is the user\'s, as each system has it', () => {
+  const { env, platform } = process;
+  const file = path.join(folderOf({ 'typescript.js': '' }), 'typescript.js');
+  const folder = (/** @type {NodeJS.Platform} */ system, /** @type {Record<string, string>} */ variables) => {
+    process.env = { ...variables, HOME: '/home/me' };
+    Object.defineProperty(process, 'platform', { value: system });
+    try {
+      return path.dirname(madeOf({ file, version: '5.0.0' }));
+    } finally {
+      process.env = env;
+      Object.defineProperty(process, 'platform', { value: platform });
+    }
+  };
+  for (const it of /** @type {const} */ (['linux', 'darwin', 'win32'])) assert.equal(folder(it, { XDG_CACHE_HOME: '/c', LOCALAPPDATA: '/l' }), '/c/symdir');
+  assert.equal(folder('win32', { LOCALAPPDATA: '/l' }), '/l/symdir/cache');
+  assert.equal(folder('win32', {}).replace(/^.*\/\.cache/, ''), '/symdir');
+  for (const [it, below] of /** @type {const} */ ([['linux', '.cache/symdir'], ['darwin', 'Library/Caches/symdir']])) assert.ok(folder(it, { LOCALAPPDATA: '/l' }).endsWith(`/${below}`), it);
 });
