@@ -99,6 +99,7 @@ test('the command: a program that neither takes nor refuses the graph is a failu
   const check = (/** @type {string} */ text) => symdir(['graph', '--check', 'g.json', '--symq', program({}, 'symq', `#!/bin/sh\n${text}\n`)], { cwd: folder });
   assert.deepEqual(check('echo "symq: no memory" >&2; exit 7'), { status: 3, stdout: '', stderr: 'symdir: symq: no memory\n' });
   assert.deepEqual(check('exit 7'), { status: 3, stdout: '', stderr: 'symdir: symq exited with status 7\n' });
+  assert.deepEqual(symdir(['graph', '.', '--check', 'g.json'], { cwd: folder }), { status: 2, stdout: '', stderr: 'symdir: --check takes a graph and no directory, not .\n' });
   for (const status of [4, 5]) assert.deepEqual(check(`echo "symq: refused" >&2; exit ${status}`), { status: 1, stdout: 'symq: refused\n', stderr: '' });
   assert.deepEqual(check('exit 0'), { status: 0, stdout: 'g.json: accepted by symq\n', stderr: '' });
   assert.match(symdir(['graph', '--check', 'g.json', '--symq', './g.json'], { cwd: folder }).stderr, /^symdir: can't start \.\/g\.json: [^\n]*EACCES\n$/);

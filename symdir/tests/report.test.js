@@ -250,3 +250,8 @@ test('each rule has a level and a text', () => {
   assert.deepEqual(idsOf('error'), ['api/unresolved', 'diff/major', 'files/syntax', 'files/unreadable', 'missing/file', 'missing/name', 'missing/package']);
   assert.deepEqual(idsOf('note'), ['diff/minor', 'diff/patch']);
 });
+
+test('an unresolved name is placed where it is taken of the module that lacks it, and not where others have the name', () => {
+  const folder = folderOf({ 'index.ts': 'import { x as y } from "./other";\nimport "./m";\nexport { z, x } from "./m";\nexport { y };\n', 'other.ts': 'export const x = 1;\n', 'm.ts': 'export const z = 1;\n' });
+  assert.match(symdir(['api', folder, '--annotations']).stdout, /^::error file=[^,]*index\.ts,line=3,col=13\b[^\n]*\n$/);
+});

@@ -101,6 +101,13 @@ test('packages: names with a scope, paths in them, @types, node_modules above', 
   assert.equal(resolved(['x/a.ts', 'x/node_modules/p/index.ts', 'node_modules/p/index.d.ts'], 'x/a.ts', 'p'), 'x/node_modules/p/index.ts');
 });
 
+test('packages: the types of a package itself go before those of @types, and what is nearer before both', () => {
+  const both = ['a.ts', 'node_modules/p/index.d.ts', 'node_modules/@types/p/index.d.ts'];
+  assert.equal(resolved(both, 'a.ts', 'p'), 'node_modules/p/index.d.ts');
+  assert.equal(resolved([...both, 'x/a.ts', 'x/node_modules/@types/p/index.d.ts'], 'x/a.ts', 'p'), 'x/node_modules/@types/p/index.d.ts');
+  assert.equal(resolved(['a.ts', 'node_modules/@types/p/x.d.ts'], 'a.ts', 'p/x'), 'node_modules/@types/p/x.d.ts');
+});
+
 test('packages: those of the folder, by their names', () => {
   const files = { 'one/src/a.ts': '', 'two/package.json': JSON_OF({ name: '@s/two', main: 'dist/index.js' }), 'two/src/index.ts': '', 'two/src/part.ts': '' };
   assert.equal(resolved(files, 'one/src/a.ts', '@s/two'), 'two/src/index.ts');
