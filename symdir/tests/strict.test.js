@@ -83,7 +83,7 @@ for (const symq of programs()) {
   });
 }
 
-test('by Deno\'s rules nothing is shared', () => {
+test('without --strict nothing is told of shared names', () => {
   const folder = folderOf(FILES);
   assert.doesNotMatch(symdir(['api', folder]).stdout, /is re-exported/);
   assert.ok(!('shared' in answer(['api', folder])));
