@@ -51,7 +51,7 @@ function ours(spot, ...words) {
   return found.uses.filter((/** @type {any} */ it) => it.how !== 'export *').map((/** @type {any} */ it) => `${it.file}:${it.line}:${it.column}`).sort();
 }
 
-for (const spot of ['shapes.ts:1:18', 'shapes.ts:3:14', 'shapes.ts:4:25', 'shapes.ts:5:64', 'shapes.ts:7:6']) {
+for (const spot of ['shapes.ts:1:18', 'shapes.ts:3:14', 'shapes.ts:4:25', 'shapes.ts:5:11', 'shapes.ts:5:64', 'shapes.ts:7:6']) {
   test(`what leads to ${spot} is what TypeScript's references are, with bodies and without`, () => {
     const [file, line, column] = spot.split(':');
     const all = referencesTo(language, path.join(folder, file), Number(line), Number(column));
