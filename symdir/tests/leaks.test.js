@@ -157,3 +157,9 @@ test('what `satisfies` says counts, and so does what it stands behind', () => {
   const text = 'interface H1 {}\ninterface H2 {}\ninterface H3 {}\nexport const a = { b: (it: H1) => 1 } satisfies H2;\nexport const c = [f(1 satisfies H3)];\ndeclare function f(it: 1): 1;\n';
   assert.deepEqual(leaking(text), ['H1 a', 'H2 a']);
 });
+
+test('an initializer counts however deep a type stands in it', () => {
+  const nested = (/** @type {string} */ open, /** @type {string} */ inner, /** @type {string} */ close) => open.repeat(1200) + inner + close.repeat(1200);
+  const text = `interface H1 {}\ninterface H2 {}\ninterface H3 {}\nexport const a = ${nested('[', 'null! as H1', ']')};\nexport const b = (it: ${nested('Array<', 'H2', '>')}) => 1;\nexport const c = ${'() => '.repeat(400)}null! as H3;\n`;
+  assert.deepEqual(leaking(text), ['H1 a', 'H2 b', 'H3 c']);
+});
