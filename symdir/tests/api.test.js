@@ -153,6 +153,15 @@ test('a snapshot has no places, and tells what changed', () => {
     reason: 'a type alias can\'t be merged with, and not each can be implemented' }]);
 });
 
+test('a name that modules pass to one another in a ring has no definition, and stays in a snapshot', () => {
+  const folder = folderOf({ 'index.ts': 'export { x } from "./b";\nexport const a = 1;\n', 'b.ts': 'export { x } from "./index";\n' });
+  const [, { name, kind, defined }] = answer(['api', folder]).names.sort((/** @type {any} */ one, /** @type {any} */ other) => (one.name < other.name ? -1 : 1));
+  assert.deepEqual([name, kind, defined], ['x', '', []]);
+  const file = path.join(folder, 'api.txt');
+  symdir(['api', folder, '--save', file]);
+  assert.equal(symdir(['api', folder, '--check', file]).stdout, `the public names are those of ${file}\n`);
+});
+
 test('a snapshot of names alone is compared by names alone', () => {
   const head = '# public names: entry, name, what it is and where it is defined; `symdir api FOLDER --check` compares, `--save` writes\n';
   const folder = folderOf({ 'index.ts': 'export class A { a = 1 }\nexport function f(a: 1) {}\n', 'old.txt': `${head}index.ts: A class index.ts\nindex.ts: f function index.ts\n` });

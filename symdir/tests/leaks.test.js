@@ -146,8 +146,9 @@ test('an initializer counts behind let and var, of members and parameters, and n
   const types = Array.from({ length: 20 }, (_, i) => `interface H${i} {}\n`).join('');
   assert.deepEqual(leaking(`${types}export let a = (it: H1) => 1;\nexport var b = null! as H2;\nexport function c(it = (x: H3) => 1) {}
 export class C { d = (it: H4) => 1; static e = null! as H5; m(it = null! as H6) {} constructor(it = (x: H7) => 1, readonly f = (x: H8) => 1) {} }
-export namespace N { export const g = (it: H9) => 1 }\nexport default (it: H10) => [null! as H11];\n`), [
-    'H1 a', 'H10 default', 'H11 default', 'H2 b', 'H3 c', 'H4 C.d', 'H5 C.e', 'H6 C.m', 'H7 C constructor', 'H8 C constructor', 'H9 N.g'].sort());
+export namespace N { export const g = (it: H9) => 1 }\nexport default (it: H10) => [null! as H11, class { h!: H12 }];
+export class D { accessor i = (it: H13) => 1 }\nusing j = (it: H14) => 1;\nexport { j };\n`), [
+    'H1 a', 'H10 default', 'H11 default', 'H12 default', 'H13 D.i', 'H14 j', 'H2 b', 'H3 c', 'H4 C.d', 'H5 C.e', 'H6 C.m', 'H7 C constructor', 'H8 C constructor', 'H9 N.g'].sort());
   assert.deepEqual(leaking(`${types}export const a: () => void = (it?: H1) => {};\nconst b = (it: H2) => 1;\nexport function c(it: () => void = (x?: H3) => {}) {}
 export class C { e: () => void = (it?: H5) => {}; private f = (it: H6) => 1; #g = (it: H7) => 1; private m(it = null! as H8) {} }
 export function o(it: string): void;\nexport function o(it = (x: H9) => 1) {}\nexport const p = class { private q!: H10; #r!: H11; private s(it: H12) {} };\n`), []);
