@@ -1,5 +1,5 @@
 import assert from 'node:assert/strict';
-import { readFileSync, readdirSync, rmSync, utimesSync, writeFileSync } from 'node:fs';
+import { copyFileSync, readFileSync, readdirSync, rmSync, utimesSync, writeFileSync } from 'node:fs';
 import path from 'node:path';
 import test from 'node:test';
 
@@ -100,4 +100,24 @@ test('the cache directory is the user\'s, as each system has it', () => {
   assert.equal(folder('win32', { LOCALAPPDATA: '/l' }), '/l/symdir/cache');
   assert.equal(folder('win32', {}).replace(/^.*\/\.cache/, ''), '/symdir');
   for (const [it, below] of /** @type {const} */ ([['linux', '.cache/symdir'], ['darwin', 'Library/Caches/symdir']])) assert.ok(folder(it, { LOCALAPPDATA: '/l' }).endsWith(`/${below}`), it);
+});
+
+test('what is made of TypeScript is kept by its version and its file: its path, its length and when it was written', () => {
+  const at = folderOf({ 'a.js': '1', 'b.js': '1', 'c.js': '12', 'd.js': '1' });
+  const [a, b, c, d] = ['a', 'b', 'c', 'd'].map((it) => path.join(at, `${it}.js`));
+  for (const it of [a, b, c]) utimesSync(it, 1000, 1000);
+  utimesSync(d, 1000, 2000);
+  const made = (/** @type {string} */ file, version = '5.0.0') => path.basename(madeOf({ file, version }));
+  const first = made(a);
+  assert.equal(made(a), first);
+  assert.ok(first.startsWith(`parser-5.0.0-${process.version}-`));
+  assert.notEqual(made(b), first);
+  assert.notEqual(made(a, '5.0.1'), first);
+  // the file of the same path, longer or written later
+  copyFileSync(c, a);
+  utimesSync(a, 1000, 1000);
+  const longer = made(a);
+  copyFileSync(d, a);
+  utimesSync(a, 1000, 2000);
+  assert.equal(new Set([first, longer, made(a)]).size, 3);
 });
