@@ -154,6 +154,13 @@ export class C { e: () => void = (it?: H5) => {}; private f = (it: H6) => 1; #g 
 export function o(it: string): void;\nexport function o(it = (x: H9) => 1) {}\nexport const p = class { private q!: H10; #r!: H11; private s(it: H12) {} };\n`), []);
 });
 
+test('of a default value each type counts that is written in it, to its very end, and none of what stands around it', () => {
+  const types = 'interface H1 {}\ninterface H2 {}\nconst x = null! as H2;\n';
+  assert.deepEqual(leaking(`${types}export default x ? x : null! as H1`), ['H1 default']);
+  assert.deepEqual(leaking(`${types}export default x ? null! as H1 : x\nlet y: H2;\n`), ['H1 default']);
+  assert.deepEqual(leaking(`${types}let z: H2; export default f(null! as H1, z); function f(...it: H2[]) {}`), ['H1 default']);
+});
+
 test('what `satisfies` says counts, and so does what it stands behind', () => {
   const text = 'interface H1 {}\ninterface H2 {}\ninterface H3 {}\nexport const a = { b: (it: H1) => 1 } satisfies H2;\nexport const c = [f(1 satisfies H3)];\ndeclare function f(it: 1): 1;\n';
   assert.deepEqual(leaking(text), ['H1 a', 'H2 a']);
