@@ -1,6 +1,6 @@
 import assert from 'node:assert/strict';
 import { spawnSync } from 'node:child_process';
-import { mkdirSync, writeFileSync } from 'node:fs';
+import { mkdirSync, symlinkSync, writeFileSync } from 'node:fs';
 import path from 'node:path';
 import test from 'node:test';
 
@@ -170,4 +170,16 @@ major: 1 removed, 1 added, 1 changed
 ` });
   mkdirSync(path.join(old, 'empty'));
   assert.equal(symdir(['diff', path.join(old, 'empty'), fresh]).status, 3);
+});
+
+test('a snapshot that is none, or can\'t be read, is told as such', () => {
+  const folder = folderOf({ 'index.ts': 'export const a = 1;\n', 'bad.txt': 'no line\n' });
+  const said = (/** @type {string[]} */ ...words) => symdir(['diff', ...words], { cwd: folder });
+  for (const words of [['bad.txt', '.'], ['.', 'bad.txt']]) {
+    const { status, stdout, stderr } = said(...words);
+    assert.deepEqual([status, stdout, /^symdir: bad\.txt:1:1: not a line of a snapshot, [^\n]*\n$/.test(stderr)], [3, '', true], stderr);
+  }
+  // it is there, and a read of it fails for whoever reads
+  symlinkSync('/proc/self/mem', path.join(folder, 'mem.txt'));
+  assert.deepEqual(said('mem.txt', '.'), { status: 3, stdout: '', stderr: 'symdir: mem.txt can\'t be read (EIO)\n' });
 });

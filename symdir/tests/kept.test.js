@@ -1,5 +1,5 @@
 import assert from 'node:assert/strict';
-import { copyFileSync, readFileSync, readdirSync, rmSync, utimesSync, writeFileSync } from 'node:fs';
+import { copyFileSync, readFileSync, readdirSync, rmSync, symlinkSync, utimesSync, writeFileSync } from 'node:fs';
 import path from 'node:path';
 import test from 'node:test';
 
@@ -57,6 +57,20 @@ test('what is kept and was cut off is made anew', () => {
     writeFileSync(trees, whole.subarray(0, length));
     assert.deepEqual(run(), first, `${length}`);
     assert.deepEqual(readFileSync(trees), whole, `${length}`);
+  }
+});
+
+test('a file that can\'t be read any more is told, though its tree is kept', () => {
+  const env = { XDG_CACHE_HOME: folderOf({}) };
+  const folder = folderOf({ 'index.ts': 'export * from "./b";\n', 'b.ts': 'export const n = 1;\n' });
+  assert.equal(symdir(['api', folder], { env }).status, 0);
+  rmSync(path.join(folder, 'b.ts'));
+  // it is there, and a read of it fails for whoever reads
+  symlinkSync('/proc/self/mem', path.join(folder, 'b.ts'));
+  for (const _ of [1, 2]) {
+    const { status, stdout, stderr } = symdir(['api', folder], { env });
+    assert.deepEqual([status, stderr], [1, 'symdir: b.ts: can\'t be read (EIO)\n']);
+    assert.match(stdout, /^index\.ts: 0 public names\n/);
   }
 });
 
