@@ -1,5 +1,5 @@
 import assert from 'node:assert/strict';
-import { copyFileSync, readFileSync, readdirSync, rmSync, symlinkSync, utimesSync, writeFileSync } from 'node:fs';
+import { copyFileSync, existsSync, readFileSync, readdirSync, rmSync, symlinkSync, utimesSync, writeFileSync } from 'node:fs';
 import path from 'node:path';
 import test from 'node:test';
 
@@ -134,4 +134,18 @@ test('what is made of TypeScript is kept by its version and its file: its path, 
   copyFileSync(d, a);
   utimesSync(a, 1000, 2000);
   assert.equal(new Set([first, longer, made(a)]).size, 3);
+});
+
+test('the parser that is kept is the one that parses', () => {
+  const env = { XDG_CACHE_HOME: folderOf({}) };
+  const folder = folderOf({ 'index.ts': 'export const n = 1;\n' });
+  const first = symdir(['api', folder], { env });
+  const [parser] = keptIn(env.XDG_CACHE_HOME, '.js');
+  const mark = path.join(env.XDG_CACHE_HOME, 'mark');
+  writeFileSync(parser, readFileSync(parser, 'latin1').replace('{', `{require("node:fs").writeFileSync(${JSON.stringify(mark)}, "");`), 'latin1');
+  keptIn(env.XDG_CACHE_HOME, '.trees').forEach((it) => rmSync(it));
+  assert.deepEqual(symdir(['api', folder, '--no-cache'], { env }), first);
+  assert.ok(!existsSync(mark));
+  assert.deepEqual(symdir(['api', folder], { env }), first);
+  assert.ok(existsSync(mark));
 });
