@@ -1,4 +1,5 @@
 import assert from 'node:assert/strict';
+import path from 'node:path';
 import test from 'node:test';
 
 import { answer, folderOf, symdir } from './helper.js';
@@ -193,4 +194,15 @@ test('imports of what isn\'t read, or is in no file, are none between the module
     'node_modules/p/package.json': '{"types":"p.d.ts"}', 'node_modules/p/p.d.ts': 'export declare const p: 1;\n' });
   assert.equal(symdir(['cycles', folder]).stdout, '2 modules, 1 import between them: no import cycle\n');
   assert.match(symdir(['cycles', folder, '--packages']).stdout, /, 1 import between them: no import cycle\n$/);
+});
+
+test('`import a = require(..)` that types alone need makes no cycle, and one that a value needs does, as TypeScript emits it', () => {
+  const files = (/** @type {string} */ use) => ({ 'a.ts': `import b = require("./b");\nexport class A { ${use} }\n`, 'b.ts': 'import { A } from "./a";\nexport class B extends A {}\n' });
+  for (const [use, isThere] of /** @type {const} */ ([['x?: b.B', false], ['x = () => new b.B()', true], ['x(it: b.B) { return b; }', true]])) {
+    const made = folderOf(files(use));
+    const { service } = new Language(made, ['a.ts', 'b.ts'], { module: ts.ModuleKind.CommonJS });
+    const emitted = service.getEmitOutput(path.join(made, 'a.ts')).outputFiles.map((it) => it.text).join('');
+    assert.equal(emitted.includes('require("./b")'), isThere, emitted);
+    assert.equal(answer(['cycles', made]).cycles.length, isThere ? 1 : 0, use);
+  }
 });
