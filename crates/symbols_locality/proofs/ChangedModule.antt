@@ -3,10 +3,11 @@ use Rattle.std.proofs.Common.{◌≡◌, ℕ, Bool, true, false, not, ◌&&◌, 
 use Rattle.std.specs.Prelude.{filter, if◌then◌else◌}
 use Rattle.std.specs.Str.{bytes_eq}
 use Rattle.symbols_ast.specs.Graph.{GraphView, ModuleView, Resolution, specifier_after_redirect}
+use Rattle.symbols_graph.specs.PutModules.{modules_with, resolution_in, is_of_other_referrer, with_module}
+use Rattle.symbols_root.specs.laws.Specifiers.{same_bytes, specifier_itself}
 use Rattle.symbols_answers.specs.Questions.{QueryView}
 use Rattle.symbols_locality.specs.QueryReach.{AreAlikeForQuery, IsUnseenModule}
-use Rattle.symbols_locality.specs.ChangedModule.{DiffersOnlyIn, modules_with, resolution_in, is_of_other_referrer, with_module}
-use Rattle.symbols_locality.proofs.Among.{same_bytes, specifier_itself}
+use Rattle.symbols_locality.specs.ChangedModule.{DiffersOnlyIn}
 
 -- ---- an unseen module may differ
 

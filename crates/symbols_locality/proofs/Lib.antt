@@ -1,6 +1,3 @@
-mod Among
-mod TypesChains
-mod OneOutcome
 mod Lists
 mod FoundModules
 mod StarReach

@@ -36,8 +36,8 @@ use Rattle.symbols_locality.specs.Seen.{FollowedSpecifiers, StarSpecifiers, is_q
 use Rattle.symbols_locality.proofs.FoundModules.{IsFound}
 use Rattle.symbols_locality.proofs.SearchMarks.{FollowsStars, marks_of}
 use Rattle.symbols_locality.specs.QueryReach.{IsFollowedBySearch, of_reference, followed_by_question, AreAlikeForQuery}
-use Rattle.symbols_locality.proofs.TypesChains.{only_chain}
-use Rattle.symbols_locality.proofs.OneOutcome.{chosen_once}
+use Rattle.symbols_root.specs.laws.TypesChains.{only_chain}
+use Rattle.symbols_paths.specs.laws.OneOutcome.{chosen_once}
 use Rattle.symbols_locality.proofs.SeenAlike.{same_chain, resolved_module_found, same_changes}
 use Rattle.symbols_locality.proofs.ExportViews.{same_export_views, same_unresolved_views, same_shared_name_views, same_names}
 use Rattle.symbols_locality.proofs.CarriedSearch.{chosen_there}

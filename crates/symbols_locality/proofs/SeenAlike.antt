@@ -11,8 +11,8 @@ use Rattle.symbols_table.specs.Changes.{Change, export_stars_after, exports_afte
 use Rattle.symbols_root.specs.GraphModules.{changes_of_module}
 use Rattle.symbols_root.specs.Specifiers.{module_with_specifier}
 use Rattle.symbols_root.specs.TypesChains.{is_analyzable, types_chain, get_prefer_types, resolved_module_specifier, AreTypesModulesFrom, IsTypesChain}
-use Rattle.symbols_locality.proofs.Among.{looked_up_under}
-use Rattle.symbols_locality.proofs.TypesChains.{only_chain}
+use Rattle.symbols_root.specs.laws.Specifiers.{looked_up_under}
+use Rattle.symbols_root.specs.laws.TypesChains.{only_chain}
 use Rattle.symbols_exports.specs.StarStatements.{star_specifiers, resolve_specifier, star_targets_of, explicit_exports_of}
 use Rattle.symbols_locality.proofs.StarReach.{IsReachedAlongStars, at_start, by_star, AreAlikeAlongStars}
 use Rattle.symbols_locality.specs.Seen.{FollowedSpecifiers, IsSeen, by_types_dependency, by_resolution, AreAlikeWhereSeen}

@@ -20,6 +20,8 @@ mod ids;
 #[cfg(test)]
 mod nodes;
 #[cfg(test)]
+mod puts;
+#[cfg(test)]
 mod symbols;
 #[cfg(test)]
 mod views;
