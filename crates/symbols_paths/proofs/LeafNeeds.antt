@@ -173,7 +173,8 @@ module _ (rules : Rules) (graph : GraphView) (s : SymbolBySpecifier) (decl : Dec
       → (explicit : Option SymbolId) → explicit_export graph v name ≡ explicit
       → NeedsAll rules graph s (forwards (forward_into_module rules graph s name v explicit))
   into_needs name v needs (Some u) is = led_needs rules graph s (forward_into_module rules graph s name v (Some u))
-      (λ t has. subst (λ (x : SymbolBySpecifier). IsModuleNeeded rules graph s.specifier [] x.specifier) (only_this (record { specifier = v; number = u }) t has)
+      (λ t has. subst (λ (x : SymbolBySpecifier). IsModuleNeeded rules graph s.specifier [] x.specifier) (only_this (record { specifier = v; number = u }) t
+      has)
       (needs v imported_module))
   into_needs name v needs None is = led_needs rules graph s (forward_into_module rules graph s name v None)
       (λ t has. let along = collected_along rules graph v name t has in
@@ -344,7 +345,8 @@ module _ (rules : Rules) (graph : GraphView) (routes : SearchRoutes) (same : rou
   occurs_in s i decl_target st = subst (λ (l : SearchRoutes). IsDeclTargetAt l.decl_targets s i decl_target) same st
 
   -- a leaf of an alias's symbol under the qualifiers is one of the alias
-  leaf_of_alias : (s : SymbolBySpecifier) (i : ℕ) (t : SymbolBySpecifier) (ps : QualifiedNameParts) → IsDeclTargetAt (decl_targets_of rules graph) s i (alias t ps)
+  leaf_of_alias : (s : SymbolBySpecifier) (i : ℕ) (t : SymbolBySpecifier) (ps : QualifiedNameParts)
+      → IsDeclTargetAt (decl_targets_of rules graph) s i (alias t ps)
       → (y : DefinitionView) → IsLeafGiven rules graph t.specifier ps y → IsLeafGiven rules graph s.specifier [] y
   leaf_of_alias s i t ps st y is =
       let there = alias_declared rules graph s i t ps st in

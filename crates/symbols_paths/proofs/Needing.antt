@@ -6,7 +6,7 @@ use Rattle.symbols_ast.specs.Graph.{GraphView}
 use Rattle.symbols_table.specs.declared.info.fault.SymbolsFault.{SymbolsFault}
 use Rattle.symbols_root.specs.declared.rules.Rules.{Rules}
 use Rattle.symbols_root.specs.Growing.{HasGrown}
-use Rattle.symbols_root.specs.Roots.{RootView, IsStoringFault, specifier_in}
+use Rattle.symbols_root.specs.Roots.{RootView, IsStoringFault}
 use Rattle.symbols_root.specs.Calls.{IsStored}
 use Rattle.symbols_root.specs.laws.Growing.{specifier_unchanged_by_growth}
 use Rattle.symbols_exports.specs.Exports.{ExportEntry}

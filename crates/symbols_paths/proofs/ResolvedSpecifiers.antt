@@ -1,7 +1,7 @@
 -- Resolved specifiers and names along `export *`, in a root that stores their modules.
 use Rattle.std.proofs.Common.{◌≡◌, ℕ, ◌<◌, inl, inr, List, [], ◌∷◌, length, map, get_or, Option, None, Some}
 use Rattle.std.proofs.Common.{option_map, option_to_list, refl, sym, ap, subst, ◌∙◌, arith, slice_get}
-use Rattle.std.proofs.lemmas.Option.{none-some, same_Some, slice_get-map, get_or_from_slice_get}
+use Rattle.std.proofs.lemmas.Option.{slice_get-map, get_or_from_slice_get}
 use Rattle.symbols_ast.specs.declared.ids.ModuleId.{ModuleId}
 use Rattle.symbols_ast.specs.declared.ids.UniqueSymbolId.{UniqueSymbolId}
 use Rattle.symbols_ast.specs.Graph.{GraphView}
@@ -13,7 +13,7 @@ use Rattle.symbols_exports.specs.declared.export_chain.ResolvedExportOrReExportA
 use Rattle.symbols_exports.specs.Exports.{ExportEntry}
 use Rattle.symbols_exports.specs.OneName.{find_export, IsOneNameAnswer, IsOneNameFault}
 use Rattle.symbols_exports.specs.ExportChains.{resolved_export}
-use Rattle.symbols_exports.specs.StarStatements.{star_specifiers, resolve_specifier, star_targets_of}
+use Rattle.symbols_exports.specs.StarStatements.{star_specifiers, resolve_specifier}
 use Rattle.symbols_exports.specs.CollectedNames.{resolved_chain_view}
 use Rattle.symbols_exports.specs.ExportViews.{ExportView, entry_export_view, export_by_specifier}
 use Rattle.symbols_paths.specs.PathTrees.{SymbolBySpecifier}

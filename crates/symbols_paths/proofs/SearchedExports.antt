@@ -10,7 +10,7 @@ use Rattle.symbols_ast.specs.declared.ids.SymbolId.{SymbolId}
 use Rattle.symbols_ast.specs.Graph.{GraphView}
 use Rattle.symbols_root.specs.Specifiers.{contains_specifier}
 use Rattle.symbols_exports.specs.Exports.{ExportEntry, StarPosition}
-use Rattle.symbols_exports.specs.Chains.{StarTargets, star_target_at, chain_end_module, IsChainUpTo, IsLeastChain}
+use Rattle.symbols_exports.specs.Chains.{StarTargets, star_target_at, chain_end_module, IsLeastChain}
 use Rattle.symbols_exports.specs.OneName.{find_export, last_searched_chain, IsChainUpToLast, IsStarLookedUp}
 use Rattle.symbols_exports.specs.StarStatements.{star_targets_of, explicit_exports_of}
 use Rattle.symbols_exports.specs.Traces.{StarTrace, trace_after_statement, traces_along, traces_from, traces_of, first_distinct_by}
@@ -121,8 +121,10 @@ module _ (graph : GraphView) where
       → ((k : ℕ) (v : List ℕ) → slice_index_or rest k None ≡ Some v → star_target_at (star_targets_of graph) here (k + position) ≡ Some v)
       → AreEnds here (traces_along further here position rest)
   ends_along further here position [] on targets = tt
-  ends_along further here position (None ∷ rest) on targets =
-      ((λ resolved. absurd (none-some position (sym resolved))), ends_along further here (position + 1) rest on (later (star_target_at (star_targets_of graph) here) position None rest targets))
+  ends_along further here position (None ∷ rest) on targets = (
+    (λ resolved. absurd (none-some position (sym resolved))),
+    ends_along further here (position + 1) rest on (later (star_target_at (star_targets_of graph) here) position None rest targets),
+  )
   ends_along further here position (Some next ∷ rest) on targets =
       all_append (IsEnd here) (map (trace_after_statement position) (further next)) (traces_along further here (position + 1) rest)
       (all_after here next position (subst (λ (i : ℕ). star_target_at (star_targets_of graph) here i ≡ Some next) (omega arith) (targets 0 next refl))

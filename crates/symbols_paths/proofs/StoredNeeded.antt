@@ -27,7 +27,7 @@ use Rattle.symbols_paths.specs.inner.Views.{symbol_of_unique_id, first_part, lat
 use Rattle.symbols_paths.specs.inner.SearchSteps.{IsImportDeclared}
 use Rattle.symbols_paths.specs.inner.Needed.{IsNeededFrom, IsSearchedForExportOf, IsSearchedAlongStarsOf, IsNeededAlongStarsOf, IsNeededFromCandidate}
 use Rattle.symbols_paths.specs.inner.Needed.{IsSearchedInImport, IsStarImportDeclared, StoresOnlyTarget}
-use Rattle.symbols_paths.specs.NeededModules.{IsSearchedForExport, IsSearchedAlongStars, imported_module, along_stars, IsModuleNeeded, begun}
+use Rattle.symbols_paths.specs.NeededModules.{IsSearchedForExport, IsSearchedAlongStars, imported_module, along_stars, begun}
 use Rattle.symbols_paths.specs.NeededModules.{part_imported, part_given, part_declared, StoresOnly}
 use Rattle.symbols_paths.specs.laws.Storing.{stores_nothing_if_same, stores_wider, stores_then, stores_one, stores_ends}
 use Rattle.symbols_paths.proofs.SearchedExports.{searched_itself, searched_by_chain}
@@ -210,4 +210,5 @@ pub stores_on : (old mid after : RootView) (x : Definition) (parts : QualifiedNa
     → to (symbol_of_unique_id mid target) ≡ part_target_of old.graph (definition_by_specifier old x) (first_part parts) (later_parts parts)
     → StoresOnly old mid (IsNeededFrom old x.«module» parts) → StoresOnly mid after (IsNeededFrom mid target.module_id (later_parts parts))
     → StoresOnly old after (IsNeededFrom old x.«module» parts)
-stores_on old mid after x parts target grown declared some is first then = stores_then first then (part_target_needs old mid x parts target grown declared some is)
+stores_on old mid after x parts target grown declared some is first then =
+    stores_then first then (part_target_needs old mid x parts target grown declared some is)

@@ -224,7 +224,8 @@ answered_first root answers queries none_yet =
 
 -- the modules of some queries, and of one after them
 stores_further : (old mid new : RootView) (before : List Query) (query : Query) → HasGrown old mid
-    → StoresOnly old mid (IsStoredForQueries old.rules old.graph (map query_view before)) → StoresOnly mid new (IsStoredForQuery mid.rules mid.graph (query_view query))
+    → StoresOnly old mid (IsStoredForQueries old.rules old.graph (map query_view before))
+    → StoresOnly mid new (IsStoredForQuery mid.rules mid.graph (query_view query))
     → StoresOnly old new (IsStoredForQueries old.rules old.graph (map query_view (before ++ query ∷ [])))
 stores_further old mid new before query grown first then = subst (λ (qs : List QueryView). StoresOnly old new (IsStoredForQueries old.rules old.graph qs))
     (sym (map-append query_view before (query ∷ []))) (stores_then (stores_wider first earlier) then this)
@@ -249,7 +250,8 @@ with_this : (queries : List Query) (index : ℕ) (query : Query) → index < len
     → take index queries ++ query ∷ [] ≡ take (index + 1) queries
 with_this queries index query within at = ap (λ q. take index queries ++ q ∷ []) at ∙ sym (take_more queries index query within)
 
-stores_for_all : (old new : RootView) (queries : List Query) (index : ℕ) → StoresOnly old new (IsStoredForQueries old.rules old.graph (map query_view (take index queries)))
+stores_for_all : (old new : RootView) (queries : List Query) (index : ℕ)
+    → StoresOnly old new (IsStoredForQueries old.rules old.graph (map query_view (take index queries)))
     → StoresOnly old new (IsStoredForQueries old.rules old.graph (map query_view queries))
 stores_for_all old new queries index is = subst (λ (qs : List Query). StoresOnly old new (IsStoredForQueries old.rules old.graph (map query_view qs)))
     (take-append-drop index queries) (subst (λ (qs : List QueryView). StoresOnly old new (IsStoredForQueries old.rules old.graph qs))
@@ -262,7 +264,8 @@ stores_for_all old new queries index is = subst (λ (qs : List Query). StoresOnl
 -- up to a query that was answered or failed
 pub stores_up_to : (old mid new : RootView) (answers : List Answer) (queries : List Query) (index : ℕ) (query : Query)
     → AreAnswered old mid answers queries index → index < length queries → query ≡ get_or queries index query
-    → StoresOnly mid new (IsStoredForQuery mid.rules mid.graph (query_view query)) → StoresOnly old new (IsStoredForQueries old.rules old.graph (map query_view queries))
+    → StoresOnly mid new (IsStoredForQuery mid.rules mid.graph (query_view query))
+    → StoresOnly old new (IsStoredForQueries old.rules old.graph (map query_view queries))
 stores_up_to old mid new answers queries index query is within at then = stores_for_all old new queries (index + 1)
     (subst (λ (qs : List Query). StoresOnly old new (IsStoredForQueries old.rules old.graph (map query_view qs))) (with_this queries index query within at)
     (stores_further old mid new (take index queries) query is.grown is.only then))
@@ -303,7 +306,8 @@ named_at_first old now new query given grown is = record {
 
 pub answered_on : (old mid new : RootView) (answers further : List Answer) (given : Answer) (queries : List Query) (index : ℕ) (query : Query)
     → AreAnswered old mid answers queries index → index < length queries → query ≡ get_or queries index query → HasGrown mid new → IsNamed mid new query given
-    → StoresOnly mid new (IsStoredForQuery mid.rules mid.graph (query_view query)) → further ≡ answers ++ given ∷ [] → AreAnswered old new further queries (index + 1)
+    → StoresOnly mid new (IsStoredForQuery mid.rules mid.graph (query_view query)) → further ≡ answers ++ given ∷ []
+    → AreAnswered old new further queries (index + 1)
 answered_on old mid new answers further given queries index query is within at grown named_form then put =
     let before = zip_weaker (IsNamed old mid) (IsNamed old new) (still_named old mid new grown) (take index queries) answers is.named_form in
     let consumed = with_this queries index query within at in

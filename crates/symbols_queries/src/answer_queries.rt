@@ -251,8 +251,8 @@ pub trait AnswerQueries<'a> {
     /// stored then. Else `OutOfMemory`, or the limit that a module breaks: the queried module, or
     /// one that its answer may need. If the queried module is refused, nothing changes. Modules
     /// that were stored stay stored. No other module is stored than the queried one and those that
-    /// the answer may need. If the queried module is stored, and the one that the specifier names has
-    /// no types dependency, a symbol that doesn't exist is always told as `UnknownSymbol`.
+    /// the answer may need. If the queried module is stored, and the one that the specifier names
+    /// has no types dependency, a symbol that doesn't exist is always told as `UnknownSymbol`.
     fn answer(&mut self, query: &Query<'_>) -> Result<Answer<'a>, SymbolsFault>;
 
     /// Returns the answers to queries, in order (extension). None depends on earlier calls or

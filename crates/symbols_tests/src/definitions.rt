@@ -77,6 +77,36 @@ fn stores_no_candidate_after_the_one_that_is_chosen(rt: HostRuntime) -> Checked 
     of_root(rt.alloc(), TWO_EXPORTERS, stores_no_candidate)
 }
 
+/// `q` imports all names of a as n.
+const STAR_IMPORT: &str = r#"{"modules": [
+{"specifier": "q", "kind": "esm", "text": "", "tree": {"nodes": [
+    {"kind": "Program", "range": [0, 0], "body": [1]},
+    {"kind": "Import", "range": [0, 0], "specifiers": [2], "src": "a"},
+    {"kind": "ImportNamespace", "range": [0, 0], "local": 3},
+    {"kind": "Ident", "range": [0, 0], "sym": ["n", 1]}
+]}},
+{"specifier": "a", "kind": "esm", "text": "", "tree": {"nodes": [
+    {"kind": "Program", "range": [0, 0], "body": []}
+]}}
+],
+"resolutions": [["q", "a", "a"]]}"#;
+
+/// Checks that a star import is a definition, for which its module isn't stored.
+fn stores_no_imported_module(root: &mut RootSymbol<'_>) -> Checked {
+    let q = there!(module_id_of(root, "q"), "the module q");
+    let Ok(definitions) = root.go_to_definitions(q, first()) else {
+        return Err("the definitions");
+    };
+    holds!(definitions.count() == 1, "one definition");
+    holds!(!root.has_analyzed("a"), "a isn't stored");
+    Ok(())
+}
+
+#[test]
+fn stores_no_module_of_a_star_import(rt: HostRuntime) -> Checked {
+    of_root(rt.alloc(), STAR_IMPORT, stores_no_imported_module)
+}
+
 /// Returns the definition if a path is one.
 fn definition_of<'p, 'a>(path: &'p DefinitionPathNode<'a>) -> Option<&'p Definition<'a>> {
     match path {

@@ -409,6 +409,23 @@ fn stores_what_a_search_reaches(rt: HostRuntime) -> Checked {
     of_root(rt.alloc(), GRAPH, stores_the_reached)
 }
 
+/// Checks that a search for definitions follows no `export *` of the module where it begins.
+fn stores_the_start(root: &mut RootSymbol<'_>) -> Checked {
+    let module_symbol = SymbolId::from_number(0);
+    holds!(
+        root.answer(&Query::Paths("a", module_symbol)).is_ok(),
+        "an answer"
+    );
+    holds!(root.has_analyzed("a"), "a is stored");
+    holds!(!root.has_analyzed("b"), "b isn't stored");
+    Ok(())
+}
+
+#[test]
+fn follows_no_star_of_the_start(rt: HostRuntime) -> Checked {
+    of_root(rt.alloc(), GRAPH, stores_the_start)
+}
+
 /// Returns a query with a symbol that the module `b` doesn't have, and then one on `a`.
 fn unknown_and_known(alloc: Global) -> Result<Vec<Query<'static>>, AllocError> {
     let mut queries = Vec::new(alloc);

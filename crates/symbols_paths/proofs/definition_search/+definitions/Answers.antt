@@ -1,5 +1,5 @@
 use Rattle.std.proofs.Common.{◌≡◌, ◌<◌, ◌^◌, true, false, List, [], ◌∷◌, refl, rules, length}
-use Rattle.std.proofs.Common.{None, Some, ◌+◌, option_map, sym, ap, subst, ◌∙◌, arith, append-nil}
+use Rattle.std.proofs.Common.{None, Some, ◌+◌, sym, ap, subst, ◌∙◌, arith, append-nil}
 use Rattle.std.proofs.lemmas.List.{length-append, nil_from_length}
 use Rattle.std.proofs.lemmas.Result.{IfOk-weaker, on_ok_weaker}
 use Rattle.symbols_ast.specs.declared.ids.ModuleId.{ModuleId}
@@ -7,8 +7,7 @@ use Rattle.symbols_ast.specs.Ids.{IdView}
 use Rattle.symbols_table.specs.DeclViews.{qualified_target}
 use Rattle.symbols_root.specs.Roots.{RootView, specifier_in}
 use Rattle.symbols_root.specs.Calls.{IsStored}
-use Rattle.symbols_root.specs.laws.Calls.{keeps_stored_after_growth}
-use Rattle.symbols_root.specs.laws.Growing.{has_grown_refl, has_grown_trans, specifier_unchanged_by_growth, still_stored}
+use Rattle.symbols_root.specs.laws.Growing.{has_grown_refl, has_grown_trans, still_stored}
 use Rattle.symbols_root.specs.laws.Numbers.{target_is, no_target}
 use Rattle.symbols_exports.specs.StarStatements.{resolve_specifier}
 use Rattle.symbols_paths.specs.declared.definition.Definition.{Definition}

@@ -1,7 +1,7 @@
 use Rattle.std.proofs.Common.{ap}
 use Rattle.symbols_table.specs.DeclViews.{file_dep_view}
 use Rattle.symbols_root.specs.laws.Growing.{has_grown_refl}
-use Rattle.symbols_paths.specs.Views.{star_import_view, definition_by_specifier, strings_view}
+use Rattle.symbols_paths.specs.Views.{star_import_view, strings_view}
 use Rattle.symbols_paths.specs.laws.Storing.{stores_wider}
 use Rattle.symbols_paths.proofs.SearchPreconditions.{keeps_wider}
 use Rattle.symbols_paths.proofs.StoredNeeded.{part_import_needs, some_strings}

@@ -19,7 +19,8 @@ returns-in-Err-clause-keeps c =
       grown = c.in-Err.ensures.grown;
       refused = paths_refused (query_definitions s) s (λ (paths : PathForest). answer_definitions (definitions_among (leaves_of_forest paths)))
           (λ rules graph specifier.
-          refl) (λ rules graph specifier given is. is) (λ rules graph specifier v is. is) (λ is. is) c.args.root.now c.go_to_definitions.new.self c.args.module_id
+          refl) (λ rules graph specifier given is. is) (λ rules graph specifier v is. is) (λ is. is) c.args.root.now c.go_to_definitions.new.self
+          c.args.module_id
           c.in-Err.fault c.in-Err.ensures.grown c.requires c.in-Err.ensures.faults;
       enough = λ wide. paths_enough c.args.root.now c.go_to_definitions.new.self c.args.module_id c.args.symbol c.in-Err.fault c.requires
           c.in-Err.ensures.faults (λ has. c.in-Err.ensures.enough (c.requires, has) wide);
