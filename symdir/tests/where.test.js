@@ -97,6 +97,7 @@ test('a column is of the name that stands there, and not of the one that ends be
 test('where no name stands, and places that aren\'t there', () => {
   const folder = folderOf(FILES);
   assert.deepEqual(symdir(['where', folder, 'index.ts:4:1']), { status: 1, stdout: 'no name of a variable or a type at index.ts:4:1\n', stderr: '' });
+  assert.deepEqual(symdir(['where', folder, 'index.ts:1', 'none']), { status: 1, stdout: 'no name none at index.ts:1\n', stderr: '' });
   assert.deepEqual(symdir(['where', folder, 'index.ts:40']), { status: 2, stdout: '', stderr: 'symdir: index.ts has 7 lines\n' });
   assert.deepEqual(symdir(['where', folder, 'none.ts:1']), { status: 2, stdout: '', stderr: `symdir: no such module: none.ts in ${folder}\n` });
   assert.equal(symdir(['where', folder]).stderr, 'symdir: where takes FILE:LINE or FILE:LINE:COLUMN, as `symdir where . src/a.ts:3:14`\n');
