@@ -55,7 +55,7 @@ function lackingBy(language) {
     count += syntaxOf(language, file).length;
     forEachNode(file, (it) => {
       if (ts.isStringLiteral(it) && (ts.isImportDeclaration(it.parent) || ts.isExportDeclaration(it.parent)) && !checker.getSymbolAtLocation(it)) count++;
-      if (!ts.isImportSpecifier(it) && !ts.isExportSpecifier(it)) return;
+      if (!ts.isImportSpecifier(it) && !(ts.isExportSpecifier(it) && it.parent.parent.moduleSpecifier)) return;
       const symbol = checker.getSymbolAtLocation(it.name);
       if (symbol && symbol.flags & ts.SymbolFlags.Alias && checker.getAliasedSymbol(symbol).name === 'unknown') count++;
     });

@@ -54,6 +54,15 @@ test('bench/commands.mjs says how it is called', () => {
   assert.match(stdout, /\n\| command \| new \|\n\|---\|---\|\n\| `api` \| [\d.]+; [\d.]+ \|\n\| `uses` \| [\d.]+; [\d.]+ \|\n$/);
 });
 
+test('what bench/commands.mjs times finds as much: a syntax error is missing, and ways of names are edges', () => {
+  const folder = folderOf({
+    'index.ts': 'import { gone } from "./a";\nimport "./none";\nexport * from "./a";\nexport * as space from "./b";\nexport { gone };\nexport const own = 1;\n',
+    'a.ts': 'export * from "./b";\nexport const a = 1;\n', 'b.ts': 'export const b = 1;\n', 'wrong.d.ts': '"text".',
+  });
+  const { status, stdout } = run(process.execPath, ['bench/commands.mjs', '--rounds', '1', '--commands', 'missing,web', '--symq', findSymq(undefined), folder]);
+  assert.deepEqual([status, stdout.match(/symdir \d+, service \d+/g)], [0, ['symdir 3, service 3', 'symdir 3, service 3']]);
+});
+
 test('bench/huge.mjs says how it is called', () => {
   const usage = 'usage: node bench/huge.mjs [--megabytes N] [--rounds N] [--kinds KIND,..] [--command]\n';
   const said = (/** @type {string[]} */ ...words) => run(process.execPath, ['bench/huge.mjs', ...words]);
