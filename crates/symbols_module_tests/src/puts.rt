@@ -106,11 +106,14 @@ fn adds_an_absent_module(rt: HostRuntime) -> Checked {
 #[test]
 fn leaves_the_graph_if_refused(rt: HostRuntime) -> Checked {
     let alloc = rt.alloc();
-    match graph_with(alloc, "a", &["t", "u", "t"]) {
-        Some((graph, Err(GraphFault::DuplicateResolution(_, repeated)))) => {
+    let Some((graph, end)) = graph_with(alloc, "a", &["t", "u", "t"]) else {
+        return Err("a graph");
+    };
+    match end {
+        Err(GraphFault::DuplicateResolution(_, repeated)) => {
             holds!(repeated.as_str() == "t", "the repeated text");
-            is_graph_of(alloc, &graph, GRAPH)
         }
-        _ => Err("a repeated specifier text"),
+        _ => return Err("a repeated specifier text"),
     }
+    is_graph_of(alloc, &graph, GRAPH)
 }
