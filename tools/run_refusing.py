@@ -34,6 +34,7 @@ OF_MEMORY = ('each_form_of_query', 'dependencies_in_both_modes', 'paths_to_defin
              'no_file', 'no_words')
 # tables of declarations of all sorts, of a JSON text, of no module; graphs with a fault
 OF_TABLES = ('tests_of_declarations', 'json_objects', 'no_modules', 'refused_shape', 'refused_half_a_text', 'no_words')
+LISTS = tuple(b'["%s"' % it for it in (b'exports', b'names', b'deps', b'paths', b'definitions', b'leaves', b'resolve'))
 ALL_FORMS, FEW_LINES, SMALL = 'each_form_of_query', 'line_that_is_not_utf8', 'one_variable'
 # the program that calls the library; its steps in which an allocation may fail, and the one that stores modules; the one that allocates nothing
 CALLS, STEPS, STORING, VIEWS = 'refused_calls', ('read_graph', 'ModuleGraph::new', 'run', 'run once more'), 'run', 'views'
@@ -112,6 +113,13 @@ def of_memory(program, case, **how):
     return program.row(case, is_wanted, REFUSED='memory', **how)
 
 
+def with_lists(case):
+    """Returns a case with those of its lines that are answered by lists, each of which takes memory."""
+    rows = zip(case.given.splitlines(True), case.want.output.splitlines(True))
+    kept = [(line, answer) for line, answer in rows if line.startswith(LISTS)]
+    return case._replace(given=b''.join(it for it, _ in kept), want=case.want._replace(output=b''.join(it for _, it in kept)))
+
+
 def of_finished_answers(program, case, **how):
     """Checks that at a failed allocation the answers to all lines before are written, each whole: as allocations fail later, each number of answers
     comes up in turn."""
@@ -124,7 +132,7 @@ def of_finished_answers(program, case, **how):
         return got == case.want or (got.status == 7 and got.output == b''.join(answers[:count]))
     wrong = program.row(case, is_wanted, REFUSED='memory', **how)
     in_turn = counts == sorted(counts) and sorted(set(counts)) == list(range(len(answers)))
-    return wrong or ([] if in_turn else ['answers written: %s' % counts])
+    return wrong or ([] if in_turn else ['answers written: %s' % sorted(set(counts))])
 
 
 def of_file(program, case):
@@ -169,8 +177,8 @@ def rows_of(program):
         found.append(('memory, ' + name, lambda case=stored(name): of_memory(program, case)))
         found.append(('memory from there on, ' + name, lambda case=stored(name): of_memory(program, case, REST=1)))
     case, few = stored(ALL_FORMS), stored(FEW_LINES)
-    found.append(('memory, finished answers', lambda: of_finished_answers(program, case)))
-    found.append(('memory from there on, finished answers', lambda: of_finished_answers(program, case, REST=1)))
+    found.append(('memory, finished answers', lambda: of_finished_answers(program, with_lists(case))))
+    found.append(('memory from there on, finished answers', lambda: of_finished_answers(program, with_lists(case), REST=1)))
     # a repeated list makes a graph that isn't read node by node
     other = case._replace(graph=b'{"modules":[],' + case.graph[1:])
     found.append(('memory, a graph of another form', lambda: of_memory(program, other)))
