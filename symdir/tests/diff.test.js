@@ -84,6 +84,11 @@ test('signatures, as they are written', () => {
   assert.equal(of('export function f(a: 1): 1;', 'export function f(a: 1): 1;\nexport function f(a: 2): 2;\nexport function f(a: any): any { return a; }'), 'minor signature f');
   assert.equal(of('export function f(a: 1): 1;\nexport function f(a: 2): 2;\nexport function f(a: any) {}', 'export function f(a: 1): 1;\nexport function f(a: 3): 2;\nexport function f(a: unknown) {}'), 'major signature f');
   assert.equal(of('export const f = <T>(a: T): T => a;', 'export const f = <T>(a: T, b?: T): T => { return a; };'), 'minor signature f');
+  // of a function without a written result what it does is no part of its signature
+  const bodies = [['{ return 1; }', '{ return 2; }'], ['a + 1', 'a + 2'], ['({ b: 1 })', '({ b: 2 })'], ['[a]', '{ return [a, a]; }']];
+  const [one, other] = [0, 1].map((k) => bodies.map((it, i) => `export const f${i} = (a: 1) => ${it[k]};\nexport class A${i} { b = async (a: 1) => ${it[k]} }\n`).join(''));
+  assert.equal(of(one, other), '');
+  assert.equal(of('export const f = (a: 1) => 1;', 'export const f = (a: 2) => 1;'), 'major signature f');
   assert.equal(of('export const a: "x, y" = 1;', 'export const a: "x,y" = 1;'), 'major signature a');
   assert.equal(of('export const a = 1;', 'export const a: number = 1;'), 'patch signature a');
   assert.equal(of('export type A = 1 | 2;', 'export type A<T> = 1 | 2;'), 'major signature A');
