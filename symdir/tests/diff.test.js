@@ -102,6 +102,16 @@ test('signatures, as they are written', () => {
     'minor added A#a,major signature A#d,major removed A.a');
 });
 
+test('a `<` in a default value compares, and parameters behind it are told from it', () => {
+  const of = (/** @type {string} */ before, /** @type {string} */ now) => diff(`export function f${before} {}`, `export function f${now} {}`).join();
+  assert.equal(of('(a = 1 < 2)', '(a = 1 < 2, b = 2)'), 'minor signature f');
+  assert.equal(of('(a = 1 < 2)', '(b = 1 < 2)'), 'patch signature f');
+  assert.equal(of('(a = 1 < 2)', '(a = 1 < 2, b: number)'), 'major signature f');
+  assert.equal(of('(a = 1 < 2)', '(a = 1 < 3)'), 'major signature f');
+  assert.equal(of('(a: 1): Map<1, 2>', '(a: 1, b = [1 << 2], { c } = { c: 1 < 2 }, d?: Map<1, 2>): Map<1, 2>'), 'minor signature f');
+  assert.equal(of('(a = f(1 < 2), b?: 1): 1', '(a = f(1 < 2), b?: 1, c?: Map<1, 2>): 1'), 'minor signature f');
+});
+
 test('a value that can\'t be called or constructed any more, though it is a value still', () => {
   const before = 'export function a() {}\nexport function b() {}\nexport function c(): void {}\nexport class d {}\nexport class e {}\nexport function f() {}\n';
   const now = 'export class a {}\nexport enum b {}\nexport const c: () => void;\nexport enum d {}\nexport interface e {}\nexport declare const e: { new (): e };\nexport class f {}\nexport function f() {}\n';

@@ -121,10 +121,13 @@ function after(text, at) {
   return text[at] in CLOSING ? Math.max(at, closeOf(text, at)) + 1 : at + 1;
 }
 
-/** @param {string} text @param {number} open a bracket @returns {number} where it is closed; -1 where it isn't */
+/** @param {string} text @param {number} open a bracket @returns {number} where it is closed; -1 where it isn't, as a `<` that compares */
 function closeOf(text, open) {
   const waiting = [CLOSING[text[open]]];
   for (let at = open + 1; at < text.length; at++) {
+    // what closes a bracket before a `<` tells that this one compares
+    if (/[)\]}]/.test(text[at])) while (waiting[waiting.length - 1] === '>') waiting.pop();
+    if (waiting.length === 0) return -1;
     if (text[at] === '=' && text[at + 1] === '>') at++;
     else if (/["'`]/.test(text[at])) at = Math.max(at, text.indexOf(text[at], at + 1));
     else if (text[at] in CLOSING) waiting.push(CLOSING[text[at]]);
