@@ -164,6 +164,8 @@ test('snapshots, git revisions and folders go together', () => {
   const failed = (/** @type {string[]} */ ...words) => symdir(['diff', ...words], { cwd: folder });
   assert.deepEqual(failed('v2', at), { status: 2, stdout: '', stderr: 'symdir: no such directory, snapshot or git revision: v2\n' });
   assert.deepEqual(failed('v1:none', at), { status: 3, stdout: '', stderr: 'symdir: git archive v1: fatal: pathspec \'none\' did not match any files\n' });
+  // a revision has a file of that name, and REVISION:DIR names a directory
+  assert.deepEqual(failed('v1:lib/index.ts', at), { status: 2, stdout: '', stderr: 'symdir: no directory lib/index.ts in revision v1\n' });
   assert.equal(failed(at).stderr, 'symdir: diff takes OLD and NEW: directories, snapshots or git revisions, as in `symdir diff v1.0.0 .`\n');
   assert.equal(failed(at, at, at).stderr.includes('diff takes OLD and NEW, not'), true);
 });
