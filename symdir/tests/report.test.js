@@ -139,6 +139,14 @@ test('diff and api --check report changes at what changed, or at the entry', () 
   assert.deepEqual(symdir(['diff', before, before, '--markdown']), { status: 0, stdout: '**the 2 public names and their members are the same**\n', stderr: '' });
 });
 
+test('changes in Markdown are of a name, and of its entry too where several have changes', () => {
+  const files = (/** @type {string} */ text) => folderOf({ 'package.json': '{"exports":{".":"./a.ts","./b":"./b.ts"}}', 'a.ts': text, 'b.ts': text });
+  const [before, after] = [files('export class C { m(): void {} }\n'), files('export class C {}\nexport const d = 1;\n')];
+  const names = (/** @type {string[]} */ ...words) => symdir(['diff', before, after, ...words, '--markdown']).stdout.split('\n').flatMap((it) => /^\| (?:major|minor) \| `(.*?)` \|/.exec(it)?.[1] ?? []);
+  assert.deepEqual(names('--entry', 'a.ts'), ['C#m', 'd']);
+  assert.deepEqual(names().sort(), ['a.ts: C#m', 'a.ts: d', 'b.ts: C#m', 'b.ts: d']);
+});
+
 test('paths are relative to the current directory, and absolute elsewhere', () => {
   const folder = folderOf({ 'sub/index.ts': 'export * from "./gone";\n', 'other/x': '' });
   const file = (/** @type {string} */ cwd) => commandsIn(symdir(['missing', path.join(folder, 'sub'), '--annotations'], { cwd })[/** @type {const} */ ('stdout')])[0].properties.file;
