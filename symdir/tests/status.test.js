@@ -69,6 +69,18 @@ test('a configuration file of an installed package isn\'t told', () => {
   assert.match(found.stdout, /^index\.ts: 1 public name/);
 });
 
+test('a configuration file of Deno with a fault counts for nothing, with what TypeScript makes of it neither', () => {
+  const [files, exported, imported] = [{ 'index.ts': 'import "b";\n', 'b.ts': TEXT }, '"exports": "./b.ts"', '"imports": { "b": "./b.ts" }'];
+  for (const name of ['deno.json', 'deno.jsonc', 'import_map.json']) {
+    const run = (/** @type {string} */ command, /** @type {string} */ end) => symdir([command, folderOf({ ...files, [name]: `{ ${exported}, ${imported}${end}` })]);
+    // without a fault it leads there
+    assert.deepEqual([run('missing', ' }').status, run('missing', ' } }').status], [0, 1], name);
+    assert.match(run('missing', ' } }').stdout, /^packages [^]*\n {2}import \"b\" {2}index\.ts:1:1\n/m, name);
+    if (name !== 'import_map.json') assert.deepEqual([' }', ' } }'].map((it) => run('api', it).stdout.split(':')[0]), ['b.ts', 'index.ts'], name);
+    assert.match(run('api', ' } }').stderr, new RegExp(`^symdir: ${name.replace('.', '\\.')}:1:\\d+: .+\n$`));
+  }
+});
+
 test('a fault of this program is none of the system, and isn\'t told in a line', () => {
   assert.equal(failureOf(Object.assign(new TypeError('no function'), { code: 'ERR_INVALID_ARG_TYPE' })), null);
   assert.equal(failureOf(Object.assign(new Error('no code'), { syscall: 'open' })), null);
