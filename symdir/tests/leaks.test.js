@@ -161,6 +161,13 @@ test('of a default value each type counts that is written in it, to its very end
   assert.deepEqual(leaking(`${types}let z: H2; export default f(null! as H1, z); function f(...it: H2[]) {}`), ['H1 default']);
 });
 
+test('a type in an initializer is needed by what it initializes, and not by other names of that', () => {
+  const [hidden, make] = ['interface H1 {}\n', 'const make = (it: H1) => 1;\n'];
+  for (const it of ['export { make as x };', 'export { make as default };', 'export default make;', 'export { make, make as x };']) assert.deepEqual(leaking(hidden + make + it), ['H1 make'], it);
+  // TypeScript writes the type into the declaration of `make` alone
+  assert.deepEqual(leaking(`${hidden}namespace N { export ${make}}\nexport import x = N.make;\n`), ['H1 N.make']);
+});
+
 test('what `satisfies` says counts, and so does what it stands behind', () => {
   const text = 'interface H1 {}\ninterface H2 {}\ninterface H3 {}\nexport const a = { b: (it: H1) => 1 } satisfies H2;\nexport const c = [f(1 satisfies H3)];\ndeclare function f(it: 1): 1;\n';
   assert.deepEqual(leaking(text), ['H1 a', 'H2 a']);
