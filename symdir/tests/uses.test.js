@@ -94,6 +94,17 @@ test('statements `export *` that pass it on, and how each use stands', () => {
   assert.deepEqual(exported.slice(-2).map((/** @type {any} */ it) => [it.line, it.column, it.how]), [[8, 10, 'export'], [8, 29, 'export']]);
 });
 
+test('what default values in patterns and shorthands refer to is what TypeScript\'s references are', () => {
+  // the last two aren't told by the parser, but by the checker alone
+  const lines = ['({ a = b } = c);', '({ x: { a = b } } = c);', '[{ a = b } = { a }] = c;', 'for ({ a = b } of c);', 'export const { d = b } = c, f = ({ e = b }) => e;', '(({ a = b }) = c);', 'export const o = [{ a = b }];'];
+  const files = { 'index.ts': `import { b } from "./b";\nlet a: number, c: any;\n${lines.join('\n')}\nexport function g() { ${lines.join(' ').replaceAll('export ', '')} }\n`, 'b.ts': 'export const b = 1;\n' };
+  const made = folderOf(files);
+  const wanted = referencesTo(new Language(made, Object.keys(files)), path.join(made, 'b.ts'), 1, 14).map((it) => it.place);
+  assert.deepEqual([wanted.length, new Set(wanted.map((it) => it.split(':')[1])).size], [17, 9]);
+  const [{ uses }] = answer(['uses', made, 'b.ts:1', 'b', '--bodies']);
+  assert.deepEqual(uses.map((/** @type {any} */ it) => `${it.file}:${it.line}:${it.column}`).sort(), wanted);
+});
+
 test('an import is for types alone where no body needs it, if bodies are read', () => {
   const files = { 'index.ts': 'import { a, b } from "./a";\nlet c: b;\nexport function f() { return a; }\n', 'a.ts': 'export const a = 1; export class b {}\n' };
   const isType = (/** @type {string} */ name, /** @type {string[]} */ ...words) => answer(['uses', folderOf(files), 'a.ts:1', name, ...words])[0].uses[0].isType;
