@@ -296,6 +296,15 @@ test('a text that is nested too deep for the stack leaves nothing behind for the
   assert.equal(nodesOf('a.ts', next, how).fault, null);
 });
 
+test('a comment isn\'t parsed for its tags, wherever it begins a line, and so may be nested as deep as it likes', () => {
+  for (const name of ['a.ts', 'a.js']) {
+    for (const before of ['', '\n', ' \t', 'b;\r\n', '/** c */\n', '#!/bin/sh\n']) {
+      const { fault, nodes: made } = nodesOf(name, `${before}/** @type {${'['.repeat(20000)}1${']'.repeat(20000)}} */\nexport let a = 1;\n`, { ...languageOf(name), ...PLAIN });
+      assert.deepEqual([fault, made?.filter((it) => it.kind === 'BindingIdent').length], [null, 1], JSON.stringify(before));
+    }
+  }
+});
+
 test('imports and exports of types alone say so', () => {
   const marked = (/** @type {string} */ text) => nodes(text).filter((it) => it.type_only === true).map((it) => `${it.kind} ${it.range.join('-')}`);
   assert.deepEqual(marked('import type { a } from "a"; import { type b, c } from "b"; import type d from "d"; import type * as e from "e";'),
