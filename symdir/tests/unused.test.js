@@ -119,6 +119,15 @@ test('types that comments of JavaScript import are used', () => {
   assert.deepEqual([out.files, out.exports.map((/** @type {any} */ it) => it.name)], [[], ['U']]);
 });
 
+test('types that comments of TypeScript import aren\'t used, as they aren\'t by TypeScript', () => {
+  for (const name of ['index.ts', 'index.tsx', 'index.mts', 'index.js']) {
+    const folder = folderOf({ [name]: '/** @type {import("./types").T} */\nexport let t = 1;\n/** @see import("./types") */\n', 'types.ts': 'export type T = 1;\n' });
+    const isRead = new Language(folder, [name]).program.getSourceFile(`${folder}/types.ts`) !== undefined;
+    assert.equal(isRead, name === 'index.js', name);
+    assert.deepEqual(answer(['unused', folder, '--entry', name]).files, isRead ? [] : ['types.ts'], name);
+  }
+});
+
 test('`export =`: what is required of it is all', () => {
   const files = { 'index.ts': 'import a = require("./a");\na.b;\nimport c from "./c";\nc;\n', 'a.d.ts': 'declare namespace a { const b: number }\nexport = a;\n', 'c.d.ts': 'declare const c: number;\nexport = c;\n' };
   assert.deepEqual(ours(answer(['unused', folderOf(files)])), { files: [], exports: [] });
