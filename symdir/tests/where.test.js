@@ -87,6 +87,21 @@ test('what people read', () => {
 `);
 });
 
+test('a terminal is given colours, and only what is unresolved is red; elsewhere there are none', () => {
+  const folder = folderOf({ ...FILES, 'terminal.cjs': 'Object.defineProperty(process.stdout, "isTTY", { value: true });\n' });
+  const on = (/** @type {Record<string, string>} */ env, /** @type {string[]} */ ...words) => symdir(['where', folder, ...words], { env }).stdout;
+  const terminal = { NODE_OPTIONS: `--require ${folder}/terminal.cjs`, NO_COLOR: '' };
+  const [lost, found] = [['index.ts:1', 'gone'], ['index.ts:4', 'S']];
+  const plain = (/** @type {string} */ it) => it.replace(/\x1b\[\d+m/g, '');
+  const red = (/** @type {string} */ it) => [...it.matchAll(/\x1b\[31m(.*?)\x1b\[0m/g)].map(([, text]) => text.trim());
+  assert.deepEqual(red(on(terminal, ...lost)), ['unresolved: passing.ts has no export gone']);
+  assert.deepEqual([red(on(terminal, ...found)), on(terminal, ...found).includes('\x1b[')], [[], true]);
+  for (const words of [lost, found]) {
+    assert.equal(plain(on(terminal, ...words)), on({ NO_COLOR: '' }, ...words));
+    assert.equal(on({ ...terminal, NO_COLOR: '1' }, ...words), on({ NO_COLOR: '' }, ...words));
+  }
+});
+
 test('a column is of the name that stands there, and not of the one that ends before it', () => {
   assert.deepEqual(where('index.ts:1:14').map((it) => it.split(' ')[1]), ['Shape', 'Shape']);
   const folder = folderOf(FILES);
