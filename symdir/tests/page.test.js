@@ -172,6 +172,13 @@ test('the page says why names aren\'t listed', () => {
   assert.match(stdout, /<li>c\.js is CommonJS: its names aren&#39;t known<\/li>/);
 });
 
+test('words before a member are told before its name, and its type behind it', () => {
+  const text = 'export abstract class A {\n  protected a: 1;\n  protected static readonly b?: 2;\n  protected abstract c(d: 3): 4;\n  protected get e(): 5;\n  protected: 6;\n  protect(): 7;\n}\n';
+  const { stdout } = symdir(['api', folderOf({ 'index.ts': text }), '--html']);
+  const members = [...stdout.matchAll(/<li data-name="A[^"]*">(.*?) <span class="kind">/g)].map(([, head]) => head.replaceAll('</code><code class="signature">', '').replace(/<[^>]*>/g, ''));
+  assert.deepEqual(members.sort(), ['protected A#a: 1', 'protected static readonly A.b?: 2', 'protected abstract A#c(d: 3): 4', 'protected get A#e(): 5', 'A#protected: 6', 'A#protect(): 7'].sort());
+});
+
 test('a row of the page has the kind of its name, whether it is a type alone or deprecated, its place and its entry', () => {
   const folder = folderOf({
     'package.json': '{"name":"@s/shop","version":"1.2.3","exports":{".":"./index.ts","./more":"./more.ts"},"dependencies":{"far":"1"}}', 'more.ts': 'export { B } from "./a";\n',
