@@ -101,7 +101,7 @@ test('the cache directory is the user\'s, as each system has it', () => {
   const { env, platform } = process;
   const file = path.join(folderOf({ 'typescript.js': '' }), 'typescript.js');
   const folder = (/** @type {NodeJS.Platform} */ system, /** @type {Record<string, string>} */ variables) => {
-    process.env = { ...variables, HOME: '/home/me' };
+    process.env = { ...variables, HOME: '/users/me' };
     Object.defineProperty(process, 'platform', { value: system });
     try {
       return path.dirname(madeOf({ file, version: '5.0.0' }));
